@@ -1,0 +1,3 @@
+pub mod Count
+pub mod Outside
+pub mod Memory

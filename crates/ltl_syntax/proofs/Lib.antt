@@ -1,0 +1,5 @@
+mod Trees
+mod Tables
+mod NameSearch
+mod Works
+pub mod Roots

@@ -1,0 +1,7 @@
+use Rattle.std.proofs.Common.{◌≡◌, ◌≢◌, ◌<◌, ℕ, subst, [], length, get_or}
+use Rattle.ltl_syntax.specs.Table.{Table}
+use Rattle.ltl_syntax.proofs.table.FormulaTable.letters.Goals as goal
+
+pub returns-clause-distinct : goal.returns-clause-distinct
+returns-clause-distinct c =
+    subst (λ (t : Table). (i j : ℕ) → i < j → j < length t.names → get_or t.names i [] ≢ get_or t.names j []) c.self.view_is c.self.invariant.0.distinct

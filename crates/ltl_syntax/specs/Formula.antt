@@ -1,0 +1,17 @@
+-- A formula is a tree. Its leaves are constants and letters, its inner nodes the operators of the enums `UnaryOp` and `BinaryOp`.
+use Rattle.std.specs.Prelude.{ℕ, Bool, List}
+use Rattle.ltl_syntax.specs.declared.node.UnaryOp.{UnaryOp}
+use Rattle.ltl_syntax.specs.declared.node.BinaryOp.{BinaryOp}
+
+-- a letter: one with a name, as a list of bytes, or a fresh one with a number
+pub data Atom : Type 0 where
+  Name : List ℕ → Atom
+  Fresh : ℕ → Atom
+  deriving Discrete as Atom-discrete
+
+-- a formula
+pub data Formula : Type 0 where
+  Const : Bool → Formula
+  Letter : Atom → Formula
+  Unary : UnaryOp → Formula → Formula
+  Binary : BinaryOp → Formula → Formula → Formula

@@ -1,0 +1,7 @@
+pub mod Formula
+pub mod FormulaCode
+pub mod Table
+pub mod Roots
+pub mod Print
+pub mod Stack
+pub mod Examples

@@ -1,0 +1,168 @@
+// The table of a formula: its nodes, children before parents, and the names of its letters.
+//
+// A node is added only on top of roots, so each node belongs to one tree at most, and a number stands for the tree under it. Names
+// are kept in the order of first appearance in a hash table, and a flag beside each node tells whether it is still a root, so that
+// a text is read in time near to linear whatever it contains.
+ghost use Rattle.std.specs.Prelude.{◌≡◌, ◌≢◌, ℕ, ◌+◌, ◌<◌, ◌≤◌, ◌↔◌, ◌&&◌, not, false, [], Some, length, map, slice_get, slice_index_or, string_bytes, IfOk, OnOk, OnErr, IsTrue};
+ghost use Rattle.ltl_syntax.specs.declared.table.PushRefused.TheVariants.{NoMemory};
+ghost use Rattle.ltl_syntax.specs.Table.{Table, IsRoot, MayFollow, IsFine, IsPlain, Pushes, Names, tree_at, trees_of, made, has_child};
+ghost use Rattle.ltl_syntax.specs.Roots.{HasChildrenBelow};
+
+use crate::Node;
+use indexmap::IndexSet;
+use std::alloc::{AllocError, AllocFailed, Global};
+use std::marker::Model;
+
+const MAX_NODES: usize = 16_384;
+
+/// Why a node was not added: the table has its 16,384 nodes, or memory ran out.
+#[derive(Clone, Copy, Debug, PartialEq, Eq)]
+pub enum PushRefused {
+    Nodes,
+    NoMemory,
+}
+
+impl<T: Drop> From<AllocFailed<T>> for PushRefused {
+    ghost from_gives = { λ _ e. e ≡ NoMemory };
+
+    fn from(_: AllocFailed<T>) -> Self {
+        PushRefused::NoMemory
+    }
+}
+
+/// Nodes, numbered from 0, and the distinct names of letters, numbered from 0 in order of first appearance.
+///
+/// Contracts see it as its two lists, and each node number as the formula under it.
+#[derive(Drop)]
+pub struct FormulaTable {
+    alloc: Global,
+    nodes: Vec<Node>,
+    root_flags: Vec<bool>,
+    names: IndexSet<String>,
+}
+
+impl Model for FormulaTable {
+    ghost use Rattle.std.specs.Prelude.{map, string_bytes};
+    ghost use Rattle.ltl_syntax.specs.Table.{Table, IsTable};
+    ghost use Rattle.ltl_syntax.specs.Roots.{AreRootFlags};
+
+    ghost Value = { Table };
+
+    ghost view = { λ t. record { nodes = t.nodes.items; names = map string_bytes t.names.keys } };
+
+    ghost invariant = { λ t. IsTable t.nodes.items (map string_bytes t.names.keys) × AreRootFlags t.nodes.items t.root_flags.items };
+}
+
+impl FormulaTable {
+    /// A table without nodes and names, which takes no memory.
+    pub fn new(alloc: Global) -> FormulaTable
+        ensures { result ≡ record { nodes = []; names = [] } }
+    {
+        FormulaTable {
+            alloc,
+            nodes: Vec::new(alloc),
+            root_flags: Vec::new(alloc),
+            names: IndexSet::new(alloc),
+        }
+    }
+
+    /// The number of a name, which joins the table where it was not there.
+    pub fn name(&mut self, text: &str) -> Result<u32, AllocError>
+        requires room { length self.old.names < 4294967295 }
+        requires plain { IsPlain text.now }
+        ensures ok { IfOk result (λ number. Names self.old text.now number self.new) }
+        ensures few { OnOk result (length self.new.names ≤ length self.old.names + 1) }
+        ensures err { OnErr result (self.new ≡ self.old) }
+    {
+        if let Some(number) = self.names.get_index_of(text) {
+            return Ok(number as u32);
+        }
+        let number = self.names.len() as u32;
+        let name = String::from_str(self.alloc, text)?;
+        self.names.insert(name)?;
+        Ok(number)
+    }
+
+    /// Whether the node is there and is no other node's child. Takes constant time.
+    pub fn is_root(&self, number: u32) -> bool
+        ensures { IsTrue result ↔ IsRoot self.now number }
+    {
+        (number as usize) < self.root_flags.len() && self.root_flags[number as usize]
+    }
+
+    /// Puts a node behind the others, on top of roots, and answers its number.
+    pub fn push(&mut self, node: Node) -> Result<u32, PushRefused>
+        requires { MayFollow self.old node }
+        ensures number { IfOk result (λ number. number ≡ length self.old.nodes) }
+        ensures ok { OnOk result (Pushes self.old node self.new) }
+        ensures root { IfOk result (λ number. IsRoot self.new number) }
+        ensures nodes { result ≡ Err PushRefused.Nodes ↔ (length self.old.nodes ≡ 16384) }
+        ensures err { OnErr result (self.new ≡ self.old) }
+    {
+        if self.nodes.len() >= MAX_NODES {
+            return Err(PushRefused::Nodes);
+        }
+        let number = self.nodes.len() as u32;
+        self.root_flags.push(true)?;
+        match self.nodes.push(node) {
+            Ok(()) => {
+                clear_children(&mut self.root_flags, node);
+                Ok(number)
+            }
+            Err(_) => {
+                self.root_flags.pop();
+                Err(PushRefused::NoMemory)
+            }
+        }
+    }
+
+    /// The number of nodes.
+    pub fn len(&self) -> u32
+        ensures { result ≡ length self.now.nodes }
+    {
+        self.nodes.len() as u32
+    }
+
+    /// The node, which stands for the tree that it makes of the trees of its children.
+    pub fn node(&self, number: u32) -> Node
+        requires { number < length self.now.nodes }
+        ensures node { slice_get self.now.nodes number ≡ Some result }
+        ensures tree { tree_at self.now number ≡ made self.now.names (trees_of self.now) result }
+        ensures below { IsFine (length self.now.names) number result }
+    {
+        self.nodes[number as usize]
+    }
+
+    /// The number of names.
+    pub fn letters(&self) -> u32
+        ensures count { result ≡ length self.now.names }
+        ensures distinct { (i j : ℕ) → i < j → j < length self.now.names → slice_index_or self.now.names i [] ≢ slice_index_or self.now.names j [] }
+    {
+        self.names.len() as u32
+    }
+
+    /// The name with this number.
+    pub fn name_of(&self, letter: u32) -> &str
+        requires { letter < length self.now.names }
+        ensures name { slice_get self.now.names letter ≡ Some result.now }
+        ensures plain { IsPlain result.now }
+    {
+        self.names.as_slice()[letter as usize].as_str()
+    }
+}
+
+/// The node's children are roots no more.
+fn clear_children(flags: &mut Vec<bool>, node: Node)
+    requires { HasChildrenBelow (length flags.old.items) node }
+    ensures count { length flags.new.items ≡ length flags.old.items }
+    ensures each { (i : ℕ) → slice_index_or flags.new.items i false ≡ (slice_index_or flags.old.items i false && not (has_child i node)) }
+{
+    match node {
+        Node::Const(_) | Node::Letter(_) | Node::Fresh(_) => {}
+        Node::Unary(_, a) => flags[a as usize] = false,
+        Node::Binary(_, a, b) => {
+            flags[a as usize] = false;
+            flags[b as usize] = false;
+        }
+    }
+}

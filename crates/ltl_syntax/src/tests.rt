@@ -1,0 +1,103 @@
+ghost use Rattle.std.specs.Prelude.{IsTrue};
+ghost use Rattle.ltl_syntax.specs.Table.{MayFollow, IsPlain};
+
+use crate::{BinaryOp, FormulaTable, Node, PushRefused, UnaryOp, print};
+use std::process::Abort;
+
+fn is_plain(text: &str) -> bool
+    ensures { IsTrue result → IsPlain text.now }
+{
+    match text.as_bytes() {
+        [first, ..] => *first != b'{',
+        [] => true,
+    }
+}
+
+fn may_follow(table: &FormulaTable, node: Node) -> bool
+    ensures { IsTrue result → MayFollow table.now node }
+{
+    match node {
+        Node::Const(_) | Node::Fresh(_) => true,
+        Node::Letter(letter) => letter < table.letters(),
+        Node::Unary(_, a) => table.is_root(a),
+        Node::Binary(_, a, b) => table.is_root(a) && table.is_root(b) && a != b,
+    }
+}
+
+fn name(rt: &impl Abort, table: &mut FormulaTable, text: &str) -> u32 {
+    assert!(rt; table.letters() < u32::MAX && is_plain(text));
+    table.name(text).expect(rt, "memory")
+}
+
+fn push(rt: &impl Abort, table: &mut FormulaTable, node: Node) -> u32 {
+    assert!(rt; may_follow(table, node));
+    table.push(node).expect(rt, "a place")
+}
+
+#[test]
+fn prints_every_operator(rt: HostRuntime) {
+    let mut table = FormulaTable::new(rt.alloc());
+    let p = name(&rt, &mut table, "p");
+    let q = name(&rt, &mut table, "q");
+    let mut root = push(&rt, &mut table, Node::Letter(p));
+    for op in [
+        UnaryOp::Not,
+        UnaryOp::Next,
+        UnaryOp::WeakNext,
+        UnaryOp::Eventually,
+        UnaryOp::Always,
+        UnaryOp::Yesterday,
+        UnaryOp::WeakYesterday,
+        UnaryOp::Once,
+        UnaryOp::Historically,
+    ] {
+        root = push(&rt, &mut table, Node::Unary(op, root));
+    }
+    for (op, leaf) in [
+        (BinaryOp::And, Node::Letter(q)),
+        (BinaryOp::Or, Node::Const(true)),
+        (BinaryOp::Implies, Node::Const(false)),
+        (BinaryOp::Iff, Node::Fresh(70)),
+        (BinaryOp::Until, Node::Letter(p)),
+        (BinaryOp::Release, Node::Letter(q)),
+        (BinaryOp::WeakUntil, Node::Letter(p)),
+        (BinaryOp::StrongRelease, Node::Letter(q)),
+        (BinaryOp::Since, Node::Letter(p)),
+        (BinaryOp::Trigger, Node::Letter(q)),
+    ] {
+        let right = push(&rt, &mut table, leaf);
+        root = push(&rt, &mut table, Node::Binary(op, root, right));
+    }
+    assert!(rt; root < table.len());
+    let text = print(rt.alloc(), &table, root).expect(&rt, "memory");
+    let wanted =
+        b"((((((((((H O Z Y G F wX X !p & q) | true) -> false) <-> {70}) U p) R q) W p) M q) S p) T q)";
+    assert!(rt; text.as_slice() == wanted.as_slice());
+}
+
+#[test]
+fn takes_as_many_nodes_as_the_limit(rt: HostRuntime) {
+    let mut table = FormulaTable::new(rt.alloc());
+    let mut root = push(&rt, &mut table, Node::Const(true));
+    for _ in 1..16_384 {
+        root = push(&rt, &mut table, Node::Unary(UnaryOp::Not, root));
+    }
+    assert_eq!(rt; table.len(), 16_384);
+    assert!(rt; table.is_root(16_383) && !table.is_root(16_382) && !table.is_root(16_384));
+    assert!(rt; table.push(Node::Const(true)) == Err(PushRefused::Nodes));
+    assert_eq!(rt; table.len(), 16_384);
+    assert!(rt; table.node(16_383) == Node::Unary(UnaryOp::Not, 16_382));
+}
+
+#[test]
+fn numbers_many_names_at_once(rt: HostRuntime) {
+    let mut table = FormulaTable::new(rt.alloc());
+    for round in 0..2 {
+        for i in 0..16_384u32 {
+            let text = format!(in rt.alloc(); "p{i}").expect(&rt, "memory");
+            assert_eq!(rt; name(&rt, &mut table, text.as_str()), i, "in round {round}");
+        }
+    }
+    assert_eq!(rt; table.letters(), 16_384);
+    assert!(rt; table.name_of(16_383) == "p16383");
+}
