@@ -1,8 +1,8 @@
 -- A code of formulas, by which a proof tells them apart. A model whose value holds a formula names it.
-use Rattle.std.specs.Prelude.{◌≡◌, ℕ, List, Bool}
+use Rattle.std.specs.Prelude.{◌≡◌, ℕ, List}
 use Rattle.std.proofs.Common.{ap}
 use Rattle.std.specs.Coded.{Coded, coded_bool, coded_list, coded_ℕ}
-use base.Stored.{Gv, gnil, gnum, gcons}
+use base.Stored.{Gv, gnum, gcons}
 use Rattle.ltl_syntax.specs.declared.node.UnaryOp.{UnaryOp}
 use Rattle.ltl_syntax.specs.declared.node.BinaryOp.{BinaryOp}
 use Rattle.ltl_syntax.specs.contracts.node.UnaryOp as unary_op

@@ -137,6 +137,7 @@ impl FormulaTable {
     pub fn letters(&self) -> u32
         ensures count { result ≡ length self.now.names }
         ensures distinct { (i j : ℕ) → i < j → j < length self.now.names → slice_index_or self.now.names i [] ≢ slice_index_or self.now.names j [] }
+        ensures plain { (i : ℕ) → i < length self.now.names → IsPlain (slice_index_or self.now.names i []) }
     {
         self.names.len() as u32
     }

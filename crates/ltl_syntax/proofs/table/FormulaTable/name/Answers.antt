@@ -1,6 +1,4 @@
-use Rattle.std.proofs.Common.{◌≡◌, ◌≢◌, ◌<◌, ◌++◌, ◌∷◌, ℕ, [], length, get_or, arith, map, string_bytes, ap, sym, ◌∙◌, false, subst}
-use Rattle.std.specs.List.{list_any}
-use Rattle.std.specs.Str.{bytes_eq}
+use Rattle.std.proofs.Common.{◌≡◌, ◌<◌, length, arith, map, string_bytes, ap, sym, ◌∙◌, subst}
 use Rattle.std.proofs.lemmas.List.{length-map}
 use Rattle.ltl_syntax.specs.contracts.table.FormulaTable.{the_view}
 use Rattle.ltl_syntax.specs.Table.{Table, Names}

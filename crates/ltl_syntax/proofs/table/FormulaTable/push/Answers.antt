@@ -1,4 +1,4 @@
-use Rattle.std.proofs.Common.{◌≡◌, ◌<◌, ◌++◌, ◌∷◌, [], true, length, get_or, arith, refl, subst, ◌∙◌, ap, sym, List, Bool, ℕ}
+use Rattle.std.proofs.Common.{◌≡◌, ◌<◌, length, arith, ◌∙◌, ap}
 use Rattle.ltl_syntax.specs.contracts.table.FormulaTable.{the_view}
 use Rattle.ltl_syntax.specs.Table.{MayFollow}
 use Rattle.ltl_syntax.proofs.Tables.{is_table-push}

@@ -1,0 +1,12 @@
+pub mod Consequences
+pub mod OneWord
+pub mod Leaving
+pub mod OneCommand
+pub mod Values
+pub mod Turns
+pub mod Trying
+pub mod Names
+pub mod Plain
+pub mod Chosen
+pub mod Refusing
+pub mod Showing

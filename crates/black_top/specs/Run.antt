@@ -1,0 +1,63 @@
+-- What one call of the program did.
+use Rattle.std.specs.Prelude.{◌≡◌, ℕ, List, Option, IfSome, Bool, true, false}
+use Rattle.ltl_io.specs.Outside.{Grows, GrowsByFront}
+use Rattle.ltl_syntax.specs.declared.node.Kind.{Kind}
+use Rattle.ltl_syntax.specs.Formula.{Formula}
+use Rattle.ltl_parser.specs.Text.{IsAccepted}
+use Rattle.ltl_word.specs.declared.trace.Trace.{Trace}
+use Rattle.black_top.specs.declared.status.Status.{Status}
+use Rattle.black_top.specs.declared.status.Status.TheVariants as statuses
+use Rattle.black_top.specs.Words.{Command, Asks, ReadsNothing}
+use Rattle.black_top.specs.Texts.{sat_text, unsat_text}
+use Rattle.black_top.specs.Answer.{Answer, IsAnswer, status_of, text_of, IsModel, HasNoModel}
+
+-- the status is that of an answer, and not of a fault or of want of memory
+abbrev pub is_answer : Status → Bool
+is_answer statuses.ReadFault = false
+is_answer statuses.WriteFault = false
+is_answer statuses.NoMemory = false
+is_answer other = true
+
+-- the bytes are those that the source had left, where it tells them
+abbrev pub AreLeft : Option (List ℕ) → List ℕ → Type 0
+AreLeft rest bytes = IfSome rest (λ told. told ≡ bytes)
+
+-- the answer to these words and to what the source had left
+pub record IsGiven (words : List (List ℕ)) (rest : Option (List ℕ)) (answer : Answer) : Type 0 where
+  pub bytes : List ℕ
+  pub left : AreLeft rest bytes
+  pub lawful : IsAnswer words bytes answer
+
+-- an answer was given: the status is its own, and a told content grew by exactly its text
+pub record IsAnswered (words : List (List ℕ)) (rest before after : Option (List ℕ)) (status : Status) : Type 0 where
+  pub answer : Answer
+  pub given : IsGiven words rest answer
+  pub own : status ≡ status_of answer
+  pub printed : Grows (text_of answer) before after
+
+-- the sink broke off: a told content grew by a front of an answer's text
+pub record IsCutOff (words : List (List ℕ)) (rest before after : Option (List ℕ)) : Type 0 where
+  pub answer : Answer
+  pub given : IsGiven words rest answer
+  pub front : GrowsByFront (text_of answer) before after
+
+-- the words ask for nothing that is in the source
+abbrev pub NeedsNothing : List (List ℕ) → Type 0
+NeedsNothing words = (c : Command) → Asks words c → ReadsNothing c
+
+-- SAT was printed with a trace of the kind that satisfies the formula
+pub record PrintsModel (kind : Kind) (f : Formula) (before after : Option (List ℕ)) : Type 0 where
+  pub depth : ℕ
+  pub trace : Trace
+  pub model : IsModel kind f trace
+  pub printed : Grows (sat_text depth trace) before after
+
+-- UNSAT was printed, and no trace of the kind satisfies the formula
+pub record PrintsNone (kind : Kind) (f : Formula) (before after : Option (List ℕ)) : Type 0 where
+  pub depth : ℕ
+  pub none : HasNoModel kind f
+  pub printed : Grows (unsat_text depth) before after
+
+-- what is claimed of the accepted formula that the source had left
+abbrev pub OfFormula : Option (List ℕ) → (Formula → Type 0) → Type 0
+OfFormula rest Claim = (bytes : List ℕ) × AreLeft rest bytes × (f : Formula) × IsAccepted bytes f × Claim f

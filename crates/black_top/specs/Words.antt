@@ -1,0 +1,87 @@
+-- The lists of words that are taken, and what they say.
+use Rattle.std.specs.Prelude.{◌≡◌, ◌≢◌, ◌≤◌, ◌⊎◌, ◌++◌, ℕ, List, [], ◌∷◌, length, codes, AllPairs, All}
+use Rattle.std.specs.Str.Parse.{IsNumeral, digits_value}
+
+-- what one option says
+pub data Choice : Type 0 where
+  Finite : Choice
+  Cert : Choice
+  Core : Choice
+  Depth : ℕ → Choice
+  Workers : ℕ → Choice
+
+pub data Command : Type 0 where
+  Solve : List Choice → Command
+  Check : List Choice → Command
+  Trace : Command
+  Demo : ℕ → Command
+
+-- one to `most` decimal digits, whose value is n, from low to high
+pub record IsNumber (most low high : ℕ) (digits : List ℕ) (n : ℕ) : Type 0 where
+  pub numeral : IsNumeral 10 digits
+  pub short : length digits ≤ most
+  pub value : digits_value 10 digits ≡ n
+  pub from : low ≤ n
+  pub to : n ≤ high
+
+-- an option with a number is two words, or one word with = between
+abbrev pub Joined : List ℕ → List ℕ → List (List ℕ) → Type 0
+Joined option digits words = (words ≡ option ∷ digits ∷ []) ⊎ (words ≡ (option ++ codes "=" ++ digits) ∷ [])
+
+abbrev pub name : Choice → List ℕ
+name Finite = codes "--finite"
+name Cert = codes "--cert"
+name Core = codes "--core"
+name (Depth n) = codes "--depth"
+name (Workers n) = codes "--workers"
+
+-- the words that say one choice
+abbrev pub Says : Choice → List (List ℕ) → Type 0
+Says Finite words = words ≡ name Finite ∷ []
+Says Cert words = words ≡ name Cert ∷ []
+Says Core words = words ≡ name Core ∷ []
+Says (Depth n) words = (digits : List ℕ) × IsNumber 4 0 1000 digits n × Joined (name (Depth n)) digits words
+Says (Workers n) words = (digits : List ℕ) × IsNumber 2 1 16 digits n × Joined (name (Workers n)) digits words
+
+-- the words say these choices, one after another
+abbrev pub SayAll : List Choice → List (List ℕ) → Type 0
+SayAll [] words = words ≡ []
+SayAll (c ∷ cs) words = (front : List (List ℕ)) × (back : List (List ℕ)) × (words ≡ front ++ back) × Says c front × SayAll cs back
+
+-- each option at most once, in any order
+abbrev pub Once : List Choice → Type 0
+Once choices = AllPairs (λ a b. name a ≢ name b) choices
+
+-- the options of check
+abbrev pub OfCheck : Choice → Type 0
+OfCheck Finite = Unit {0}
+OfCheck (Workers n) = Unit {0}
+OfCheck Cert = ⊥
+OfCheck Core = ⊥
+OfCheck (Depth n) = ⊥
+
+-- the table of the commands
+abbrev pub Taken : List (List ℕ) → Command → Type 0
+Taken words (Solve choices) = (more : List (List ℕ)) × (words ≡ codes "solve" ∷ more) × SayAll choices more × Once choices
+Taken words (Check choices) = (more : List (List ℕ)) × (words ≡ codes "check" ∷ more) × SayAll choices more × Once choices × All OfCheck choices
+Taken words Trace = words ≡ codes "trace" ∷ []
+Taken words (Demo n) = (digits : List ℕ) × IsNumber 2 2 64 digits n × (words ≡ codes "demo" ∷ digits ∷ [])
+
+-- what is built of the table so far; a further command or option takes its line out of the ⊥
+abbrev pub IsOffered : Command → Type 0
+IsOffered (Solve []) = Unit {0}
+IsOffered (Solve (c ∷ cs)) = ⊥
+IsOffered (Check choices) = ⊥
+IsOffered Trace = ⊥
+IsOffered (Demo n) = ⊥
+
+-- the words are taken as this command
+abbrev pub Asks : List (List ℕ) → Command → Type 0
+Asks words c = Taken words c × IsOffered c
+
+-- whether a command reads the source
+abbrev pub ReadsNothing : Command → Type 0
+ReadsNothing (Solve choices) = ⊥
+ReadsNothing (Check choices) = ⊥
+ReadsNothing Trace = ⊥
+ReadsNothing (Demo n) = Unit {0}

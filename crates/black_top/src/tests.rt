@@ -1,0 +1,138 @@
+// What the program shows, over memory. The expected lines are those of the documents, by hand.
+use crate::{Status, run};
+use ltl_io::{MemorySink, MemorySource, NoGate, SureSource};
+use std::alloc::{AllocError, Global};
+use std::process::Abort;
+use std::test::Fail;
+use std::thread::Threads;
+
+const USAGE: &[u8] =
+    b"usage: black solve [--finite] [--depth N] [--cert] [--core] [--workers N]\nusage: black check [--finite] [--workers N]\nusage: black trace\nusage: black demo N\n";
+
+fn list(alloc: Global, words: &[&str]) -> Result<Vec<String>, AllocError> {
+    let mut all = Vec::new(alloc);
+    for word in words {
+        all.push(String::from_str(alloc, word)?)?;
+    }
+    Ok(all)
+}
+
+/// Runs over a source that gives all at once and a sink that takes seven bytes a write.
+fn shows<R: Threads + Abort + Sync>(
+    rt: &R,
+    alloc: Global,
+    words: &[&str],
+    input: &[u8],
+    output: &[u8],
+    status: Status,
+) -> Result<(), Fail> {
+    let mut source = SureSource::new(input.to_vec(alloc)?);
+    let mut sink = MemorySink::new(alloc, 1024, 7, Vec::new(alloc))?;
+    let given = run(
+        rt,
+        alloc,
+        &list(alloc, words)?,
+        &mut source,
+        &mut sink,
+        &NoGate,
+    );
+    assert!(rt; given == status && sink.content() == output);
+    Ok(())
+}
+
+/// The bytes in front of a last one.
+fn padded(alloc: Global, byte: u8, count: usize, last: &[u8]) -> Result<Vec<u8>, AllocError> {
+    let mut text = vec![in alloc; byte; count]?;
+    text.extend_from_slice(last)?;
+    Ok(text)
+}
+
+#[test]
+fn rows(rt: HostRuntime) -> Result<(), Fail> {
+    let alloc = rt.alloc();
+    let p = b"SAT 0\n{\"kind\":\"infinite\",\"loop\":[[]],\"stem\":[[\"p\"]]}\n".as_slice();
+    let q = b"SAT 0\n{\"kind\":\"infinite\",\"loop\":[[]],\"stem\":[[\"q\"]]}\n".as_slice();
+    let none = b"SAT 0\n{\"kind\":\"infinite\",\"loop\":[[]],\"stem\":[[]]}\n".as_slice();
+    let negations = padded(alloc, b'!', 16_383, b"p")?;
+    let one_more = padded(alloc, b'!', 16_384, b"p")?;
+    let spaces = padded(alloc, b' ', 1_048_576, b"")?;
+    let too_long = padded(alloc, b' ', 1_048_576, b" ")?;
+    let table: [(&[u8], &[u8], Status); 21] = [
+        (b"p", p, Status::Sat),
+        (b"p & !p", b"UNSAT 0\n", Status::Unsat),
+        (b"p & !q", p, Status::Sat),
+        (b"(p | q) & !p", q, Status::Sat),
+        ("é && ~é".as_bytes(), b"UNSAT 0\n", Status::Unsat),
+        (b"", b"grammar fault at byte 0\n", Status::Text),
+        (b"p &", b"grammar fault at byte 3\n", Status::Text),
+        (b"(p", b"grammar fault at byte 2\n", Status::Text),
+        (b"p)", b"grammar fault at byte 1\n", Status::Text),
+        (b"p) q", b"grammar fault at byte 1\n", Status::Text),
+        (b"p $ q", b"lexical fault at byte 2\n", Status::Text),
+        (b"p) $", b"lexical fault at byte 3\n", Status::Text),
+        (b"p\xff", b"lexical fault at byte 1\n", Status::Text),
+        (b"X p", b"not built at byte 0\n", Status::Text),
+        (b"p & G q", b"not built at byte 4\n", Status::Text),
+        (
+            b"!(a&b&c&d&e&f&g&h&i&j&k&l&m&n&o&p)&a&b&c&d&e&f&g&h&i&j&k&l&m&n&o&p",
+            b"UNSAT 0\n",
+            Status::Unsat,
+        ),
+        (
+            b"a&b&c&d&e&f&g&h&i&j&k&l&m&n&o&p&a&q&X r",
+            b"not built at byte 34\n",
+            Status::Text,
+        ),
+        (&negations, none, Status::Sat),
+        (&one_more, b"limit nodes 16384 have 16385\n", Status::Limit),
+        (&too_long, b"limit text 1048576\n", Status::Limit),
+        (&spaces, b"grammar fault at byte 1048576\n", Status::Text),
+    ];
+    for (input, output, status) in &table {
+        shows(&rt, alloc, &["solve"], input, output, *status)?;
+    }
+    shows(
+        &rt,
+        alloc,
+        &["solve", "--depth", "3"],
+        b"p",
+        USAGE,
+        Status::Usage,
+    )?;
+    shows(&rt, alloc, &["check"], b"p", USAGE, Status::Usage)?;
+    shows(&rt, alloc, &[], b"p", USAGE, Status::Usage)
+}
+
+#[test]
+fn second_read_fails(rt: HostRuntime) -> Result<(), Fail> {
+    let alloc = rt.alloc();
+    let mut source = MemorySource::new(b"p".to_vec(alloc)?, 1, vec![in alloc; 2]?);
+    let mut sink = MemorySink::new(alloc, 64, 3, Vec::new(alloc))?;
+    let status = run(
+        &rt,
+        alloc,
+        &list(alloc, &["solve"])?,
+        &mut source,
+        &mut sink,
+        &NoGate,
+    );
+    assert!(rt; status == Status::ReadFault && sink.content().is_empty());
+    Ok(())
+}
+
+#[test]
+fn second_write_fails(rt: HostRuntime) -> Result<(), Fail> {
+    let alloc = rt.alloc();
+    let mut source = SureSource::new(b"p".to_vec(alloc)?);
+    let mut sink = MemorySink::new(alloc, 64, 3, vec![in alloc; 2]?)?;
+    let status = run(
+        &rt,
+        alloc,
+        &list(alloc, &["solve"])?,
+        &mut source,
+        &mut sink,
+        &NoGate,
+    );
+    assert!(rt; status == Status::WriteFault && sink.content() == b"SAT".as_slice());
+    Ok(())
+}

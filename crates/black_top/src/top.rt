@@ -1,0 +1,51 @@
+// The top call.
+ghost use Rattle.std.specs.Prelude.{◌≡◌, ◌⊎◌, ◌<◌, List, map, string_bytes, IsTrue};
+ghost use Rattle.ltl_io.specs.Count.{Rose};
+ghost use Rattle.ltl_syntax.specs.declared.node.Kind.TheVariants as kinds;
+ghost use Rattle.black_top.specs.declared.status.Status.TheVariants as statuses;
+ghost use Rattle.black_top.specs.Words.{Choice, Solve, Asks};
+ghost use Rattle.black_top.specs.Run.{is_answer, IsAnswered, IsCutOff, NeedsNothing, OfFormula, PrintsModel, PrintsNone};
+
+use crate::Status;
+use crate::answer::answer;
+use ltl_io::{Gate, ReadRefused, Sink, Source, write_whole};
+use std::alloc::Global;
+use std::thread::Threads;
+
+/// Does all that the program does: takes the words, reads the source, writes the whole answer and gives its status.
+pub fn run<R: Threads + Sync, S: Source, K: Sink, G: Gate + Sync>(
+    _rt: &R,
+    alloc: Global,
+    words: &[String],
+    source: &mut S,
+    sink: &mut K,
+    _gate: &G,
+) -> Status
+    // With every status but those of faults and of want of memory, the answer is printed in full.
+    ensures answered { IsTrue (is_answer result) → IsAnswered (map string_bytes words.now) (S.rest source.old) (K.content sink.old) (K.content sink.new) result }
+    // Where neither count rose, it is answered, or there was no memory.
+    ensures complete { ¬ (Rose (S.faults source.old) (S.faults source.new)) → ¬ (Rose (K.faults sink.old) (K.faults sink.new))
+        → (result ≡ statuses.NoMemory) ⊎ IsAnswered (map string_bytes words.now) (S.rest source.old) (K.content sink.old) (K.content sink.new) result }
+    ensures read_fault { result ≡ statuses.ReadFault → Rose (S.faults source.old) (S.faults source.new) × (sink.new ≡ sink.old) }
+    ensures read_count { S.faults source.old < S.faults source.new → result ≡ statuses.ReadFault }
+    ensures write_fault { result ≡ statuses.WriteFault → Rose (K.faults sink.old) (K.faults sink.new)
+        × IsCutOff (map string_bytes words.now) (S.rest source.old) (K.content sink.old) (K.content sink.new) }
+    ensures write_count { K.faults sink.old < K.faults sink.new → result ≡ statuses.WriteFault }
+    ensures no_memory { result ≡ statuses.NoMemory → sink.new ≡ sink.old }
+    ensures unread { NeedsNothing (map string_bytes words.now) → source.new ≡ source.old }
+    // SAT is printed only with a trace that satisfies the formula.
+    ensures sat { (choices : List Choice) → Asks (map string_bytes words.now) (Solve choices) → result ≡ statuses.Sat
+        → OfFormula (S.rest source.old) (λ f. PrintsModel kinds.Infinite f (K.content sink.old) (K.content sink.new)) }
+    // UNSAT is printed only where no trace satisfies the formula.
+    ensures unsat { (choices : List Choice) → Asks (map string_bytes words.now) (Solve choices) → result ≡ statuses.Unsat
+        → OfFormula (S.rest source.old) (λ f. PrintsNone kinds.Infinite f (K.content sink.old) (K.content sink.new)) }
+{
+    match answer(alloc, words, source) {
+        Err(ReadRefused::Fault) => Status::ReadFault,
+        Err(ReadRefused::NoMemory) => Status::NoMemory,
+        Ok(output) => match write_whole(sink, &output.text) {
+            Ok(()) => output.status,
+            Err(_) => Status::WriteFault,
+        },
+    }
+}

@@ -1,0 +1,7 @@
+pub mod SameLiteral
+pub mod MoreClauses
+pub mod Soundness
+pub mod Deciding
+pub mod RowLemmas
+pub mod RowSwaps
+mod RowTiles

@@ -1,0 +1,5 @@
+pub mod Literal
+pub mod Step
+pub mod Meaning
+pub mod Worked
+pub mod RowPieces

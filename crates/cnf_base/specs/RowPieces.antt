@@ -1,0 +1,22 @@
+-- Rows as places in one flat list.
+use Rattle.std.specs.Prelude.{◌≡◌, ℕ, ◌≤◌, List, [], ◌∷◌, map, All, AllPairs, slice_range}
+use Rattle.cnf_base.specs.declared.rows.Place.{Place}
+
+-- the items of each place
+abbrev pub row_pieces : {X : Type 0} → List X → List Place → List (List X)
+row_pieces items places = map (λ s. slice_range items s.from s.to) places
+
+-- each place begins where the one before it ends, the first at the start and the last up to the end
+abbrev pub AreTiles : ℕ → List Place → ℕ → Type 0
+AreTiles start [] end = start ≡ end
+AreTiles start (place ∷ places) end = (place.from ≡ start) × (start ≤ place.to) × AreTiles place.to places end
+
+-- a place that ends within the list
+pub record IsPlace (end : ℕ) (place : Place) : Type 0 where
+  pub forward : place.from ≤ place.to
+  pub inside : place.to ≤ end
+
+-- the places lie in the list one behind the other
+pub record AreFlat (end : ℕ) (places : List Place) : Type 0 where
+  pub each : All (IsPlace end) places
+  pub ordered : AllPairs (λ s t. s.to ≤ t.from) places

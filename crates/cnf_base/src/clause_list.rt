@@ -1,0 +1,67 @@
+// Clauses that are stored, their literals one after another in one buffer.
+ghost use Rattle.std.specs.Prelude.{◌≡◌, ◌<◌, ◌^◌, [], ◌∷◌, ◌++◌, length, take, if◌then◌else◌, is_ok};
+
+use crate::{Clauses, Literal, Rows};
+use std::alloc::{AllocError, Global};
+use std::marker::Model;
+
+/// A list of clauses, each of at most 4,294,967,295 literals.
+#[derive(Drop)]
+pub struct ClauseList {
+    rows: Rows<Literal>,
+}
+
+impl Model for ClauseList {
+    ghost use Rattle.std.specs.Prelude.{◌<◌, ◌^◌, List, All, length};
+    ghost use Rattle.cnf_base.specs.declared.literal.Literal.{Literal};
+
+    ghost Value = { List (List Literal) };
+
+    ghost view = { λ a. a.rows };
+
+    ghost invariant = { λ a. All (λ clause. length clause < 2 ^ 32) a.rows };
+}
+
+impl ClauseList {
+    /// No clauses.
+    pub fn new(alloc: Global) -> Self
+        ensures { result ≡ [] }
+    {
+        ClauseList {
+            rows: Rows::new(alloc),
+        }
+    }
+
+    /// Puts the clause behind the others. After want of memory the list is as before.
+    pub fn push(&mut self, clause: &[Literal]) -> Result<(), AllocError>
+        requires { length clause.now < 2 ^ 32 }
+        ensures { self.new ≡ (if is_ok result then self.old ++ clause.now ∷ [] else self.old) }
+    {
+        self.rows.push(clause)
+    }
+
+    /// Keeps the first `count` clauses, or all where there are no more.
+    pub fn truncate(&mut self, count: u64)
+        ensures { self.new ≡ take count self.old }
+    {
+        if count < self.rows.len() as u64 {
+            self.rows.truncate(count as usize);
+        }
+    }
+}
+
+impl Clauses for ClauseList {
+    ghost clauses = { λ list. list };
+
+    fn count(&self) -> u64 {
+        self.rows.len() as u64
+    }
+
+    fn len(&self, number: u64) -> u32 {
+        self.rows.row((number - 1) as usize).len() as u32
+    }
+
+    fn literal(&self, number: u64, place: u32) -> Literal {
+        self.rows.row((number - 1) as usize)[place as usize]
+    }
+}

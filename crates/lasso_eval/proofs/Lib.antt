@@ -1,0 +1,12 @@
+mod Pushing
+mod Sweeping
+mod Truths
+mod Spanning
+mod Turning
+mod Telling
+mod Results
+mod Nodes
+mod Depths
+mod Marking
+mod Walk
+mod Counting

@@ -1,0 +1,9 @@
+use Rattle.std.proofs.Common.{◌≡◌, ℕ, ◌<◌, not, length}
+use Rattle.lasso_eval.specs.Rows.{cell}
+use Rattle.lasso_eval.proofs.local.not_row.Given as goal
+
+abbrev pub invariant-loop-i : goal.invariant-loop-i
+invariant-loop-i l = record {
+  count : length l.cells.items ≡ l.i;
+  each : (k : ℕ) → k < l.i → cell l.cells.items k ≡ not (cell l.a k);
+}

@@ -1,0 +1,8 @@
+pub mod Cells
+pub mod Under
+pub mod Rows
+pub mod Spans
+pub mod Truth
+pub mod Neighbours
+pub mod Following
+pub mod Extent

@@ -1,0 +1,25 @@
+//! Where a formula holds on a trace: a table of truth values, one row for each node under the
+//! root and one column for each position.
+//!
+//! On an infinite trace a formula whose past operators are nested h deep repeats with the loop
+//! from h loops after the stem on, so the stem and h + 1 loops are all that is looked at. Each
+//! row is filled from the rows of the node's children in one pass, or in two where a future
+//! operator has to look round the loop.
+#![tactic(auto)]
+
+mod depth;
+mod evaluate;
+mod extent;
+mod local;
+mod neighbour;
+mod node_row;
+mod refused;
+mod row;
+mod span;
+#[cfg(test)]
+mod tests;
+mod under;
+
+pub use evaluate::{holds, values};
+pub use refused::EvalRefused;
+pub use row::Values;

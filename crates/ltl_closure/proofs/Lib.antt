@@ -1,0 +1,13 @@
+pub mod Lists
+pub mod Entries
+pub mod Again
+pub mod Places
+pub mod Keyed
+pub mod Sharing
+pub mod SameKey
+pub mod Entering
+pub mod Plans
+pub mod Walks
+pub mod Steps
+pub mod Grouping
+pub mod Bounds

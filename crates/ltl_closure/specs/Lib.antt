@@ -1,0 +1,10 @@
+pub mod Decide
+pub mod Norm
+pub mod Closure
+pub mod Entries
+pub mod Run
+pub mod Rows
+pub mod Groups
+pub mod Keys
+pub mod Plan
+pub mod Walking

@@ -1,0 +1,16 @@
+//! The negation normal form of a formula, its closure, and the runs of the tableau.
+#![tactic(auto)]
+
+mod closure;
+mod entry;
+mod group;
+mod key;
+mod memo;
+mod plan;
+mod shared;
+#[cfg(test)]
+mod tests;
+mod walk;
+
+pub use closure::Closure;
+pub use entry::Entry;

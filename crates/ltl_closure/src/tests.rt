@@ -1,0 +1,320 @@
+ghost use Rattle.std.specs.Prelude.{IsTrue};
+ghost use Rattle.ltl_syntax.specs.Table.{MayFollow, IsPlain};
+
+use crate::{Closure, Entry};
+use ltl_syntax::{BinaryOp, FormulaTable, Kind, Node, UnaryOp};
+use std::alloc::Global;
+use std::process::Abort;
+
+fn is_plain(text: &str) -> bool
+    ensures { IsTrue result → IsPlain text.now }
+{
+    match text.as_bytes() {
+        [first, ..] => *first != b'{',
+        [] => true,
+    }
+}
+
+fn may_follow(table: &FormulaTable, node: Node) -> bool
+    ensures { IsTrue result → MayFollow table.now node }
+{
+    match node {
+        Node::Const(_) | Node::Fresh(_) => true,
+        Node::Letter(letter) => letter < table.letters(),
+        Node::Unary(_, a) => table.is_root(a),
+        Node::Binary(_, a, b) => table.is_root(a) && table.is_root(b) && a != b,
+    }
+}
+
+fn name(rt: &impl Abort, table: &mut FormulaTable, text: &str) -> u32 {
+    assert!(rt; table.letters() < u32::MAX && is_plain(text));
+    table.name(text).expect(rt, "memory")
+}
+
+fn push(rt: &impl Abort, table: &mut FormulaTable, node: Node) -> u32 {
+    assert!(rt; may_follow(table, node));
+    table.push(node).expect(rt, "a place")
+}
+
+/// A formula, the last node of the list, and what its closure is.
+struct Row<'a> {
+    nodes: &'a [Node],
+    entries: &'a [Entry],
+    nexts: &'a [u32],
+    yesterdays: &'a [u32],
+    eventualities: &'a [u32],
+}
+
+/// A table with the letters p, q and r, the nodes, and the number of the last.
+fn table_of(rt: &impl Abort, alloc: Global, nodes: &[Node]) -> (FormulaTable, u32) {
+    let mut table = FormulaTable::new(alloc);
+    for letter in ["p", "q", "r"] {
+        name(rt, &mut table, letter);
+    }
+    let mut root = 0;
+    for node in nodes {
+        root = push(rt, &mut table, *node);
+    }
+    (table, root)
+}
+
+fn closure_of<'t>(
+    rt: &impl Abort,
+    alloc: Global,
+    table: &'t FormulaTable,
+    root: u32,
+    kind: Kind,
+) -> Closure<'t> {
+    assert!(rt; root < table.len());
+    Closure::of(alloc, table, root, kind).expect(rt, "memory")
+}
+
+fn are_entries(found: &[Entry], wanted: &[Entry]) -> bool {
+    found == wanted
+}
+
+fn are_numbers(found: &[u32], wanted: &[u32]) -> bool {
+    found == wanted
+}
+
+fn check(rt: &impl Abort, alloc: Global, row: &Row<'_>) {
+    let (table, root) = table_of(rt, alloc, row.nodes);
+    let closure = closure_of(rt, alloc, &table, root, Kind::Finite);
+    assert!(rt; are_entries(closure.entries(), row.entries));
+    assert!(rt; are_numbers(closure.nexts(), row.nexts));
+    assert!(rt; are_numbers(closure.yesterdays(), row.yesterdays));
+    assert!(rt; are_numbers(closure.eventualities(), row.eventualities));
+    assert!(rt; closure.kind() == Kind::Finite);
+    assert!(rt; closure.table().letters() == 3);
+}
+
+const P: Node = Node::Letter(0);
+
+const Q: Node = Node::Letter(1);
+
+#[test]
+fn entries_with_their_numbers(rt: HostRuntime) {
+    // false
+    check(
+        &rt,
+        rt.alloc(),
+        &Row {
+            nodes: &[Node::Const(false)],
+            entries: &[Entry::False],
+            nexts: &[],
+            yesterdays: &[],
+            eventualities: &[],
+        },
+    );
+    // wX false
+    check(
+        &rt,
+        rt.alloc(),
+        &Row {
+            nodes: &[Node::Const(false), Node::Unary(UnaryOp::WeakNext, 0)],
+            entries: &[
+                Entry::False,
+                Entry::Next {
+                    argument: 1,
+                    weak: true,
+                },
+            ],
+            nexts: &[2],
+            yesterdays: &[],
+            eventualities: &[],
+        },
+    );
+    // G F p
+    check(
+        &rt,
+        rt.alloc(),
+        &Row {
+            nodes: &[
+                P,
+                Node::Unary(UnaryOp::Eventually, 0),
+                Node::Unary(UnaryOp::Always, 1),
+            ],
+            entries: &[
+                Entry::False,
+                Entry::True,
+                Entry::Letter(0),
+                Entry::Until {
+                    left: 2,
+                    right: 3,
+                    request: 5,
+                },
+                Entry::Next {
+                    argument: 4,
+                    weak: false,
+                },
+                Entry::Release {
+                    left: 1,
+                    right: 4,
+                    request: 7,
+                },
+                Entry::Next {
+                    argument: 6,
+                    weak: true,
+                },
+            ],
+            nexts: &[5, 7],
+            yesterdays: &[],
+            eventualities: &[4],
+        },
+    );
+    // p & !p
+    check(
+        &rt,
+        rt.alloc(),
+        &Row {
+            nodes: &[
+                P,
+                P,
+                Node::Unary(UnaryOp::Not, 1),
+                Node::Binary(BinaryOp::And, 0, 2),
+            ],
+            entries: &[Entry::Letter(0), Entry::NotLetter(1), Entry::And(1, 2)],
+            nexts: &[],
+            yesterdays: &[],
+            eventualities: &[],
+        },
+    );
+    // p W q
+    check(
+        &rt,
+        rt.alloc(),
+        &Row {
+            nodes: &[P, Q, Node::Binary(BinaryOp::WeakUntil, 0, 1)],
+            entries: &[
+                Entry::Letter(1),
+                Entry::Letter(0),
+                Entry::Or(2, 1),
+                Entry::Release {
+                    left: 1,
+                    right: 3,
+                    request: 5,
+                },
+                Entry::Next {
+                    argument: 4,
+                    weak: true,
+                },
+            ],
+            nexts: &[5],
+            yesterdays: &[],
+            eventualities: &[],
+        },
+    );
+    // H O p
+    check(
+        &rt,
+        rt.alloc(),
+        &Row {
+            nodes: &[
+                P,
+                Node::Unary(UnaryOp::Once, 0),
+                Node::Unary(UnaryOp::Historically, 1),
+            ],
+            entries: &[
+                Entry::False,
+                Entry::True,
+                Entry::Letter(0),
+                Entry::Since {
+                    left: 2,
+                    right: 3,
+                    request: 5,
+                },
+                Entry::Yesterday {
+                    argument: 4,
+                    weak: false,
+                },
+                Entry::Trigger {
+                    left: 1,
+                    right: 4,
+                    request: 7,
+                },
+                Entry::Yesterday {
+                    argument: 6,
+                    weak: true,
+                },
+            ],
+            nexts: &[],
+            yesterdays: &[5, 7],
+            eventualities: &[],
+        },
+    );
+}
+
+#[test]
+fn equivalences_share_what_both_sides_have(rt: HostRuntime) {
+    // p <-> (q <-> r)
+    check(
+        &rt,
+        rt.alloc(),
+        &Row {
+            nodes: &[
+                P,
+                Q,
+                Node::Letter(2),
+                Node::Binary(BinaryOp::Iff, 1, 2),
+                Node::Binary(BinaryOp::Iff, 0, 3),
+            ],
+            entries: &[
+                Entry::Letter(0),
+                Entry::Letter(1),
+                Entry::Letter(2),
+                Entry::And(2, 3),
+                Entry::NotLetter(2),
+                Entry::NotLetter(3),
+                Entry::And(5, 6),
+                Entry::Or(4, 7),
+                Entry::And(1, 8),
+                Entry::NotLetter(1),
+                Entry::And(2, 6),
+                Entry::And(5, 3),
+                Entry::Or(11, 12),
+                Entry::And(10, 13),
+                Entry::Or(9, 14),
+            ],
+            nexts: &[],
+            yesterdays: &[],
+            eventualities: &[],
+        },
+    );
+}
+
+#[test]
+fn bounds(rt: HostRuntime) {
+    // G F p & G !p
+    let (table, root) = table_of(
+        &rt,
+        rt.alloc(),
+        &[
+            P,
+            Node::Unary(UnaryOp::Eventually, 0),
+            Node::Unary(UnaryOp::Always, 1),
+            P,
+            Node::Unary(UnaryOp::Not, 3),
+            Node::Unary(UnaryOp::Always, 4),
+            Node::Binary(BinaryOp::And, 2, 5),
+        ],
+    );
+    let infinite = closure_of(&rt, rt.alloc(), &table, root, Kind::Infinite);
+    assert!(rt; infinite.bound_at_most(16) && !infinite.bound_at_most(15));
+    let finite = closure_of(&rt, rt.alloc(), &table, root, Kind::Finite);
+    assert!(rt; finite.bound_at_most(8) && !finite.bound_at_most(7));
+    let (table, root) = table_of(&rt, rt.alloc(), &[P]);
+    let letter = closure_of(&rt, rt.alloc(), &table, root, Kind::Infinite);
+    assert!(rt; letter.root() == 1);
+    assert!(rt; letter.bound_at_most(1) && !letter.bound_at_most(0));
+}
+
+#[test]
+fn a_bound_past_every_number(rt: HostRuntime) {
+    let (mut table, mut root) = table_of(&rt, rt.alloc(), &[P]);
+    for _ in 0..130 {
+        root = push(&rt, &mut table, Node::Unary(UnaryOp::Next, root));
+    }
+    let closure = closure_of(&rt, rt.alloc(), &table, root, Kind::Infinite);
+    assert!(rt; closure.nexts().len() == 130);
+    assert!(rt; !closure.bound_at_most(1_000));
+}

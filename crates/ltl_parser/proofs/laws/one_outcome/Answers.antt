@@ -1,0 +1,13 @@
+use Rattle.ltl_parser.proofs.Readings.{one_lexical_fault, one_grammar_fault, one_text_reading, lexical_not_grammar, lexical_not_read, grammar_not_read, read_or_fault}
+use Rattle.ltl_parser.proofs.laws.one_outcome.Goals as goal
+
+pub returns : goal.returns
+returns c = record {
+  one_lexical_fault = one_lexical_fault;
+  one_grammar_fault = one_grammar_fault;
+  one_formula = one_text_reading;
+  lexical_not_grammar = lexical_not_grammar;
+  lexical_not_read = lexical_not_read;
+  grammar_not_read = grammar_not_read;
+  read_or_fault = read_or_fault;
+}

@@ -1,0 +1,16 @@
+//! The formula that the tokens of a text read as, by a stack of operators and without recursion.
+#![tactic(auto)]
+
+mod build;
+pub mod laws;
+mod meaning;
+mod parsing;
+mod reduce;
+mod stack;
+mod step;
+mod strength;
+#[cfg(test)]
+mod tests;
+mod walking;
+
+pub use parsing::{ParseRefused, parse};

@@ -1,0 +1,81 @@
+-- What the laws of runs say. They are stated for both kinds of trace.
+use Rattle.std.specs.Prelude.{◌≡◌, ℕ, ◌+◌, ◌-◌, ◌*◌, ◌<◌, ◌≤◌, ◌↔◌, List, length}
+use Rattle.ltl_syntax.specs.declared.node.Kind.{Kind}
+use Rattle.ltl_syntax.specs.Formula.{Formula}
+use Rattle.ltl_word.specs.declared.trace.Trace.{Trace}
+use Rattle.ltl_word.specs.declared.trace.Trace.TheVariants.{Infinite}
+use Rattle.ltl_word.specs.Trace.{Names, IsTrace, IsOfKind}
+use Rattle.ltl_word.specs.Holds.{Holds, Satisfies}
+use Rattle.ltl_word.specs.Depth.{past_depth}
+use Rattle.ltl_closure.specs.Norm.{formula_of, pos_of, neg_of}
+use Rattle.ltl_closure.specs.Run.{States, IsRun, IsAccepted, IsPrunedAt, IsUnpruned, HasAccepted, Verdict, IsVerdict, Sat, Unsat, Undecided, bound, carry, spliced, rotated}
+use Rattle.ltl_run.specs.declared.run_state.Close.{Close}
+use Rattle.ltl_run.specs.TraceOf.{ClosesTo, Accepts, GivesTrace}
+
+-- the normal form of a formula holds where the formula does
+abbrev pub NormalFormAgrees : Type 0
+NormalFormAgrees = (t : Trace) (f : Formula) (i : ℕ) → IsTrace t → Holds t (formula_of (pos_of f)) i ↔ Holds t f i
+
+-- the normal form of its negation holds where the formula does not
+abbrev pub NegationAgrees : Type 0
+NegationAgrees = (t : Trace) (f : Formula) (i : ℕ) → IsTrace t → Holds t (formula_of (neg_of f)) i ↔ (Holds t f i → ⊥)
+
+-- the trace of a run that a rule accepts is one of the run's kind and satisfies the formula
+abbrev pub RunsSatisfy : Type 0
+RunsSatisfy = (f : Formula) (kind : Kind) (k : ℕ) (r : States) (close : Close) (t : Trace) → IsRun f k r → Accepts close f r k kind → GivesTrace f r k close t
+    → IsTrace t × IsOfKind t kind × Satisfies t f
+
+-- a run is accepted where one of the three rules accepts it
+abbrev pub RulesAccept : Type 0
+RulesAccept = (f : Formula) (kind : Kind) (k : ℕ) (r : States) → IsAccepted f r k kind ↔ ((close : Close) × Accepts close f r k kind)
+
+-- a lasso with a stem of s and a loop of p states that satisfies a formula with past operators nested h deep gives a run that closes from s + h p + p to s + h p
+abbrev pub LassosRun : Type 0
+LassosRun = (f : Formula) (stem loop_part : List Names) → 0 < length loop_part → Satisfies (Infinite stem loop_part) f
+    → (r : States) × IsRun f (length stem + past_depth f * length loop_part + length loop_part) r
+    × ClosesTo f r (length stem + past_depth f * length loop_part) (length stem + past_depth f * length loop_part + length loop_part)
+
+-- a trace that satisfies the formula gives an accepted run
+abbrev pub TracesRun : Type 0
+TracesRun = (f : Formula) (kind : Kind) (t : Trace) → IsTrace t → IsOfKind t kind → Satisfies t f → (k : ℕ) × HasAccepted f kind k
+
+-- where states j < i have one carry, the states j+1 to i can be cut out of a run, and the last state keeps its carry
+abbrev pub RunsAreCut : Type 0
+RunsAreCut = (f : Formula) (k j i : ℕ) (r : States) → IsRun f k r → j < i → i ≤ k → carry f (r j) ≡ carry f (r i)
+    → IsRun f (j + (k - i)) (spliced r j r i) × (carry f (spliced r j r i (j + (k - i))) ≡ carry f (r k))
+
+-- where a run closes to a state l between a and i, which have one carry, the states 0 to a, i+1 to k and l+1 to i are a run that closes to a
+abbrev pub RunsAreRotated : Type 0
+RunsAreRotated = (f : Formula) (k a l i : ℕ) (r : States) → IsRun f k r → ClosesTo f r l k → a < l → l < i → i ≤ k → carry f (r a) ≡ carry f (r i)
+    → IsRun f (a + (k - l)) (rotated r a i k l) × ClosesTo f (rotated r a i k l) a (a + (k - l))
+
+-- an accepted run that is pruned gives a shorter accepted one
+abbrev pub PrunedRunsShorten : Type 0
+PrunedRunsShorten = (f : Formula) (kind : Kind) (k i : ℕ) (r : States) → IsRun f k r → IsAccepted f r k kind → i ≤ k → IsPrunedAt f r i kind
+    → (m : ℕ) × (m < k) × HasAccepted f kind m
+
+-- an accepted run of least length has no pruned state
+abbrev pub LeastRunsAreUnpruned : Type 0
+LeastRunsAreUnpruned = (f : Formula) (kind : Kind) (k : ℕ) (r : States) → IsRun f k r → IsAccepted f r k kind → ((m : ℕ) → m < k → HasAccepted f kind m → ⊥)
+    → IsUnpruned f r k kind
+
+-- where there is an accepted run, there is one that is no longer and has no pruned state
+abbrev pub HaveUnpruned : Type 0
+HaveUnpruned = (f : Formula) (kind : Kind) (k : ℕ) → HasAccepted f kind k → (m : ℕ) × (m ≤ k) × (r : States) × IsRun f m r × IsAccepted f r m kind × IsUnpruned f r m kind
+
+-- no trace of the kind satisfies a formula whose verdict is UNSAT
+abbrev pub UnsatIsSound : Type 0
+UnsatIsSound = (f : Formula) (kind : Kind) (limit k : ℕ) (t : Trace) → IsVerdict f kind limit (Unsat k) → IsTrace t → IsOfKind t kind → Satisfies t f → ⊥
+
+-- at a limit of at least the bound the verdict is not UNDECIDED
+abbrev pub BoundSettles : Type 0
+BoundSettles = (f : Formula) (kind : Kind) (limit k : ℕ) → bound f kind ≤ limit → IsVerdict f kind limit (Undecided k) → ⊥
+
+-- at such a limit the verdict is SAT where a trace of the kind satisfies the formula
+abbrev pub BoundFinds : Type 0
+BoundFinds = (f : Formula) (kind : Kind) (limit : ℕ) (v : Verdict) (t : Trace) → bound f kind ≤ limit → IsVerdict f kind limit v → IsTrace t → IsOfKind t kind → Satisfies t f
+    → (k : ℕ) × (v ≡ Sat k)
+
+-- at each limit a formula has at most one verdict
+abbrev pub VerdictIsOne : Type 0
+VerdictIsOne = (f : Formula) (kind : Kind) (limit : ℕ) (v w : Verdict) → IsVerdict f kind limit v → IsVerdict f kind limit w → v ≡ w

@@ -1,0 +1,4 @@
+pub mod TraceOf
+pub mod States
+pub mod Shown
+pub mod Laws

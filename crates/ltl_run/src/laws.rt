@@ -1,0 +1,55 @@
+//! Laws of runs. Each function is empty: its contract is the law, and a proof cites it by a call.
+//!
+//! The tableau is Reynolds' one-pass tree-shaped one (2016), as Geatti, Gigante and Montanari (2019) ask a solver for its branches.
+ghost use Rattle.ltl_run.specs.Laws.{NormalFormAgrees, NegationAgrees, RunsSatisfy, RulesAccept, LassosRun, TracesRun, RunsAreCut, RunsAreRotated, PrunedRunsShorten, LeastRunsAreUnpruned, HaveUnpruned, UnsatIsSound, BoundSettles, BoundFinds, VerdictIsOne};
+
+/// The normal form holds where the formula does, and that of its negation where the formula does not.
+pub fn normal_form()
+    ensures same { NormalFormAgrees }
+    ensures negated { NegationAgrees }
+{}
+
+/// An accepted run gives a trace that satisfies the formula.
+pub fn run_satisfies()
+    ensures satisfies { RunsSatisfy }
+    ensures rules { RulesAccept }
+{}
+
+/// A trace that satisfies the formula gives an accepted run, and a lasso one whose length depends on the past operators only.
+pub fn satisfied_runs()
+    ensures accepted { TracesRun }
+    ensures lasso { LassosRun }
+{}
+
+/// States between two of one carry can be cut out.
+pub fn cutting()
+    ensures { RunsAreCut }
+{}
+
+/// A run that closes to an earlier state can be turned about that state.
+pub fn rotating()
+    ensures { RunsAreRotated }
+{}
+
+/// Pruning loses no formula: a pruned accepted run gives a shorter accepted one.
+pub fn pruning()
+    ensures shorter { PrunedRunsShorten }
+    ensures least { LeastRunsAreUnpruned }
+    ensures unpruned { HaveUnpruned }
+{}
+
+/// UNSAT means that no trace of the kind satisfies the formula.
+pub fn unsatisfiable()
+    ensures { UnsatIsSound }
+{}
+
+/// At the bound the verdict is settled, and it is SAT where a trace satisfies the formula.
+pub fn bounded()
+    ensures settled { BoundSettles }
+    ensures found { BoundFinds }
+{}
+
+/// The verdict is one.
+pub fn one_verdict()
+    ensures { VerdictIsOne }
+{}

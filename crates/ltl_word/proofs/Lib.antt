@@ -1,0 +1,15 @@
+-- Lemmas on claims: searching, dualities, agreement, expansion, repetition. Then what they give for formulas on a trace.
+pub mod Search
+pub mod Duality
+pub mod Agreement
+pub mod Expansion
+pub mod Repeats
+pub mod Periodicity
+pub mod Decided
+mod Propositional
+mod Written
+mod Prefixes
+mod Forms
+mod Parts
+mod OneReading
+mod Lookup

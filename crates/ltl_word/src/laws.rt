@@ -1,0 +1,83 @@
+//! Laws of where formulas hold. Each function is empty: its contract is the law, and a proof cites it by a call.
+ghost use Rattle.std.specs.Prelude.{Bool, true, false, not};
+ghost use Rattle.ltl_syntax.specs.Formula.{Formula, Const, Unary, Binary};
+ghost use Rattle.ltl_syntax.specs.declared.node.UnaryOp.TheVariants.{Always, Eventually, Historically, Next, Not, Once, WeakNext, WeakYesterday, Yesterday};
+ghost use Rattle.ltl_syntax.specs.declared.node.BinaryOp.TheVariants.{And, Iff, Implies, Or, Release, Since, StrongRelease, Trigger, Until, WeakUntil};
+ghost use Rattle.ltl_word.specs.Laws.{IsPeriodic, EachIsDecided, AreEquivalent, AreEquivalentAtPositions, DependsOnState, DependsOnLetters, IsOneReading};
+
+/// On an infinite trace a formula repeats with the loop from some position on.
+pub fn periodic()
+    ensures { IsPeriodic }
+{}
+
+/// On a trace a formula holds at a number or it doesn't.
+pub fn decided()
+    ensures { EachIsDecided }
+{}
+
+/// Each temporal operator that looks further than one step, in terms of a position and its neighbour.
+pub fn expansion()
+    ensures until { (a b : Formula) → AreEquivalentAtPositions (Binary Until a b) (Binary Or b (Binary And a (Unary Next (Binary Until a b)))) }
+    ensures release { (a b : Formula) → AreEquivalentAtPositions (Binary Release a b) (Binary And b (Binary Or a (Unary WeakNext (Binary Release a b)))) }
+    ensures weak_until { (a b : Formula) → AreEquivalentAtPositions (Binary WeakUntil a b) (Binary And (Binary Or a b) (Binary Or b (Unary WeakNext (Binary WeakUntil a b)))) }
+    ensures strong_release { (a b : Formula) → AreEquivalentAtPositions (Binary StrongRelease a b) (Binary Or (Binary And a b) (Binary And b (Unary Next (Binary StrongRelease a b)))) }
+    ensures eventually { (a : Formula) → AreEquivalentAtPositions (Unary Eventually a) (Binary Or a (Unary Next (Unary Eventually a))) }
+    ensures always { (a : Formula) → AreEquivalentAtPositions (Unary Always a) (Binary And a (Unary WeakNext (Unary Always a))) }
+    ensures since { (a b : Formula) → AreEquivalent (Binary Since a b) (Binary Or b (Binary And a (Unary Yesterday (Binary Since a b)))) }
+    ensures trigger { (a b : Formula) → AreEquivalent (Binary Trigger a b) (Binary And b (Binary Or a (Unary WeakYesterday (Binary Trigger a b)))) }
+    ensures once { (a : Formula) → AreEquivalent (Unary Once a) (Binary Or a (Unary Yesterday (Unary Once a))) }
+    ensures historically { (a : Formula) → AreEquivalent (Unary Historically a) (Binary And a (Unary WeakYesterday (Unary Historically a))) }
+{}
+
+/// The operators that abbreviate others.
+pub fn abbreviations()
+    ensures eventually { (a : Formula) → AreEquivalent (Unary Eventually a) (Binary Until (Const true) a) }
+    ensures always { (a : Formula) → AreEquivalent (Unary Always a) (Binary Release (Const false) a) }
+    ensures weak_until { (a b : Formula) → AreEquivalent (Binary WeakUntil a b) (Binary Release b (Binary Or a b)) }
+    ensures strong_release { (a b : Formula) → AreEquivalent (Binary StrongRelease a b) (Binary Until b (Binary And a b)) }
+    ensures once { (a : Formula) → AreEquivalent (Unary Once a) (Binary Since (Const true) a) }
+    ensures historically { (a : Formula) → AreEquivalent (Unary Historically a) (Binary Trigger (Const false) a) }
+{}
+
+/// The negation of each operator that joins formulas of one position.
+pub fn propositional_duality()
+    ensures constant { (b : Bool) → AreEquivalent (Unary Not (Const b)) (Const (not b)) }
+    ensures negation { (a : Formula) → AreEquivalent (Unary Not (Unary Not a)) a }
+    ensures and { (a b : Formula) → AreEquivalent (Unary Not (Binary And a b)) (Binary Or (Unary Not a) (Unary Not b)) }
+    ensures or { (a b : Formula) → AreEquivalent (Unary Not (Binary Or a b)) (Binary And (Unary Not a) (Unary Not b)) }
+    ensures implies { (a b : Formula) → AreEquivalent (Unary Not (Binary Implies a b)) (Binary And a (Unary Not b)) }
+    ensures iff { (a b : Formula) → AreEquivalent (Unary Not (Binary Iff a b)) (Binary Iff a (Unary Not b)) }
+{}
+
+/// The negation of each operator on the positions from one on.
+pub fn future_duality()
+    ensures next { (a : Formula) → AreEquivalent (Unary Not (Unary Next a)) (Unary WeakNext (Unary Not a)) }
+    ensures weak_next { (a : Formula) → AreEquivalent (Unary Not (Unary WeakNext a)) (Unary Next (Unary Not a)) }
+    ensures eventually { (a : Formula) → AreEquivalent (Unary Not (Unary Eventually a)) (Unary Always (Unary Not a)) }
+    ensures always { (a : Formula) → AreEquivalent (Unary Not (Unary Always a)) (Unary Eventually (Unary Not a)) }
+    ensures until { (a b : Formula) → AreEquivalent (Unary Not (Binary Until a b)) (Binary Release (Unary Not a) (Unary Not b)) }
+    ensures release { (a b : Formula) → AreEquivalent (Unary Not (Binary Release a b)) (Binary Until (Unary Not a) (Unary Not b)) }
+    ensures weak_until { (a b : Formula) → AreEquivalent (Unary Not (Binary WeakUntil a b)) (Binary StrongRelease (Unary Not a) (Unary Not b)) }
+    ensures strong_release { (a b : Formula) → AreEquivalent (Unary Not (Binary StrongRelease a b)) (Binary WeakUntil (Unary Not a) (Unary Not b)) }
+{}
+
+/// The negation of each operator on the positions up to one.
+pub fn past_duality()
+    ensures yesterday { (a : Formula) → AreEquivalent (Unary Not (Unary Yesterday a)) (Unary WeakYesterday (Unary Not a)) }
+    ensures weak_yesterday { (a : Formula) → AreEquivalent (Unary Not (Unary WeakYesterday a)) (Unary Yesterday (Unary Not a)) }
+    ensures once { (a : Formula) → AreEquivalent (Unary Not (Unary Once a)) (Unary Historically (Unary Not a)) }
+    ensures historically { (a : Formula) → AreEquivalent (Unary Not (Unary Historically a)) (Unary Once (Unary Not a)) }
+    ensures since { (a b : Formula) → AreEquivalent (Unary Not (Binary Since a b)) (Binary Trigger (Unary Not a) (Unary Not b)) }
+    ensures trigger { (a b : Formula) → AreEquivalent (Unary Not (Binary Trigger a b)) (Binary Since (Unary Not a) (Unary Not b)) }
+{}
+
+/// A formula without temporal operators depends on its state alone, and there on its own letters.
+pub fn propositional()
+    ensures state { DependsOnState }
+    ensures letters { DependsOnLetters }
+{}
+
+/// What bytes are read as is determined, so that each answer of `Trace::from_json` but want of memory comes exactly where `IsReading` says.
+pub fn one_reading()
+    ensures { IsOneReading }
+{}
