@@ -9,7 +9,7 @@ use Rattle.black_top.specs.declared.status.Status.TheVariants as statuses
 use Rattle.black_top.specs.Words.{Command, Solve, Check, Trace as TraceWord, Demo}
 use Rattle.ltl_parser.specs.Text.{IsAccepted}
 use Rattle.black_top.specs.Answer.{Answer, refused, sat, unsat, IsAnswer, not_taken, asked, Answers, status_of, text_of, fault_status}
-use Rattle.black_top.specs.Run.{IsAnswered, AreLeft, OfFormula, PrintsModel, PrintsNone}
+use Rattle.black_top.specs.Run.{IsAnswered, OfFormula, PrintsModel, PrintsNone}
 
 fault_not_sat : (fault : Fault) → statuses.Sat ≡ fault_status fault → ⊥
 fault_not_sat faults.Usage e = cc

@@ -10,3 +10,4 @@ pub mod Plain
 pub mod Chosen
 pub mod Refusing
 pub mod Showing
+pub mod OneAnswer

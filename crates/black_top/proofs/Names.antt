@@ -1,5 +1,5 @@
 -- Which tokens are built: one token more.
-use Rattle.std.proofs.Common.{◌≡◌, ◌≢◌, ◌∙◌, ℕ, suc, ◌+◌, ◌<◌, ◌≤◌, Bool, true, false, cond, ◌||◌, List, [], ◌∷◌, ◌++◌, length, get_or, take, drop, map, filter, All, nat_eq, bytes_eq, Decides, append-nil, refl, sym, ap, subst, arith, length-append}
+use Rattle.std.proofs.Common.{◌≡◌, ◌≢◌, ◌∙◌, ℕ, suc, ◌<◌, ◌≤◌, Bool, true, false, cond, ◌||◌, List, [], ◌∷◌, ◌++◌, length, get_or, take, drop, map, filter, All, nat_eq, bytes_eq, Decides, append-nil, refl, sym, ap, subst, arith, length-append}
 use Rattle.std.specs.Cmp.Lexicographic.{pointwise}
 use Rattle.std.proofs.Math.Seq.{split_at, take-suc}
 use Rattle.std.proofs.lemmas.Bool.Decides.{Decides-eqb}
@@ -11,7 +11,8 @@ use Rattle.std.proofs.lemmas.List.Folds.{list_any-append}
 use Rattle.std.proofs.lemmas.Slice.Eq.{bytes_eq-Decides, slice_eq-Decides}
 use Rattle.ltl_lexer.specs.declared.token.Token.{Token}
 use Rattle.ltl_lexer.specs.Tokens.{IsPartOf}
-use Rattle.black_top.specs.NotBuilt.{is_temporal, is_name, spelling, names_of, AreBuilt, BeginsNotBuilt, Bring}
+use Rattle.black_top.specs.NotBuilt.{is_temporal, is_name, spelling, names_of, AreBuilt, BeginsNotBuilt}
+use Rattle.black_top.specs.Inner.{Bring}
 
 -- the number of a list of names and a further one
 count_cons : (known : Bool) (keys : List (List ℕ)) (x : List ℕ) → length (cond known keys (x ∷ keys)) ≡ cond known (length keys) (suc (length keys))
@@ -45,7 +46,7 @@ count_arith false false true m n s e = ap suc e
 count_arith false false false m n s e = ap suc e
 
 -- a name more counts where it was not there
-count_more : (xs : List (List ℕ)) (x : List ℕ) → distinct_count bytes_eq (xs ++ x ∷ []) ≡ cond (is_member bytes_eq xs x) (distinct_count bytes_eq xs) (suc (distinct_count bytes_eq xs))
+pub count_more : (xs : List (List ℕ)) (x : List ℕ) → distinct_count bytes_eq (xs ++ x ∷ []) ≡ cond (is_member bytes_eq xs x) (distinct_count bytes_eq xs) (suc (distinct_count bytes_eq xs))
 count_more [] x = refl
 count_more (y ∷ ys) x =
     count_cons (is_member bytes_eq (ys ++ x ∷ []) y) (unique_keys bytes_eq (ys ++ x ∷ [])) y

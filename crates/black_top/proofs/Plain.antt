@@ -1,15 +1,13 @@
 -- A formula that is read from tokens of which none is temporal is plain.
-use Rattle.std.proofs.Common.{◌≡◌, ◌∙◌, ℕ, Bool, true, false, ◌||◌, List, [], ◌∷◌, ◌++◌, inl, inr, slice_range, refl, subst}
+use Rattle.std.proofs.Common.{◌≡◌, ℕ, Bool, true, false, ◌||◌, List, [], ◌∷◌, ◌++◌, inl, inr, slice_range, refl, subst}
 use Rattle.std.specs.List.{list_any}
-use Rattle.ltl_syntax.specs.declared.node.UnaryOp.TheVariants as one
-use Rattle.ltl_syntax.specs.declared.node.BinaryOp.TheVariants as two
-use Rattle.ltl_syntax.specs.Formula.{Formula, Const, Letter, Name, Fresh, Unary, Binary}
-use Rattle.ltl_word.specs.Propositional.{IsLocal₁, IsLocal₂, IsPropositional, HasLetter}
+use Rattle.ltl_syntax.specs.Formula.{Formula}
+use Rattle.ltl_word.specs.Propositional.{IsLocal₁, IsLocal₂}
 use Rattle.ltl_lexer.specs.declared.token.TokenKind.{TokenKind}
 use Rattle.ltl_lexer.specs.declared.token.TokenKind.TheVariants as kinds
 use Rattle.ltl_lexer.specs.declared.token.Token.{Token}
 use Rattle.ltl_parser.specs.Grammar.{Symbol, Leaf, Prefix, Infix, Open, Close, Reads, Apart, Applied, Enclosed, Alone}
-use Rattle.ltl_parser.specs.Text.{symbol, symbol_of, symbols}
+use Rattle.ltl_parser.specs.Text.{symbol, symbols}
 use Rattle.black_top.specs.NotBuilt.{is_temporal}
 use Rattle.black_top.specs.Search.{IsPlain}
 

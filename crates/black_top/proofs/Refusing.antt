@@ -1,5 +1,5 @@
 -- A text with tokens that have no fault reads as a formula, and its nodes are counted by its tokens.
-use Rattle.std.proofs.Common.{◌≡◌, ◌∙◌, ℕ, ◌<◌, List, Option, Some, None, ◌↔◌, refl}
+use Rattle.std.proofs.Common.{◌≡◌, ℕ, ◌<◌, List, Option, Some, None, ◌↔◌, refl}
 use Rattle.ltl_lexer.specs.declared.token.Token.{Token}
 use Rattle.ltl_lexer.specs.Tokens.{AreTokens}
 use Rattle.ltl_parser.specs.Grammar.{Symbol, Reads, fault, node_count}

@@ -1,11 +1,14 @@
--- What the inner calls give: a reading, and what is shown of an answer.
-use Rattle.std.specs.Prelude.{◌≡◌, ◌<◌, ℕ, List, [], length}
+-- What the private calls give. No public contract cites this file.
+use Rattle.std.specs.Prelude.{◌≡◌, ◌<◌, ℕ, Bool, true, false, List, [], ◌∷◌, ◌++◌, length, map, All, bytes_eq}
+use Rattle.std.specs.Set.{is_member, distinct_count}
+use Rattle.ltl_lexer.specs.declared.token.Token.{Token}
+use Rattle.ltl_lexer.specs.Tokens.{IsPartOf}
 use Rattle.ltl_syntax.specs.Table.{tree_at}
 use Rattle.ltl_parser.specs.Text.{IsAccepted}
 use Rattle.black_top.specs.declared.output.Output.{Output}
 use Rattle.black_top.specs.declared.reading.Reading.{Reading}
 use Rattle.black_top.specs.declared.reading.Reading.TheVariants as readings
-use Rattle.black_top.specs.NotBuilt.{IsBuilt}
+use Rattle.black_top.specs.NotBuilt.{spelling, names_of, AreBuilt, IsBuilt}
 use Rattle.black_top.specs.Answer.{Answer, refused, SolveAnswers, status_of, text_of}
 use Rattle.black_top.specs.Search.{IsPlain}
 
@@ -18,3 +21,15 @@ IsReading text (readings.Refused fault) = SolveAnswers [] text (refused fault)
 pub record Shows (output : Output) (answer : Answer) : Type 0 where
   pub status : output.status ≡ status_of answer
   pub text : output.text.items ≡ text_of answer
+
+-- the tokens before are built, and the kept ones brought their names, each another one
+pub record Bring (text : List ℕ) (before kept : List Token) : Type 0 where
+  pub built : AreBuilt text before
+  pub count : distinct_count bytes_eq (names_of text before) ≡ length kept
+  pub known : (name : List ℕ) → is_member bytes_eq (map (spelling text) kept) name ≡ is_member bytes_eq (names_of text before) name
+  pub fitting : All (IsPartOf text) kept
+
+-- whether the token may come behind those before, and which are kept then
+abbrev pub Admits : List ℕ → List Token → Token → List Token → Bool → Type 0
+Admits text before token kept true = Bring text (before ++ token ∷ []) kept
+Admits text before token kept false = ¬ (AreBuilt text (before ++ token ∷ []))

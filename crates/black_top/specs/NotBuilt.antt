@@ -1,11 +1,11 @@
 -- What `solve` does not answer yet: temporal operators, and more than sixteen names.
-use Rattle.std.specs.Prelude.{◌≡◌, ◌≤◌, ℕ, Bool, true, false, List, [], ◌∷◌, ◌++◌, length, map, filter, All, bytes_eq, slice_range, None}
+use Rattle.std.specs.Prelude.{◌≡◌, ◌≤◌, ℕ, Bool, true, false, List, [], ◌∷◌, ◌++◌, map, filter, bytes_eq, slice_range, None}
 use Rattle.std.specs.List.{list_any}
-use Rattle.std.specs.Set.{is_member, distinct_count}
+use Rattle.std.specs.Set.{distinct_count}
 use Rattle.ltl_lexer.specs.declared.token.TokenKind.{TokenKind}
 use Rattle.ltl_lexer.specs.declared.token.TokenKind.TheVariants as kinds
 use Rattle.ltl_lexer.specs.declared.token.Token.{Token}
-use Rattle.ltl_lexer.specs.Tokens.{AreTokens, IsPartOf}
+use Rattle.ltl_lexer.specs.Tokens.{AreTokens}
 
 -- the token is a temporal operator
 abbrev pub is_temporal : TokenKind → Bool
@@ -52,15 +52,3 @@ pub record IsNotBuilt (part : List ℕ) (byte : ℕ) : Type 0 where
   pub tokens : List Token
   pub lexed : AreTokens 0 part tokens None
   pub first : BeginsNotBuilt part tokens byte
-
--- the tokens before are built, and the kept ones brought their names, each another one
-pub record Bring (text : List ℕ) (before kept : List Token) : Type 0 where
-  pub built : AreBuilt text before
-  pub count : distinct_count bytes_eq (names_of text before) ≡ length kept
-  pub known : (name : List ℕ) → is_member bytes_eq (map (spelling text) kept) name ≡ is_member bytes_eq (names_of text before) name
-  pub fitting : All (IsPartOf text) kept
-
--- whether the token may come behind those before, and which are kept then
-abbrev pub Admits : List ℕ → List Token → Token → List Token → Bool → Type 0
-Admits text before token kept true = Bring text (before ++ token ∷ []) kept
-Admits text before token kept false = ¬ (AreBuilt text (before ++ token ∷ []))

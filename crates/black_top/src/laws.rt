@@ -1,8 +1,17 @@
-//! Laws of the definitions. Each function is empty: its contract is the law.
+//! Laws of the definitions: the contract of each function is the law.
 ghost use Rattle.std.specs.Prelude.{◌≡◌, ℕ, List};
 ghost use Rattle.black_top.specs.Words.{Command, Taken};
+ghost use Rattle.black_top.specs.Answer.{Answer, IsAnswer, AreAlike};
 
 /// A list of words is taken as one command at most.
 pub fn one_command()
     ensures { (words : List (List ℕ)) (c d : Command) → Taken words c → Taken words d → c ≡ d }
 {}
+
+/// Words and bytes have one answer, but for the trace that is shown with SAT.
+pub fn one_answer()
+    ensures { (words : List (List ℕ)) (bytes : List ℕ) (a b : Answer) → IsAnswer words bytes a → IsAnswer words bytes b → AreAlike a b }
+{
+    ltl_lexer::laws::one_list();
+    ltl_parser::laws::one_outcome();
+}

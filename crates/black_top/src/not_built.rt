@@ -4,7 +4,8 @@ ghost use Rattle.std.specs.Prelude.{◌≡◌, List, All, bytes_eq, map, IfOk, M
 ghost use Rattle.std.specs.Set.{is_member};
 ghost use Rattle.ltl_lexer.specs.declared.token.Token.{Token};
 ghost use Rattle.ltl_lexer.specs.Tokens.{AreTokens, IsPartOf};
-ghost use Rattle.black_top.specs.NotBuilt.{is_temporal, is_name, spelling, AreBuilt, BeginsNotBuilt, Bring, Admits};
+ghost use Rattle.black_top.specs.NotBuilt.{is_temporal, is_name, spelling, AreBuilt, BeginsNotBuilt};
+ghost use Rattle.black_top.specs.Inner.{Bring, Admits};
 
 use ltl_lexer::{Token, TokenKind};
 use std::alloc::{AllocError, Global};

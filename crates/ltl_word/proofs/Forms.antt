@@ -37,9 +37,6 @@ array_from (string s) ds e = cc
 array_from (array es) ds e = let same : es ≡ ds = cc in ap array same
 array_from (object ms) ds e = cc
 
-pub no_array : (d : Data) → None ≡ as_array d → (ds : Items) → d ≡ array ds → ⊥
-no_array d e ds is = let there : as_array d ≡ Some ds = ap as_array is in cc
-
 pub no_string : (d : Data) → None ≡ as_str d → (s : List ℕ) → d ≡ string s → ⊥
 no_string d e s is = let there : as_str d ≡ Some s = ap as_str is in cc
 

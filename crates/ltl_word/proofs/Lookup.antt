@@ -1,5 +1,5 @@
 -- What a binary search for a name answers on names in ascending order.
-use Rattle.std.proofs.Common.{◌≡◌, ℕ, ◌<◌, ◌≤◌, ◌↔◌, List, [], length, get_or, Contains, Ok, Err, Less, Equal, Greater, Ordering, Result, is_ok, IsTrue, refl, subst, ap, ◌∙◌, sym, arith, ◌⊎◌, inl, inr}
+use Rattle.std.proofs.Common.{◌≡◌, ℕ, ◌≤◌, ◌↔◌, List, length, get_or, Contains, Ok, Err, Less, Equal, Greater, Ordering, Result, is_ok, IsTrue, refl, subst, ap, ◌∙◌, arith, inl, inr}
 use Rattle.std.proofs.lemmas.Bool.{cases_lt}
 use Rattle.std.proofs.lemmas.Cmp.{nat_list_cmp_total, tied_itself}
 use Rattle.std.proofs.lemmas.Map.Keys.{Less-from_sorted}

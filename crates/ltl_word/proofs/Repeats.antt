@@ -22,12 +22,6 @@ module _ (A : Claim) (p n : ℕ) (r : Repeats A p n) where
       let le : n ≤ k - p = omega arith in
       subst A e (r.later (k - p) le a)
 
-  pub Repeats-from : (m : ℕ) → n ≤ m → Repeats A p m
-  Repeats-from m h = record {
-    later = λ i le. r.later i (omega arith);
-    earlier = λ i le. r.earlier i (omega arith);
-  }
-
 pub Always-repeats : (p n : ℕ) → Repeats Always' p n
 Always-repeats p n = record { later = λ i h a. a; earlier = λ i h a. a }
 

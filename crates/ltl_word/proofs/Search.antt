@@ -52,13 +52,6 @@ first_or_none A d (suc n) = elim (first_or_none A d n) [
   ]
 ]
 
--- a counterexample below n, or each has it
-pub counterexample_or_all : (A : Claim) → IsDecided A → (n : ℕ) → ((j : ℕ) × (j < n) × (A j → ⊥)) ⊎ ((j : ℕ) → j < n → A j)
-counterexample_or_all A d n = elim (first_or_none (λ j. A j → ⊥) (λ j. ¬_decided (d j)) n) [
-  | inl w ↦ inl w
-  | inr none ↦ inr (λ j lt. elim (d j) [ yes a ↦ a | no h ↦ absurd (none j lt h) ])
-]
-
 -- each position from i up to before j has it, or one has not
 pub between_decided : (A : Claim) → IsDecided A → (i j : ℕ) → ((k : ℕ) × (i ≤ k) × (k < j) × (A k → ⊥)) ⊎ ((k : ℕ) → i ≤ k → k < j → A k)
 between_decided A d i j = elim (first_or_none (λ k. (i ≤ k) × (A k → ⊥)) (λ k. ×_decided (dec_le i k) (¬_decided (d k))) j) [

@@ -1,4 +1,4 @@
-use Rattle.std.proofs.Common.{◌≡◌, ◌∙◌, ◌<◌, length, arith, false, sym, subst, length-set}
+use Rattle.std.proofs.Common.{◌∙◌, ◌<◌, length, arith, false, sym, subst, length-set}
 use Rattle.std.proofs.lemmas.List.{get_or_read}
 use Rattle.ltl_syntax.specs.Table.{tree_at}
 use Rattle.ltl_word.specs.Holds.{Satisfies}

@@ -1,5 +1,4 @@
-use Rattle.std.proofs.Common.{◌≡◌, ◌≢◌, ◌∙◌, ◌++◌, ◌∷◌, [], length, sym, subst, arith, vec_len}
-use Rattle.black_top.specs.NotBuilt.{Bring}
+use Rattle.std.proofs.Common.{◌≢◌, ◌∙◌, length, sym, arith}
 use Rattle.black_top.proofs.Names.{temporal_not_built, bring_other, bring_known, bring_new, many_names}
 use Rattle.black_top.proofs.not_built.admit.Goals as goal
 

@@ -1,7 +1,7 @@
-use Rattle.std.proofs.Common.{◌≡◌, ◌∙◌, ◌≤◌, ◌++◌, ◌∷◌, [], suc, length, take, get_or, Some, None, sym, subst, arith, take-suc, take_all, add-one}
+use Rattle.std.proofs.Common.{◌≤◌, length, take, None, subst, take-suc, take_all, add-one}
 use Rattle.ltl_lexer.specs.declared.token.TokenKind.TheVariants as kinds
 use Rattle.ltl_lexer.specs.declared.token.Token.{Token}
-use Rattle.black_top.specs.NotBuilt.{Bring, AreBuilt}
+use Rattle.black_top.specs.NotBuilt.{AreBuilt}
 use Rattle.black_top.proofs.Names.{bring_none, begins_at}
 use Rattle.black_top.proofs.not_built.first_not_built.Goals as goal
 

@@ -1,5 +1,5 @@
 use Rattle.std.proofs.Common.{take}
-use Rattle.black_top.specs.NotBuilt.{Bring}
+use Rattle.black_top.specs.Inner.{Bring}
 use Rattle.black_top.proofs.not_built.first_not_built.Given as goal
 
 abbrev pub invariant-loop-token : goal.invariant-loop-token

@@ -1,4 +1,4 @@
-use Rattle.std.proofs.Common.{◌≡◌, ◌∙◌, ◌<◌, ◌≤◌, suc, bytes_eq, map, take, length, get_or, true, false, refl, sym, ap, subst, arith, take_all, add-one}
+use Rattle.std.proofs.Common.{◌≡◌, ◌∙◌, ◌≤◌, suc, bytes_eq, map, take, length, get_or, true, false, refl, sym, ap, subst, arith, take_all, add-one}
 use Rattle.std.specs.Set.{is_member}
 use Rattle.ltl_lexer.specs.declared.token.TokenKind.TheVariants as kinds
 use Rattle.ltl_lexer.specs.declared.token.Token.{Token}

@@ -1,4 +1,4 @@
-use Rattle.std.proofs.Common.{◌≡◌, ◌∙◌, List, None, sym, subst}
+use Rattle.std.proofs.Common.{List, None, sym, subst}
 use Rattle.ltl_lexer.specs.declared.token.Token.{Token}
 use Rattle.ltl_lexer.specs.Tokens.{AreTokens}
 use Rattle.ltl_parser.specs.Grammar.{Reads}

@@ -1,4 +1,4 @@
-use Rattle.std.proofs.Common.{◌≡◌, ◌≢◌, ◌∙◌, ℕ, ◌+◌, ◌<◌, length, get_or, set, arith, true, false, sym, length-set, below_more}
+use Rattle.std.proofs.Common.{◌≡◌, ◌≢◌, ◌∙◌, ◌<◌, length, get_or, set, arith, true, false, sym, length-set, below_more}
 use Rattle.std.proofs.lemmas.List.{get_or_read, get_or-set_same, get_or-set_other}
 use Rattle.black_top.proofs.Turns.{turned, none_behind}
 use Rattle.black_top.proofs.search.advance.Goals as goal

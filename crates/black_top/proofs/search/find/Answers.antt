@@ -1,7 +1,7 @@
-use Rattle.std.proofs.Common.{◌≡◌, ◌∙◌, ◌+◌, ◌<◌, ◌≤◌, length, replicate, arith, false, true, sym, subst, ap}
+use Rattle.std.proofs.Common.{◌≡◌, ◌∙◌, length, replicate, arith, false, sym, ap}
 use Rattle.std.proofs.lemmas.List.{length-replicate}
 use Rattle.ltl_syntax.specs.Table.{tree_at}
-use Rattle.black_top.specs.Search.{left_behind, Advances}
+use Rattle.black_top.specs.Search.{left_behind}
 use Rattle.black_top.proofs.Turns.{most_behind}
 use Rattle.black_top.proofs.Trying.{Fail, failed_more, no_model}
 use Rattle.black_top.proofs.search.find.Goals as goal
