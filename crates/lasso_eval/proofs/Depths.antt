@@ -1,5 +1,5 @@
 -- The depths of one node more.
-use Rattle.std.proofs.Common.{◌≡◌, ℕ, ◌+◌, ◌<◌, ◌≤◌, List, [], ◌∷◌, ◌++◌, length, arith}
+use Rattle.std.proofs.Common.{◌≡◌, ℕ, ◌≤◌, List, [], ◌∷◌, ◌++◌, length, arith}
 use Rattle.ltl_syntax.specs.Table.{Table, tree_at}
 use Rattle.ltl_word.specs.Depth.{past_depth}
 use Rattle.lasso_eval.specs.Extent.{AreDepths}

@@ -1,5 +1,5 @@
 -- A node and its children.
-use Rattle.std.proofs.Common.{◌≡◌, ℕ, ◌+◌, ◌*◌, ◌<◌, ◌≤◌, ◌||◌, ◌==◌, Bool, true, false, List, [], length, get_or, slice_index_or, IsTrue, Contains, ◌↔◌, refl, sym, ◌∙◌, subst, arith}
+use Rattle.std.proofs.Common.{◌≡◌, ℕ, ◌<◌, ◌≤◌, ◌||◌, ◌==◌, Bool, true, false, List, [], length, slice_index_or, IsTrue, Contains, ◌↔◌, refl, sym, ◌∙◌, subst, arith}
 use Rattle.std.proofs.lemmas.List.{get_or_default}
 use Rattle.ltl_syntax.specs.Formula.{Name, Letter}
 use Rattle.ltl_syntax.specs.declared.node.UnaryOp.{UnaryOp}

@@ -4,7 +4,7 @@ use Rattle.std.specs.Prelude.{⊤}
 use Rattle.std.proofs.lemmas.Bool.{cases_lt}
 use Rattle.ltl_word.specs.Claims.{Claim, IsUntil, IsReleased, AtYesterday, AtWeakYesterday, IsSince, IsTriggered}
 use Rattle.ltl_word.proofs.Expansion.{IsClosed, until_in, until_out, release_in, release_out, since_in, since_out, trigger_in, trigger_out}
-use Rattle.ltl_word.proofs.Repeats.{Repeats, moved_down, moved_up, Until-repeats, Released-repeats}
+use Rattle.ltl_word.proofs.Repeats.{Repeats, moved_down, moved_up}
 use Rattle.lasso_eval.specs.declared.span.Span.{Span}
 use Rattle.lasso_eval.specs.Rows.{cell}
 use Rattle.lasso_eval.specs.Spans.{beyond, step, swept_back, swept_before}

@@ -5,11 +5,11 @@ use Rattle.std.proofs.Common.{le-ltb}
 use Rattle.ltl_syntax.specs.declared.node.UnaryOp.TheVariants.{Always, Eventually, Historically, Next, Not, Once, WeakNext, WeakYesterday, Yesterday}
 use Rattle.ltl_syntax.specs.declared.node.BinaryOp.TheVariants.{And, Iff, Implies, Or, Release, Since, StrongRelease, Trigger, Until, WeakUntil}
 use Rattle.ltl_syntax.specs.declared.node.BinaryOp.{BinaryOp}
-use Rattle.ltl_syntax.specs.Formula.{Formula, Const, Letter, Unary, Binary}
+use Rattle.ltl_syntax.specs.Formula.{Formula, Unary, Binary}
 use Rattle.ltl_word.specs.declared.trace.Trace.{Trace}
 use Rattle.ltl_word.specs.declared.trace.Trace.TheVariants.{Infinite, Finite}
 use Rattle.ltl_word.specs.Trace.{IsTrace, IsPosition}
-use Rattle.ltl_word.specs.Claims.{Claim, Always', Never, AtNext, AtWeakNext, AtYesterday, AtWeakYesterday, IsUntil, IsReleased, IsSince, IsTriggered}
+use Rattle.ltl_word.specs.Claims.{Claim, Always', Never, AtNext, AtWeakNext, AtYesterday, AtWeakYesterday}
 use Rattle.ltl_word.specs.Holds.{Holds}
 use Rattle.ltl_word.specs.Depth.{past_depth}
 use Rattle.lasso_eval.specs.declared.local.Connective.{Connective}

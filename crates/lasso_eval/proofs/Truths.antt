@@ -1,5 +1,5 @@
 -- Truth values and the facts that they stand for.
-use Rattle.std.proofs.Common.{◌≡◌, Bool, true, false, ◌&&◌, ◌||◌, not, IsTrue, ◌⊎◌, inl, inr, ◌↔◌, refl}
+use Rattle.std.proofs.Common.{Bool, true, false, ◌&&◌, ◌||◌, not, IsTrue, ◌⊎◌, inl, inr, ◌↔◌, refl}
 
 pub and_tells : (x y : Bool) {A B : Type 0} → IsTrue x ↔ A → IsTrue y ↔ B → IsTrue (x && y) ↔ (A × B)
 and_tells true y p q = (λ e. (p.0 refl, q.0 e), λ w. q.1 w.1)

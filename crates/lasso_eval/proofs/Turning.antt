@@ -1,5 +1,5 @@
 -- What the columns of a trace come back to, and the values of the future operators in them.
-use Rattle.std.proofs.Common.{◌≡◌, ℕ, zero, suc, ◌+◌, ◌-◌, ◌*◌, ◌<◌, ◌≤◌, Bool, true, false, List, length, IsTrue, ◌⊎◌, inl, inr, ◌↔◌, refl, sym, ◌∙◌, ap, subst, arith}
+use Rattle.std.proofs.Common.{◌≡◌, ℕ, ◌+◌, ◌-◌, ◌<◌, ◌≤◌, Bool, true, false, List, length, IsTrue, ◌↔◌, sym, ◌∙◌, subst, arith}
 use Rattle.std.specs.Prelude.{⊤}
 use Rattle.ltl_syntax.specs.Formula.{Formula}
 use Rattle.ltl_word.specs.declared.trace.Trace.{Trace}
@@ -12,7 +12,7 @@ use Rattle.ltl_word.proofs.Repeats.{Repeats, Until-repeats, Released-repeats}
 use Rattle.ltl_word.proofs.Periodicity.{Holds-repeats}
 use Rattle.lasso_eval.specs.declared.span.Span.{Span}
 use Rattle.lasso_eval.specs.Cells.{columns, loop_start}
-use Rattle.lasso_eval.specs.Spans.{beyond, swept_back}
+use Rattle.lasso_eval.specs.Spans.{swept_back}
 use Rattle.lasso_eval.proofs.Sweeping.{swept_nowhere}
 use Rattle.lasso_eval.proofs.Spanning.{Say, IsUntilRule, IsReleaseRule, until_swept, release_swept, until_within, release_within, until_around, release_around}
 

@@ -1,5 +1,5 @@
 -- What holds of the marks and their number where the walk has come down to a node.
-use Rattle.std.proofs.Common.{◌≡◌, ◌≢◌, ℕ, zero, suc, ◌+◌, ◌-◌, ◌<◌, ◌≤◌, Bool, true, false, ◌||◌, ◌==◌, List, [], length, max, replicate, set, slice_get, Some, IsTrue, ◌⊎◌, inl, inr, refl, sym, ◌∙◌, ap, cond, subst, arith}
+use Rattle.std.proofs.Common.{◌≡◌, ◌≢◌, ℕ, suc, ◌+◌, ◌<◌, ◌≤◌, Bool, true, false, ◌||◌, ◌==◌, List, length, max, replicate, set, slice_get, Some, IsTrue, ◌⊎◌, inl, inr, refl, sym, ◌∙◌, ap, cond, subst, arith}
 use Rattle.std.specs.List.{count_by}
 use Rattle.std.proofs.lemmas.List.{get_or-set_same, get_or-set_other, length-set, get_or-replicate, length-replicate}
 use Rattle.std.proofs.Math.ListN.{get_or-eq_default}

@@ -1,5 +1,5 @@
 -- How a truth value over a span of positions follows from that of the neighbour, and is swept over a row.
-use Rattle.std.specs.Prelude.{ℕ, zero, suc, Bool, true, false, ◌&&◌, ◌||◌, not, List}
+use Rattle.std.specs.Prelude.{ℕ, zero, suc, Bool, true, false, ◌&&◌, ◌||◌, List}
 use Rattle.lasso_eval.specs.declared.span.Span.{Span}
 use Rattle.lasso_eval.specs.declared.span.Span.TheVariants as spans
 use Rattle.lasso_eval.specs.Rows.{cell}

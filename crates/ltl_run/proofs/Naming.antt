@@ -15,7 +15,7 @@ use Rattle.ltl_closure.specs.declared.entry.Entry.{Entry}
 use Rattle.ltl_closure.specs.declared.entry.Entry.TheVariants as Is
 use Rattle.ltl_closure.proofs.Places.{entry_place, place_within, place_from_one}
 use Rattle.ltl_run.specs.States.{is_letter, letters}
-use Rattle.ltl_run.specs.Shown.{HasRoom, entry_name, name_before, entry_names, IsSmall}
+use Rattle.ltl_run.specs.Shown.{entry_name, name_before, entry_names, IsSmall}
 
 -- the name of a letter of the normal form
 abbrev pub letter_name : Norm → Option (List ℕ)
@@ -28,23 +28,6 @@ the_name (NLetter p) = name_of p
 the_name e = []
 
 module _ (known : Names) (kept : List Norm) where
-  stands_room : (e : Norm) (x : Entry) → StandsAmong known kept e x → HasRoom known x
-  stands_room (NConst true) x h = subst (HasRoom known) (sym h) tt
-  stands_room (NConst false) x h = subst (HasRoom known) (sym h) tt
-  stands_room (NLetter (Name bytes)) x h = subst (HasRoom known) (sym h.1) h.2
-  stands_room (NLetter (Fresh n)) x h = subst (HasRoom known) (sym h) tt
-  stands_room (NNotLetter p) x h = subst (HasRoom known) (sym h) tt
-  stands_room (NAnd a b) x h = subst (HasRoom known) (sym h) tt
-  stands_room (NOr a b) x h = subst (HasRoom known) (sym h) tt
-  stands_room (NNext a) x h = subst (HasRoom known) (sym h) tt
-  stands_room (NWeakNext a) x h = subst (HasRoom known) (sym h) tt
-  stands_room (NYesterday a) x h = subst (HasRoom known) (sym h) tt
-  stands_room (NWeakYesterday a) x h = subst (HasRoom known) (sym h) tt
-  stands_room (NUntil a b) x h = subst (HasRoom known) (sym h) tt
-  stands_room (NRelease a b) x h = subst (HasRoom known) (sym h) tt
-  stands_room (NSince a b) x h = subst (HasRoom known) (sym h) tt
-  stands_room (NTrigger a b) x h = subst (HasRoom known) (sym h) tt
-
   stands_name : (e : Norm) (x : Entry) → StandsAmong known kept e x → entry_name known x ≡ letter_name e
   stands_name (NConst true) x h = ap (entry_name known) h
   stands_name (NConst false) x h = ap (entry_name known) h
@@ -87,9 +70,6 @@ module _ (known : Names) (kept : List Norm) where
       ∙ one_more e es (entry_names known xs) (names_agree es xs (omega arith) (λ k lt. h (suc k) (omega arith)))
 
 module _ (known : Names) (f : Formula) (entries : List Entry) (are : AreEntries known f entries) where
-  pub entries_room : (k : ℕ) → k < length entries → HasRoom known (get_or entries k Is.True)
-  entries_room k lt = let n = are.long in stands_room known (closure f) _ _ (are.each k (omega arith))
-
   pub letter_names_are : entry_names known entries ≡ map the_name (letters f)
   letter_names_are = names_agree known (closure f) (closure f) entries are.long are.each
 

@@ -57,6 +57,15 @@ closed_by closes.Empty states = Infinite states ([] ∷ [])
 closed_by (closes.Loop l) states = Infinite (take (l + 1) states) (drop (l + 1) states)
 closed_by closes.End states = Finite states
 
+-- the rule is one of the kind, and names no state but the first k
+abbrev pub IsRuleOf : Close → ℕ → Kind → Type 0
+IsRuleOf closes.Empty k Kinds.Infinite = Unit {0}
+IsRuleOf (closes.Loop l) k Kinds.Infinite = l < k
+IsRuleOf closes.End k Kinds.Finite = Unit {0}
+IsRuleOf closes.Empty k Kinds.Finite = ⊥
+IsRuleOf (closes.Loop l) k Kinds.Finite = ⊥
+IsRuleOf closes.End k Kinds.Infinite = ⊥
+
 -- where a rule names a state, it is one of the first n
 abbrev pub HasStem : Close → ℕ → Type 0
 HasStem closes.Empty n = Unit {0}

@@ -8,3 +8,6 @@ mod tracing;
 
 pub use run_state::{Close, RunState};
 pub use tracing::trace_of;
+
+#[cfg(test)]
+mod tests;

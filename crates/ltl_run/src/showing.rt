@@ -71,7 +71,8 @@ fn shown_state(alloc: Global, names: &[Name], state: &RunState) -> Result<StateS
 {
     let mut chosen = Vec::new(alloc);
     for (i, name) in names.iter().enumerate() {
-        if state.letters[i] {
+        let holds = state.letters[i];
+        if holds {
             chosen.push(Name::new(alloc, name.text())?)?;
         }
     }

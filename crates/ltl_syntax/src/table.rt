@@ -4,6 +4,7 @@
 // are kept in the order of first appearance in a hash table, and a flag beside each node tells whether it is still a root, so that
 // a text is read in time near to linear whatever it contains.
 ghost use Rattle.std.specs.Prelude.{◌≡◌, ◌≢◌, ℕ, ◌+◌, ◌<◌, ◌≤◌, ◌↔◌, ◌&&◌, not, false, [], Some, length, map, slice_get, slice_index_or, string_bytes, IfOk, OnOk, OnErr, IsTrue};
+ghost use Rattle.std.specs.List.{count_by};
 ghost use Rattle.ltl_syntax.specs.declared.table.PushRefused.TheVariants.{NoMemory};
 ghost use Rattle.ltl_syntax.specs.Table.{Table, IsRoot, MayFollow, IsFine, IsPlain, Pushes, Names, tree_at, trees_of, made, has_child};
 ghost use Rattle.ltl_syntax.specs.Roots.{HasChildrenBelow};
@@ -116,9 +117,11 @@ impl FormulaTable {
         }
     }
 
-    /// The number of nodes.
+    /// The number of nodes. No node is the child of two.
     pub fn len(&self) -> u32
-        ensures { result ≡ length self.now.nodes }
+        ensures count { result ≡ length self.now.nodes }
+        ensures few { length self.now.nodes ≤ 16384 }
+        ensures single { (number : ℕ) → count_by (has_child number) self.now.nodes ≤ 1 }
     {
         self.nodes.len() as u32
     }

@@ -1,4 +1,3 @@
-use Rattle.std.proofs.Common.{◌≡◌, arith, sym, ◌∙◌, refl}
 use Rattle.lasso_eval.proofs.Pushing.{length_pushed}
 use Rattle.lasso_eval.proofs.Depths.{depths_pushed}
 use Rattle.lasso_eval.proofs.depth.depth_under.Goals as goal

@@ -1,4 +1,4 @@
-use Rattle.std.proofs.Common.{◌≡◌, ◌<◌, sym, subst, arith, length}
+use Rattle.std.proofs.Common.{sym, subst, arith}
 use Rattle.ltl_syntax.specs.Table.{tree_at}
 use Rattle.lasso_eval.specs.Rows.{Tells, row_at}
 use Rattle.lasso_eval.specs.Under.{Below}

@@ -1,4 +1,4 @@
-use Rattle.std.proofs.Common.{◌≡◌, ◌<◌, ◌↔◌, IsTrue, refl, sym, subst, arith}
+use Rattle.std.proofs.Common.{◌<◌, ◌↔◌, IsTrue, refl, sym, subst, arith}
 use Rattle.ltl_syntax.specs.Table.{tree_at}
 use Rattle.ltl_word.specs.Depth.{past_depth}
 use Rattle.ltl_word.specs.Holds.{Satisfies}

@@ -1,5 +1,4 @@
 use Rattle.std.proofs.Common.{◌↔◌, IsTrue, Contains, false}
-use Rattle.lasso_eval.specs.Rows.{cell}
 use Rattle.ltl_word.specs.Trace.{state_at}
 use Rattle.lasso_eval.proofs.Pushing.{each_pushed, length_pushed}
 use Rattle.lasso_eval.proofs.local.letter_row.Goals as goal

@@ -1,5 +1,4 @@
 use Rattle.std.proofs.Common.{◌≡◌, false}
-use Rattle.lasso_eval.specs.Rows.{cell}
 use Rattle.lasso_eval.specs.Neighbours.{later}
 use Rattle.lasso_eval.proofs.Pushing.{each_pushed, length_pushed}
 use Rattle.lasso_eval.proofs.neighbour.next_row.Goals as goal

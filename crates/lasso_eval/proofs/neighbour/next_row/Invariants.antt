@@ -1,4 +1,4 @@
-use Rattle.std.proofs.Common.{◌≡◌, ℕ, ◌+◌, ◌<◌, length}
+use Rattle.std.proofs.Common.{◌≡◌, ℕ, ◌<◌, length}
 use Rattle.lasso_eval.specs.Rows.{cell}
 use Rattle.lasso_eval.specs.Neighbours.{later}
 use Rattle.lasso_eval.proofs.neighbour.next_row.Given as goal

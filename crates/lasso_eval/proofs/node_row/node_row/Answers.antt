@@ -1,12 +1,10 @@
-use Rattle.std.proofs.Common.{◌≡◌, ◌≤◌, Some, length, slice_get, slice_index_or, IfOk, IsTrue, sym, subst, ◌∙◌, arith, [], refl}
+use Rattle.std.proofs.Common.{◌≤◌, slice_index_or, IfOk, sym, subst, ◌∙◌, arith, []}
 use Rattle.std.proofs.lemmas.Option.{get_or_from_slice_get}
 use Rattle.std.proofs.lemmas.Result.{IfOk-weaker}
-use Rattle.ltl_syntax.specs.Formula.{Name, Letter, Unary, Binary}
 use Rattle.ltl_syntax.specs.Table.{tree_at}
 use Rattle.ltl_syntax.specs.declared.node.Node.TheVariants as nodes
 use Rattle.ltl_word.specs.Depth.{past_depth}
 use Rattle.lasso_eval.specs.Rows.{Tells}
-use Rattle.lasso_eval.specs.Following.{FollowsOne, FollowsTwo}
 use Rattle.lasso_eval.proofs.Results.{if_ok_both}
 use Rattle.lasso_eval.proofs.Nodes.{child_row, start_within, is_left, is_right, is_only, letter_tells}
 use Rattle.lasso_eval.proofs.node_row.node_row.Goals as goal

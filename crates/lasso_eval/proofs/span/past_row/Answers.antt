@@ -1,4 +1,4 @@
-use Rattle.std.proofs.Common.{◌≡◌, ◌+◌, suc, false, refl, ap, sym, subst, ◌∙◌, arith}
+use Rattle.std.proofs.Common.{◌≡◌, ◌+◌, suc, false, ap, subst, ◌∙◌, arith}
 use Rattle.lasso_eval.specs.Rows.{cell}
 use Rattle.lasso_eval.specs.Spans.{step, swept_before}
 use Rattle.lasso_eval.proofs.Pushing.{each_pushed, length_pushed}
