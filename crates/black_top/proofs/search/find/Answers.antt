@@ -12,7 +12,7 @@ loop-values-init c =
     let cells : c.in_ok-cells.cells.items ≡ replicate c.len.result false = c.in_ok-cells.ensures.items_if_clones_equal (λ y e. e) in
     record {
       full = ap length first ∙ length-replicate c.letters.result false ∙ c.letters.ensures.count;
-      cells = ap length cells ∙ length-replicate c.len.result false ∙ c.len.ensures;
+      cells = ap length cells ∙ length-replicate c.len.result false ∙ c.len.ensures.count;
       failed = λ others l h. let m = most_behind others c.letters.result (l ∙ sym c.letters.ensures.count) in absurd (omega (arith, m, h, ap left_behind first));
     }
 
