@@ -1,5 +1,4 @@
 pub mod Consequences
-pub mod OneWord
 pub mod Leaving
 pub mod OneCommand
 pub mod Values
@@ -9,5 +8,7 @@ pub mod Names
 pub mod Plain
 pub mod Chosen
 pub mod Refusing
+pub mod Cutting
+pub mod Written
 pub mod Showing
 pub mod OneAnswer

@@ -1,5 +1,5 @@
 -- Words and bytes have one answer, but for the trace that is shown with SAT.
-use Rattle.std.proofs.Common.{◌≡◌, ◌∙◌, ℕ, suc, ◌<◌, ◌≤◌, Bool, true, false, cond, ◌||◌, ◌⊎◌, inl, inr, List, [], ◌∷◌, ◌++◌, map, filter, bytes_eq, Option, None, refl, sym, ap, subst, arith, append_assoc, append-nil}
+use Rattle.std.proofs.Common.{◌≡◌, ◌∙◌, ℕ, suc, ◌<◌, ◌≤◌, Bool, true, false, cond, ◌||◌, ◌⊎◌, inl, inr, List, [], ◌∷◌, ◌++◌, map, filter, bytes_eq, Option, None, refl, sym, ap, subst, arith, append_assoc, append-nil, ◌≢◌, Result, Ok, Err}
 use Rattle.std.specs.List.{list_any}
 use Rattle.std.specs.Set.{is_member, distinct_count}
 use Rattle.std.proofs.lemmas.List.{map-append}
@@ -10,10 +10,22 @@ use Rattle.ltl_lexer.specs.Tokens.{AreTokens, IsLexicalFault}
 use Rattle.ltl_parser.specs.Text.{ReadsText, IsGrammarFault, nodes_in}
 use Rattle.ltl_syntax.specs.declared.node.Kind.TheVariants as kinds
 use Rattle.ltl_syntax.specs.Formula.{Formula}
+use Rattle.ltl_word.specs.declared.trace.Trace.{Trace}
+use Rattle.ltl_word.specs.declared.json.TraceFault.{TraceFault}
+use Rattle.ltl_word.specs.declared.json.TraceFault.TheVariants as trace_faults
+use Rattle.ltl_word.specs.Holds.{Satisfies}
+use Rattle.ltl_word.specs.Json.{IsReading}
+use Rattle.ltl_word.specs.Laws.{IsOneReading}
+use Rattle.lasso_eval.specs.Cells.{cells, max_cells, AreTooMany}
+use Rattle.ltl_parser.specs.Text.{IsAccepted}
+use Rattle.black_top.specs.declared.fault.Fault.{Fault}
 use Rattle.black_top.specs.declared.fault.Fault.TheVariants as faults
 use Rattle.black_top.specs.Words.{Choice, Command, Solve, Check, Trace as TraceWord, Demo}
 use Rattle.black_top.specs.NotBuilt.{is_temporal, is_name, spelling, names_of, AreBuilt, BeginsNotBuilt, IsBuilt, IsNotBuilt}
-use Rattle.black_top.specs.Answer.{Answer, refused, sat, unsat, IsModel, SolveAnswers, Answers, IsAnswer, not_taken, asked, AreAlike}
+use Rattle.black_top.specs.Parts.{IsCut}
+use Rattle.black_top.specs.Reading.{RefusesPart}
+use Rattle.black_top.specs.Answer.{Answer, refused, sat, unsat, holds, fails, IsModel, SolveAnswers, IsParted, uncut, unread, accepted, IsJudged, not_json, not_trace, empty_loop, empty_states, many_cells, satisfied, violated, Answers, IsAnswer, not_taken, asked, AreAlike}
+use Rattle.black_top.proofs.Cutting.{cut_one, cut_or_none}
 use Rattle.black_top.proofs.Names.{count_more}
 use Rattle.black_top.proofs.OneCommand.{command_one}
 
@@ -26,6 +38,7 @@ pub record Laws : Type 0 where
   pub lexical_not_grammar : (text : List ℕ) (a b : ℕ) → IsLexicalFault text a → IsGrammarFault text b → ⊥
   pub lexical_not_read : (text : List ℕ) (a : ℕ) (f : Formula) → IsLexicalFault text a → ReadsText text f → ⊥
   pub grammar_not_read : (text : List ℕ) (a : ℕ) (f : Formula) → IsGrammarFault text a → ReadsText text f → ⊥
+  pub one_reading : IsOneReading
 
 -- of more names as many are distinct, or more
 count_grows : (xs ys : List (List ℕ)) → distinct_count bytes_eq xs ≤ distinct_count bytes_eq (xs ++ ys)
@@ -93,7 +106,23 @@ too_many f g count same e many few = let s = ap nodes_in same in absurd (omega (
 
 alike : (part : List ℕ) (choices : List Choice) → Laws → (a b : Answer) → SolveAnswers choices part a → SolveAnswers choices part b → AreAlike a b
 alike part choices laws (refused faults.Usage) b h k = absurd h
+alike part choices laws (refused faults.NoSeparator) b h k = absurd h
+alike part choices laws (refused faults.NotJson) b h k = absurd h
+alike part choices laws (refused faults.NotTrace) b h k = absurd h
+alike part choices laws (refused faults.EmptyLoop) b h k = absurd h
+alike part choices laws (refused faults.EmptyStates) b h k = absurd h
+alike part choices laws (refused (faults.Cells count)) b h k = absurd h
+alike part choices laws holds b h k = absurd h
+alike part choices laws fails b h k = absurd h
 alike part choices laws a (refused faults.Usage) h k = absurd k
+alike part choices laws a (refused faults.NoSeparator) h k = absurd k
+alike part choices laws a (refused faults.NotJson) h k = absurd k
+alike part choices laws a (refused faults.NotTrace) h k = absurd k
+alike part choices laws a (refused faults.EmptyLoop) h k = absurd k
+alike part choices laws a (refused faults.EmptyStates) h k = absurd k
+alike part choices laws a (refused (faults.Cells count)) h k = absurd k
+alike part choices laws a holds h k = absurd k
+alike part choices laws a fails h k = absurd k
 alike part choices laws (refused faults.Text) (refused faults.Text) h k = refl
 alike part choices laws (refused faults.Text) (refused (faults.Lexical j)) h k = let s = k.0 in absurd (omega (arith, h, s))
 alike part choices laws (refused faults.Text) (refused (faults.Grammar j)) h k = let s = k.0 in absurd (omega (arith, h, s))
@@ -144,10 +173,120 @@ alike part choices laws (unsat i) (refused (faults.NotBuilt j)) h k = absurd (no
 alike part choices laws (unsat i) (sat j tj) h k = absurd (h.4 tj (subst (λ f. IsModel kinds.Infinite f tj) (laws.one_formula part k.0 h.0 k.1.reads h.1.reads) k.4))
 alike part choices laws (unsat i) (unsat j) h k = ap unsat (h.3 ∙ sym k.3)
 
+-- ---- an input of two parts
+
+-- a refusal of the formula part is one of `solve`
+pub as_solve : (part : List ℕ) (fault : Fault) → RefusesPart part fault → SolveAnswers [] part (refused fault)
+as_solve part faults.Usage h = h
+as_solve part faults.Text h = h
+as_solve part (faults.Lexical byte) h = h
+as_solve part (faults.Grammar byte) h = h
+as_solve part (faults.Nodes count) h = h
+as_solve part (faults.NotBuilt byte) h = absurd h
+as_solve part faults.NoSeparator h = h
+as_solve part faults.NotJson h = h
+as_solve part faults.NotTrace h = h
+as_solve part faults.EmptyLoop h = h
+as_solve part faults.EmptyStates h = h
+as_solve part (faults.Cells count) h = h
+
+one_fault : (part : List ℕ) → Laws → (a b : Fault) → RefusesPart part a → RefusesPart part b → refused a ≡ refused b
+one_fault part laws a b h k = alike part [] laws (refused a) (refused b) (as_solve part a h) (as_solve part b k)
+
+refused_not_accepted : (part : List ℕ) → Laws → (fault : Fault) (f : Formula) → RefusesPart part fault → IsAccepted part f → ⊥
+refused_not_accepted part laws faults.Text f h k = let s = k.short in absurd (omega (arith, h, s))
+refused_not_accepted part laws (faults.Lexical byte) f h k = laws.lexical_not_read part byte f h.1 k.reads
+refused_not_accepted part laws (faults.Grammar byte) f h k = laws.grammar_not_read part byte f h.1 k.reads
+refused_not_accepted part laws (faults.Nodes count) f h k = too_many h.1.0 f count (laws.one_formula part h.1.0 f h.1.1 k.reads) h.1.2 h.1.3 k.few
+refused_not_accepted part laws faults.Usage f h k = h
+refused_not_accepted part laws (faults.NotBuilt byte) f h k = h
+refused_not_accepted part laws faults.NoSeparator f h k = h
+refused_not_accepted part laws faults.NotJson f h k = h
+refused_not_accepted part laws faults.NotTrace f h k = h
+refused_not_accepted part laws faults.EmptyLoop f h k = h
+refused_not_accepted part laws faults.EmptyStates f h k = h
+refused_not_accepted part laws (faults.Cells count) f h k = h
+
+-- the answer by what the text of the trace is read as
+abbrev ByTrace : Formula → Trace → Answer → Type 0
+ByTrace f t a = ((count : ℕ) × (a ≡ refused (faults.Cells count)) × AreTooMany t f count)
+    ⊎ (((a ≡ holds) × (cells t f ≤ max_cells) × Satisfies t f) ⊎ ((a ≡ fails) × (cells t f ≤ max_cells) × ¬ (Satisfies t f)))
+
+abbrev ByReading : Formula → Result Trace TraceFault → Answer → Type 0
+ByReading f (Ok t) a = ByTrace f t a
+ByReading f (Err trace_faults.NotJson) a = a ≡ refused faults.NotJson
+ByReading f (Err trace_faults.NotTrace) a = a ≡ refused faults.NotTrace
+ByReading f (Err trace_faults.EmptyLoop) a = a ≡ refused faults.EmptyLoop
+ByReading f (Err trace_faults.EmptyStates) a = a ≡ refused faults.EmptyStates
+ByReading f (Err trace_faults.NoMemory) a = ⊥
+
+by_reading : (f : Formula) (text : List ℕ) (a : Answer) → IsJudged f text a → (r : Result Trace TraceFault) × IsReading text r × ByReading f r a
+by_reading f text a (not_json h) = (Err trace_faults.NotJson, h, refl)
+by_reading f text a (not_trace h) = (Err trace_faults.NotTrace, h, refl)
+by_reading f text a (empty_loop h) = (Err trace_faults.EmptyLoop, h, refl)
+by_reading f text a (empty_states h) = (Err trace_faults.EmptyStates, h, refl)
+by_reading f text a (many_cells t count h many) = (Ok t, h, inl (count, refl, many))
+by_reading f text a (satisfied t h few is) = (Ok t, h, inr (inl (refl, few, is)))
+by_reading f text a (violated t h few is) = (Ok t, h, inr (inr (refl, few, is)))
+
+one_by_trace : (f : Formula) (t : Trace) (a b : Answer) → ByTrace f t a → ByTrace f t b → a ≡ b
+one_by_trace f t a b (inl (m, e, x)) (inl (n, g, y)) = e ∙ ap (λ k. refused (faults.Cells k)) (x.0 ∙ sym y.0) ∙ sym g
+one_by_trace f t a b (inl (m, e, x)) (inr (inl (g, few, y))) = absurd (omega (arith, x.0, x.1, few))
+one_by_trace f t a b (inl (m, e, x)) (inr (inr (g, few, y))) = absurd (omega (arith, x.0, x.1, few))
+one_by_trace f t a b (inr (inl (e, few, x))) (inl (n, g, y)) = absurd (omega (arith, y.0, y.1, few))
+one_by_trace f t a b (inr (inr (e, few, x))) (inl (n, g, y)) = absurd (omega (arith, y.0, y.1, few))
+one_by_trace f t a b (inr (inl (e, few, x))) (inr (inl (g, few', y))) = e ∙ sym g
+one_by_trace f t a b (inr (inl (e, few, x))) (inr (inr (g, few', y))) = absurd (y x)
+one_by_trace f t a b (inr (inr (e, few, x))) (inr (inl (g, few', y))) = absurd (x y)
+one_by_trace f t a b (inr (inr (e, few, x))) (inr (inr (g, few', y))) = e ∙ sym g
+
+one_by_reading : (f : Formula) (r : Result Trace TraceFault) (a b : Answer) → ByReading f r a → ByReading f r b → a ≡ b
+one_by_reading f (Ok t) a b h k = one_by_trace f t a b h k
+one_by_reading f (Err trace_faults.NotJson) a b h k = h ∙ sym k
+one_by_reading f (Err trace_faults.NotTrace) a b h k = h ∙ sym k
+one_by_reading f (Err trace_faults.EmptyLoop) a b h k = h ∙ sym k
+one_by_reading f (Err trace_faults.EmptyStates) a b h k = h ∙ sym k
+one_by_reading f (Err trace_faults.NoMemory) a b h k = absurd h
+
+one_judgement : (f : Formula) (text : List ℕ) → Laws → (a b : Answer) → IsJudged f text a → IsJudged f text b → a ≡ b
+one_judgement f text laws a b h k =
+    let (r, read, by) = by_reading f text a h in
+    let (s, read', by') = by_reading f text b k in
+    let same : r ≡ s = laws.one_reading text r s read read' (λ e. subst (λ q. ByReading f q a) e by) (λ e. subst (λ q. ByReading f q b) e by') in
+    one_by_reading f s a b (subst (λ q. ByReading f q a) same by) by'
+
+one_parted : (bytes : List ℕ) → Laws → (a b : Answer) → IsParted IsJudged bytes a → IsParted IsJudged bytes b → a ≡ b
+one_parted bytes laws a b (uncut n) (uncut m) = refl
+one_parted bytes laws a b (uncut n) (unread part second fault cut h) = absurd (cut_or_none bytes part second cut n)
+one_parted bytes laws a b (uncut n) (accepted part second f answer cut read h) = absurd (cut_or_none bytes part second cut n)
+one_parted bytes laws a b (unread part second fault cut h) (uncut m) = absurd (cut_or_none bytes part second cut m)
+one_parted bytes laws a b (accepted part second f answer cut read h) (uncut m) = absurd (cut_or_none bytes part second cut m)
+one_parted bytes laws a b (unread part second fault cut h) (unread part' second' fault' cut' h') =
+    let same = cut_one bytes part second part' second' cut cut' in
+    one_fault part laws fault fault' h (subst (λ p. RefusesPart p fault') (sym same.0) h')
+one_parted bytes laws a b (unread part second fault cut h) (accepted part' second' f' answer' cut' read' h') =
+    let same = cut_one bytes part second part' second' cut cut' in
+    absurd (refused_not_accepted part laws fault f' h (subst (λ p. IsAccepted p f') (sym same.0) read'))
+one_parted bytes laws a b (accepted part second f answer cut read h) (unread part' second' fault' cut' h') =
+    let same = cut_one bytes part second part' second' cut cut' in
+    absurd (refused_not_accepted part' laws fault' f h' (subst (λ p. IsAccepted p f) same.0 read))
+one_parted bytes laws a b (accepted part second f answer cut read h) (accepted part' second' f' answer' cut' read' h') =
+    let same = cut_one bytes part second part' second' cut cut' in
+    let read'' = subst (λ p. IsAccepted p f') (sym same.0) read' in
+    let tree : f ≡ f' = laws.one_formula part f f' read.reads read''.reads in
+    one_judgement f second laws a b h (subst (λ s. IsJudged f s b) (sym same.1) (subst (λ g. IsJudged g second' b) (sym tree) h'))
+
+alike_itself : (a : Answer) → AreAlike a a
+alike_itself (refused fault) = refl
+alike_itself (sat depth trace) = refl
+alike_itself (unsat depth) = refl
+alike_itself holds = refl
+alike_itself fails = refl
+
 answers_alike : (bytes : List ℕ) → Laws → (c : Command) (a b : Answer) → Answers c bytes a → Answers c bytes b → AreAlike a b
 answers_alike bytes laws (Solve choices) a b h k = alike bytes choices laws a b h k
 answers_alike bytes laws (Check choices) a b h k = absurd h
-answers_alike bytes laws TraceWord a b h k = absurd h
+answers_alike bytes laws TraceWord a b h k = subst (AreAlike a) (one_parted bytes laws a b h k) (alike_itself a)
 answers_alike bytes laws (Demo n) a b h k = absurd h
 
 pub answer_one : (words : List (List ℕ)) (bytes : List ℕ) → Laws → (a b : Answer) → IsAnswer words bytes a → IsAnswer words bytes b → AreAlike a b

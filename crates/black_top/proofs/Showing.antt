@@ -1,9 +1,13 @@
--- An output that shows an answer of `solve`.
-use Rattle.std.proofs.Common.{ℕ, List, [], Result, Ok, Err, IfOk}
+-- An output that shows an answer which comes.
+use Rattle.std.proofs.Common.{Result, Ok, Err, IfOk}
 use Rattle.black_top.specs.declared.output.Output.{Output}
-use Rattle.black_top.specs.Answer.{Answer, SolveAnswers}
+use Rattle.black_top.specs.Answer.{Answer}
 use Rattle.black_top.specs.Inner.{Shows}
 
-pub shown : {E : Type 0} (text : List ℕ) (answer : Answer) (r : Result Output E) → SolveAnswers [] text answer → IfOk r (λ out. Shows out answer) → IfOk r (λ out. (a : Answer) × SolveAnswers [] text a × Shows out a)
-shown text answer (Ok out) given shows = (answer, given, shows)
-shown text answer (Err e) given shows = tt
+pub shown : {E : Type 0} (Comes : Answer → Type 0) (answer : Answer) (r : Result Output E) → Comes answer → IfOk r (λ out. Shows out answer) → IfOk r (λ out. (a : Answer) × Comes a × Shows out a)
+shown Comes answer (Ok out) given shows = (answer, given, shows)
+shown Comes answer (Err e) given shows = tt
+
+pub shown_as : {E : Type 0} (Comes Also : Answer → Type 0) (r : Result Output E) → ((a : Answer) → Comes a → Also a) → IfOk r (λ out. (a : Answer) × Comes a × Shows out a) → IfOk r (λ out. (a : Answer) × Also a × Shows out a)
+shown_as Comes Also (Ok out) more (a, comes, shows) = (a, more a comes, shows)
+shown_as Comes Also (Err e) more h = tt

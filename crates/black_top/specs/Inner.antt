@@ -1,21 +1,54 @@
 -- What the private calls give. No public contract cites this file.
-use Rattle.std.specs.Prelude.{◌≡◌, ◌<◌, ℕ, Bool, true, false, List, [], ◌∷◌, ◌++◌, length, map, All, bytes_eq}
+use Rattle.std.specs.Prelude.{◌≡◌, ◌<◌, ℕ, Bool, true, false, List, [], ◌∷◌, ◌++◌, length, map, All, bytes_eq, Option, None}
 use Rattle.std.specs.Set.{is_member, distinct_count}
 use Rattle.ltl_lexer.specs.declared.token.Token.{Token}
-use Rattle.ltl_lexer.specs.Tokens.{IsPartOf}
+use Rattle.ltl_lexer.specs.Tokens.{AreTokens, IsPartOf}
 use Rattle.ltl_syntax.specs.Table.{tree_at}
-use Rattle.ltl_parser.specs.Text.{IsAccepted}
+use Rattle.ltl_parser.specs.Grammar.{Reads}
+use Rattle.ltl_parser.specs.Text.{symbols, IsAccepted}
 use Rattle.black_top.specs.declared.output.Output.{Output}
 use Rattle.black_top.specs.declared.reading.Reading.{Reading}
 use Rattle.black_top.specs.declared.reading.Reading.TheVariants as readings
-use Rattle.black_top.specs.NotBuilt.{spelling, names_of, AreBuilt, IsBuilt}
-use Rattle.black_top.specs.Answer.{Answer, refused, SolveAnswers, status_of, text_of}
-use Rattle.black_top.specs.Search.{IsPlain}
+use Rattle.black_top.specs.declared.words.Asked.{Asked}
+use Rattle.black_top.specs.declared.words.Asked.TheVariants as asked
+use Rattle.black_top.specs.Words.{Command, Solve, Trace as TraceWord}
+use Rattle.black_top.specs.NotBuilt.{spelling, names_of, AreBuilt}
+use Rattle.black_top.specs.Parts.{IsSeparator, EndsLine, BeginsLine}
+use Rattle.black_top.specs.Reading.{RefusesPart}
+use Rattle.black_top.specs.Answer.{Answer, Answers, status_of, text_of}
+use Rattle.black_top.specs.Run.{AreLeft}
 
--- the text is read as a formula that is built, or refused by `solve`
-abbrev pub IsReading : List ℕ → Reading → Type 0
-IsReading text (readings.Formula table root) = (root < length table.nodes) × IsPlain (tree_at table root) × IsAccepted text (tree_at table root) × IsBuilt text
-IsReading text (readings.Refused fault) = SolveAnswers [] text (refused fault)
+-- the command that the words ask for
+abbrev pub command_of : Asked → Command
+command_of asked.Solve = Solve []
+command_of asked.Trace = TraceWord
+
+-- the text is read as a formula by its tokens, or refused
+abbrev pub IsPartReading : List ℕ → Reading → Type 0
+IsPartReading text (readings.Formula tokens table root) = (root < length table.nodes) × IsAccepted text (tree_at table root) × AreTokens 0 text tokens.items None × Reads (symbols text tokens.items) (tree_at table root)
+IsPartReading text (readings.Refused fault) = RefusesPart text fault
+
+-- a separator line begins so many bytes from the start, and this stands behind it
+pub record OpensSecond (bytes : List ℕ) (start : ℕ) (second : List ℕ) : Type 0 where
+  pub before : List ℕ
+  pub line : List ℕ
+  pub after : List ℕ
+  pub text : List ℕ
+  pub place : length before ≡ start
+  pub whole : bytes ≡ before ++ line ++ after
+  pub separator : IsSeparator line
+  pub begins : EndsLine before text
+  pub ends : BeginsLine after second
+
+-- no separator line begins there
+abbrev pub OpensNothing : List ℕ → ℕ → Type 0
+OpensNothing bytes start = (second : List ℕ) → ¬ (OpensSecond bytes start second)
+
+-- the command's answer to what the source had left
+pub record IsAnswerOf (command : Command) (rest : Option (List ℕ)) (answer : Answer) : Type 0 where
+  pub bytes : List ℕ
+  pub left : AreLeft rest bytes
+  pub lawful : Answers command bytes answer
 
 -- the output has the answer's status and its text
 pub record Shows (output : Output) (answer : Answer) : Type 0 where

@@ -1,6 +1,7 @@
 pub mod Status
 pub mod Words
 pub mod NotBuilt
+pub mod Parts
 pub mod Reading
 pub mod Texts
 pub mod Answer

@@ -12,9 +12,8 @@ HasManyNodes part count = (f : Formula) × ReadsText part f × (count ≡ nodes_
 
 -- the part is refused: in the order text, lexical, grammar, nodes
 abbrev pub RefusesPart : List ℕ → Fault → Type 0
-RefusesPart part faults.Usage = ⊥
 RefusesPart part faults.Text = 1048576 < length part
 RefusesPart part (faults.Lexical byte) = (length part ≤ 1048576) × IsLexicalFault part byte
 RefusesPart part (faults.Grammar byte) = (length part ≤ 1048576) × IsGrammarFault part byte
 RefusesPart part (faults.Nodes count) = (length part ≤ 1048576) × HasManyNodes part count
-RefusesPart part (faults.NotBuilt byte) = ⊥
+RefusesPart part other = ⊥

@@ -1,14 +1,17 @@
 -- What one call of the program did.
-use Rattle.std.specs.Prelude.{◌≡◌, ℕ, List, Option, IfSome, Bool, true, false}
+use Rattle.std.specs.Prelude.{◌≡◌, ℕ, List, Option, IfSome, Bool, true, false, Ok}
 use Rattle.ltl_io.specs.Outside.{Grows, GrowsByFront}
 use Rattle.ltl_syntax.specs.declared.node.Kind.{Kind}
 use Rattle.ltl_syntax.specs.Formula.{Formula}
 use Rattle.ltl_parser.specs.Text.{IsAccepted}
 use Rattle.ltl_word.specs.declared.trace.Trace.{Trace}
+use Rattle.ltl_word.specs.Holds.{Satisfies}
+use Rattle.ltl_word.specs.Json.{IsReading}
 use Rattle.black_top.specs.declared.status.Status.{Status}
 use Rattle.black_top.specs.declared.status.Status.TheVariants as statuses
 use Rattle.black_top.specs.Words.{Command, Asks, ReadsNothing}
-use Rattle.black_top.specs.Texts.{sat_text, unsat_text}
+use Rattle.black_top.specs.Parts.{IsCut}
+use Rattle.black_top.specs.Texts.{sat_text, unsat_text, holds_text, fails_text}
 use Rattle.black_top.specs.Answer.{Answer, IsAnswer, status_of, text_of, IsModel, HasNoModel}
 
 -- the status is that of an answer, and not of a fault or of want of memory
@@ -61,3 +64,24 @@ pub record PrintsNone (kind : Kind) (f : Formula) (before after : Option (List �
 -- what is claimed of the accepted formula that the source had left
 abbrev pub OfFormula : Option (List ℕ) → (Formula → Type 0) → Type 0
 OfFormula rest Claim = (bytes : List ℕ) × AreLeft rest bytes × (f : Formula) × IsAccepted bytes f × Claim f
+
+-- HOLDS was printed, and the trace satisfies the formula
+abbrev pub PrintsHolds : Formula → Trace → Option (List ℕ) → Option (List ℕ) → Type 0
+PrintsHolds f t before after = Satisfies t f × Grows holds_text before after
+
+-- FAILS was printed, and the trace does not satisfy the formula
+abbrev pub PrintsFails : Formula → Trace → Option (List ℕ) → Option (List ℕ) → Type 0
+PrintsFails f t before after = ¬ (Satisfies t f) × Grows fails_text before after
+
+-- what is claimed of the accepted formula and of the trace that the source had left
+pub record OfTrace (rest : Option (List ℕ)) (Claim : Formula → Trace → Type 0) : Type 0 where
+  pub bytes : List ℕ
+  pub left : AreLeft rest bytes
+  pub part : List ℕ
+  pub second : List ℕ
+  pub cut : IsCut bytes part second
+  pub formula : Formula
+  pub accepted : IsAccepted part formula
+  pub trace : Trace
+  pub read : IsReading second (Ok trace)
+  pub claim : Claim formula trace

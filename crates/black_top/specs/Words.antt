@@ -72,7 +72,7 @@ abbrev pub IsOffered : Command → Type 0
 IsOffered (Solve []) = Unit {0}
 IsOffered (Solve (c ∷ cs)) = ⊥
 IsOffered (Check choices) = ⊥
-IsOffered Trace = ⊥
+IsOffered Trace = Unit {0}
 IsOffered (Demo n) = ⊥
 
 -- the words are taken as this command

@@ -1,21 +1,23 @@
-// The answer to words and a source.
-ghost use Rattle.std.specs.Prelude.{◌≡◌, ◌≤◌, [], length, map, string_bytes, IfOk, OnOk, IsErrOf};
+// The answer to words and a source, by the command that the words ask for.
+ghost use Rattle.std.specs.Prelude.{◌≡◌, [], map, string_bytes, IfOk, OnOk, IsErrOf};
 ghost use Rattle.ltl_io.specs.Count.{Rose, Counts};
 ghost use Rattle.ltl_io.specs.declared.source.ReadRefused.TheVariants as read_refused;
-ghost use Rattle.black_top.specs.Answer.{Answer, SolveAnswers};
-ghost use Rattle.black_top.specs.Inner.{Shows};
+ghost use Rattle.black_top.specs.Words.{Solve, Trace as TraceWord};
+ghost use Rattle.black_top.specs.Answer.{Answer, SolveAnswers, IsParted, IsJudged};
+ghost use Rattle.black_top.specs.Inner.{Shows, IsAnswerOf};
 ghost use Rattle.black_top.specs.Run.{IsGiven, NeedsNothing};
 
 use crate::fault::Fault;
+use crate::judging::judge;
+use crate::not_built::first_not_built;
 use crate::output::{Output, refusal, sat, unsat};
-use crate::reading::{Reading, read_formula};
+use crate::parts::cut;
+use crate::reading::{MOST_BYTES, Reading, read_formula};
 use crate::search::find;
 use crate::witness::witness;
-use crate::words::asks_solve;
+use crate::words::{Asked, asked_command};
 use ltl_io::{ReadRefused, Source, read_whole};
 use std::alloc::{AllocError, Global};
-
-const MOST_BYTES: usize = 1_048_576;
 
 /// What the program is to print, and its status.
 pub fn answer<S: Source>(
@@ -30,26 +32,67 @@ pub fn answer<S: Source>(
     ensures counts { Counts (S.faults source.old) (S.faults source.new) }
     ensures unread { NeedsNothing (map string_bytes words.now) → source.new ≡ source.old }
 {
-    if !asks_solve(words) {
-        return Ok(refusal(alloc, Fault::Usage)?);
+    match asked_command(words) {
+        None => Ok(refusal(alloc, Fault::Usage)?),
+        Some(Asked::Solve) => solve(alloc, source),
+        Some(Asked::Trace) => trace(alloc, source),
     }
-    let text = read_whole(alloc, source, MOST_BYTES)?;
-    if text.len() > MOST_BYTES {
-        return Ok(refusal(alloc, Fault::Text)?);
-    }
-    Ok(solve(alloc, &text)?)
 }
 
-/// The answer of `solve` to a text that is not too long.
-fn solve(alloc: Global, text: &[u8]) -> Result<Output, AllocError>
-    requires { length text.now ≤ 1048576 }
+/// The answer of `solve`, which takes the whole source as a formula.
+fn solve<S: Source>(alloc: Global, source: &mut S) -> Result<Output, ReadRefused>
+    ensures given { IfOk result (λ out. (a : Answer) × IsAnswerOf (Solve []) (S.rest source.old) a × Shows out a) }
+    ensures fault { IsErrOf result read_refused.Fault → Rose (S.faults source.old) (S.faults source.new) }
+    ensures no_memory { IsErrOf result read_refused.NoMemory → S.faults source.new ≡ S.faults source.old }
+    ensures count { OnOk result (S.faults source.new ≡ S.faults source.old) }
+    ensures counts { Counts (S.faults source.old) (S.faults source.new) }
+{
+    let text = read_whole(alloc, source, MOST_BYTES)?;
+    Ok(solve_text(alloc, &text)?)
+}
+
+/// The answer of `trace`, which takes a formula and a trace.
+fn trace<S: Source>(alloc: Global, source: &mut S) -> Result<Output, ReadRefused>
+    ensures given { IfOk result (λ out. (a : Answer) × IsAnswerOf TraceWord (S.rest source.old) a × Shows out a) }
+    ensures fault { IsErrOf result read_refused.Fault → Rose (S.faults source.old) (S.faults source.new) }
+    ensures no_memory { IsErrOf result read_refused.NoMemory → S.faults source.new ≡ S.faults source.old }
+    ensures count { OnOk result (S.faults source.new ≡ S.faults source.old) }
+    ensures counts { Counts (S.faults source.old) (S.faults source.new) }
+{
+    let input = read_whole(alloc, source, usize::MAX)?;
+    Ok(trace_input(alloc, &input)?)
+}
+
+/// The answer of `solve` to a text. One that is too long may be a front of the source.
+fn solve_text(alloc: Global, text: &[u8]) -> Result<Output, AllocError>
     ensures { IfOk result (λ out. (a : Answer) × SolveAnswers [] text.now a × Shows out a) }
 {
-    match read_formula(alloc, text)? {
+    let (tokens, table, root) = match read_formula(alloc, text)? {
+        Reading::Refused(fault) => return refusal(alloc, fault),
+        Reading::Formula {
+            tokens,
+            table,
+            root,
+        } => (tokens, table, root),
+    };
+    if let Some(byte) = first_not_built(alloc, text, &tokens)? {
+        return refusal(alloc, Fault::NotBuilt(byte));
+    }
+    match find(alloc, &table, root)? {
+        Some(values) => sat(alloc, 0, &witness(alloc, &table, &values)?),
+        None => unsat(alloc, 0),
+    }
+}
+
+/// The answer of `trace` to an input of two parts.
+fn trace_input(alloc: Global, input: &[u8]) -> Result<Output, AllocError>
+    ensures { IfOk result (λ out. (a : Answer) × IsParted IsJudged input.now a × Shows out a) }
+{
+    let Some(parts) = cut(input) else {
+        return refusal(alloc, Fault::NoSeparator);
+    };
+    match read_formula(alloc, parts.formula)? {
         Reading::Refused(fault) => refusal(alloc, fault),
-        Reading::Formula { table, root } => match find(alloc, &table, root)? {
-            Some(values) => sat(alloc, 0, &witness(alloc, &table, &values)?),
-            None => unsat(alloc, 0),
-        },
+        Reading::Formula { table, root, .. } => judge(alloc, &table, root, parts.second),
     }
 }

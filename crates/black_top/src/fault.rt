@@ -1,6 +1,6 @@
 // The refusals.
 
-/// A refusal, with the number that its line shows: a byte of the input from 0, or a count of nodes.
+/// A refusal, with the number that its line shows: a byte of the input from 0, or a count of nodes or of cells.
 #[derive(Clone, Copy, Debug, PartialEq, Eq)]
 pub enum Fault {
     Usage,
@@ -9,4 +9,10 @@ pub enum Fault {
     Grammar(u32),
     Nodes(u32),
     NotBuilt(u32),
+    NoSeparator,
+    NotJson,
+    NotTrace,
+    EmptyLoop,
+    EmptyStates,
+    Cells(u128),
 }

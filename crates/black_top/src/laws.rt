@@ -14,4 +14,5 @@ pub fn one_answer()
 {
     ltl_lexer::laws::one_list();
     ltl_parser::laws::one_outcome();
+    ltl_word::laws::one_reading();
 }

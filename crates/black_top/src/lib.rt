@@ -4,9 +4,11 @@
 mod answer;
 mod evaluation;
 mod fault;
+mod judging;
 pub mod laws;
 mod not_built;
 mod output;
+mod parts;
 mod reading;
 mod search;
 mod status;

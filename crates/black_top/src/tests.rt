@@ -104,6 +104,125 @@ fn rows(rt: HostRuntime) -> Result<(), Fail> {
 }
 
 #[test]
+fn trace_rows(rt: HostRuntime) -> Result<(), Fail> {
+    let alloc = rt.alloc();
+    let mut deep = Vec::new(alloc);
+    for _ in 0..16_383 {
+        deep.extend_from_slice(b"Y ")?;
+    }
+    deep.extend_from_slice(b"p\n---\n{\"kind\":\"infinite\",\"stem\":[],\"loop\":[[\"p\"]]}")?;
+    let mut too_long = padded(alloc, b' ', 1_048_577, b"\n---")?;
+    too_long.extend_from_slice(b"\n[")?;
+    let table: [(&[u8], &[u8], Status); 30] = [
+        (
+            b"F(p & Y Y Y Y p)\n---\n{\"kind\":\"infinite\",\"stem\":[],\"loop\":[[\"p\"],[]]}",
+            b"HOLDS\n",
+            Status::Good,
+        ),
+        (
+            b"F(p & Y p)\n---\n{\"kind\":\"infinite\",\"stem\":[],\"loop\":[[\"p\"],[]]}",
+            b"FAILS\n",
+            Status::Negative,
+        ),
+        (
+            b"F(p & wX false)\n---\n{\"kind\":\"finite\",\"states\":[[\"q\"],[\"p\"]]}",
+            b"HOLDS\n",
+            Status::Good,
+        ),
+        (
+            b"G X true\n---\n{\"kind\":\"finite\",\"states\":[[\"q\"],[\"p\"]]}",
+            b"FAILS\n",
+            Status::Negative,
+        ),
+        (
+            b"F(p & Y q)\n---\n{\"kind\":\"finite\",\"states\":[[\"q\"],[\"p\"]]}",
+            b"HOLDS\n",
+            Status::Good,
+        ),
+        (
+            b"p\n---\n{\"kind\":\"finite\",\"states\":[[\"zz\",\"p\",\"p\"]]}",
+            b"HOLDS\n",
+            Status::Good,
+        ),
+        (
+            b"p\r\n---\r\n{\"kind\":\"finite\",\"states\":[[\"p\"]]}\r\n",
+            b"HOLDS\n",
+            Status::Good,
+        ),
+        (
+            b"p\n---\n{\"kind\":\"finite\",\n---\n\"states\":[[]]}",
+            b"trace fault: not JSON\n",
+            Status::Text,
+        ),
+        (b"p\n---\n[", b"trace fault: not JSON\n", Status::Text),
+        (b"p\n---\n", b"trace fault: not JSON\n", Status::Text),
+        (b"p\n---", b"trace fault: not JSON\n", Status::Text),
+        (b"p\n---\n{}", b"trace fault: not a trace\n", Status::Text),
+        (
+            b"p\n---\n{\"kind\":\"infinite\",\"loop\":[[\"p\"]]}",
+            b"trace fault: not a trace\n",
+            Status::Text,
+        ),
+        (
+            b"p\n---\n{\"kind\":\"finite\",\"states\":[[\"p\"]],\"x\":1}",
+            b"trace fault: not a trace\n",
+            Status::Text,
+        ),
+        (
+            b"p\n---\n{\"kind\":\"finite\",\"states\":[\"p\"]}",
+            b"trace fault: not a trace\n",
+            Status::Text,
+        ),
+        (
+            b"p\n---\n{\"kind\":\"finite\",\"states\":[[1]]}",
+            b"trace fault: not a trace\n",
+            Status::Text,
+        ),
+        (
+            b"p\n---\n{\"kind\":\"infinite\",\"stem\":[],\"loop\":[]}",
+            b"trace fault: loop is empty\n",
+            Status::Text,
+        ),
+        (
+            b"p\n---\n{\"kind\":\"finite\",\"states\":[]}",
+            b"trace fault: states is empty\n",
+            Status::Text,
+        ),
+        (
+            &deep,
+            b"limit cells 67108864 have 268435456\n",
+            Status::Limit,
+        ),
+        (&too_long, b"limit text 1048576\n", Status::Limit),
+        (b"p", b"no separator line\n", Status::Text),
+        (b"", b"no separator line\n", Status::Text),
+        (b"p\n ---\n[", b"no separator line\n", Status::Text),
+        (b"p\n--- \n[", b"no separator line\n", Status::Text),
+        (b"p\n----\n[", b"no separator line\n", Status::Text),
+        (b"p\n---\r\r\n[", b"no separator line\n", Status::Text),
+        (b"---", b"grammar fault at byte 0\n", Status::Text),
+        (b"p &\n---\n[", b"grammar fault at byte 3\n", Status::Text),
+        (
+            b"\np &\n\n---\n[",
+            b"grammar fault at byte 5\n",
+            Status::Text,
+        ),
+        (b"p $ q\n---\n[", b"lexical fault at byte 2\n", Status::Text),
+    ];
+    for (input, output, status) in &table {
+        shows(&rt, alloc, &["trace"], input, output, *status)?;
+    }
+    shows(
+        &rt,
+        alloc,
+        &["trace", "--finite"],
+        b"p",
+        USAGE,
+        Status::Usage,
+    )
+}
+
+#[test]
 fn second_read_fails(rt: HostRuntime) -> Result<(), Fail> {
     let alloc = rt.alloc();
     let mut source = MemorySource::new(b"p".to_vec(alloc)?, 1, vec![in alloc; 2]?);

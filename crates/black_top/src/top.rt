@@ -3,8 +3,8 @@ ghost use Rattle.std.specs.Prelude.{◌≡◌, ◌⊎◌, ◌<◌, List, map, st
 ghost use Rattle.ltl_io.specs.Count.{Rose};
 ghost use Rattle.ltl_syntax.specs.declared.node.Kind.TheVariants as kinds;
 ghost use Rattle.black_top.specs.declared.status.Status.TheVariants as statuses;
-ghost use Rattle.black_top.specs.Words.{Choice, Solve, Asks};
-ghost use Rattle.black_top.specs.Run.{is_answer, IsAnswered, IsCutOff, NeedsNothing, OfFormula, PrintsModel, PrintsNone};
+ghost use Rattle.black_top.specs.Words.{Choice, Solve, Trace as TraceWord, Asks};
+ghost use Rattle.black_top.specs.Run.{is_answer, IsAnswered, IsCutOff, NeedsNothing, OfFormula, PrintsModel, PrintsNone, OfTrace, PrintsHolds, PrintsFails};
 
 use crate::Status;
 use crate::answer::answer;
@@ -39,6 +39,12 @@ pub fn run<R: Threads + Sync, S: Source, K: Sink, G: Gate + Sync>(
     // UNSAT is printed only where no trace satisfies the formula.
     ensures unsat { (choices : List Choice) → Asks (map string_bytes words.now) (Solve choices) → result ≡ statuses.Unsat
         → OfFormula (S.rest source.old) (λ f. PrintsNone kinds.Infinite f (K.content sink.old) (K.content sink.new)) }
+    // HOLDS is printed only where the trace satisfies the formula.
+    ensures holds { Asks (map string_bytes words.now) TraceWord → result ≡ statuses.Good
+        → OfTrace (S.rest source.old) (λ f t. PrintsHolds f t (K.content sink.old) (K.content sink.new)) }
+    // FAILS is printed only where it does not.
+    ensures fails { Asks (map string_bytes words.now) TraceWord → result ≡ statuses.Negative
+        → OfTrace (S.rest source.old) (λ f t. PrintsFails f t (K.content sink.old) (K.content sink.new)) }
 {
     match answer(alloc, words, source) {
         Err(ReadRefused::Fault) => Status::ReadFault,

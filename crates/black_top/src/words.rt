@@ -1,11 +1,26 @@
-// The words of the command line. They are compared by hand: so far one list of them is taken.
-ghost use Rattle.std.specs.Prelude.{◌≡◌, [], true, false, map, string_bytes};
-ghost use Rattle.black_top.specs.Words.{Command, Solve, Asks};
+// The words of the command line. They are compared by hand: so far two lists of one word are taken.
+ghost use Rattle.std.specs.Prelude.{map, string_bytes, MatchOption};
+ghost use Rattle.black_top.specs.Words.{Command, Asks};
+ghost use Rattle.black_top.specs.Inner.{command_of};
 
-/// Whether the words are `solve` alone.
-pub fn asks_solve(words: &[String]) -> bool
-    ensures yes { result ≡ true → Asks (map string_bytes words.now) (Solve []) }
-    ensures no { result ≡ false → (c : Command) → ¬ (Asks (map string_bytes words.now) c) }
+/// The commands that are built.
+#[derive(Clone, Copy, Debug, PartialEq, Eq)]
+pub enum Asked {
+    /// `solve` without options.
+    Solve,
+    Trace,
+}
+
+/// The command that the words ask for.
+pub fn asked_command(words: &[String]) -> Option<Asked>
+    ensures { MatchOption result ((c : Command) → ¬ (Asks (map string_bytes words.now) c)) (λ command. Asks (map string_bytes words.now) (command_of command)) }
 {
-    words.len() == 1 && words[0].as_str() == "solve"
+    if words.len() != 1 {
+        return None;
+    }
+    match words[0].as_str() {
+        "solve" => Some(Asked::Solve),
+        "trace" => Some(Asked::Trace),
+        _ => None,
+    }
 }

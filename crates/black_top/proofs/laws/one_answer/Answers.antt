@@ -12,4 +12,5 @@ returns c words bytes =
       lexical_not_grammar = outcome.lexical_not_grammar;
       lexical_not_read = outcome.lexical_not_read;
       grammar_not_read = outcome.grammar_not_read;
+      one_reading = c.one_reading.ensures;
     })
