@@ -7,9 +7,9 @@ use Rattle.std.proofs.lemmas.List.Elements.{filter-append}
 use Rattle.std.proofs.lemmas.List.Folds.{list_any-append}
 use Rattle.ltl_lexer.specs.declared.token.Token.{Token}
 use Rattle.ltl_lexer.specs.Tokens.{AreTokens, IsLexicalFault}
-use Rattle.ltl_parser.specs.Text.{ReadsText, IsGrammarFault, nodes_in}
+use Rattle.ltl_parser.specs.Text.{ReadsText, IsGrammarFault}
 use Rattle.ltl_syntax.specs.declared.node.Kind.TheVariants as kinds
-use Rattle.ltl_syntax.specs.Formula.{Formula}
+use Rattle.ltl_syntax.specs.Formula.{Formula, nodes_in}
 use Rattle.ltl_word.specs.declared.trace.Trace.{Trace}
 use Rattle.ltl_word.specs.declared.json.TraceFault.{TraceFault}
 use Rattle.ltl_word.specs.declared.json.TraceFault.TheVariants as trace_faults

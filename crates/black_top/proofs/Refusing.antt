@@ -3,8 +3,8 @@ use Rattle.std.proofs.Common.{◌≡◌, ℕ, ◌<◌, List, Option, Some, None,
 use Rattle.ltl_lexer.specs.declared.token.Token.{Token}
 use Rattle.ltl_lexer.specs.Tokens.{AreTokens}
 use Rattle.ltl_parser.specs.Grammar.{Symbol, Reads, fault, node_count}
-use Rattle.ltl_parser.specs.Text.{symbols, grammar_fault, byte_at, ReadsText, NodesOf, nodes_in}
-use Rattle.ltl_syntax.specs.Formula.{Formula}
+use Rattle.ltl_parser.specs.Text.{symbols, grammar_fault, byte_at, ReadsText, NodesOf}
+use Rattle.ltl_syntax.specs.Formula.{Formula, nodes_in}
 use Rattle.black_top.specs.Reading.{HasManyNodes}
 
 no_place : (text : List ℕ) (ts : List Token) (place : Option ℕ) → byte_at text ts place ≡ None → place ≡ None

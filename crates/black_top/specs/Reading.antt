@@ -1,8 +1,8 @@
 -- The refusals of the formula part of an input.
 use Rattle.std.specs.Prelude.{◌≡◌, ◌≤◌, ◌<◌, ℕ, List, length}
 use Rattle.ltl_lexer.specs.Tokens.{IsLexicalFault}
-use Rattle.ltl_parser.specs.Text.{ReadsText, IsGrammarFault, nodes_in}
-use Rattle.ltl_syntax.specs.Formula.{Formula}
+use Rattle.ltl_parser.specs.Text.{ReadsText, IsGrammarFault}
+use Rattle.ltl_syntax.specs.Formula.{Formula, nodes_in}
 use Rattle.black_top.specs.declared.fault.Fault.{Fault}
 use Rattle.black_top.specs.declared.fault.Fault.TheVariants as faults
 

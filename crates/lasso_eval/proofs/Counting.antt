@@ -1,17 +1,17 @@
 -- Bounds on the number of cells.
 use Rattle.std.proofs.Common.{ℕ, ◌*◌, ◌<◌, ◌≤◌, arith}
 use Rattle.std.proofs.Math.Nat.{mul-le-mul_right}
-use Rattle.ltl_syntax.specs.Formula.{Formula, Const, Letter, Unary, Binary}
+use Rattle.ltl_syntax.specs.Formula.{Formula, Const, Letter, Unary, Binary, nodes_in}
 use Rattle.ltl_word.specs.declared.trace.Trace.{Trace}
 use Rattle.ltl_word.specs.declared.trace.Trace.TheVariants.{Infinite, Finite}
 use Rattle.ltl_word.specs.Trace.{IsTrace}
-use Rattle.lasso_eval.specs.Cells.{size, columns}
+use Rattle.lasso_eval.specs.Cells.{columns}
 
-pub some_size : (f : Formula) → 1 ≤ size f
-some_size (Const b) = omega arith
-some_size (Letter p) = omega arith
-some_size (Unary op a) = omega arith
-some_size (Binary op a b) = omega arith
+pub some_nodes : (f : Formula) → 1 ≤ nodes_in f
+some_nodes (Const b) = omega arith
+some_nodes (Letter p) = omega arith
+some_nodes (Unary op a) = omega arith
+some_nodes (Binary op a b) = omega arith
 
 -- one factor is at most a product whose other factor is not 0
 pub factor_within : (count columns limit : ℕ) → 1 ≤ count → count * columns ≤ limit → columns ≤ limit

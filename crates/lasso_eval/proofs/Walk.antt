@@ -8,20 +8,19 @@ use Rattle.std.proofs.lemmas.Bool.Decides.{eqb_tells}
 use Rattle.ltl_syntax.specs.declared.node.Node.{Node}
 use Rattle.ltl_syntax.specs.declared.node.Node.TheVariants as nodes
 use Rattle.ltl_syntax.specs.Table.{Table, tree_at, trees_of, made, has_child, IsFine}
-use Rattle.ltl_syntax.specs.Formula.{Formula, Unary, Binary}
+use Rattle.ltl_syntax.specs.Formula.{Formula, Unary, Binary, nodes_in}
 use Rattle.ltl_syntax.specs.declared.node.UnaryOp.{UnaryOp}
 use Rattle.ltl_syntax.specs.declared.node.BinaryOp.{BinaryOp}
 use Rattle.ltl_syntax.specs.declared.node.UnaryOp.TheVariants.{Always, Eventually, Historically, Next, Not, Once, WeakNext, WeakYesterday, Yesterday}
 use Rattle.ltl_syntax.specs.declared.node.BinaryOp.TheVariants.{And, Iff, Implies, Or, Release, Since, StrongRelease, Trigger, Until, WeakUntil}
 use Rattle.ltl_word.specs.Depth.{past_depth}
-use Rattle.lasso_eval.specs.Cells.{size}
 use Rattle.lasso_eval.specs.Rows.{cell}
 use Rattle.lasso_eval.specs.Under.{IsUnder, Here, Below}
 use Rattle.lasso_eval.proofs.Marking.{pending, pending_more, pending_none, pending_same, two_counted}
 
--- the size of the tree of a number
+-- how many nodes has the tree of a number
 abbrev pub weight : Table → ℕ → ℕ
-weight t i = size (tree_at t i)
+weight t i = nodes_in (tree_at t i)
 
 -- the nodes from k up to the root have marked their children
 pub record IsMarking (t : Table) (root k : ℕ) (marks : List Bool) (count : ℕ) : Type 0 where
@@ -33,7 +32,7 @@ pub record IsMarking (t : Table) (root k : ℕ) (marks : List Bool) (count : ℕ
   pub closed : (p m : ℕ) (node : Node) → k ≤ p → IsTrue (cell marks p) → slice_get t.nodes p ≡ Some node → IsTrue (has_child m node) → IsTrue (cell marks m)
   pub parented : (m : ℕ) → m < k → IsTrue (cell marks m) → (m ≡ root) ⊎ ((p : ℕ) × (node : Node) × (k ≤ p) × (slice_get t.nodes p ≡ Some node) × IsTrue (has_child m node))
   pub shallow : (m : ℕ) → IsTrue (cell marks m) → past_depth (tree_at t m) ≤ past_depth (tree_at t root)
-  pub counted : count + pending (weight t) (cell marks) k ≡ size (tree_at t root)
+  pub counted : count + pending (weight t) (cell marks) k ≡ nodes_in (tree_at t root)
 
 -- a node that is not marked changes nothing
 pub passed : (t : Table) (root k : ℕ) (marks : List Bool) (count : ℕ) → IsMarking t root (suc k) marks count → cell marks k ≡ false → IsMarking t root k marks count
@@ -121,16 +120,16 @@ module _ (t : Table) (k : ℕ) (marks : List Bool) where
   pub step_counted : (node : Node) (new : List Bool) → IsFine (length t.names) k node → tree_at t k ≡ made t.names (trees_of t) node
       → ((child : ℕ) → child < k → IsTrue (has_child child node) → cell marks child ≡ false)
       → ((i : ℕ) → cell new i ≡ (cell marks i || has_child i node)) → pending (weight t) (cell new) k + 1 ≡ pending (weight t) (cell marks) k + weight t k
-  step_counted (nodes.Const b) new fine tree unmarked each = leaf (nodes.Const b) new (ap size tree) each
-  step_counted (nodes.Letter n) new fine tree unmarked each = leaf (nodes.Letter n) new (ap size tree) each
-  step_counted (nodes.Fresh n) new fine tree unmarked each = leaf (nodes.Fresh n) new (ap size tree) each
+  step_counted (nodes.Const b) new fine tree unmarked each = leaf (nodes.Const b) new (ap nodes_in tree) each
+  step_counted (nodes.Letter n) new fine tree unmarked each = leaf (nodes.Letter n) new (ap nodes_in tree) each
+  step_counted (nodes.Fresh n) new fine tree unmarked each = leaf (nodes.Fresh n) new (ap nodes_in tree) each
   step_counted (nodes.Unary op a) new fine tree unmarked each =
-      let weighs : weight t k ≡ weight t a + 1 = ap size tree in
+      let weighs : weight t k ≡ weight t a + 1 = ap nodes_in tree in
       let more = pending_more (weight t) (cell marks) (cell new) a k fine (unmarked a fine (equal_self a)) (each a ∙ or_right (cell marks a) (a == a) (equal_self a))
       (λ i n. each i ∙ ap (λ b. cell marks i || b) (not_equal a i n) ∙ or_false (cell marks i)) in
       omega (arith, weighs, more)
   step_counted (nodes.Binary op a b) new fine tree unmarked each =
-      let weighs : weight t k ≡ weight t a + weight t b + 1 = ap size tree in
+      let weighs : weight t k ≡ weight t a + weight t b + 1 = ap nodes_in tree in
       let between : ℕ → Bool = λ i. cell marks i || (a == i) in
       let first = pending_more (weight t) (cell marks) between a k fine.0 (unmarked a fine.0 (or_left (a == a) (b == a) (equal_self a))) (or_right (cell marks a) (a == a) (equal_self a))
       (λ i n. ap (λ v. cell marks i || v) (not_equal a i n) ∙ or_false (cell marks i)) in

@@ -1,16 +1,9 @@
 -- How many cells the evaluation of a formula on a trace takes.
 use Rattle.std.specs.Prelude.{◌≡◌, ℕ, ◌+◌, ◌*◌, ◌<◌, length}
-use Rattle.ltl_syntax.specs.Formula.{Formula, Const, Letter, Unary, Binary}
+use Rattle.ltl_syntax.specs.Formula.{Formula, nodes_in}
 use Rattle.ltl_word.specs.declared.trace.Trace.{Trace}
 use Rattle.ltl_word.specs.declared.trace.Trace.TheVariants.{Infinite, Finite}
 use Rattle.ltl_word.specs.Depth.{past_depth}
-
--- the number of nodes of a formula
-abbrev pub size : Formula → ℕ
-size (Const b) = 1
-size (Letter p) = 1
-size (Unary op a) = size a + 1
-size (Binary op a b) = size a + size b + 1
 
 -- the positions that tell all about a formula of this past depth: the states of a finite trace, or the stem and one loop more than the depth
 abbrev pub columns : Trace → ℕ → ℕ
@@ -28,7 +21,7 @@ positions t f = columns t (past_depth f)
 
 -- the number of cells of the table of a formula
 abbrev pub cells : Trace → Formula → ℕ
-cells t f = size f * positions t f
+cells t f = nodes_in f * positions t f
 
 -- the greatest number of cells
 abbrev pub max_cells : ℕ

@@ -6,7 +6,7 @@
 ghost use Rattle.std.specs.Prelude.{◌≡◌, ◌<◌, ◌≤◌, ◌↔◌, ◌+◌, ◌||◌, ℕ, false, length, slice_index_or, IfOk, IsTrue};
 ghost use Rattle.ltl_syntax.specs.Table.{tree_at, has_child};
 ghost use Rattle.ltl_word.specs.Depth.{past_depth};
-ghost use Rattle.lasso_eval.specs.Cells.{size};
+ghost use Rattle.ltl_syntax.specs.Formula.{nodes_in};
 ghost use Rattle.lasso_eval.specs.Under.{IsUnder, HasChildrenBelow};
 
 use ltl_syntax::{FormulaTable, Node};
@@ -24,7 +24,7 @@ pub fn nodes_under(alloc: Global, table: &FormulaTable, root: u32) -> Result<Und
     ensures length { IfOk result (λ under. length under.marks.items ≡ root + 1) }
     ensures marks { IfOk result (λ under. (number : ℕ) → IsTrue (slice_index_or under.marks.items number false) ↔ IsUnder table.now root number) }
     ensures shallow { IfOk result (λ under. (number : ℕ) → IsTrue (slice_index_or under.marks.items number false) → past_depth (tree_at table.now number) ≤ past_depth (tree_at table.now root)) }
-    ensures count { IfOk result (λ under. under.count ≡ size (tree_at table.now root)) }
+    ensures count { IfOk result (λ under. under.count ≡ nodes_in (tree_at table.now root)) }
     ensures small { IfOk result (λ under. under.count ≤ root + 1) }
 {
     let _nodes = table.len();

@@ -3,7 +3,7 @@ use Rattle.std.proofs.Common.{◌≡◌, ℕ, ◌+◌, ◌⊎◌, inl, inr, List
 use Rattle.std.specs.Prelude.{Option, Some, None}
 use Rattle.std.specs.List.{All}
 use Rattle.std.proofs.lemmas.List.Elements.{All-head, All-tail}
-use Rattle.ltl_syntax.specs.Formula.{Formula}
+use Rattle.ltl_syntax.specs.Formula.{Formula, nodes_in}
 use Rattle.ltl_lexer.specs.declared.token.TokenKind.{TokenKind}
 use Rattle.ltl_lexer.specs.declared.token.TokenKind.TheVariants as kinds
 use Rattle.ltl_lexer.specs.declared.token.Token.{Token}
@@ -12,7 +12,7 @@ use Rattle.ltl_lexer.proofs.Words.{identifier_is_word}
 use Rattle.ltl_lexer.proofs.OneList.{one_list}
 use Rattle.ltl_lexer.proofs.Places.{parts_of_text}
 use Rattle.ltl_parser.specs.Grammar.{Symbol, Leaf, Prefix, Infix, Open, Close, Reads, Apart, Applied, Enclosed, Alone, fault, node_count}
-use Rattle.ltl_parser.specs.Text.{symbol, symbols, ReadsText, grammar_fault, byte_at, IsGrammarFault, NodesOf, nodes_in, IsPrintable}
+use Rattle.ltl_parser.specs.Text.{symbol, symbols, ReadsText, grammar_fault, byte_at, IsGrammarFault, NodesOf, IsPrintable}
 use Rattle.ltl_parser.proofs.Unique.{one_reading}
 use Rattle.ltl_parser.proofs.Exists.{reading_of, no_fault}
 

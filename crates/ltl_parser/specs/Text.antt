@@ -1,11 +1,11 @@
 -- The formula that a text reads as, or the byte of its fault, and the formulas that are accepted.
-use Rattle.std.specs.Prelude.{◌≡◌, ℕ, zero, suc, ◌+◌, ◌<◌, ◌≤◌, true, false, List, [], ◌∷◌, ◌++◌, length, map, slice_range, bytes_eq, if◌then◌else◌, Option, Some, None}
+use Rattle.std.specs.Prelude.{◌≡◌, ℕ, zero, suc, ◌<◌, ◌≤◌, true, false, List, [], ◌∷◌, ◌++◌, length, map, slice_range, bytes_eq, if◌then◌else◌, Option, Some, None}
 use Rattle.std.specs.List.{list_any}
 use Rattle.ltl_syntax.specs.declared.node.UnaryOp.{UnaryOp}
 use Rattle.ltl_syntax.specs.declared.node.BinaryOp.{BinaryOp}
 use Rattle.ltl_syntax.specs.declared.node.UnaryOp.TheVariants as one
 use Rattle.ltl_syntax.specs.declared.node.BinaryOp.TheVariants as two
-use Rattle.ltl_syntax.specs.Formula.{Formula, Const, Name, Letter, Unary, Binary, Fresh}
+use Rattle.ltl_syntax.specs.Formula.{Formula, Const, Name, Letter, Unary, Binary, Fresh, nodes_in}
 use Rattle.ltl_lexer.specs.declared.token.TokenKind.{TokenKind}
 use Rattle.ltl_lexer.specs.declared.token.TokenKind.TheVariants as kinds
 use Rattle.ltl_lexer.specs.declared.token.UnaryWord.{UnaryWord}
@@ -92,13 +92,6 @@ pub record NodesOf (text : List ℕ) (nodes : ℕ) : Type 0 where
   pub tokens : List Token
   pub lexed : AreTokens 0 text tokens None
   pub count : nodes ≡ node_count (symbols text tokens)
-
--- the nodes of a formula
-abbrev pub nodes_in : Formula → ℕ
-nodes_in (Const b) = 1
-nodes_in (Letter p) = 1
-nodes_in (Unary op a) = suc (nodes_in a)
-nodes_in (Binary op a b) = suc (nodes_in a + nodes_in b)
 
 -- the text is within the limit, it reads as the formula, and the formula is within its limit
 pub record IsAccepted (text : List ℕ) (f : Formula) : Type 0 where

@@ -2,10 +2,10 @@
 ghost use Rattle.std.specs.Prelude.{◌≡◌, ◌↔◌, ◌⊎◌, List, ℕ, None};
 ghost use Rattle.ltl_lexer.specs.declared.token.Token.{Token};
 ghost use Rattle.ltl_lexer.specs.Tokens.{AreTokens, IsLexicalFault};
-ghost use Rattle.ltl_syntax.specs.Formula.{Formula};
+ghost use Rattle.ltl_syntax.specs.Formula.{Formula, nodes_in};
 ghost use Rattle.ltl_syntax.specs.Print.{text_of};
 ghost use Rattle.ltl_parser.specs.Grammar.{Symbol, Reads, fault};
-ghost use Rattle.ltl_parser.specs.Text.{ReadsText, IsGrammarFault, NodesOf, nodes_in, IsPrintable};
+ghost use Rattle.ltl_parser.specs.Text.{ReadsText, IsGrammarFault, NodesOf, IsPrintable};
 
 /// A token list has at most one reading.
 pub fn one_reading()

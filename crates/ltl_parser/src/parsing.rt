@@ -4,7 +4,8 @@ ghost use Rattle.std.specs.Prelude.{◌≡◌, ◌+◌, ◌≤◌, length, IfOk,
 ghost use Rattle.ltl_lexer.specs.Tokens.{AreTokens};
 ghost use Rattle.ltl_syntax.specs.Table.{IsRoot, tree_at};
 ghost use Rattle.ltl_parser.specs.Grammar.{Reads};
-ghost use Rattle.ltl_parser.specs.Text.{symbols, grammar_fault, names_of, nodes_in, IsAccepted, IsRefusal};
+ghost use Rattle.ltl_syntax.specs.Formula.{nodes_in};
+ghost use Rattle.ltl_parser.specs.Text.{symbols, grammar_fault, names_of, IsAccepted, IsRefusal};
 
 use crate::build::build;
 use crate::walking::walk;

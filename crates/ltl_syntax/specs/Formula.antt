@@ -1,5 +1,5 @@
 -- A formula is a tree. Its leaves are constants and letters, its inner nodes the operators of the enums `UnaryOp` and `BinaryOp`.
-use Rattle.std.specs.Prelude.{ℕ, Bool, List}
+use Rattle.std.specs.Prelude.{ℕ, ◌+◌, Bool, List}
 use Rattle.ltl_syntax.specs.declared.node.UnaryOp.{UnaryOp}
 use Rattle.ltl_syntax.specs.declared.node.BinaryOp.{BinaryOp}
 
@@ -15,3 +15,10 @@ pub data Formula : Type 0 where
   Letter : Atom → Formula
   Unary : UnaryOp → Formula → Formula
   Binary : BinaryOp → Formula → Formula → Formula
+
+-- the number of nodes of a formula
+abbrev pub nodes_in : Formula → ℕ
+nodes_in (Const b) = 1
+nodes_in (Letter p) = 1
+nodes_in (Unary op a) = nodes_in a + 1
+nodes_in (Binary op a b) = nodes_in a + nodes_in b + 1
