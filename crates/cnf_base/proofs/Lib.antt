@@ -4,4 +4,5 @@ pub mod Soundness
 pub mod Deciding
 pub mod RowLemmas
 pub mod RowSwaps
+pub mod Lengthened
 mod RowTiles

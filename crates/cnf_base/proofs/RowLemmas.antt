@@ -12,7 +12,7 @@ pieces_same xs ys (s ∷ spans) same =
     let P : Place → Type 0 = λ s. slice_range xs s.from s.to ≡ slice_range ys s.from s.to in
     ap₂ ◌∷◌ (All-head P s spans same) (pieces_same xs ys spans (All-tail P s spans same))
 
-range-append : {X : Type 0} (xs ys : List X) (from to : ℕ) → from ≤ to → to ≤ length xs → slice_range (xs ++ ys) from to ≡ slice_range xs from to
+pub range-append : {X : Type 0} (xs ys : List X) (from to : ℕ) → from ≤ to → to ≤ length xs → slice_range (xs ++ ys) from to ≡ slice_range xs from to
 range-append xs ys from to forward inside =
     ap (take (to - from)) (drop-append-le from xs ys (omega arith))
     ∙ take-append-le (to - from) (drop from xs) ys (simp length-drop (omega arith))

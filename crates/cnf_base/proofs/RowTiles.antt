@@ -6,7 +6,7 @@ use Rattle.cnf_base.specs.declared.rows.Place.{Place}
 use Rattle.cnf_base.specs.RowPieces.{row_pieces, AreTiles, IsPlace, AreFlat}
 
 -- the end is not before the start
-start_below : (start : ℕ) (places : List Place) (end : ℕ) → AreTiles start places end → start ≤ end
+pub start_below : (start : ℕ) (places : List Place) (end : ℕ) → AreTiles start places end → start ≤ end
 start_below start [] end tiles = omega (arith, tiles)
 start_below start (p ∷ places) end tiles = omega (arith, tiles.1, start_below p.to places end tiles.2)
 

@@ -1,5 +1,5 @@
 -- Rows as places in one flat list.
-use Rattle.std.specs.Prelude.{◌≡◌, ℕ, ◌≤◌, List, [], ◌∷◌, map, All, AllPairs, slice_range}
+use Rattle.std.specs.Prelude.{◌≡◌, ℕ, ◌-◌, ◌≤◌, List, [], ◌∷◌, ◌++◌, length, map, All, AllPairs, slice_range, slice_index_or, slice_set}
 use Rattle.cnf_base.specs.declared.rows.Place.{Place}
 
 -- the items of each place
@@ -20,3 +20,7 @@ pub record IsPlace (end : ℕ) (place : Place) : Type 0 where
 pub record AreFlat (end : ℕ) (places : List Place) : Type 0 where
   pub each : All (IsPlace end) places
   pub ordered : AllPairs (λ s t. s.to ≤ t.from) places
+
+-- the item is put behind the others of the last row
+abbrev pub lengthened : {X : Type 0} → List (List X) → X → List (List X)
+lengthened rows item = slice_set rows (length rows - 1) (slice_index_or rows (length rows - 1) [] ++ item ∷ [])

@@ -1,5 +1,7 @@
 // Clauses that are stored, their literals one after another in one buffer.
-ghost use Rattle.std.specs.Prelude.{◌≡◌, ◌<◌, ◌^◌, [], ◌∷◌, ◌++◌, length, take, if◌then◌else◌, is_ok};
+ghost use Rattle.std.specs.Prelude.{◌≡◌, ◌<◌, ◌≤◌, ◌-◌, ◌^◌, [], ◌∷◌, ◌++◌, length, take, if◌then◌else◌, is_ok, slice_index_or};
+ghost use Rattle.cnf_base.specs.RowPieces.{lengthened};
+ghost use Rattle.cnf_base.specs.Step.{clause_at};
 
 use crate::{Clauses, Literal, Rows};
 use std::alloc::{AllocError, Global};
@@ -38,6 +40,25 @@ impl ClauseList {
         ensures { self.new ≡ (if is_ok result then self.old ++ clause.now ∷ [] else self.old) }
     {
         self.rows.push(clause)
+    }
+
+    /// The literals of a clause. Clauses are numbered from 1.
+    pub fn clause(&self, number: u64) -> &[Literal]
+        requires from_one { 1 ≤ number }
+        requires in_list { number ≤ length self.now }
+        ensures { result.now ≡ clause_at self.now number }
+    {
+        let index = (number - 1) as usize;
+        self.rows.row(index)
+    }
+
+    /// Puts the literal behind the others of the last clause. After want of memory the list is as before.
+    pub fn lengthen(&mut self, literal: Literal) -> Result<(), AllocError>
+        requires some { 0 < length self.old }
+        requires short { length (slice_index_or self.old (length self.old - 1) []) < 2 ^ 32 - 1 }
+        ensures { self.new ≡ (if is_ok result then lengthened self.old literal else self.old) }
+    {
+        self.rows.lengthen(literal)
     }
 
     /// Keeps the first `count` clauses, or all where there are no more.

@@ -1,6 +1,7 @@
 // Lists of rows of any length over two buffers: the items of all rows one after another, and where each row stands.
 // A row costs no allocation of its own, and is lent as a slice. Clause lists, logs and the solver's clauses stand on it.
 ghost use Rattle.std.specs.Prelude.{◌≡◌, ◌<◌, [], ◌∷◌, ◌++◌, length, take, if◌then◌else◌, is_ok, slice_index_or, slice_set};
+ghost use Rattle.cnf_base.specs.RowPieces.{lengthened};
 ghost use Rattle.std.specs.List.{swap};
 
 use std::alloc::{AllocError, Global};
@@ -73,6 +74,17 @@ impl<T: Copy + Drop> Rows<T> {
                 Err(AllocError)
             }
         }
+    }
+
+    /// Puts the item behind the others of the last row. After want of memory the rows are as before.
+    pub fn lengthen(&mut self, item: T) -> Result<(), AllocError>
+        requires { 0 < length self.old }
+        ensures { self.new ≡ (if is_ok result then lengthened self.old item else self.old) }
+    {
+        let last = self.places.len() - 1;
+        self.items.push(item)?;
+        self.places[last].to = self.items.len();
+        Ok(())
     }
 
     /// Lets two items of a row change places. The index of the row and the places in it count from 0.

@@ -39,7 +39,11 @@ fn keeps_clauses(rt: HostRuntime) -> Result<(), Fail> {
     list.truncate(2);
     assert_eq!(rt; last(&list), Some((2, 2, plus(6))));
     list.push(&[minus(3), plus(4), minus(3)])?;
-    assert_eq!(rt; last(&list), Some((3, 3, minus(3))));
+    list.lengthen(plus(5))?;
+    assert_eq!(rt;
+        list.clause(3),
+        [minus(3), plus(4), minus(3), plus(5)].as_slice()
+    );
     list.truncate(1);
     assert_eq!(rt; last(&list), Some((1, 1, minus(6))));
     Ok(())
@@ -60,6 +64,8 @@ fn lends_rows(rt: HostRuntime) -> Result<(), Fail> {
     );
     assert_eq!(rt; rows.row(1).len(), 0);
     assert_eq!(rt; rows.row(2), [Hint::Line(7)].as_slice());
+    rows.lengthen(Hint::Clause(4))?;
+    assert_eq!(rt; rows.row(2), [Hint::Line(7), Hint::Clause(4)].as_slice());
     rows.truncate(1);
     assert_eq!(rt; rows.len(), 1);
     Ok(())
