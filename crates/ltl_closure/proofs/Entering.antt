@@ -41,14 +41,14 @@ found : (b : Bool) → false ≡ not b → b ≡ true
 found true e = refl
 found false e = cc
 
-module _ (ks : List Key) (xs : List Entry) (key : Key) (new : List Key) (i : ℕ) (added : Bool) (grows : new ≡ grown ks key) (tells : added ≡ not (list_any (key_eq key) ks)) (room : length ks < 268435456) where
+module _ (ks : List Key) (xs : List Entry) (key : Key) (new : List Key) (i : ℕ) (added : Bool) (grows : new ≡ grown ks key) (tells : added ≡ not (list_any (key_eq key) ks)) where
   pub enter_known : added ≡ false → (k : Key) × (slice_get new i ≡ Some k) × (key_eq key k ≡ true) → Enters ks xs key new xs (i + 1)
   enter_known old (k, at, same) names kept g distinct shared has is =
       let there : list_any (key_eq key) ks ≡ true = found _ (sym old ∙ tells) in
       let stay : new ≡ ks = grows ∙ ap (λ b. if b then ks else ks ++ key ∷ []) there in
       let e : i + 1 ≡ suc i = omega arith in
       let s : key ≡ k = same_key key k same in
-      rw (stay, e) (known names kept ks xs g key distinct shared has is room i (rw (← stay, s) at))
+      rw (stay, e) (known names kept ks xs g key distinct shared has is i (rw (← stay, s) at))
 
   module _ (fresh : added ≡ true) (place : i ≡ position_or_len (key_eq key) ks) where
     absent : list_any (key_eq key) ks ≡ false
@@ -71,11 +71,11 @@ module _ (ks : List Key) (xs : List Entry) (key : Key) (new : List Key) (i : ℕ
 
     pub enter_one : (ys : List Entry) → request_of key ≡ None → ys ≡ xs ++ entry_of key (i + 1) ∷ [] → Enters ks xs key new ys (i + 1)
     enter_one ys none more names kept g distinct shared has is =
-        rw (more, appended, at_end) (fresh_one names kept ks xs g key distinct shared has is room (not_there ks key absent) none)
+        rw (more, appended, at_end) (fresh_one names kept ks xs g key distinct shared has is (not_there ks key absent) none)
 
     pub enter_two : (ys zs : List Entry) (r : Request) (last : List Key) → request_of key ≡ Some r → ys ≡ xs ++ entry_of key (i + 1) ∷ [] → zs ≡ ys ++ asking_entry r (i + 1) ∷ [] → last ≡ grown new (keys.Asks r (i + 1)) → Enters ks xs key last zs (i + 1)
     enter_two ys zs r last asked more again grows_again names kept g distinct shared has is =
         let free : list_any (key_eq (keys.Asks r (i + 1))) new ≡ false =
-        none_there new (keys.Asks r (i + 1)) (rw (appended, at_end) (request_fresh names kept ks xs g key distinct shared has is room (not_there ks key absent) r asked)) in
+        none_there new (keys.Asks r (i + 1)) (rw (appended, at_end) (request_fresh names kept ks xs g key distinct shared has is (not_there ks key absent) r asked)) in
         let final : last ≡ (ks ++ key ∷ []) ++ keys.Asks r (i + 1) ∷ [] = grows_again ∙ ap (λ b. if b then new else new ++ keys.Asks r (i + 1) ∷ []) free ∙ ap (λ l. l ++ keys.Asks r (i + 1) ∷ []) appended in
-        rw (again, more, final, at_end) (fresh_two names kept ks xs g key distinct shared has is room (not_there ks key absent) r (key_request names kept g key r is asked))
+        rw (again, more, final, at_end) (fresh_two names kept ks xs g key distinct shared has is (not_there ks key absent) r (key_request names kept g key r is asked))

@@ -1,9 +1,11 @@
 pub mod Lists
 pub mod Entries
+pub mod Brought
 pub mod Again
 pub mod Places
 pub mod Keyed
 pub mod Sharing
+pub mod Counted
 pub mod SameKey
 pub mod Entering
 pub mod Plans

@@ -158,12 +158,9 @@ key_entry (keys.Asks r m) n = asking_key r m
 key_entry (keys.Joins op a b) n = joined_key op a b (n + 1)
 
 module _ (names : List (List ℕ)) (kept : List Norm) (ks : List Key) (xs : List Entry) (g : Norm) (key : Key)
-    (distinct : AreDistinct names) (shared : AreShared names kept ks xs) (has : HasOperands kept g) (is : IsKey names kept g key) (room : length ks < 268435456) where
+    (distinct : AreDistinct names) (shared : AreShared names kept ks xs) (has : HasOperands kept g) (is : IsKey names kept g key) where
   operands_there : (e : Norm) → Contains kept e → HasOperands kept e
   operands_there e h d c = shared.closed e d h (Contains-append_left (operands e) (requests e) d c)
-
-  entries_length : length ks ≡ length xs
-  entries_length = ap length shared.keys ∙ length-map xs key_of
 
   -- the member at the place where the key is
   found_at : (i : ℕ) → slice_get ks i ≡ Some key → (i < length kept) × (get_or kept i (NConst false) ≡ g)
@@ -182,7 +179,6 @@ module _ (names : List (List ℕ)) (kept : List Norm) (ks : List Key) (xs : List
       ]) in record {
         shared = rw same shared;
         there = rw same there;
-        few = let e = entries_length in omega arith;
         place = rw (same, ← w.1) (sym (shared.placed i (NConst false) w.0));
       }
     where
@@ -224,7 +220,6 @@ module _ (names : List (List ℕ)) (kept : List Norm) (ks : List Key) (xs : List
           record {
             shared = rw grown (subst (λ k. AreShared names (kept ++ g ∷ []) (ks ++ k ∷ []) (xs ++ entry_of key (suc (length ks)) ∷ [])) (key_entry key (suc (length ks))) made);
             there = rw grown (Contains-push kept g);
-            few = let e = entries_length in omega (arith, length-append xs (entry_of key (suc (length ks)) ∷ []));
             place = rw grown (sym (place_here []));
           }
     ]
@@ -283,7 +278,6 @@ module _ (names : List (List ℕ)) (kept : List Norm) (ks : List Key) (xs : List
           record {
             shared = rw grown made;
             there = rw grown (Contains-append_right kept (g ∷ asking r g ∷ []) g (Contains-here g (asking r g ∷ [])));
-            few = let e = entries_length in omega (arith, length-append xs (entry_of key (suc (length ks)) ∷ asking_entry r (suc (length ks)) ∷ []));
             place = rw grown (sym (place_here (asking r g ∷ [])));
           }
 

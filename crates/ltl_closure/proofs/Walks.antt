@@ -1,5 +1,5 @@
 -- Each piece of work keeps what a walk is.
-use Rattle.std.proofs.Common.{◌≡◌, ℕ, ◌<◌, ◌⊎◌, inl, inr, Bool, true, false, refl, sym, subst, ◌∙◌, ap, arith, List, [], ◌∷◌, ◌++◌, length, map, Contains, if◌then◌else◌}
+use Rattle.std.proofs.Common.{◌≡◌, ℕ, ◌<◌, ◌≤◌, ◌⊎◌, inl, inr, Bool, true, false, refl, sym, subst, ◌∙◌, ap, arith, List, [], ◌∷◌, ◌++◌, length, map, Contains, if◌then◌else◌}
 use Rattle.ltl_syntax.specs.Formula.{Atom, Letter, Unary, Binary}
 use Rattle.ltl_syntax.specs.declared.node.UnaryOp.{UnaryOp}
 use Rattle.ltl_syntax.specs.declared.node.BinaryOp.{BinaryOp}
@@ -87,7 +87,7 @@ joined_operands joins.Trigger a b = refl
 
 module _ (t : Table) (root : ℕ) (ks : List Key) (xs : List Entry) (memo : Memo) (todo : List Work) where
   -- a normal form is put
-  module _ (kept values : List Norm) (g : Norm) (key : Key) (distinct : AreDistinct t.names) (shared : AreShared t.names kept ks xs) (there : (v : Norm) → Contains values v → Contains kept v)
+  module _ (kept values : List Norm) (g : Norm) (key : Key) (distinct : AreDistinct t.names) (few : length t.nodes ≤ 16384) (shared : AreShared t.names kept ks xs) (there : (v : Norm) → Contains values v → Contains kept v)
       (room : HasRoom memo (length t.nodes)) (known : IsKnown t kept memo) (has : HasOperands kept g) (is : IsKey t.names kept g key) where
     put_at : (ks' : List Key) (xs' : List Entry) (n : ℕ) (ws : List Work) → Enters ks xs key ks' xs' n
         → AreReady t ws (record { kept = with_new kept (own g); values = g ∷ values }) → run t ws (record { kept = with_new kept (own g); values = g ∷ values }) ≡ reached (pos_of (tree_at t root)) (record { kept = []; values = [] })
@@ -97,7 +97,7 @@ module _ (t : Table) (root : ℕ) (ks : List Key) (xs : List Entry) (memo : Memo
           progress = record { kept = with_new kept (own g); values = g ∷ values };
           distinct = distinct;
           shared = e.shared;
-          few = e.few;
+          few = few;
           there = λ v c. elim (Contains-cons_cases g values v c) [
             | inl i ↦ subst (Contains (with_new kept (own g))) i e.there
             | inr h ↦ with_new_keeps kept (own g) v (there v h)
@@ -111,7 +111,7 @@ module _ (t : Table) (root : ℕ) (ks : List Key) (xs : List Entry) (memo : Memo
 
   pub const_at : (b : Bool) (numbers : List ℕ) (ks' : List Key) (xs' : List Entry) (n : ℕ) → IsWalking t root ks xs numbers memo (works.Const b ∷ todo) → Enters ks xs (keys.Const b) ks' xs' n → IsWalking t root ks' xs' (n ∷ numbers) memo todo
   const_at b numbers ks' xs' n w enters =
-      rw w.waiting (put_at w.progress.kept w.progress.values (NConst b) (keys.Const b) w.distinct w.shared w.there w.room w.known (λ d c. absurd (Contains-nil d c)) refl ks' xs' n todo enters w.ready.1 w.ends)
+      rw w.waiting (put_at w.progress.kept w.progress.values (NConst b) (keys.Const b) w.distinct w.few w.shared w.there w.room w.known (λ d c. absurd (Contains-nil d c)) refl ks' xs' n todo enters w.ready.1 w.ends)
 
   pub ask_at : (r : Request) (a : ℕ) (rest : List ℕ) (ks' : List Key) (xs' : List Entry) (n : ℕ) → IsWalking t root ks xs (a ∷ rest) memo (works.Ask r ∷ todo) → Enters ks xs (keys.Asks r a) ks' xs' n → IsWalking t root ks' xs' (n ∷ rest) memo todo
   ask_at r a rest ks' xs' n w enters = go w.progress.kept w.progress.values w.shared w.there w.waiting w.known w.ready w.ends
@@ -123,7 +123,7 @@ module _ (t : Table) (root : ℕ) (ks : List Key) (xs : List Entry) (memo : Memo
       go kept (v ∷ vs) shared there waiting known ready ends =
           let e : a ≡ place_in kept v = cc in
           let l : rest ≡ map (place_in kept) vs = cc in
-          rw l (put_at kept vs (asking r v) (keys.Asks r a) w.distinct shared (λ d c. there d (Contains-there v vs d c)) w.room known
+          rw l (put_at kept vs (asking r v) (keys.Asks r a) w.distinct w.few shared (λ d c. there d (Contains-there v vs d c)) w.room known
           (λ d c. subst (Contains kept) (one_of v d (subst (λ z. Contains z d) (asking_operands r v) c)) (there v (Contains-here v vs)))
           (rw e (asking_key t.names kept r v)) ks' xs' n todo enters ready.1 ends)
 
@@ -139,7 +139,7 @@ module _ (t : Table) (root : ℕ) (ks : List Key) (xs : List Entry) (memo : Memo
           let e : b ≡ place_in kept v = cc in
           let f : a ≡ place_in kept u = cc in
           let l : rest ≡ map (place_in kept) vs = cc in
-          rw l (put_at kept vs (joined op u v) (keys.Joins op a b) w.distinct shared (λ d c. there d (Contains-there v (u ∷ vs) d (Contains-there u vs d c))) w.room known
+          rw l (put_at kept vs (joined op u v) (keys.Joins op a b) w.distinct w.few shared (λ d c. there d (Contains-there v (u ∷ vs) d (Contains-there u vs d c))) w.room known
           (λ d c. elim (Contains-cons_cases u (v ∷ []) d (subst (λ z. Contains z d) (joined_operands op u v) c)) [
             | inl i ↦ subst (Contains kept) i (there u (Contains-there v (u ∷ vs) u (Contains-here u vs)))
             | inr i ↦ subst (Contains kept) (one_of v d i) (there v (Contains-here v (u ∷ vs)))
@@ -156,7 +156,7 @@ module _ (t : Table) (root : ℕ) (ks : List Key) (xs : List Entry) (memo : Memo
       go kept (NLetter p ∷ vs) shared there waiting known ready ends =
           let e : a ≡ place_in kept (NLetter p) = cc in
           let l : rest ≡ map (place_in kept) vs = cc in
-          rw l (put_at kept vs (NNotLetter p) (keys.NotLetter a) w.distinct shared (λ d c. there d (Contains-there (NLetter p) vs d c)) w.room known
+          rw l (put_at kept vs (NNotLetter p) (keys.NotLetter a) w.distinct w.few shared (λ d c. there d (Contains-there (NLetter p) vs d c)) w.room known
           (λ d c. subst (Contains kept) (one_of (NLetter p) d c) (there (NLetter p) (Contains-here (NLetter p) vs)))
           (ap keys.NotLetter e) ks' xs' n todo enters ready.1 ends)
       go kept (v ∷ vs) shared there waiting known ready ends = absurd (let e = ready.0.1 in cc)
@@ -244,24 +244,24 @@ module _ (t : Table) (root : ℕ) (ks : List Key) (xs : List Entry) (memo : Memo
   -- a constant
   pub visit_const : (i : ℕ) (s b c : Bool) (numbers : List ℕ) (ks' : List Key) (xs' : List Entry) (n : ℕ) → IsWalking t root ks xs numbers memo (works.Visit i s ∷ todo) → signed s (tree_at t i) ≡ NConst b → Enters ks xs (keys.Const b) ks' xs' n → IsWalking t root ks' xs' (n ∷ numbers) memo todo
   visit_const i s b c numbers ks' xs' n w is enters =
-      rw w.waiting (put_at w.progress.kept w.progress.values (NConst b) (keys.Const b) w.distinct w.shared w.there w.room w.known (λ d c. absurd (Contains-nil d c)) refl ks' xs' n todo enters (rw is at w.ready.1) (rw is at w.ends))
+      rw w.waiting (put_at w.progress.kept w.progress.values (NConst b) (keys.Const b) w.distinct w.few w.shared w.there w.room w.known (λ d c. absurd (Contains-nil d c)) refl ks' xs' n todo enters (rw is at w.ready.1) (rw is at w.ends))
 
   -- a letter
   pub visit_letter : (i : ℕ) (p : Atom) (key : Key) (numbers : List ℕ) (ks' : List Key) (xs' : List Entry) (n : ℕ) → IsWalking t root ks xs numbers memo (works.Visit i true ∷ todo) → tree_at t i ≡ Letter p → ((kept : List Norm) → IsKey t.names kept (NLetter p) key) → Enters ks xs key ks' xs' n → IsWalking t root ks' xs' (n ∷ numbers) memo todo
   visit_letter i p key numbers ks' xs' n w is fits enters =
-      rw w.waiting (put_at w.progress.kept w.progress.values (NLetter p) key w.distinct w.shared w.there w.room w.known (λ d c. absurd (Contains-nil d c)) (fits w.progress.kept) ks' xs' n todo enters (rw is at w.ready.1) (rw is at w.ends))
+      rw w.waiting (put_at w.progress.kept w.progress.values (NLetter p) key w.distinct w.few w.shared w.there w.room w.known (λ d c. absurd (Contains-nil d c)) (fits w.progress.kept) ks' xs' n todo enters (rw is at w.ready.1) (rw is at w.ends))
 
   pub visit_negated : (i : ℕ) (p : Atom) (key : Key) (numbers : List ℕ) (ks' : List Key) (xs' : List Entry) (n : ℕ) → IsWalking t root ks xs numbers memo (works.Visit i false ∷ todo) → tree_at t i ≡ Letter p → ((kept : List Norm) → IsKey t.names kept (NLetter p) key) → Enters ks xs key ks' xs' n → IsWalking t root ks' xs' (n ∷ numbers) memo (works.Negate ∷ todo)
   visit_negated i p key numbers ks' xs' n w is fits enters =
-      rw w.waiting (put_at w.progress.kept w.progress.values (NLetter p) key w.distinct w.shared w.there w.room w.known (λ d c. absurd (Contains-nil d c)) (fits w.progress.kept) ks' xs' n (works.Negate ∷ todo) enters ((p, refl), rw is at w.ready.1) (rw is at w.ends))
+      rw w.waiting (put_at w.progress.kept w.progress.values (NLetter p) key w.distinct w.few w.shared w.there w.room w.known (λ d c. absurd (Contains-nil d c)) (fits w.progress.kept) ks' xs' n (works.Negate ∷ todo) enters ((p, refl), rw is at w.ready.1) (rw is at w.ends))
 
 -- where a walk starts
-pub starts : (t : Table) (root : ℕ) (memo : Memo) → AreDistinct t.names → root < length t.nodes → HasRoom memo (length t.nodes) → ((n : ℕ) (s : Bool) → memo_at memo n s ≡ 0) → IsWalking t root [] [] [] memo (works.Visit root true ∷ [])
-starts t root memo distinct lt room zero = record {
+pub starts : (t : Table) (root : ℕ) (memo : Memo) → AreDistinct t.names → length t.nodes ≤ 16384 → root < length t.nodes → HasRoom memo (length t.nodes) → ((n : ℕ) (s : Bool) → memo_at memo n s ≡ 0) → IsWalking t root [] [] [] memo (works.Visit root true ∷ [])
+starts t root memo distinct few lt room zero = record {
   progress = record { kept = []; values = [] };
   distinct = distinct;
   shared = record { keys = refl; each = tt; closed = λ e d h k. absurd (Contains-nil e h); placed = λ k d lt. absurd (omega arith) };
-  few = omega arith;
+  few = few;
   there = λ v c. absurd (Contains-nil v c);
   waiting = refl;
   room = room;

@@ -1,5 +1,5 @@
 -- When entries are those of a formula's closure, and what a contract sees of a `Closure`.
-use Rattle.std.specs.Prelude.{◌≡◌, ℕ, suc, ◌^◌, ◌<◌, true, false, List, [], ◌∷◌, length, map, slice_index_or, refl, if◌then◌else◌}
+use Rattle.std.specs.Prelude.{◌≡◌, ℕ, suc, ◌<◌, ◌≤◌, true, false, List, [], ◌∷◌, length, map, slice_index_or, refl, if◌then◌else◌}
 use Rattle.std.specs.Coded.{Coded, code_by, coded×, coded_list, coded_ℕ}
 use Rattle.ltl_syntax.specs.declared.node.Kind.{Kind}
 use Rattle.ltl_syntax.specs.contracts.node.Kind as kind_row
@@ -64,7 +64,7 @@ coded_closure =
 pub record IsClosure (t : Table) (node : ℕ) (stored : List Entry) (number : ℕ) (next yesterday eventuality : List ℕ) : Type 0 where
   pub there : node < length t.nodes
   pub entries : AreEntries t.names (tree_at t node) stored
-  pub few : length stored < 2 ^ 29
+  pub few : length stored ≤ 98306
   pub root : number ≡ place_in (closure (tree_at t node)) (pos_of (tree_at t node))
   pub nexts : next ≡ numbers_of (tree_at t node) (nexts (tree_at t node))
   pub yesterdays : yesterday ≡ numbers_of (tree_at t node) (yesterdays (tree_at t node))

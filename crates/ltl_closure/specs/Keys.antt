@@ -1,5 +1,5 @@
 -- The keys by which subformulas are shared, and the entries that they become.
-use Rattle.std.specs.Prelude.{◌≡◌, ◌≢◌, ℕ, suc, ◌+◌, ◌^◌, ◌<◌, true, false, List, [], ◌∷◌, ◌++◌, length, map, slice_index_or, Option, Some, None, Contains}
+use Rattle.std.specs.Prelude.{◌≡◌, ◌≢◌, ℕ, suc, ◌+◌, ◌<◌, true, false, List, [], ◌∷◌, ◌++◌, length, map, slice_index_or, Option, Some, None, Contains}
 use Rattle.ltl_syntax.specs.Formula.{Name, Fresh}
 use Rattle.ltl_closure.specs.Norm.{Norm, NConst, NLetter, NNotLetter, NAnd, NOr, NNext, NWeakNext, NYesterday, NWeakYesterday, NUntil, NRelease, NSince, NTrigger}
 use Rattle.ltl_closure.specs.Closure.{with_new}
@@ -163,7 +163,6 @@ pub record AreShared (names : List (List ℕ)) (kept : List Norm) (stored : List
 pub record IsEntered (names : List (List ℕ)) (kept : List Norm) (g : Norm) (stored : List Key) (entries : List Entry) (number : ℕ) : Type 0 where
   pub shared : AreShared names (with_new kept (own g)) stored entries
   pub there : Contains (with_new kept (own g)) g
-  pub few : length entries < 2 ^ 29
   pub place : number ≡ place_in (with_new kept (own g)) g
 
 -- no two names are the same

@@ -1,5 +1,5 @@
 -- The walk over nodes and signs: what each piece of work does to the kept part of the closure, and what a walk has reached.
-use Rattle.std.specs.Prelude.{◌≡◌, ℕ, ◌+◌, ◌*◌, ◌^◌, ◌<◌, ◌⊎◌, Bool, true, false, not, List, [], ◌∷◌, length, map, slice_index_or, Contains}
+use Rattle.std.specs.Prelude.{◌≡◌, ℕ, ◌+◌, ◌*◌, ◌<◌, ◌≤◌, ◌⊎◌, Bool, true, false, not, List, [], ◌∷◌, length, map, slice_index_or, Contains}
 use Rattle.ltl_syntax.specs.declared.node.UnaryOp.{UnaryOp}
 use Rattle.ltl_syntax.specs.declared.node.BinaryOp.{BinaryOp}
 use Rattle.ltl_syntax.specs.declared.node.UnaryOp.TheVariants as one
@@ -199,7 +199,7 @@ pub record IsWalking (t : Table) (root : ℕ) (stored : List Key) (entries : Lis
   pub progress : Progress
   pub distinct : AreDistinct t.names
   pub shared : AreShared t.names progress.kept stored entries
-  pub few : length entries < 2 ^ 29
+  pub few : length t.nodes ≤ 16384
   pub there : (v : Norm) → Contains progress.values v → Contains progress.kept v
   pub waiting : numbers ≡ map (place_in progress.kept) progress.values
   pub room : HasRoom memo (length t.nodes)

@@ -1,5 +1,5 @@
 // The closure of a formula, as entries with numbers from 1.
-ghost use Rattle.std.specs.Prelude.{◌≡◌, ℕ, ◌<◌, ◌≤◌, ◌^◌, ◌↔◌, length, IfOk, IsTrue};
+ghost use Rattle.std.specs.Prelude.{◌≡◌, ℕ, ◌<◌, ◌≤◌, ◌↔◌, length, IfOk, IsTrue};
 ghost use Rattle.ltl_syntax.specs.Table.{tree_at};
 ghost use Rattle.ltl_closure.specs.Norm.{pos_of};
 ghost use Rattle.ltl_closure.specs.Closure.{closure, nexts, yesterdays, eventualities};
@@ -93,7 +93,7 @@ impl<'t> Closure<'t> {
     pub fn entries(&self) -> &[Entry]
         ensures entries { result.now ≡ self.now.entries }
         ensures closure { AreEntries self.now.names self.now.formula result.now }
-        ensures few { length result.now < 2 ^ 29 }
+        ensures few { length result.now ≤ 98306 }
     {
         &self.entries
     }

@@ -1,15 +1,11 @@
 // The entries of a closure as it grows. An entry that is there already is found by its key, so each stands once.
-ghost use Rattle.std.specs.Prelude.{◌≡◌, [], IfOk};
+ghost use Rattle.std.specs.Prelude.{◌≡◌, ◌≤◌, [], length, IfOk};
 ghost use Rattle.ltl_closure.specs.Keys.{Enters};
 
 use crate::Entry;
 use crate::key::Key;
 use indexmap::IndexSet;
 use std::alloc::{AllocError, Global};
-
-/// More entries than any table's formula has, since each node brings at most three for each sign: this limit is never met. Numbers of
-/// entries then fit without a count of the nodes.
-const MAX_ENTRIES: usize = 0x1000_0000;
 
 #[derive(Drop)]
 pub struct Shared {
@@ -30,11 +26,9 @@ impl Shared {
 
     /// The number of the entry with this key. A new one is put last, and its request right after it.
     pub fn enter(&mut self, key: Key) -> Result<u32, AllocError>
+        requires { length self.old.keys.keys ≤ 98306 }
         ensures { IfOk result (λ number. Enters self.old.keys.keys self.old.entries.items key self.new.keys.keys self.new.entries.items number) }
     {
-        if self.keys.len() >= MAX_ENTRIES {
-            return Err(AllocError);
-        }
         let (index, added) = self.keys.insert_full(key)?;
         let number = index as u32 + 1;
         if !added {

@@ -1,6 +1,6 @@
 // The walk over nodes and signs. It keeps a stack of what is still to be done and a stack of the numbers of what is done, so it
 // never builds the tree of the normal form, which grows exponentially with the depth of `<->`.
-ghost use Rattle.std.specs.Prelude.{◌≡◌, ℕ, ◌<◌, ◌^◌, List, [], ◌∷◌, length, reverse, IfOk, OnOk};
+ghost use Rattle.std.specs.Prelude.{◌≡◌, ℕ, ◌<◌, ◌≤◌, List, [], ◌∷◌, length, reverse, IfOk, OnOk};
 ghost use Rattle.ltl_syntax.specs.Table.{tree_at};
 ghost use Rattle.ltl_closure.specs.Norm.{pos_of};
 ghost use Rattle.ltl_closure.specs.Closure.{closure};
@@ -36,7 +36,7 @@ pub struct Walked {
 pub fn walk_from(alloc: Global, table: &FormulaTable, root: u32) -> Result<Walked, AllocError>
     requires { root < length table.now.nodes }
     ensures entries { IfOk result (λ walked. AreEntries table.now.names (tree_at table.now root) walked.entries.items) }
-    ensures few { IfOk result (λ walked. length walked.entries.items < 2 ^ 29) }
+    ensures few { IfOk result (λ walked. length walked.entries.items ≤ 98306) }
     ensures root { IfOk result (λ walked. walked.root ≡ place_in (closure (tree_at table.now root)) (pos_of (tree_at table.now root))) }
 {
     let mut walk = Walk::start(alloc, table, root)?;
@@ -128,6 +128,7 @@ impl Walk {
 
     /// Puts a letter, and plans its negation where that is what is walked.
     fn put_letter(&mut self, key: Key, positive: bool) -> Result<(), AllocError>
+        requires { length self.old.shared.keys.keys ≤ 98306 }
         ensures { OnOk result (Puts self.old key (letter_work positive (reverse self.old.work.items)) self.new) }
     {
         self.put(key)?;
@@ -138,6 +139,7 @@ impl Walk {
     }
 
     fn put(&mut self, key: Key) -> Result<(), AllocError>
+        requires { length self.old.shared.keys.keys ≤ 98306 }
         ensures { OnOk result (Puts self.old key (reverse self.old.work.items) self.new) }
     {
         let number = self.shared.enter(key)?;

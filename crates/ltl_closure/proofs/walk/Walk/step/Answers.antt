@@ -1,4 +1,5 @@
 use Rattle.std.proofs.Common.{reverse}
+use Rattle.ltl_closure.proofs.Counted.{walking_few}
 use Rattle.ltl_closure.proofs.Walks.{keep_at}
 use Rattle.ltl_closure.proofs.Steps.{on_ok, const_put, ask_put, join_put, negate_put}
 use Rattle.ltl_closure.proofs.walk.Walk.step.Goals as goal
@@ -27,3 +28,15 @@ returns-in-Keep-clause-at c =
     let top = c.last_number-number.ensures in
     rw top.1 (keep_at c.args.table.now c.args.self.now.root _ _ c.args.self.now.memo (reverse c.args.self.now.work.items) c.in-Keep.node c.in-Keep.positive c.last_number-number.result top.0 c.set.new.self
     (rw (c.in-Keep.is, top.1) at c.requires) (c.set.ensures.room _ c.requires.room) c.set.ensures.numbers)
+
+pub put-requires : goal.put-requires
+put-requires c = walking_few c.args.table.now c.args.self.now.root c.args.self.now.shared.keys.keys c.args.self.now.shared.entries.items (reverse c.args.self.now.numbers.items) c.args.self.now.memo _ c.requires
+
+pub put-requires-in-Ask : goal.put-requires-in-Ask
+put-requires-in-Ask c = walking_few c.args.table.now c.args.self.now.root c.args.self.now.shared.keys.keys c.args.self.now.shared.entries.items (reverse c.args.self.now.numbers.items) c.args.self.now.memo _ c.requires
+
+pub put-requires-in-Join : goal.put-requires-in-Join
+put-requires-in-Join c = walking_few c.args.table.now c.args.self.now.root c.args.self.now.shared.keys.keys c.args.self.now.shared.entries.items (reverse c.args.self.now.numbers.items) c.args.self.now.memo _ c.requires
+
+pub put-requires-in-Negate : goal.put-requires-in-Negate
+put-requires-in-Negate c = walking_few c.args.table.now c.args.self.now.root c.args.self.now.shared.keys.keys c.args.self.now.shared.entries.items (reverse c.args.self.now.numbers.items) c.args.self.now.memo _ c.requires

@@ -6,6 +6,7 @@ use Rattle.ltl_closure.specs.Norm.{NConst}
 use Rattle.ltl_closure.specs.Plan.{signed}
 use Rattle.ltl_closure.specs.declared.key.Key.TheVariants as keys
 use Rattle.ltl_closure.specs.declared.plan.Work.TheVariants as works
+use Rattle.ltl_closure.proofs.Counted.{walking_few}
 use Rattle.ltl_closure.proofs.Walks.{visit_known, visit_unary, visit_binary}
 use Rattle.ltl_closure.proofs.Steps.{on_ok, reverse-push, visit_const_put, visit_letter_put, cost_positive}
 use Rattle.ltl_closure.proofs.walk.Walk.visit.Goals as goal
@@ -49,3 +50,12 @@ returns-in_ok-push-in-Binary-clause-at c =
     on_ok c.plan_binary.result c.plan_binary.ensures (λ p.
     rw (p, c.in_ok-push-in-Binary.ensures.items, reverse-push c.args.self.now.work.items (works.Keep c.args.node c.args.positive))
     (visit_binary c.args.table.now c.args.self.now.root _ _ c.args.self.now.memo (reverse c.args.self.now.work.items) c.args.node c.args.positive c.in-Binary.op c.in-Binary.a c.in-Binary.b _ c.requires c.in-Binary.ensures.tree c.in-Binary.ensures.below.0 c.in-Binary.ensures.below.1))
+
+pub put-requires : goal.put-requires
+put-requires c = walking_few c.args.table.now c.args.self.now.root c.args.self.now.shared.keys.keys c.args.self.now.shared.entries.items (reverse c.args.self.now.numbers.items) c.args.self.now.memo _ c.requires
+
+pub put_letter-requires : goal.put_letter-requires
+put_letter-requires c = walking_few c.args.table.now c.args.self.now.root c.args.self.now.shared.keys.keys c.args.self.now.shared.entries.items (reverse c.args.self.now.numbers.items) c.args.self.now.memo _ c.requires
+
+pub put_letter-requires-in-Fresh : goal.put_letter-requires-in-Fresh
+put_letter-requires-in-Fresh c = walking_few c.args.table.now c.args.self.now.root c.args.self.now.shared.keys.keys c.args.self.now.shared.entries.items (reverse c.args.self.now.numbers.items) c.args.self.now.memo _ c.requires
