@@ -1,0 +1,152 @@
+-- How a search begins, begins anew, and ends.
+use Rattle.std.proofs.Common.{◌≡◌, ◌≢◌, ℕ, ◌<◌, ◌≤◌, ◌+◌, ◌*◌, ◌^◌, ◌⊎◌, inl, inr, [], ◌∷◌, List, All, AllPairs, Contains, take, length, get_or, None, sym, ap, ◌∙◌, subst, arith, length-take-le}
+use Rattle.std.proofs.lemmas.Bool.{cases_lt, cases_eq}
+use Rattle.std.proofs.lemmas.List.{get_or-take, get_or_append_left, get_or_at, length_push}
+use Rattle.std.proofs.lemmas.List.Elements.{All-contains}
+use Rattle.cnf_base.specs.declared.literal.Literal.{Literal}
+use Rattle.cnf_base.specs.declared.literal.Hint.{Hint}
+use Rattle.cnf_base.specs.Literal.{opposite}
+use Rattle.cnf_base.specs.Step.{IsHintedStep}
+use Rattle.cnf_base.proofs.SameLiteral.{opposite_opposite}
+use Rattle.clause_log.specs.LogValue.{greatest_u32}
+use Rattle.cdcl_state.specs.Trail.{StateValue, literals_of, IsBack}
+use Rattle.cdcl_state.specs.Learnt.{blank_entry, literal_at, IsDecision}
+use Rattle.cdcl_state.specs.Analysis.{refuted_at, IsRefuted}
+use Rattle.cdcl_state.specs.declared.assigned.Entry.{Entry}
+use Rattle.cdcl_state.specs.declared.analyze.Learnt.{Learnt}
+use Rattle.cdcl_state.proofs.Measure.{measure, restart_falls}
+use Rattle.cdcl_state.proofs.Walk.{true_place}
+use Rattle.cdcl.specs.Choice.{IsAssumedTop, IsFreeTop}
+use Rattle.cdcl.specs.Solving.{IsNegated, IsConsistent, IsLast, IsFound}
+use Rattle.cdcl.specs.declared.solve.Answer.{Answer}
+use Rattle.cdcl.specs.declared.solve.Answer.TheVariants.{Sat, Unsat}
+use Rattle.cdcl.proofs.Search.{EachDecision, IsGuided, IsAssumed, HasNoNear, IsSearch, each_take, each_forced, assumed_negated, after_none, after_trail, places_of, fuel}
+
+-- at the start no decision stands
+pub search_start : (old new : StateValue) (assumptions : List Literal) (level : ℕ) → IsBack old new level → All (λ e. e.reason ≢ None) new.trail → IsSearch old new assumptions
+search_start old new assumptions level back forced = record {
+  after = after_trail old old _ new (after_none old) back.front;
+  guided = each_forced (IsGuided assumptions) new.trail forced;
+  near = inl (each_forced (IsAssumed assumptions) new.trail forced, ap (λ (s : StateValue). s.log.lines) back.front);
+}
+
+-- a way back keeps what holds of the search
+pub search_back : (old s new : StateValue) (assumptions : List Literal) (level : ℕ) → IsSearch old s assumptions → IsBack s new level → IsSearch old new assumptions
+search_back old s new assumptions level search back =
+    let t : new.trail ≡ take (length new.trail) s.trail = ap (λ (x : StateValue). x.trail) back.front in
+    record {
+      after = after_trail old s _ new search.after back.front;
+      guided = subst (EachDecision (IsGuided assumptions)) (sym t) (each_take (IsGuided assumptions) (length new.trail) s.trail back.short search.guided);
+      near = elim search.near [
+        | inl quiet ↦ inl (subst (EachDecision (IsAssumed assumptions)) (sym t) (each_take (IsAssumed assumptions) (length new.trail) s.trail back.short quiet.0), ap (λ (x : StateValue). x.log.lines) back.front ∙ quiet.1)
+        | inr none ↦ inr none
+      ];
+    }
+
+-- what comes of a conflict, after the search did or did not begin anew
+pub search_rested : (old s new : StateValue) (assumptions : List Literal) (left before : ℕ) → IsSearch old s assumptions → ((new ≡ s) × (left ≡ before)) ⊎ (IsBack s new 0 × (before ≡ left + 1)) → IsSearch old new assumptions
+search_rested old s new assumptions left before search cases = elim cases [
+  | inl same ↦ subst (λ (x : StateValue). IsSearch old x assumptions) (sym same.0) search
+  | inr back ↦ search_back old s new assumptions 0 search back.0
+]
+
+pub rest_falls : (first s new : StateValue) (left before : ℕ) → s.letters ≡ first.letters → fuel s < fuel first → ((new ≡ s) × (left ≡ before)) ⊎ (IsBack s new 0 × (before ≡ left + 1))
+    → measure left (places_of new) new.trail < measure before (places_of first) first.trail
+rest_falls first s new left before letters falls cases = elim cases [
+  | inl same ↦
+      let places : places_of s ≡ places_of first = ap (λ n. n + 2) letters in
+      let power : 3 ^ places_of s ≡ 3 ^ places_of first = ap (λ n. 3 ^ n) places in
+      subst (λ (x : StateValue). measure left (places_of x) x.trail < measure before (places_of first) first.trail) (sym same.0)
+      (subst (λ n. measure n (places_of s) s.trail < measure before (places_of first) first.trail) (sym same.1)
+      (subst (λ n. before * (n + 1) + fuel s < before * (3 ^ places_of first + 1) + fuel first) (sym power) (omega (arith, falls))))
+  | inr back ↦
+      let places : places_of new ≡ places_of first = ap (λ (x : StateValue). places_of x) back.0.front ∙ ap (λ n. n + 2) letters in
+      subst (λ n. measure left n new.trail < measure before (places_of first) first.trail) (sym places)
+      (subst (λ n. measure left (places_of first) new.trail < measure n (places_of first) first.trail) (sym back.1) (restart_falls left (places_of first) first.trail new.trail))
+]
+
+module _ (trail : List Entry) (apart : AllPairs (λ e f. e.literal.letter.0 ≢ f.literal.letter.0) trail) where
+  -- one letter stands at one place
+  pub one_place : (i j : ℕ) → i < length trail → j < length trail → (literal_at trail i).letter.0 ≡ (literal_at trail j).letter.0 → i ≡ j
+  one_place i j i_low j_low same = elim (cases_lt i j) [
+    | inl earlier ↦ absurd (apart i j blank_entry earlier j_low same)
+    | inr high ↦ elim (cases_eq i j) [
+      | inl equal ↦ equal
+      | inr differ ↦ absurd (apart j i blank_entry (omega (arith, high, differ)) i_low (sym same))
+    ]
+  ]
+
+  -- where all assumptions were true before a place, none of their letters stands there or behind
+  not_later : (assumptions : List Literal) (k p : ℕ) (l : Literal) → k ≤ p → p < length trail → All (Contains (literals_of (take k trail))) assumptions → Contains assumptions l → ¬ ((literal_at trail p).letter.0 ≡ l.letter.0)
+  not_later assumptions k p l before low all there same =
+      let at = true_place trail k l (omega (arith, before, low)) (All-contains (Contains (literals_of (take k trail))) assumptions l all there) in
+      let equal = one_place at.0 p (omega (arith, at.1, before, low)) low (ap (λ (m : Literal). m.letter.0) at.2 ∙ sym same) in
+      omega (arith, equal, at.1, before)
+
+  module _ (assumptions : List Literal) (guided : EachDecision (IsGuided assumptions) trail) where
+    -- where a place has an assumption's letter, the decisions up to it are assumptions
+    pub assumed_up : (p : ℕ) (l : Literal) → p < length trail → Contains assumptions l → (literal_at trail p).letter.0 ≡ l.letter.0 → (k : ℕ) → k ≤ p → (get_or trail k blank_entry).reason ≡ None → Contains assumptions (literal_at trail k)
+    assumed_up p l low there same k before free = elim (guided k (omega (arith, before, low)) free) [
+      | inl is ↦ is
+      | inr all ↦ absurd (not_later assumptions k p l before low all there same)
+    ]
+
+    pub all_assumed : IsAssumedTop trail assumptions → EachDecision (IsAssumed assumptions) trail
+    all_assumed cases = elim cases [
+      | inl forced ↦ each_forced (IsAssumed assumptions) trail forced
+      | inr at ↦
+          let top = at.2 in
+          λ k below free. elim (cases_lt top.place k) [
+            | inl later ↦ absurd (top.last k later below free)
+            | inr before ↦ assumed_up top.place at.0 top.decision.within at.1 (ap (λ (m : Literal). m.letter.0) top.is) k before free
+          ]
+    ]
+
+    -- a false assumption's opposite was not decided
+    pub not_decided : IsConsistent assumptions → (l : Literal) → Contains assumptions l → (p : ℕ) → IsDecision trail p → literal_at trail p ≢ opposite l
+    not_decided consistent l there p decision is = elim (guided p decision.within decision.free) [
+      | inl assumed ↦ consistent l there (subst (Contains assumptions) is assumed)
+      | inr all ↦ not_later assumptions p p l (omega arith) decision.within all there (ap (λ (m : Literal). m.letter.0) is)
+    ]
+
+    -- the clause that explains a false assumption has only opposites of assumptions
+    pub refuted_assumed : (l : Literal) (p : ℕ) → Contains assumptions l → p < length trail → literal_at trail p ≡ opposite l → EachDecision (IsAssumed assumptions) (refuted_at trail p)
+    refuted_assumed l p there low is k below free =
+        let e : Entry = record { literal = opposite (literal_at trail p); level = p + 1; reason = None } in
+        let front : length (take p trail) ≡ p = length-take-le p trail (omega (arith, low)) in
+        elim (cases_lt k p) [
+          | inl earlier ↦
+              let same : get_or (refuted_at trail p) k blank_entry ≡ get_or trail k blank_entry = get_or_append_left (take p trail) (e ∷ []) blank_entry k (omega (arith, earlier, front)) ∙ get_or-take p trail k blank_entry earlier in
+              subst (λ (f : Entry). Contains assumptions f.literal) (sym same)
+              (assumed_up p l low there (ap (λ (m : Literal). m.letter.0) is) k (omega (arith, earlier)) (ap (λ (f : Entry). f.reason) (sym same) ∙ free))
+          | inr high ↦
+              let last : length (take p trail) ≡ k = omega (arith, high, below, front, length_push (take p trail) e) in
+              let same : get_or (refuted_at trail p) k blank_entry ≡ e = get_or_at (take p trail) e [] blank_entry k last in
+              subst (λ (f : Entry). Contains assumptions f.literal) (sym same)
+              (subst (Contains assumptions) (sym (ap opposite is ∙ opposite_opposite l)) there)
+        ]
+
+pub refuted_negated : (s : StateValue) (assumptions : List Literal) (l : Literal) (learnt : Learnt) → AllPairs (λ e f. e.literal.letter.0 ≢ f.literal.letter.0) s.trail → EachDecision (IsGuided assumptions) s.trail → Contains assumptions l → IsRefuted s l learnt
+    → IsNegated assumptions learnt.clause.items
+refuted_negated s assumptions l learnt apart guided there is =
+    assumed_negated s.log (refuted_at s.trail is.place) learnt assumptions is.explains is.decisions (refuted_assumed s.trail apart assumptions guided l is.place there is.within is.is)
+
+-- where the last decision is no assumption, no clause is near
+pub none_near : (old s : StateValue) (assumptions : List Literal) → IsSearch old s assumptions → IsFreeTop s.trail assumptions → HasNoNear old.log assumptions
+none_near old s assumptions search top = elim search.near [
+  | inl quiet ↦ absurd (top.1 (subst (Contains assumptions) top.2.is (quiet.0 top.2.place top.2.decision.within top.2.decision.free)))
+  | inr none ↦ none
+]
+
+-- with one line more, the question added at most one where a clause is near
+pub near_one : (old s new : StateValue) (assumptions : List Literal) → IsSearch old s assumptions → length new.log.lines ≤ length s.log.lines + 1
+    → (clause : List Literal) (hints : List Hint) → IsNegated assumptions clause → IsHintedStep old.log.inputs old.log.lines greatest_u32 clause hints → length new.log.lines ≤ length old.log.lines + 1
+near_one old s new assumptions search few clause hints negated step = elim search.near [
+  | inl quiet ↦ omega (arith, few, ap length quiet.1)
+  | inr none ↦ absurd (none clause hints negated step)
+]
+
+-- the answer by the last line
+pub last_found : (s : StateValue) (assumptions clause : List Literal) (answer : Answer) → IsNegated assumptions clause → IsLast s clause answer → IsFound s assumptions answer
+last_found s assumptions clause Sat negated is = absurd is
+last_found s assumptions clause (Unsat line) negated is = (is.0, is.1, subst (IsNegated assumptions) (sym is.2) negated)

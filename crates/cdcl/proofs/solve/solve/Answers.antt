@@ -1,0 +1,113 @@
+use Rattle.std.proofs.Common.{◌≡◌, inl, List, Option, None, Result, Ok, Err, MatchOption, IfOk, refl, sym, ap, ◌∙◌, subst}
+use mathlib.Core.Bool.{false≢true}
+use Rattle.std.specs.declared.alloc.AllocError.{AllocError}
+use Rattle.cnf_base.specs.declared.literal.Literal.{Literal}
+use Rattle.clause_log.specs.LogValue.{with_line}
+use Rattle.cdcl_state.specs.Trail.{StateValue, with_log}
+use Rattle.cdcl.specs.declared.solve.Answer.{Answer}
+use Rattle.cdcl.specs.Solving.{IsFound, IsLast, IsNegated}
+use Rattle.cdcl.proofs.Search.{search_propagated, search_turned, search_assumed, search_free, assumed_negated, turn_falls, decision_falls, inputs_true}
+use Rattle.cdcl.proofs.Ending.{search_start, search_rested, rest_falls, all_assumed, not_decided, refuted_negated, none_near, last_found}
+use Rattle.cdcl.proofs.solve.solve.Goals as goal
+
+none_case : {X A : Type 0} (P : X → Type 0) (o : Option X) → o ≡ None → MatchOption o A P → A
+none_case {X} {A} P o is h = let Q : Option X → Type 0 = λ q. MatchOption q A P in subst Q is h
+
+found : (r : Result Answer AllocError) (s : StateValue) (assumptions clause : List Literal) → IsNegated assumptions clause → IfOk r (IsLast s clause) → IfOk r (IsFound s assumptions)
+found (Ok answer) s assumptions clause negated is = last_found s assumptions clause answer negated is
+found (Err e) s assumptions clause negated is = tt
+
+pub search-init : goal.search-init
+search-init c = search_start c.args.state.now c.reset.new.self c.args.assumptions.now 0 c.reset.ensures.back c.reset.ensures.forced
+
+pub returns-then-is_assumed-clause-answer : goal.returns-then-is_assumed-clause-answer
+returns-then-is_assumed-clause-answer c =
+    let s = c.propagate.new.self in
+    let learnt = c.in_ok-learnt-in-Some.learnt in
+    let assumptions = c.args.assumptions.now in
+    let search = search_propagated c.args.state.now c.search.state s assumptions c.search.invariant c.propagate.ensures.grown in
+    let each = all_assumed s.trail c.bounded.ensures.apart assumptions search.guided (c.is_assumed.ensures.yes c.if-is_assumed.true) in
+    found c.finish.result c.finish.new.state assumptions learnt.clause.items
+    (assumed_negated s.log s.trail learnt assumptions c.in_ok-learnt-in-Some.ensures.learnt (c.in_ok-learnt-in-Some.ensures.decided refl) each) c.finish.ensures.answer
+
+pub search-smaller-in-Some : goal.search-smaller-in-Some
+search-smaller-in-Some c =
+    let first = c.search.state in
+    let t = c.propagate.new.self in
+    let u = c.analyze.new.self in
+    let learnt = c.in_ok-learnt-in-Some-2.learnt in
+    let clause = learnt.clause.items in
+    let hints = learnt.hints.items in
+    let same : u ≡ t = c.analyze.ensures.same in
+    let mid : StateValue = with_log u (with_line u.log clause hints) in
+    let derived : mid ≡ with_log t (with_line t.log clause hints) = ap (λ (x : StateValue). with_log x (with_line x.log clause hints)) same in
+    let turn = c.in_ok-learn-in-Some.ensures.turned in
+    let letters = ap (λ (x : StateValue). x.letters) turn.after ∙ ap (λ (x : StateValue). x.letters) same ∙ c.propagate.ensures.grown.letters in
+    rest_falls first c.learn.new.self c.rest.new.state c.rest.new.pace.left c.search.pace.left letters
+    (turn_falls first t mid c.learn.new.self clause hints c.propagate.ensures.grown c.bounded.ensures.short derived turn) c.rest.ensures
+
+pub search-preserved-in-Some : goal.search-preserved-in-Some
+search-preserved-in-Some c =
+    let old = c.args.state.now in
+    let t = c.propagate.new.self in
+    let u = c.analyze.new.self in
+    let assumptions = c.args.assumptions.now in
+    let learnt = c.in_ok-learnt-in-Some-2.learnt in
+    let clause = learnt.clause.items in
+    let hints = learnt.hints.items in
+    let same : u ≡ t = c.analyze.ensures.same in
+    let mid : StateValue = with_log u (with_line u.log clause hints) in
+    let derived : mid ≡ with_log t (with_line t.log clause hints) = ap (λ (x : StateValue). with_log x (with_line x.log clause hints)) same in
+    let search = search_propagated old c.search.state t assumptions c.search.invariant c.propagate.ensures.grown in
+    let none = none_near old t assumptions search (c.is_assumed.ensures.no (λ h. false≢true (sym c.if-is_assumed.false ∙ h))) in
+    search_rested old c.learn.new.self c.rest.new.state assumptions c.rest.new.pace.left c.search.pace.left
+    (search_turned old t mid c.learn.new.self clause hints assumptions search none derived c.in_ok-learn-in-Some.ensures.turned) c.rest.ensures
+
+pub search-smaller-in-Continue-branch-5 : goal.search-smaller-in-Continue-branch-5
+search-smaller-in-Continue-branch-5 c =
+    let t = c.propagate.new.self in
+    let new = c.decide.new.self in
+    let decided = c.in_ok-decide-in-Assume.ensures.decided in
+    let letters = ap (λ (x : StateValue). x.letters) decided.after ∙ c.propagate.ensures.grown.letters in
+    rest_falls c.search.state new new c.search.pace.left c.search.pace.left letters
+    (decision_falls c.search.state t new c.in-Assume.literal c.propagate.ensures.grown c.bounded.ensures.short decided) (inl (refl, refl))
+
+pub search-preserved-in-Continue-branch-5 : goal.search-preserved-in-Continue-branch-5
+search-preserved-in-Continue-branch-5 c =
+    let search = search_propagated c.args.state.now c.search.state c.propagate.new.self c.args.assumptions.now c.search.invariant c.propagate.ensures.grown in
+    search_assumed c.args.state.now c.propagate.new.self c.decide.new.self c.in-Assume.literal c.args.assumptions.now search c.in-Assume.ensures.0 c.in_ok-decide-in-Assume.ensures.decided
+
+pub search-smaller : goal.search-smaller
+search-smaller c =
+    let t = c.propagate.new.self in
+    let new = c.decide-in-Search.new.self in
+    let decided = c.in_ok-decide-in-Search.ensures.decided in
+    let letters = ap (λ (x : StateValue). x.letters) decided.after ∙ c.propagate.ensures.grown.letters in
+    rest_falls c.search.state new new c.search.pace.left c.search.pace.left letters
+    (decision_falls c.search.state t new c.in-Search.literal c.propagate.ensures.grown c.bounded.ensures.short decided) (inl (refl, refl))
+
+pub search-preserved : goal.search-preserved
+search-preserved c =
+    let search = search_propagated c.args.state.now c.search.state c.propagate.new.self c.args.assumptions.now c.search.invariant c.propagate.ensures.grown in
+    let settled = none_case _ c.in_ok-found.found c.in-None.is c.in_ok-found.ensures.found in
+    search_free c.args.state.now c.propagate.new.self c.decide-in-Search.new.self c.in-Search.literal c.args.assumptions.now search settled c.in-Search.ensures.0 c.in_ok-decide-in-Search.ensures.decided
+
+pub explain_false-requires-clause-forced : goal.explain_false-requires-clause-forced
+explain_false-requires-clause-forced c =
+    let s = c.propagate.new.self in
+    let search = search_propagated c.args.state.now c.search.state s c.args.assumptions.now c.search.invariant c.propagate.ensures.grown in
+    not_decided s.trail c.bounded.ensures.apart c.args.assumptions.now search.guided c.requires.consistent c.in-Refuted.literal c.in-Refuted.ensures.0
+
+pub returns-in-Refuted-clause-answer : goal.returns-in-Refuted-clause-answer
+returns-in-Refuted-clause-answer c =
+    let s = c.propagate.new.self in
+    let learnt = c.in_ok-learnt-in-Refuted.learnt in
+    let assumptions = c.args.assumptions.now in
+    let search = search_propagated c.args.state.now c.search.state s assumptions c.search.invariant c.propagate.ensures.grown in
+    found c.finish-in-Refuted.result c.finish-in-Refuted.new.state assumptions learnt.clause.items
+    (refuted_negated s assumptions c.in-Refuted.literal learnt c.bounded.ensures.apart search.guided c.in-Refuted.ensures.0 c.in_ok-learnt-in-Refuted.ensures.learnt) c.finish-in-Refuted.ensures.answer
+
+pub returns-in-Done-clause-answer : goal.returns-in-Done-clause-answer
+returns-in-Done-clause-answer c =
+    let settled = none_case _ c.in_ok-found.found c.in-None.is c.in_ok-found.ensures.found in
+    (inputs_true c.propagate.new.self settled c.in-Done.ensures.1 c.bounded.ensures.known_inputs, c.in-Done.ensures.0)

@@ -1,0 +1,3 @@
+pub mod Choice
+pub mod Solving
+pub mod SolverValue

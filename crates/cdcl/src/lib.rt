@@ -1,0 +1,12 @@
+//! Whether clauses and assumptions can be true together, with an assignment or a refuting line of the log.
+#![tactic(auto)]
+
+pub mod choice;
+pub mod pace;
+pub mod solve;
+pub mod solver;
+#[cfg(test)]
+mod tests;
+
+pub use solve::Answer;
+pub use solver::Solver;

@@ -1,0 +1,41 @@
+// When the search begins anew: after as many conflicts as the next number of Luby's sequence says, times a fixed step,
+// and at most a thousand times. That bound is the first part of the measure by which the search ends.
+// After Luby, Sinclair and Zuckerman, Optimal speedup of Las Vegas algorithms (1993).
+ghost use Rattle.std.specs.Prelude.{◌≡◌, ◌+◌, ◌⊎◌, true, false};
+
+use cdcl_state::restart::luby;
+
+/// The conflicts of one question, as far as they decide when the search begins anew.
+#[derive(Drop)]
+pub struct Pace {
+    /// How many times it may still begin anew.
+    pub left: u32,
+    /// How many conflicts came since it began.
+    conflicts: u64,
+}
+
+impl Pace {
+    /// A thousand times, and no conflict.
+    pub fn new() -> Self {
+        Pace {
+            left: 1000,
+            conflicts: 0,
+        }
+    }
+
+    /// Counts a conflict, and says whether the search begins anew.
+    pub fn count(&mut self) -> bool
+        ensures { ((result ≡ false) × (self.new.left ≡ self.old.left)) ⊎ ((result ≡ true) × (self.old.left ≡ self.new.left + 1)) }
+    {
+        self.conflicts = self.conflicts.saturating_add(1);
+        if self.left == 0 {
+            return false;
+        }
+        if self.conflicts < luby(1000_u32.saturating_sub(self.left)).saturating_mul(100) {
+            return false;
+        }
+        self.conflicts = 0;
+        self.left -= 1;
+        true
+    }
+}

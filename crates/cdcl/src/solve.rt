@@ -1,0 +1,89 @@
+// The search: propagate; explain a conflict, learn the clause and go back; decide where nothing is left to propagate.
+// While assumptions alone are decided, a conflict or a false assumption is explained by them, and that is the answer.
+// After Marques-Silva and Sakallah, GRASP (1999), and Een and Sorensson, MiniSat (2003).
+ghost use Rattle.std.specs.Prelude.{◌≡◌, ◌≤◌, ◌+◌, ◌⊎◌, List, length, All, IfOk};
+ghost use Rattle.cnf_base.specs.declared.literal.Literal.{Literal};
+ghost use Rattle.cnf_base.specs.declared.literal.Hint.{Hint};
+ghost use Rattle.cnf_base.specs.Step.{IsHintedStep};
+ghost use Rattle.clause_log.specs.LogValue.{greatest_u32};
+ghost use Rattle.cdcl_state.specs.Trail.{IsBack, IsKnown};
+ghost use Rattle.cdcl.specs.Solving.{IsAfter, IsFound, IsLast, IsNegated, IsConsistent};
+
+use crate::choice::{Choice, choose, is_assumed};
+use crate::pace::Pace;
+use cdcl_state::analyze::{Cut, Learnt};
+use cdcl_state::state::State;
+use cnf_base::Literal;
+use std::alloc::{AllocError, Global};
+
+/// What a question was answered; the number is a line of the log.
+#[derive(Clone, Copy, Drop)]
+pub enum Answer {
+    Sat,
+    Unsat(u64),
+}
+
+/// Puts the line behind the others, and answers by it.
+fn finish(state: &mut State, alloc: Global, learnt: &Learnt) -> Result<Answer, AllocError>
+    requires step { IsHintedStep state.old.log.inputs state.old.log.lines greatest_u32 learnt.now.clause.items learnt.now.hints.items }
+    requires known { All (IsKnown state.old.letters) learnt.now.clause.items }
+    ensures kept { IsAfter state.old state.new }
+    ensures near { length state.new.log.lines ≤ length state.old.log.lines + 1 }
+    ensures answer { IfOk result (IsLast state.new learnt.now.clause.items) }
+{
+    state.reset();
+    let line = state.derive(alloc, &learnt.clause, &learnt.hints)?;
+    Ok(Answer::Unsat(line))
+}
+
+/// Begins anew where the pace says so.
+fn rest(state: &mut State, pace: &mut Pace)
+    ensures { ((state.new ≡ state.old) × (pace.new.left ≡ pace.old.left)) ⊎ (IsBack state.old state.new 0 × (pace.old.left ≡ pace.new.left + 1)) }
+{
+    if pace.count() {
+        state.reset();
+    }
+}
+
+/// Asks whether some assignment makes all inputs and assumptions true.
+pub fn solve(
+    state: &mut State,
+    alloc: Global,
+    assumptions: &[Literal],
+) -> Result<Answer, AllocError>
+    requires known { All (IsKnown state.old.letters) assumptions.now }
+    requires consistent { IsConsistent assumptions.now }
+    ensures kept { IsAfter state.old state.new }
+    ensures near { (clause : List Literal) (hints : List Hint) → IsNegated assumptions.now clause → IsHintedStep state.old.log.inputs state.old.log.lines greatest_u32 clause hints → length state.new.log.lines ≤ length state.old.log.lines + 1 }
+    ensures answer { IfOk result (IsFound state.new assumptions.now) }
+{
+    state.reset();
+    let mut pace = Pace::new();
+    'search: loop {
+        let found = state.propagate()?;
+        state.bounded();
+        match found {
+            Some(conflict) => {
+                if is_assumed(state, assumptions) {
+                    let learnt = state.explain(alloc, conflict, Cut::Decisions)?;
+                    return finish(state, alloc, &learnt);
+                }
+                let learnt = state.analyze(alloc, conflict)?;
+                if learnt.clause.len() == 0 {
+                    return finish(state, alloc, &learnt);
+                }
+                state.learn(&learnt)?;
+                rest(state, &mut pace);
+            }
+            None => match choose(state, assumptions) {
+                Choice::Assume(literal) => state.decide(literal)?,
+                Choice::Search(literal) => state.decide(literal)?,
+                Choice::Refuted(literal) => {
+                    let learnt = state.explain_false(alloc, literal)?;
+                    return finish(state, alloc, &learnt);
+                }
+                Choice::Done => return Ok(Answer::Sat),
+            },
+        }
+    }
+}

@@ -1,0 +1,272 @@
+-- A clause more in the log, and among those that are watched or short.
+use Rattle.std.proofs.Common.{◌≡◌, ℕ, zero, suc, ◌<◌, ◌≤◌, ◌+◌, ◌*◌, ◌⊎◌, inl, inr, List, [], ◌∷◌, ◌++◌, Option, Some, None, IfSome, take, All, Contains, length, get_or, refl, sym, ap, ◌∙◌, subst, arith, length-set}
+use Rattle.std.proofs.lemmas.Bool.{cases_lt}
+use Rattle.std.proofs.lemmas.List.{get_or_append_left, get_or_at, length_push}
+use Rattle.std.proofs.lemmas.List.Elements.{All-contains, All-push}
+use Rattle.std.proofs.lemmas.Option.{slice_get-get_or, slice_get_within, get_or_from_slice_get}
+use Rattle.cnf_base.specs.declared.literal.Literal.{Literal}
+use Rattle.cnf_base.specs.declared.literal.Hint.{Hint}
+use Rattle.cnf_base.specs.declared.literal.Hint.TheVariants.{Clause, Line}
+use Rattle.cnf_base.specs.Literal.{opposite}
+use Rattle.cnf_base.specs.Step.{named, numbered}
+use Rattle.clause_log.specs.LogValue.{LogValue, with_input, with_line}
+use Rattle.cdcl_state.specs.Trail.{literals_of, IsTrail, IsReason, StandsAt, HasLevel, IsKnown, AreKnown}
+use Rattle.cdcl_state.specs.Learnt.{blank_entry, literal_at}
+use Rattle.cdcl_state.specs.Watching.{AreFirst, AreApart, WatchValue, list_of, code, with_clause, with_watch, blank}
+use Rattle.cdcl_state.specs.Assigned.{AssignedValue}
+use Rattle.cdcl_state.specs.Visit.{IsStored, IsGuarded, HaveSame, IsUnwatched, blank_hint}
+use Rattle.cdcl_state.specs.Sure.{IsSure}
+use Rattle.cdcl_state.specs.State.{IsState, IsOne, IsListed, AreLong, AreShort, AreFirm, HasTrue}
+use Rattle.cdcl_state.specs.declared.assigned.Entry.{Entry}
+use Rattle.cdcl_state.proofs.Moves.{first_two}
+use Rattle.cdcl_state.proofs.Ready.{code_known}
+use Rattle.cdcl_state.proofs.Assign.{entry_there}
+
+some_same : {X : Type 0} {x y : X} {o : Option X} → o ≡ Some x → o ≡ Some y → x ≡ y
+some_same a b = cc
+
+-- the new log has the clauses of the old one under their names, and one more
+pub record IsMore (old new : LogValue) (hint : Hint) (clause : List Literal) : Type 0 where
+  pub kept : (h : Hint) (c : List Literal) → named old.inputs old.lines h ≡ Some c → named new.inputs new.lines h ≡ Some c
+  pub only : (h : Hint) (c : List Literal) → named new.inputs new.lines h ≡ Some c → (named old.inputs old.lines h ≡ Some c) ⊎ (h ≡ hint)
+  pub here : named new.inputs new.lines hint ≡ Some clause
+
+numbered_kept : (xs : List (List Literal)) (x : List Literal) (n : ℕ) (c : List Literal) → numbered xs n ≡ Some c → numbered (xs ++ x ∷ []) n ≡ Some c
+numbered_kept xs x zero c is = cc
+numbered_kept xs x (suc n) c is =
+    let low = slice_get_within xs n c is in
+    slice_get-get_or (xs ++ x ∷ []) n [] (omega (arith, low, length_push xs x)) ∙ ap Some (get_or_append_left xs (x ∷ []) [] n low ∙ get_or_from_slice_get xs n c [] is)
+
+numbered_only : (xs : List (List Literal)) (x : List Literal) (n : ℕ) (c : List Literal) → numbered (xs ++ x ∷ []) n ≡ Some c → (numbered xs n ≡ Some c) ⊎ (n ≡ length xs + 1)
+numbered_only xs x zero c is = cc
+numbered_only xs x (suc n) c is = elim (cases_lt n (length xs)) [
+  | inl low ↦ inl (slice_get-get_or xs n [] low ∙ ap Some (sym (get_or_append_left xs (x ∷ []) [] n low) ∙ get_or_from_slice_get (xs ++ x ∷ []) n c [] is))
+  | inr high ↦ inr (omega (arith, slice_get_within (xs ++ x ∷ []) n c is, length_push xs x))
+]
+
+numbered_last : (xs : List (List Literal)) (x : List Literal) (n : ℕ) → n ≡ length xs + 1 → numbered (xs ++ x ∷ []) n ≡ Some x
+numbered_last xs x zero is = absurd (omega (arith, is))
+numbered_last xs x (suc n) is =
+    let same : length xs ≡ n = omega (arith, is) in
+    slice_get-get_or (xs ++ x ∷ []) n [] (omega (arith, same, length_push xs x)) ∙ ap Some (get_or_at xs x [] [] n same)
+
+pub input_more : (log : LogValue) (clause : List Literal) (n : ℕ) → n ≡ length log.inputs + 1 → IsMore log (with_input log clause) (Clause n) clause
+input_more log clause n is = record { kept = kept; only = only; here = numbered_last log.inputs clause n is }
+  where
+    kept : (h : Hint) (c : List Literal) → named log.inputs log.lines h ≡ Some c → named (log.inputs ++ clause ∷ []) log.lines h ≡ Some c
+    kept (Clause m) c h = numbered_kept log.inputs clause m c h
+    kept (Line m) c h = h
+
+    only : (h : Hint) (c : List Literal) → named (log.inputs ++ clause ∷ []) log.lines h ≡ Some c → (named log.inputs log.lines h ≡ Some c) ⊎ (h ≡ Clause n)
+    only (Clause m) c h = elim (numbered_only log.inputs clause m c h) [ inl old ↦ inl old | inr e ↦ inr (ap Clause (e ∙ sym is)) ]
+    only (Line m) c h = inl h
+
+pub line_more : (log : LogValue) (clause : List Literal) (hints : List Hint) (n : ℕ) → n ≡ length log.lines + 1 → IsMore log (with_line log clause hints) (Line n) clause
+line_more log clause hints n is = record { kept = kept; only = only; here = numbered_last log.lines clause n is }
+  where
+    kept : (h : Hint) (c : List Literal) → named log.inputs log.lines h ≡ Some c → named log.inputs (log.lines ++ clause ∷ []) h ≡ Some c
+    kept (Line m) c h = numbered_kept log.lines clause m c h
+    kept (Clause m) c h = h
+
+    only : (h : Hint) (c : List Literal) → named log.inputs (log.lines ++ clause ∷ []) h ≡ Some c → (named log.inputs log.lines h ≡ Some c) ⊎ (h ≡ Line n)
+    only (Line m) c h = elim (numbered_only log.lines clause m c h) [ inl old ↦ inl old | inr e ↦ inr (ap Line (e ∙ sym is)) ]
+    only (Clause m) c h = inl h
+
+module _ (old new : LogValue) (hint : Hint) (clause : List Literal) (more : IsMore old new hint clause) where
+  reason_more : (before : List Literal) (u : Literal) (h : Hint) → IsReason old.inputs old.lines before u h → IsReason new.inputs new.lines before u h
+  reason_more before u h reason = record { clause = reason.clause; is = more.kept h reason.clause reason.is; there = reason.there; others = reason.others }
+
+  stands_more : (before : List Entry) (e : Entry) → StandsAt old.inputs old.lines before e → StandsAt new.inputs new.lines before e
+  stands_more before e stands = record { reason = go e.reason stands.reason; decision = stands.decision; rising = stands.rising }
+    where
+      go : (o : Option Hint) → IfSome o (λ h. IsReason old.inputs old.lines (literals_of before) e.literal h × (e.level ≤ length before) × ((e.level ≡ 0) ⊎ HasLevel before e.level))
+          → IfSome o (λ h. IsReason new.inputs new.lines (literals_of before) e.literal h × (e.level ≤ length before) × ((e.level ≡ 0) ⊎ HasLevel before e.level))
+      go None told = tt
+      go (Some h) told = (reason_more (literals_of before) e.literal h told.0, told.1, told.2)
+
+  pub trail_more : (trail : List Entry) → IsTrail old.inputs old.lines trail → IsTrail new.inputs new.lines trail
+  trail_more trail is_trail k d below = stands_more (take k trail) (get_or trail k d) (is_trail k d below)
+
+  listed_more : (names : List Hint) (x h : Hint) → IsListed names h → IsListed (names ++ x ∷ []) h
+  listed_more names x h at = (at.0, omega (arith, at.1, length_push names x), get_or_append_left names (x ∷ []) blank_hint at.0 at.1 ∙ at.2)
+
+  listed_last : (names : List Hint) (x h : Hint) → h ≡ x → IsListed (names ++ x ∷ []) h
+  listed_last names x h same = (length names, omega (arith, length_push names x), get_or_at names x [] blank_hint (length names) refl ∙ sym same)
+
+  stored_more : (clauses : List (List Literal)) (names : List Hint) (r : List Literal) → HaveSame clause r → IsStored old.inputs old.lines clauses names → IsStored new.inputs new.lines (clauses ++ r ∷ []) (names ++ hint ∷ [])
+  stored_more clauses names r same stored = record {
+    paired = omega (arith, stored.paired, length_push clauses r, length_push names hint);
+    from_log = λ c known. elim (cases_lt c (length clauses)) [
+      | inl low ↦
+          let from = stored.from_log c low in
+          let name = get_or_append_left names (hint ∷ []) blank_hint c (omega (arith, low, stored.paired)) in (
+            from.0,
+            ap (named new.inputs new.lines) name ∙ more.kept (get_or names c blank_hint) from.0 from.1,
+            subst (HaveSame from.0) (sym (get_or_append_left clauses (r ∷ []) [] c low)) from.2,
+          )
+      | inr high ↦
+          let last : length clauses ≡ c = omega (arith, known, length_push clauses r) in (
+            clause,
+            ap (named new.inputs new.lines) (get_or_at names hint [] blank_hint c (stored.paired ∙ last)) ∙ more.here,
+            subst (HaveSame clause) (sym (get_or_at clauses r [] [] c last)) same,
+          )
+    ];
+  }
+
+  long_more : (clauses : List (List Literal)) (names : List Hint) (r : List Literal) → HaveSame clause r → 2 ≤ length r → AreApart r → IsStored old.inputs old.lines clauses names → AreLong old.inputs old.lines names → AreLong new.inputs new.lines (names ++ hint ∷ [])
+  long_more clauses names r same long apart stored old_long c other known is one = elim (cases_lt c (length names)) [
+    | inl low ↦
+        let from = stored.from_log c (omega (arith, low, stored.paired)) in
+        let name = get_or_append_left names (hint ∷ []) blank_hint c low in
+        let is_other : from.0 ≡ other = some_same (more.kept (get_or names c blank_hint) from.0 from.1) (ap (named new.inputs new.lines) (sym name) ∙ is) in
+        old_long c from.0 low from.1 (subst IsOne (sym is_other) one)
+    | inr high ↦
+        let last : length names ≡ c = omega (arith, known, length_push names hint) in
+        let is_other : clause ≡ other = some_same more.here (ap (named new.inputs new.lines) (sym (get_or_at names hint [] blank_hint c last)) ∙ is) in
+        let one_clause : IsOne clause = subst IsOne (sym is_other) one in
+        apart 0 1 blank (omega arith) (omega (arith, long))
+        (one_clause (get_or r 0 blank) (get_or r 1 blank) (same.back 0 blank (omega (arith, long))) (same.back 1 blank (omega (arith, long))))
+  ]
+
+  short_more : (units : List Hint) → AreShort old.inputs old.lines units → AreShort new.inputs new.lines units
+  short_more units short u low = let told = short u low in (told.0, more.kept (get_or units u blank_hint) told.0 told.1, told.2)
+
+  firm_kept : (units : List Hint) (done : ℕ) (true_ones : List Literal) → done ≤ length units → AreShort old.inputs old.lines units → AreFirm old.inputs old.lines units done true_ones → AreFirm new.inputs new.lines units done true_ones
+  firm_kept units done true_ones fits short firm u other below is =
+      let told = short u (omega arith) in
+      let same : told.0 ≡ other = some_same (more.kept (get_or units u blank_hint) told.0 told.1) is in
+      subst (HasTrue true_ones) same (firm u told.0 below told.1)
+
+-- a literal that became false on the trail is none of the first two
+pub not_false_first : (trail : List Entry) (r : List Literal) (k : ℕ) (x y : Literal) → IsUnwatched trail r → k < length trail → AreFirst r x y → ¬ (literal_at trail k ≡ opposite x)
+not_false_first trail r k x y free low first is =
+    let there : Contains (literals_of trail) (opposite x) = subst (Contains (literals_of trail)) is (entry_there trail k blank_entry low) in
+    elim (first_two r x y blank first) [
+      | inl e ↦ free.0 (subst (λ l. Contains (literals_of trail) (opposite l)) e.0 there)
+      | inr e ↦ free.1 (subst (λ l. Contains (literals_of trail) (opposite l)) e.0 there)
+    ]
+
+module _ (clauses : List (List Literal)) (r : List Literal) (trail : List Entry) where
+  pub guarded_added : (head : ℕ) → IsGuarded clauses trail head → ((k : ℕ) (x y : Literal) → AreFirst r x y → k < head → literal_at trail k ≡ opposite x → Contains (literals_of trail) y) → IsGuarded (clauses ++ r ∷ []) trail head
+  guarded_added head guarded here c k x y known first below is_false = elim (cases_lt c (length clauses)) [
+    | inl low ↦ guarded c k x y low (subst (λ s. AreFirst s x y) (get_or_append_left clauses (r ∷ []) [] c low) first) below is_false
+    | inr high ↦
+        let last : length clauses ≡ c = omega (arith, known, length_push clauses r) in
+        here k x y (subst (λ s. AreFirst s x y) (get_or_at clauses r [] [] c last) first) below is_false
+  ]
+
+  pub sure_added : (sure : ℕ) → IsSure clauses trail sure
+      → ((k : ℕ) (x y : Literal) → AreFirst r x y → k < sure → literal_at trail k ≡ opposite x → (j : ℕ) × (j < length trail) × (literal_at trail j ≡ y) × ((get_or trail j blank_entry).level ≤ (get_or trail k blank_entry).level))
+      → IsSure (clauses ++ r ∷ []) trail sure
+  sure_added sure is_sure here c k x y known first below is_false = elim (cases_lt c (length clauses)) [
+    | inl low ↦ is_sure c k x y low (subst (λ s. AreFirst s x y) (get_or_append_left clauses (r ∷ []) [] c low) first) below is_false
+    | inr high ↦
+        let last : length clauses ≡ c = omega (arith, known, length_push clauses r) in
+        here k x y (subst (λ s. AreFirst s x y) (get_or_at clauses r [] [] c last) first) below is_false
+  ]
+
+-- a clause that was put behind the watched ones leaves the number of lists
+pub lists_added : (w : WatchValue) (r : List Literal) → length (with_clause w r).lists ≡ length w.lists
+lists_added w r =
+    let a = get_or r 0 blank in
+    let b = get_or r 1 blank in
+    let n = length w.clauses in
+    length-set (with_watch w.lists a n) (code b) (list_of (with_watch w.lists a n) b ++ n ∷ []) ∙ length-set w.lists (code a) (list_of w.lists a ++ n ∷ [])
+
+module _ (letters : ℕ) (a : AssignedValue) (w : WatchValue) (names units : List Hint) (log next : LogValue) (head sure done firm marked : ℕ) (hint : Hint) (clause : List Literal)
+    (state : IsState letters a w names units log head sure done firm marked) (more : IsMore log next hint clause) (known_inputs : AreKnown letters next.inputs) (known_lines : AreKnown letters next.lines) where
+  -- a clause of at least two literals more
+  pub state_long : (r : List Literal) (h s : ℕ) → HaveSame clause r → 2 ≤ length r → AreApart r → ((h ≡ head) × (s ≡ sure) × IsUnwatched a.trail r) ⊎ ((h ≡ 0) × (s ≡ 0))
+      → IsState letters a (with_clause w r) (names ++ hint ∷ []) units next h s done firm marked
+  state_long r h s same long apart cases = record {
+    ready = record {
+      is_trail = trail_more log next hint clause more a.trail state.ready.is_trail;
+      stored = stored_more log next hint clause more w.clauses names r same state.ready.stored;
+      guarded = elim cases [
+        | inl kept ↦ subst (λ n. IsGuarded (w.clauses ++ r ∷ []) a.trail n) (sym kept.0)
+            (guarded_added w.clauses r a.trail head state.ready.guarded (λ k x y first below is. absurd (not_false_first a.trail r k x y kept.2 (omega (arith, below, state.ready.within)) first is)))
+        | inr none ↦ λ c k x y known first below is. absurd (omega (arith, below, none.0))
+      ];
+      within = elim cases [ inl kept ↦ omega (arith, kept.0, state.ready.within) | inr none ↦ omega (arith, none.0) ];
+      sized = lists_added w r ∙ state.ready.sized;
+    };
+    low = elim cases [ inl kept ↦ omega (arith, kept.0, kept.1, state.low) | inr none ↦ omega (arith, none.0, none.1) ];
+    is_sure = elim cases [
+      | inl kept ↦ subst (λ n. IsSure (w.clauses ++ r ∷ []) a.trail n) (sym kept.1)
+          (sure_added w.clauses r a.trail sure state.is_sure (λ k x y first below is. absurd (not_false_first a.trail r k x y kept.2 (omega (arith, below, state.low, state.ready.within)) first is)))
+      | inr none ↦ λ c k x y known first below is. absurd (omega (arith, below, none.1))
+    ];
+    all = λ x c is. elim (more.only x c is) [
+      | inl old ↦ elim (state.all x c old) [ inl at ↦ inl (listed_more log next hint clause more names hint x at) | inr at ↦ inr at ]
+      | inr e ↦ inl (listed_last log next hint clause more names hint x e)
+    ];
+    long = long_more log next hint clause more w.clauses names r same long apart state.ready.stored state.long;
+    short = short_more log next hint clause more units state.short;
+    done_in = state.done_in;
+    firm_in = state.firm_in;
+    are_firm = firm_kept log next hint clause more units done _ state.done_in state.short state.are_firm;
+    known_inputs = known_inputs;
+    known_lines = known_lines;
+    decided = state.decided;
+    room = state.room;
+    few = state.few;
+    size = state.size;
+  }
+
+  -- a short clause more
+  pub state_short : IsOne clause → IsState letters a w names (units ++ hint ∷ []) next head sure done firm marked
+  state_short one = record {
+    ready = record {
+      is_trail = trail_more log next hint clause more a.trail state.ready.is_trail;
+      stored = record {
+        paired = state.ready.stored.paired;
+        from_log = λ c known. let from = state.ready.stored.from_log c known in (from.0, more.kept (get_or names c blank_hint) from.0 from.1, from.2);
+      };
+      guarded = state.ready.guarded;
+      within = state.ready.within;
+      sized = state.ready.sized;
+    };
+    low = state.low;
+    is_sure = state.is_sure;
+    all = λ x c is. elim (more.only x c is) [
+      | inl old ↦ elim (state.all x c old) [ inl at ↦ inl at | inr at ↦ inr (listed_more log next hint clause more units hint x at) ]
+      | inr e ↦ inr (listed_last log next hint clause more units hint x e)
+    ];
+    long = λ c other known is.
+        let from = state.ready.stored.from_log c (omega (arith, known, state.ready.stored.paired)) in
+        let same : from.0 ≡ other = some_same (more.kept (get_or names c blank_hint) from.0 from.1) is in
+        λ is_one. state.long c from.0 known from.1 (subst IsOne (sym same) is_one);
+    short = λ u low. elim (cases_lt u (length units)) [
+      | inl old ↦
+          let told = state.short u old in
+          (told.0, ap (named next.inputs next.lines) (get_or_append_left units (hint ∷ []) blank_hint u old) ∙ more.kept (get_or units u blank_hint) told.0 told.1, told.2)
+      | inr high ↦
+          let last : length units ≡ u = omega (arith, low, length_push units hint) in
+          (clause, ap (named next.inputs next.lines) (get_or_at units hint [] blank_hint u last) ∙ more.here, one)
+    ];
+    done_in = omega (arith, state.done_in, length_push units hint);
+    firm_in = state.firm_in;
+    are_firm = λ u other below is.
+        firm_kept log next hint clause more units done _ state.done_in state.short state.are_firm u other below
+        (ap (named next.inputs next.lines) (sym (get_or_append_left units (hint ∷ []) blank_hint u (omega (arith, below, state.done_in)))) ∙ is);
+    known_inputs = known_inputs;
+    known_lines = known_lines;
+    decided = state.decided;
+    room = state.room;
+    few = state.few;
+    size = state.size;
+  }
+
+-- the literals of a known clause have values' places
+pub stored_below : (letters : ℕ) (a : AssignedValue) (clause r : List Literal) → ((x : ℕ) → 1 ≤ x → x ≤ letters → x < length a.values) → All (IsKnown letters) clause → HaveSame clause r → All (λ l. l.letter.0 < length a.values) r
+stored_below letters a clause r room known same k d below =
+    let told = All-contains (IsKnown letters) clause (get_or r k d) known (same.back k d below) in
+    room (get_or r k d).letter.0 told.from_one told.within
+
+pub stored_fits : (letters : ℕ) (a : AssignedValue) (lists : List (List ℕ)) (clause r : List Literal) → ((x : ℕ) → 1 ≤ x → x ≤ letters → x < length a.values) → length lists ≡ 2 * length a.values → All (IsKnown letters) clause → HaveSame clause r
+    → All (λ l. code l < length lists) r
+stored_fits letters a lists clause r room sized known same k d below =
+    omega (arith, sized, code_known (get_or r k d) (length a.values) (stored_below letters a clause r room known same k d below))
+
+pub known_more : (letters : ℕ) (clauses : List (List Literal)) (clause : List Literal) → AreKnown letters clauses → All (IsKnown letters) clause → AreKnown letters (clauses ++ clause ∷ [])
+known_more letters clauses clause known here = All-push (All (IsKnown letters)) clauses clause known here

@@ -1,0 +1,329 @@
+-- What propagation, a way back and a decision leave of a state.
+use Rattle.std.proofs.Common.{◌≡◌, ℕ, ◌<◌, ◌≤◌, ◌+◌, ◌*◌, ◌-◌, ◌⊎◌, inl, inr, Bool, true, false, if◌then◌else◌, List, [], ◌∷◌, ◌++◌, Option, Some, None, take, drop, Contains, length, get_or, refl, sym, ap, ap₂, ◌∙◌, subst, arith, length-take-le, length-append}
+use Rattle.std.proofs.lemmas.Bool.{cases_lt}
+use Rattle.std.proofs.lemmas.List.{take-take, take-append-le, get_or-take, get_or_default, get_or_append_left, get_or-map, length-map, map-append, length_push, take-append-drop, take_all}
+use Rattle.std.proofs.lemmas.List.Elements.{All-contains, All-append, Contains-append_left, All-push}
+use Rattle.cnf_base.specs.declared.literal.Literal.{Literal}
+use Rattle.cnf_base.specs.declared.literal.Hint.{Hint}
+use Rattle.cnf_base.specs.Literal.{opposite}
+use Rattle.cnf_base.specs.Step.{named}
+use Rattle.clause_log.specs.LogValue.{LogValue}
+use Rattle.cdcl_state.specs.Trail.{literals_of, AreValues, IsTrail, IsBack, IsSettled, IsConflict, IsReason, IsUnset, IsKnown, AreKnown, StandsAt, Propagated}
+use Rattle.cdcl_state.specs.Learnt.{blank_entry, literal_at}
+use Rattle.cdcl_state.specs.Analysis.{AreBelow, state_of}
+use Rattle.cdcl_state.specs.Watching.{WatchValue, IsWatching, clause_of}
+use Rattle.cdcl_state.specs.Assigned.{AssignedValue}
+use Rattle.cdcl_state.specs.Visit.{IsReady, IsStored, IsGrown, IsGuarded, HaveSame, blank_hint}
+use Rattle.cdcl_state.specs.Sure.{IsSure}
+use Rattle.cdcl_state.specs.State.{IsState, IsOne, AreLong, AreFirm, HasTrue, AreKnownDecisions}
+use Rattle.cdcl_state.specs.declared.assigned.Entry.{Entry}
+use Rattle.cdcl_state.proofs.Guard.{not_both}
+use Rattle.cdcl_state.proofs.Settled.{settled_watched}
+use Rattle.cdcl_state.proofs.Sure.{sure_back, guarded_sure}
+use Rattle.cdcl_state.proofs.Turn.{level_at, levels_rise}
+use Rattle.cdcl_state.proofs.Refuted.{trail_take}
+use Rattle.cdcl_state.proofs.Assign.{trail_push}
+use Rattle.cdcl_state.proofs.Jump.{level_bound}
+
+some_same : {X : Type 0} {x y : X} {o : Option X} → o ≡ Some x → o ≡ Some y → x ≡ y
+some_same a b = cc
+
+-- a known letter is one of the values'
+pub below_values : (letters : ℕ) (a : AssignedValue) (clauses : List (List Literal)) → ((x : ℕ) → 1 ≤ x → x ≤ letters → x < length a.values) → AreKnown letters clauses → AreBelow (length a.values) clauses
+below_values letters a clauses room known i d below j e low =
+    let k = known i d below j e low in
+    room (get_or (get_or clauses i d) j e).letter.0 k.from_one k.within
+
+-- a watched clause has two literals
+pub long_clause : (inputs lines clauses : List (List Literal)) (names : List Hint) → IsStored inputs lines clauses names → AreLong inputs lines names → (c : ℕ) → c < length clauses → 2 ≤ length (clause_of clauses c)
+long_clause inputs lines clauses names stored long c known = elim (cases_lt (length (clause_of clauses c)) 2) [
+  | inr enough ↦ enough
+  | inl few ↦
+      let from = stored.from_log c known in
+      let r = clause_of clauses c in
+      absurd (long c from.0 (omega (arith, known, stored.paired)) from.1 (λ l m l_in m_in.
+      let l_r = All-contains (Contains r) from.0 l from.2.there l_in in
+      let m_r = All-contains (Contains r) from.0 m from.2.there m_in in
+      let same : l_r.0 ≡ m_r.0 = omega (arith, l_r.1, m_r.1, few) in
+      sym l_r.2 ∙ get_or_default r l_r.0 l m l_r.1 ∙ ap (λ n. get_or r n m) same ∙ m_r.2))
+]
+
+-- where all lists were visited and all short clauses are true, the state is settled
+pub settled : (letters : ℕ) (a : AssignedValue) (w : WatchValue) (names units : List Hint) (log : LogValue) (head sure done firm marked : ℕ) → IsState letters a w names units log head sure done firm marked
+    → AreValues a.values a.trail → IsWatching w.clauses w.lists → head ≡ length a.trail → done ≡ length units → IsSettled (state_of letters a.trail log)
+settled letters a w names units log head sure done firm marked state are watching all finished hint = (
+  (λ conflict. elim (state.all hint conflict.clause conflict.is) [
+    | inl at ↦ (watched at).0 conflict
+    | inr at ↦
+        let told = unit at conflict.clause conflict.is in
+        not_both a.values a.trail are told.0 told.2 (All-contains (λ l. Contains (literals_of a.trail) (opposite l)) conflict.clause told.0 conflict.all_false told.1)
+  ]),
+  (λ u reason unset. elim (state.all hint reason.clause reason.is) [
+    | inl at ↦ (watched at).1 u reason unset
+    | inr at ↦
+        let told = unit at reason.clause reason.is in
+        let of_short = state.short at.0 at.1 in
+        let same : of_short.0 ≡ reason.clause = some_same of_short.1 (ap (named log.inputs log.lines) at.2 ∙ reason.is) in
+        let one : IsOne reason.clause = subst IsOne same of_short.2 in
+        unset.not_true (subst (Contains (literals_of a.trail)) (one told.0 u told.1 reason.there) told.2)
+  ]),
+)
+  where
+    guarded : IsGuarded w.clauses a.trail (length a.trail)
+    guarded = subst (λ n. IsGuarded w.clauses a.trail n) all state.ready.guarded
+
+    watched : ((c : ℕ) × (c < length names) × (get_or names c blank_hint ≡ hint))
+        → (¬ IsConflict log.inputs log.lines (literals_of a.trail) hint) × ((u : Literal) → IsReason log.inputs log.lines (literals_of a.trail) u hint → ¬ IsUnset (literals_of a.trail) u)
+    watched at =
+        settled_watched a.values a.trail are w.clauses guarded log hint watching.apart (long_clause log.inputs log.lines w.clauses names state.ready.stored state.long)
+        (λ clause is.
+        let known : at.0 < length w.clauses = omega (arith, at.1, state.ready.stored.paired) in
+        let from = state.ready.stored.from_log at.0 known in
+        (at.0, known, subst (λ x. HaveSame x (clause_of w.clauses at.0)) (some_same from.1 (ap (named log.inputs log.lines) at.2 ∙ is)) from.2))
+
+    unit : ((u : ℕ) × (u < length units) × (get_or units u blank_hint ≡ hint)) → (clause : List Literal) → named log.inputs log.lines hint ≡ Some clause → HasTrue (literals_of a.trail) clause
+    unit at clause is =
+        let told = state.are_firm at.0 clause (omega (arith, at.1, finished)) (ap (named log.inputs log.lines) at.2 ∙ is) in
+        (told.0, told.1, front_true a.trail firm told.0 state.firm_in told.2)
+      where
+        front_true : (trail : List Entry) (n : ℕ) (l : Literal) → n ≤ length trail → Contains (literals_of (take n trail)) l → Contains (literals_of trail) l
+        front_true trail n l fits (k, low, is_l) =
+            let k_take : k < length (take n trail) = omega (arith, low, length-map (take n trail) (λ (e : Entry). e.literal)) in
+            let k_low : k < n = omega (arith, k_take, length-take-le n trail fits) in
+            let k_in : k < length trail = omega arith in (
+              k,
+              omega (arith, k_in, length-map trail (λ (e : Entry). e.literal)),
+              get_or-map (λ (e : Entry). e.literal) trail k blank_entry l k_in ∙ ap (λ (e : Entry). e.literal) (sym (get_or-take n trail k blank_entry k_low)) ∙ sym (get_or-map (λ (e : Entry). e.literal) (take n trail) k blank_entry l k_take) ∙ is_l,
+            )
+
+-- forced entries more on the trail
+pub state_grown : (letters : ℕ) (a b : AssignedValue) (w v : WatchValue) (names units : List Hint) (log : LogValue) (head sure done firm next later marked : ℕ) → IsState letters a w names units log head sure done firm marked
+    → IsGrown a.trail b.trail → length b.values ≡ length a.values → later ≤ next → IsSure v.clauses b.trail later → IsReady log.inputs log.lines names next b v → IsState letters b v names units log next later done firm marked
+state_grown letters a b w v names units log head sure done firm next later marked state grown same low is_sure ready = record {
+  ready = ready;
+  low = low;
+  is_sure = is_sure;
+  all = state.all;
+  long = state.long;
+  short = state.short;
+  done_in = state.done_in;
+  firm_in = omega (arith, state.firm_in, ap length grown.trail, length-append a.trail grown.more);
+  are_firm = λ u clause below is.
+      let front : take firm b.trail ≡ take firm a.trail = ap (take firm) grown.trail ∙ take-append-le firm a.trail grown.more state.firm_in in
+      subst (λ t. HasTrue (literals_of t) clause) (sym front) (state.are_firm u clause below is);
+  known_inputs = state.known_inputs;
+  known_lines = state.known_lines;
+  decided = subst (AreKnownDecisions letters) (sym grown.trail)
+      (All-append (λ e. e.reason ≡ None → IsKnown letters e.literal) a.trail grown.more state.decided
+      (λ k d below free. absurd (grown.forced k d below free)));
+  room = λ x from_one within. omega (arith, state.room x from_one within, same);
+  few = omega (arith, same, state.few);
+  size = omega (arith, same, state.size);
+}
+
+-- a front of the trail
+pub state_back : (letters : ℕ) (a b : AssignedValue) (w : WatchValue) (names units : List Hint) (log : LogValue) (head sure done firm marked m n level still solid : ℕ) → IsState letters a w names units log head sure done firm marked
+    → b.trail ≡ take n a.trail → length b.values ≡ length a.values → n ≤ length a.trail → IsBack (state_of letters a.trail log) (state_of letters b.trail log) level → m ≤ sure → m ≤ n
+    → ((firm ≤ n) × (still ≡ done) × (solid ≡ firm)) ⊎ ((still ≡ 0) × (solid ≡ 0)) → IsState letters b w names units log m m still solid marked
+state_back letters a b w names units log head sure done firm marked m n level still solid state trail_is values_is fits back m_sure m_n units_are =
+    let len : length b.trail ≡ n = ap length trail_is ∙ length-take-le n a.trail fits in
+    let new_sure = sure_back w.clauses (state_of letters a.trail log) (state_of letters b.trail log) level sure m state.ready.is_trail back state.is_sure m_sure (omega (arith, len)) in
+    record {
+      ready = record {
+        is_trail = subst (IsTrail log.inputs log.lines) (sym trail_is) (trail_take log.inputs log.lines a.trail n fits state.ready.is_trail);
+        stored = state.ready.stored;
+        guarded = guarded_sure w.clauses b.trail m new_sure;
+        within = omega (arith, len);
+        sized = state.ready.sized ∙ ap (λ x. 2 * x) (sym values_is);
+      };
+      low = omega arith;
+      is_sure = new_sure;
+      all = state.all;
+      long = state.long;
+      short = state.short;
+      done_in = elim units_are [ inl kept ↦ omega (arith, kept.1, state.done_in) | inr none ↦ omega (arith, none.0) ];
+      firm_in = elim units_are [ inl kept ↦ omega (arith, kept.0, kept.2, len) | inr none ↦ omega (arith, none.1) ];
+      are_firm = λ u clause below is. elim units_are [
+        | inl kept ↦
+            let front : take solid b.trail ≡ take firm a.trail = ap₂ (λ k t. take k t) kept.2 trail_is ∙ take-take firm n a.trail kept.0 in
+            subst (λ t. HasTrue (literals_of t) clause) (sym front) (state.are_firm u clause (omega (arith, below, kept.1)) is)
+        | inr none ↦ absurd (omega (arith, below, none.0))
+      ];
+      known_inputs = state.known_inputs;
+      known_lines = state.known_lines;
+      decided = subst (AreKnownDecisions letters) (sym trail_is) (λ k d below.
+          let k_low : k < n = omega (arith, below, length-take-le n a.trail fits) in
+          subst (λ e. e.reason ≡ None → IsKnown letters e.literal) (sym (get_or-take n a.trail k d k_low)) (state.decided k d (omega arith)));
+      room = λ x from_one within. omega (arith, state.room x from_one within, values_is);
+      few = omega (arith, values_is, state.few);
+      size = omega (arith, values_is, state.size);
+    }
+
+-- the way back of the trail, from the entries beside its end
+pub back_of : (letters : ℕ) (a b : AssignedValue) (log : LogValue) (n level : ℕ) → IsTrail log.inputs log.lines a.trail → b.trail ≡ take n a.trail → n ≤ length a.trail
+    → (0 < n → level_at a.trail (n - 1) ≤ level) → (n < length a.trail → level < level_at a.trail n) → IsBack (state_of letters a.trail log) (state_of letters b.trail log) level
+back_of letters a b log n level is_trail trail_is fits low high =
+    let len : length b.trail ≡ n = ap length trail_is ∙ length-take-le n a.trail fits in
+    record {
+      front = ap (λ t. state_of letters t log) (trail_is ∙ ap (λ m. take m a.trail) (sym len));
+      short = omega (arith, len);
+      low = λ k d below.
+          let k_low : k < n = omega (arith, below, len) in
+          let at : get_or b.trail k d ≡ get_or a.trail k blank_entry = ap (λ t. get_or t k d) trail_is ∙ get_or-take n a.trail k d k_low ∙ get_or_default a.trail k d blank_entry (omega arith) in
+          let rises : level_at a.trail k ≤ level_at a.trail (n - 1) = elim (cases_lt k (n - 1)) [
+            | inl front ↦ levels_rise log.inputs log.lines a.trail is_trail k (n - 1) front (omega arith)
+            | inr last ↦ let same : k ≡ n - 1 = omega arith in omega (arith, ap (level_at a.trail) same)
+          ] in
+          omega (arith, ap (λ (e : Entry). e.level) at, rises, low (omega arith));
+      high = λ d below.
+          let shorter : n < length a.trail = omega (arith, len) in
+          let at : get_or a.trail (length b.trail) d ≡ get_or a.trail n blank_entry = ap (λ m. get_or a.trail m d) len ∙ get_or_default a.trail n d blank_entry shorter in
+          omega (arith, ap (λ (e : Entry). e.level) at, high shorter);
+    }
+
+-- entries more behind the trail keep the watch rule
+pub guarded_push : (clauses : List (List Literal)) (trail more : List Entry) (n : ℕ) → n ≤ length trail → IsGuarded clauses trail n → IsGuarded clauses (trail ++ more) n
+guarded_push clauses trail more n fits guarded c k a b known first below is_false =
+    let same : literal_at (trail ++ more) k ≡ literal_at trail k = ap (λ (f : Entry). f.literal) (get_or_append_left trail more blank_entry k (omega arith)) in
+    subst (λ ls. Contains ls b) (sym (map-append (λ (f : Entry). f.literal) trail more))
+    (Contains-append_left (literals_of trail) (literals_of more) b (guarded c k a b known first below (sym same ∙ is_false)))
+
+pub sure_push : (clauses : List (List Literal)) (trail more : List Entry) (n : ℕ) → n ≤ length trail → IsSure clauses trail n → IsSure clauses (trail ++ more) n
+sure_push clauses trail more n fits sure c k a b known first below is_false =
+    let k_same = get_or_append_left trail more blank_entry k (omega arith) in
+    let at = sure c k a b known first below (ap (λ (f : Entry). f.literal) (sym k_same) ∙ is_false) in
+    let j_same = get_or_append_left trail more blank_entry at.0 at.1 in
+    (at.0, omega (arith, at.1, length-append trail more), ap (λ (f : Entry). f.literal) j_same ∙ at.2, omega (arith, at.3, ap (λ (f : Entry). f.level) j_same, ap (λ (f : Entry). f.level) k_same))
+
+-- a decision stands behind the trail
+pub decision_stands : (inputs lines : List (List Literal)) (trail : List Entry) (l : Literal) (level : ℕ) → IsTrail inputs lines trail → level ≡ length trail + 1 → StandsAt inputs lines trail (record { literal = l; level = level; reason = None })
+decision_stands inputs lines trail l level is_trail is = record {
+  reason = tt;
+  decision = λ _. is;
+  rising = λ k d below.
+      let bound = level_bound inputs lines trail is_trail k (length trail) below (omega arith) (level_at trail k) refl in
+      omega (arith, bound, is, ap (λ (e : Entry). e.level) (get_or_default trail k d blank_entry below));
+}
+
+-- an entry more behind the trail
+module _ (letters : ℕ) (a b : AssignedValue) (w : WatchValue) (names units : List Hint) (log : LogValue) (head sure done firm marked : ℕ) (e : Entry) (state : IsState letters a w names units log head sure done firm marked)
+    (values_is : length b.values ≡ length a.values) (stands : StandsAt log.inputs log.lines a.trail e) (known : e.reason ≡ None → IsKnown letters e.literal) where
+  pub state_pushed : b.trail ≡ a.trail ++ e ∷ [] → IsState letters b w names units log head sure done firm marked
+  state_pushed is = record {
+    ready = record {
+      is_trail = subst (IsTrail log.inputs log.lines) (sym is) (trail_push log.inputs log.lines a.trail e state.ready.is_trail stands);
+      stored = state.ready.stored;
+      guarded = subst (λ t. IsGuarded w.clauses t head) (sym is) (guarded_push w.clauses a.trail (e ∷ []) head state.ready.within state.ready.guarded);
+      within = omega (arith, state.ready.within, ap length is, length_push a.trail e);
+      sized = state.ready.sized ∙ ap (λ x. 2 * x) (sym values_is);
+    };
+    low = state.low;
+    is_sure = subst (λ t. IsSure w.clauses t sure) (sym is) (sure_push w.clauses a.trail (e ∷ []) sure (omega (arith, state.low, state.ready.within)) state.is_sure);
+    all = state.all;
+    long = state.long;
+    short = state.short;
+    done_in = state.done_in;
+    firm_in = omega (arith, state.firm_in, ap length is, length_push a.trail e);
+    are_firm = λ u clause below named_is.
+        let front : take firm b.trail ≡ take firm a.trail = ap (take firm) is ∙ take-append-le firm a.trail (e ∷ []) state.firm_in in
+        subst (λ t. HasTrue (literals_of t) clause) (sym front) (state.are_firm u clause below named_is);
+    known_inputs = state.known_inputs;
+    known_lines = state.known_lines;
+    decided = subst (AreKnownDecisions letters) (sym is) (All-push (λ f. f.reason ≡ None → IsKnown letters f.literal) a.trail e state.decided known);
+    room = λ x from_one within. omega (arith, state.room x from_one within, values_is);
+    few = omega (arith, values_is, state.few);
+    size = omega (arith, values_is, state.size);
+  }
+
+  pub state_same : b.trail ≡ a.trail → IsState letters b w names units log head sure done firm marked
+  state_same is = record {
+    ready = record {
+      is_trail = subst (IsTrail log.inputs log.lines) (sym is) state.ready.is_trail;
+      stored = state.ready.stored;
+      guarded = subst (λ t. IsGuarded w.clauses t head) (sym is) state.ready.guarded;
+      within = omega (arith, state.ready.within, ap length is);
+      sized = state.ready.sized ∙ ap (λ x. 2 * x) (sym values_is);
+    };
+    low = state.low;
+    is_sure = subst (λ t. IsSure w.clauses t sure) (sym is) state.is_sure;
+    all = state.all;
+    long = state.long;
+    short = state.short;
+    done_in = state.done_in;
+    firm_in = omega (arith, state.firm_in, ap length is);
+    are_firm = λ u clause below named_is. subst (λ t. HasTrue (literals_of (take firm t)) clause) (sym is) (state.are_firm u clause below named_is);
+    known_inputs = state.known_inputs;
+    known_lines = state.known_lines;
+    decided = subst (AreKnownDecisions letters) (sym is) state.decided;
+    room = λ x from_one within. omega (arith, state.room x from_one within, values_is);
+    few = omega (arith, values_is, state.few);
+    size = omega (arith, values_is, state.size);
+  }
+
+  pub state_assigned : (ok : Bool) → b.trail ≡ (if ok then a.trail ++ e ∷ [] else a.trail) → IsState letters b w names units log head sure done firm marked
+  state_assigned true is = state_pushed is
+  state_assigned false is = state_same is
+
+-- forced entries more keep the watch rule below the head
+pub ready_grown : (inputs lines : List (List Literal)) (names : List Hint) (head : ℕ) (a b : AssignedValue) (w : WatchValue) → IsReady inputs lines names head a w → IsGrown a.trail b.trail → IsTrail inputs lines b.trail → length b.values ≡ length a.values
+    → IsReady inputs lines names head b w
+ready_grown inputs lines names head a b w ready grown is_trail same = record {
+  is_trail = is_trail;
+  stored = ready.stored;
+  guarded = subst (λ t. IsGuarded w.clauses t head) (sym grown.trail) (guarded_push w.clauses a.trail grown.more head ready.within ready.guarded);
+  within = omega (arith, ready.within, ap length grown.trail, length-append a.trail grown.more);
+  sized = ready.sized ∙ ap (λ x. 2 * x) (sym same);
+}
+
+pub sure_grown : (clauses : List (List Literal)) (old new : List Entry) (n : ℕ) → n ≤ length old → IsGrown old new → IsSure clauses old n → IsSure clauses new n
+sure_grown clauses old new n fits grown sure = subst (λ t. IsSure clauses t n) (sym grown.trail) (sure_push clauses old grown.more n fits sure)
+
+-- what is true on the front is true on the trail
+pub firm_now : (inputs lines : List (List Literal)) (units : List Hint) (done firm : ℕ) (trail : List Entry) → firm ≤ length trail → AreFirm inputs lines units done (literals_of (take firm trail)) → AreFirm inputs lines units done (literals_of trail)
+firm_now inputs lines units done firm trail fits are u clause below is =
+    let told = are u clause below is in (
+      told.0,
+      told.1,
+      subst (λ ls. Contains ls told.0) (sym (ap literals_of (sym (take-append-drop firm trail)) ∙ map-append (λ (e : Entry). e.literal) (take firm trail) (drop firm trail)))
+          (Contains-append_left (literals_of (take firm trail)) (literals_of (drop firm trail)) told.0 told.2),
+    )
+
+-- all short clauses are true
+pub state_firm : (letters : ℕ) (a : AssignedValue) (w : WatchValue) (names units : List Hint) (log : LogValue) (head sure done firm still solid marked : ℕ) → IsState letters a w names units log head sure done firm marked
+    → AreFirm log.inputs log.lines units (length units) (literals_of a.trail) → ((length units ≤ done) × (still ≡ done) × (solid ≡ firm)) ⊎ ((still ≡ length units) × (solid ≡ length a.trail))
+    → IsState letters a w names units log head sure still solid marked
+state_firm letters a w names units log head sure done firm still solid marked state are cases = record {
+  ready = state.ready;
+  low = state.low;
+  is_sure = state.is_sure;
+  all = state.all;
+  long = state.long;
+  short = state.short;
+  done_in = elim cases [ inl kept ↦ omega (arith, kept.1, state.done_in) | inr now ↦ omega (arith, now.0) ];
+  firm_in = elim cases [ inl kept ↦ omega (arith, kept.2, state.firm_in) | inr now ↦ omega (arith, now.1) ];
+  are_firm = λ u clause below is. elim cases [
+    | inl kept ↦ subst (λ n. HasTrue (literals_of (take n a.trail)) clause) (sym kept.2) (state.are_firm u clause (omega (arith, below, kept.1)) is)
+    | inr now ↦ subst (λ t. HasTrue (literals_of t) clause) (sym (take_all solid a.trail (omega (arith, now.1)))) (are u clause (omega (arith, below, now.0)) is)
+  ];
+  known_inputs = state.known_inputs;
+  known_lines = state.known_lines;
+  decided = state.decided;
+  room = state.room;
+  few = state.few;
+  size = state.size;
+}
+
+pub finished : (count done still solid firm len : ℕ) → done ≤ count → ((count ≤ done) × (still ≡ done) × (solid ≡ firm)) ⊎ ((still ≡ count) × (solid ≡ len)) → still ≡ count
+finished count done still solid firm len fits cases = elim cases [ inl kept ↦ omega (arith, kept.0, kept.1, fits) | inr now ↦ now.0 ]
+
+-- the same, for what callers see
+pub propagated : (letters : ℕ) (log : LogValue) (old new : List Entry) → IsGrown old new → Propagated (state_of letters old log) (state_of letters new log)
+propagated letters log old new grown = record { letters = refl; log = refl; more = grown.more; trail = grown.trail; forced = grown.forced }
+
+-- the short clauses were visited
+pub state_visited : (letters : ℕ) (a b : AssignedValue) (w : WatchValue) (names units : List Hint) (log : LogValue) (head sure done firm marked : ℕ) → IsState letters a w names units log head sure done firm marked
+    → IsGrown a.trail b.trail → IsTrail log.inputs log.lines b.trail → length b.values ≡ length a.values → IsState letters b w names units log head sure done firm marked
+state_visited letters a b w names units log head sure done firm marked state grown is_trail same =
+    state_grown letters a b w w names units log head sure done firm head sure marked state grown same state.low
+    (sure_grown w.clauses a.trail b.trail sure (omega (arith, state.low, state.ready.within)) grown state.is_sure)
+    (ready_grown log.inputs log.lines names head a b w state.ready grown is_trail same)

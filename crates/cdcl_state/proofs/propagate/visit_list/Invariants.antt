@@ -1,0 +1,16 @@
+use Rattle.std.proofs.Common.{◌≡◌, ◌≤◌, ℕ, length}
+use Rattle.cdcl_state.specs.Visit.{IsVisiting, IsGrown, false_at}
+use Rattle.cdcl_state.specs.Sure.{IsSure}
+use Rattle.cdcl_state.proofs.propagate.visit_list.Given as goal
+
+abbrev pub invariant-down : goal.invariant-down
+invariant-down l = record {
+  visiting : IsVisiting l.log.inputs l.log.lines l.names l.place l.i l.assigned l.watches;
+  grown : IsGrown l.initial.assigned.trail l.assigned.trail;
+  letters : length l.assigned.values ≡ length l.initial.assigned.values;
+  sure : (n : ℕ) → n ≤ l.place → IsSure l.initial.watches.clauses l.initial.assigned.trail n → IsSure l.watches.clauses l.assigned.trail n;
+  same : l.falsified ≡ false_at l.assigned.trail l.place;
+}
+
+abbrev pub decreases-down : goal.decreases-down
+decreases-down l = l.i

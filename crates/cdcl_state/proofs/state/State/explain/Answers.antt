@@ -1,0 +1,14 @@
+use Rattle.std.proofs.Common.{All, subst}
+use Rattle.cdcl_state.specs.Trail.{StateValue, IsKnown}
+use Rattle.cdcl_state.proofs.Known.{trail_known, learnt_known}
+use Rattle.cdcl_state.proofs.state.State.explain.Goals as goal
+
+pub returns-clause-known : goal.returns-clause-known
+returns-clause-known c =
+    let a = c.self.inside.assigned in
+    let log = c.self.inside.log in
+    let letters = c.self.inside.letters in
+    let state = c.self.invariant in
+    let learnt = c.in_ok-learnt.learnt in
+    let known = trail_known letters log.inputs log.lines a.trail state.ready.is_trail state.known_inputs state.known_lines state.decided in
+    subst (λ (s : StateValue). All (IsKnown s.letters) learnt.clause.items) c.self.view_is (learnt_known letters log a.trail learnt c.in_ok-learnt.ensures.learnt known)

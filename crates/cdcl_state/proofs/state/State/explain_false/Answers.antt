@@ -1,0 +1,17 @@
+use Rattle.std.proofs.Common.{All, subst}
+use Rattle.cdcl_state.specs.Trail.{StateValue, IsKnown}
+use Rattle.cdcl_state.specs.Analysis.{refuted_at}
+use Rattle.cdcl_state.proofs.Known.{trail_known, learnt_known, refuted_known}
+use Rattle.cdcl_state.proofs.state.State.explain_false.Goals as goal
+
+pub returns-in-Some-clause-known : goal.returns-in-Some-clause-known
+returns-in-Some-clause-known c =
+    let a = c.self.inside.assigned in
+    let log = c.self.inside.log in
+    let letters = c.self.inside.letters in
+    let state = c.self.invariant in
+    let place = c.place-place.result in
+    let learnt = c.in_ok-learnt-in-Some.learnt in
+    let known = trail_known letters log.inputs log.lines a.trail state.ready.is_trail state.known_inputs state.known_lines state.decided in
+    subst (λ (s : StateValue). All (IsKnown s.letters) learnt.clause.items) c.self.view_is
+    (learnt_known letters log (refuted_at a.trail place) learnt c.in_ok-learnt-in-Some.ensures.learnt (refuted_known letters a.trail place c.place-place.ensures.within known))

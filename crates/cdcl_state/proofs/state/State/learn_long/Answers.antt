@@ -1,0 +1,183 @@
+use Rattle.std.proofs.Common.{◌≡◌, ◌+◌, [], ◌∷◌, ◌++◌, Some, take, All, length, get_or, sym, ap, ap₂, ◌∙◌, subst, arith, length-take-le}
+use Rattle.std.proofs.lemmas.List.{take_at, get_or_default}
+use Rattle.std.proofs.lemmas.List.Elements.{All-contains_itself}
+use Rattle.cnf_base.specs.declared.literal.Hint.TheVariants.{Line}
+use Rattle.clause_log.specs.LogValue.{LogValue, with_line}
+use Rattle.cdcl_state.specs.Trail.{StateValue, IsKnown, with_log}
+use Rattle.cdcl_state.specs.Learnt.{IsLearnt, IsAsserting, IsTarget, IsTurn}
+use Rattle.cdcl_state.specs.Analysis.{state_of}
+use Rattle.cdcl_state.specs.Watching.{AreApart, IsAdded, with_clause, blank}
+use Rattle.cdcl_state.specs.declared.assigned.Entry.{Entry}
+use Rattle.cdcl_state.proofs.Attach.{line_more, known_more, stored_fits}
+use Rattle.cdcl_state.proofs.Learned.{learnt_apart, learned_stands, learned_cut, learned}
+use Rattle.cdcl_state.proofs.States.{state_same}
+use Rattle.cdcl_state.proofs.state.State.learn_long.Goals as goal
+
+pub store-requires-clause-apart : goal.store-requires-clause-apart
+store-requires-clause-apart c =
+    let learnt = c.args.learnt.now in
+    let trail = c.self.inside.assigned.trail in
+    let is : IsLearnt c.self.inside.log trail learnt = subst (λ (s : StateValue). IsLearnt s.log s.trail learnt) (sym c.self.view_is) c.requires.learnt in
+    subst AreApart (sym c.deref.ensures.value) (learnt_apart c.self.inside.assigned.values trail learnt.clause.items learnt.places.items c.told.ensures is.clause_is is.inside is.falling)
+
+pub take_back-requires : goal.take_back-requires
+take_back-requires c =
+    let learnt = c.args.learnt.now in
+    let clause = learnt.clause.items in
+    let w = c.self.inside.watches in
+    let a = c.self.inside.assigned in
+    let letters = c.self.inside.letters in
+    let is : IsLearnt c.self.inside.log a.trail learnt = subst (λ (s : StateValue). IsLearnt s.log s.trail learnt) (sym c.self.view_is) c.requires.learnt in
+    let known : All (IsKnown letters) clause = subst (λ (s : StateValue). All (IsKnown s.letters) clause) (sym c.self.view_is) c.requires.known in
+    let w_is : c.store.new.watches ≡ with_clause w clause = c.in_ok-store.ensures.watches ∙ ap (with_clause w) c.deref.ensures.value in
+    let added : IsAdded w c.store.new.watches = record {
+      clause = clause;
+      watching = c.watching.ensures;
+      long = c.requires.long;
+      apart = learnt_apart a.values a.trail clause learnt.places.items c.told.ensures is.clause_is is.inside is.falling;
+      fits = stored_fits letters a w.lists clause clause c.self.invariant.room c.self.invariant.ready.sized known (record { there = All-contains_itself clause; back = All-contains_itself clause });
+      is = w_is;
+    } in
+    (w, added)
+
+pub invariant_of-self-in-Err : goal.invariant_of-self-in-Err
+invariant_of-self-in-Err c =
+    let learnt = c.args.learnt.now in
+    let clause = learnt.clause.items in
+    let w = c.self.inside.watches in
+    let a = c.self.inside.assigned in
+    let letters = c.self.inside.letters in
+    let is : IsLearnt c.self.inside.log a.trail learnt = subst (λ (s : StateValue). IsLearnt s.log s.trail learnt) (sym c.self.view_is) c.requires.learnt in
+    let known : All (IsKnown letters) clause = subst (λ (s : StateValue). All (IsKnown s.letters) clause) (sym c.self.view_is) c.requires.known in
+    let w_is : c.store.new.watches ≡ with_clause w clause = c.in_ok-store.ensures.watches ∙ ap (with_clause w) c.deref.ensures.value in
+    let added : IsAdded w c.store.new.watches = record {
+      clause = clause;
+      watching = c.watching.ensures;
+      long = c.requires.long;
+      apart = learnt_apart a.values a.trail clause learnt.places.items c.told.ensures is.clause_is is.inside is.falling;
+      fits = stored_fits letters a w.lists clause clause c.self.invariant.room c.self.invariant.ready.sized known (record { there = All-contains_itself clause; back = All-contains_itself clause });
+      is = w_is;
+    } in
+    let names = c.self.inside.names.items in
+    let count : length names ≡ c.len-count.result = omega arith in
+    let same_names : c.take_back.new.names.items ≡ names = c.take_back.ensures.names ∙ ap (take c.len-count.result) c.in_ok-store.ensures.names ∙ take_at names (Line c.in_ok-line.line ∷ []) c.len-count.result count in
+    rw (c.take_back.ensures.watches w added, same_names, c.in-Err.ensures.refused) c.self.invariant
+
+pub assign-requires-clause-unset : goal.assign-requires-clause-unset
+assign-requires-clause-unset c =
+    let learnt = c.args.learnt.now in
+    let clause = learnt.clause.items in
+    let places = learnt.places.items in
+    let letters = c.self.inside.letters in
+    let a = c.self.inside.assigned in
+    let b = c.cut.new.self in
+    let w = c.self.inside.watches in
+    let log = c.self.inside.log in
+    let line = c.in_ok-line.line in
+    let is : IsLearnt log a.trail learnt = subst (λ (s : StateValue). IsLearnt s.log s.trail learnt) (sym c.self.view_is) c.requires.learnt in
+    let known : All (IsKnown letters) clause = subst (λ (s : StateValue). All (IsKnown s.letters) clause) (sym c.self.view_is) c.requires.known in
+    let asserting : IsAsserting a.trail places = subst (λ (s : StateValue). IsAsserting s.trail places) (sym c.self.view_is) c.requires.asserting in
+    let target : IsTarget a.trail places c.args.level = subst (λ (s : StateValue). IsTarget s.trail places c.args.level) (sym c.self.view_is) c.requires.level in
+    let next = with_line log clause learnt.hints.items in
+    let count : line ≡ length log.lines + 1 = c.in_ok-line.ensures ∙ ap (λ n. n + 1) (c.lines.ensures ∙ ap (λ (l : LogValue). length l.lines) c.view.ensures.same) in
+    let more = line_more log clause learnt.hints.items line count in
+    let known_lines = known_more letters log.lines clause c.self.invariant.known_lines known in
+    let next_is : c.derive.new.self ≡ next = c.in-Ok.ensures.added.0 ∙ ap₂ (with_line log) c.deref-2.ensures.value c.deref-3.ensures.value in
+    let w_is : c.store.new.watches ≡ with_clause w clause = c.in_ok-store.ensures.watches ∙ ap (with_clause w) c.deref.ensures.value in
+    (learned_stands letters a b w c.self.inside.names.items c.self.inside.units.items log next c.self.inside.head c.self.inside.sure c.self.inside.done c.self.inside.firm (length c.self.inside.marked.items) c.smaller-sure.result c.front-front.result c.args.level c.loosen.new.done c.loosen.new.firm line clause places c.index.result.now
+    c.self.invariant c.told.ensures more c.self.invariant.known_inputs known_lines c.cut.ensures.trail c.cut.ensures.letters c.front-front.ensures.within c.front-front.ensures.low c.front-front.ensures.high c.smaller-sure.ensures.one c.smaller-sure.ensures.two c.loosen.ensures
+    is.clause_is is.inside is.falling asserting target c.index.ensures).0.unset
+
+pub invariant_of-self-in_err-assign : goal.invariant_of-self-in_err-assign
+invariant_of-self-in_err-assign c =
+    let learnt = c.args.learnt.now in
+    let clause = learnt.clause.items in
+    let places = learnt.places.items in
+    let letters = c.self.inside.letters in
+    let a = c.self.inside.assigned in
+    let b = c.cut.new.self in
+    let w = c.self.inside.watches in
+    let log = c.self.inside.log in
+    let line = c.in_ok-line.line in
+    let is : IsLearnt log a.trail learnt = subst (λ (s : StateValue). IsLearnt s.log s.trail learnt) (sym c.self.view_is) c.requires.learnt in
+    let known : All (IsKnown letters) clause = subst (λ (s : StateValue). All (IsKnown s.letters) clause) (sym c.self.view_is) c.requires.known in
+    let asserting : IsAsserting a.trail places = subst (λ (s : StateValue). IsAsserting s.trail places) (sym c.self.view_is) c.requires.asserting in
+    let target : IsTarget a.trail places c.args.level = subst (λ (s : StateValue). IsTarget s.trail places c.args.level) (sym c.self.view_is) c.requires.level in
+    let next = with_line log clause learnt.hints.items in
+    let count : line ≡ length log.lines + 1 = c.in_ok-line.ensures ∙ ap (λ n. n + 1) (c.lines.ensures ∙ ap (λ (l : LogValue). length l.lines) c.view.ensures.same) in
+    let more = line_more log clause learnt.hints.items line count in
+    let known_lines = known_more letters log.lines clause c.self.invariant.known_lines known in
+    let next_is : c.derive.new.self ≡ next = c.in-Ok.ensures.added.0 ∙ ap₂ (with_line log) c.deref-2.ensures.value c.deref-3.ensures.value in
+    let w_is : c.store.new.watches ≡ with_clause w clause = c.in_ok-store.ensures.watches ∙ ap (with_clause w) c.deref.ensures.value in
+    let e : Entry = record { literal = c.index.result.now; level = c.args.level; reason = Some (Line line) } in
+    let stands = learned_stands letters a b w c.self.inside.names.items c.self.inside.units.items log next c.self.inside.head c.self.inside.sure c.self.inside.done c.self.inside.firm (length c.self.inside.marked.items) c.smaller-sure.result c.front-front.result c.args.level c.loosen.new.done c.loosen.new.firm line clause places c.index.result.now
+    c.self.invariant c.told.ensures more c.self.invariant.known_inputs known_lines c.cut.ensures.trail c.cut.ensures.letters c.front-front.ensures.within c.front-front.ensures.low c.front-front.ensures.high c.smaller-sure.ensures.one c.smaller-sure.ensures.two c.loosen.ensures
+    is.clause_is is.inside is.falling asserting target c.index.ensures in
+    let cut = learned_cut letters a b w c.self.inside.names.items c.self.inside.units.items log next c.self.inside.head c.self.inside.sure c.self.inside.done c.self.inside.firm (length c.self.inside.marked.items) c.smaller-sure.result c.front-front.result c.args.level c.loosen.new.done c.loosen.new.firm line clause places c.index.result.now
+    c.self.invariant c.told.ensures more c.self.invariant.known_inputs known_lines c.cut.ensures.trail c.cut.ensures.letters c.front-front.ensures.within c.front-front.ensures.low c.front-front.ensures.high c.smaller-sure.ensures.one c.smaller-sure.ensures.two c.loosen.ensures
+    is.clause_is is.inside is.falling asserting target c.index.ensures c.requires.long in
+    rw (w_is, c.in_ok-store.ensures.names, next_is)
+    (state_same letters b c.assign.new.self (with_clause w clause) (c.self.inside.names.items ++ Line line ∷ []) c.self.inside.units.items next 0 0 c.loosen.new.done c.loosen.new.firm (length c.self.inside.marked.items) e cut c.in_err-assign.ensures.letters stands.0.stands (λ free. cc) c.in_err-assign.ensures.trail)
+
+pub invariant_of-self-2 : goal.invariant_of-self-2
+invariant_of-self-2 c =
+    let learnt = c.args.learnt.now in
+    let clause = learnt.clause.items in
+    let places = learnt.places.items in
+    let letters = c.self.inside.letters in
+    let a = c.self.inside.assigned in
+    let b = c.cut.new.self in
+    let w = c.self.inside.watches in
+    let log = c.self.inside.log in
+    let line = c.in_ok-line.line in
+    let is : IsLearnt log a.trail learnt = subst (λ (s : StateValue). IsLearnt s.log s.trail learnt) (sym c.self.view_is) c.requires.learnt in
+    let known : All (IsKnown letters) clause = subst (λ (s : StateValue). All (IsKnown s.letters) clause) (sym c.self.view_is) c.requires.known in
+    let asserting : IsAsserting a.trail places = subst (λ (s : StateValue). IsAsserting s.trail places) (sym c.self.view_is) c.requires.asserting in
+    let target : IsTarget a.trail places c.args.level = subst (λ (s : StateValue). IsTarget s.trail places c.args.level) (sym c.self.view_is) c.requires.level in
+    let next = with_line log clause learnt.hints.items in
+    let count : line ≡ length log.lines + 1 = c.in_ok-line.ensures ∙ ap (λ n. n + 1) (c.lines.ensures ∙ ap (λ (l : LogValue). length l.lines) c.view.ensures.same) in
+    let more = line_more log clause learnt.hints.items line count in
+    let known_lines = known_more letters log.lines clause c.self.invariant.known_lines known in
+    let next_is : c.derive.new.self ≡ next = c.in-Ok.ensures.added.0 ∙ ap₂ (with_line log) c.deref-2.ensures.value c.deref-3.ensures.value in
+    let w_is : c.store.new.watches ≡ with_clause w clause = c.in_ok-store.ensures.watches ∙ ap (with_clause w) c.deref.ensures.value in
+    let first : c.index.result.now ≡ get_or clause 0 blank = c.index.ensures ∙ get_or_default clause 0 c.index.result.now blank (omega (arith, c.requires.long)) in
+    rw (w_is, c.in_ok-store.ensures.names, next_is)
+    (learned letters a b w c.self.inside.names.items c.self.inside.units.items log next c.self.inside.head c.self.inside.sure c.self.inside.done c.self.inside.firm (length c.self.inside.marked.items) c.smaller-sure.result c.front-front.result c.args.level c.loosen.new.done c.loosen.new.firm line clause places c.index.result.now
+    c.self.invariant c.told.ensures more c.self.invariant.known_inputs known_lines c.cut.ensures.trail c.cut.ensures.letters c.front-front.ensures.within c.front-front.ensures.low c.front-front.ensures.high c.smaller-sure.ensures.one c.smaller-sure.ensures.two c.loosen.ensures
+    is.clause_is is.inside is.falling asserting target c.index.ensures c.assign.new.self c.told-2.ensures c.in_ok-assign.ensures.letters c.in_ok-assign.ensures.trail first c.requires.long)
+
+pub returns-clause-turned : goal.returns-clause-turned
+returns-clause-turned c =
+    let learnt = c.args.learnt.now in
+    let clause = learnt.clause.items in
+    let places = learnt.places.items in
+    let letters = c.self.inside.letters in
+    let a = c.self.inside.assigned in
+    let b = c.cut.new.self in
+    let w = c.self.inside.watches in
+    let log = c.self.inside.log in
+    let line = c.in_ok-line.line in
+    let is : IsLearnt log a.trail learnt = subst (λ (s : StateValue). IsLearnt s.log s.trail learnt) (sym c.self.view_is) c.requires.learnt in
+    let known : All (IsKnown letters) clause = subst (λ (s : StateValue). All (IsKnown s.letters) clause) (sym c.self.view_is) c.requires.known in
+    let asserting : IsAsserting a.trail places = subst (λ (s : StateValue). IsAsserting s.trail places) (sym c.self.view_is) c.requires.asserting in
+    let target : IsTarget a.trail places c.args.level = subst (λ (s : StateValue). IsTarget s.trail places c.args.level) (sym c.self.view_is) c.requires.level in
+    let next = with_line log clause learnt.hints.items in
+    let count : line ≡ length log.lines + 1 = c.in_ok-line.ensures ∙ ap (λ n. n + 1) (c.lines.ensures ∙ ap (λ (l : LogValue). length l.lines) c.view.ensures.same) in
+    let more = line_more log clause learnt.hints.items line count in
+    let known_lines = known_more letters log.lines clause c.self.invariant.known_lines known in
+    let next_is : c.derive.new.self ≡ next = c.in-Ok.ensures.added.0 ∙ ap₂ (with_line log) c.deref-2.ensures.value c.deref-3.ensures.value in
+    let w_is : c.store.new.watches ≡ with_clause w clause = c.in_ok-store.ensures.watches ∙ ap (with_clause w) c.deref.ensures.value in
+    let e : Entry = record { literal = c.index.result.now; level = c.args.level; reason = Some (Line line) } in
+    let stands = learned_stands letters a b w c.self.inside.names.items c.self.inside.units.items log next c.self.inside.head c.self.inside.sure c.self.inside.done c.self.inside.firm (length c.self.inside.marked.items) c.smaller-sure.result c.front-front.result c.args.level c.loosen.new.done c.loosen.new.firm line clause places c.index.result.now
+    c.self.invariant c.told.ensures more c.self.invariant.known_inputs known_lines c.cut.ensures.trail c.cut.ensures.letters c.front-front.ensures.within c.front-front.ensures.low c.front-front.ensures.high c.smaller-sure.ensures.one c.smaller-sure.ensures.two c.loosen.ensures
+    is.clause_is is.inside is.falling asserting target c.index.ensures in
+    let n = length b.trail in
+    let len : n ≡ c.front-front.result = ap length c.cut.ensures.trail ∙ length-take-le c.front-front.result a.trail c.front-front.ensures.within in
+    let turn : IsTurn (state_of letters a.trail next) (state_of letters c.assign.new.self.trail c.derive.new.self) = record {
+      place = n;
+      entry = e;
+      decision = stands.1;
+      forced = λ free. cc;
+      after = ap₂ (state_of letters) (c.in_ok-assign.ensures.trail ∙ ap (λ t. t ++ e ∷ []) (c.cut.ensures.trail ∙ ap (λ k. take k a.trail) (sym len))) next_is;
+    } in
+    subst (λ (s : StateValue). IsTurn (with_log s (with_line s.log clause learnt.hints.items)) (state_of letters c.assign.new.self.trail c.derive.new.self)) c.self.view_is turn

@@ -1,0 +1,136 @@
+use Rattle.std.proofs.Common.{◌≡◌, ℕ, ◌≤◌, ◌⊎◌, Option, MatchOption, Some, None, length, sym, subst, arith}
+use Rattle.cdcl_state.specs.Trail.{literals_of, IsSettled, IsConflict, Propagated}
+use Rattle.cdcl_state.specs.Analysis.{state_of}
+use Rattle.cdcl_state.specs.Visit.{IsReady}
+use Rattle.cdcl_state.specs.State.{AreShort, AreFirm}
+use Rattle.cdcl_state.proofs.Ready.{none_case, grown_more}
+use Rattle.cdcl_state.proofs.States.{state_grown, state_visited, state_firm, firm_now, finished, settled, propagated}
+use Rattle.cdcl_state.proofs.state.State.propagate.Goals as goal
+
+pub visit_units-requires-clause-short : goal.visit_units-requires-clause-short
+visit_units-requires-clause-short c = subst (AreShort c.self.inside.log.inputs c.self.inside.log.lines) (sym c.deref.ensures.value) c.self.invariant.short
+
+pub visit_units-requires-clause-firm : goal.visit_units-requires-clause-firm
+visit_units-requires-clause-firm c =
+    let log = c.self.inside.log in
+    let a = c.self.inside.assigned in
+    subst (λ us. AreFirm log.inputs log.lines us c.self.inside.done (literals_of a.trail)) (sym c.deref.ensures.value)
+    (firm_now log.inputs log.lines c.self.inside.units.items c.self.inside.done c.self.inside.firm a.trail c.self.invariant.firm_in c.self.invariant.are_firm)
+
+pub invariant_of-self : goal.invariant_of-self
+invariant_of-self c =
+    state_visited c.self.inside.letters c.self.inside.assigned c.visit_units.new.assigned c.self.inside.watches c.self.inside.names.items c.self.inside.units.items c.self.inside.log c.self.inside.head c.self.inside.sure c.self.inside.done c.self.inside.firm (length c.self.inside.marked.items)
+    c.self.invariant c.in_err-hint.ensures.grown c.in_err-hint.ensures.is_trail c.in_err-hint.ensures.letters
+
+pub invariant_of-self-in-Some : goal.invariant_of-self-in-Some
+invariant_of-self-in-Some c =
+    state_visited c.self.inside.letters c.self.inside.assigned c.visit_units.new.assigned c.self.inside.watches c.self.inside.names.items c.self.inside.units.items c.self.inside.log c.self.inside.head c.self.inside.sure c.self.inside.done c.self.inside.firm (length c.self.inside.marked.items)
+    c.self.invariant c.in_ok-hint.ensures.grown c.in_ok-hint.ensures.is_trail c.in_ok-hint.ensures.letters
+
+pub propagate-requires-clause-sure : goal.propagate-requires-clause-sure
+propagate-requires-clause-sure c =
+    (state_visited c.self.inside.letters c.self.inside.assigned c.visit_units.new.assigned c.self.inside.watches c.self.inside.names.items c.self.inside.units.items c.self.inside.log c.self.inside.head c.self.inside.sure c.self.inside.done c.self.inside.firm (length c.self.inside.marked.items)
+    c.self.invariant c.in_ok-hint.ensures.grown c.in_ok-hint.ensures.is_trail c.in_ok-hint.ensures.letters).is_sure
+
+pub propagate-requires-clause-ready : goal.propagate-requires-clause-ready
+propagate-requires-clause-ready c =
+    let state = state_visited c.self.inside.letters c.self.inside.assigned c.visit_units.new.assigned c.self.inside.watches c.self.inside.names.items c.self.inside.units.items c.self.inside.log c.self.inside.head c.self.inside.sure c.self.inside.done c.self.inside.firm (length c.self.inside.marked.items)
+    c.self.invariant c.in_ok-hint.ensures.grown c.in_ok-hint.ensures.is_trail c.in_ok-hint.ensures.letters in
+    subst (λ ns. IsReady c.self.inside.log.inputs c.self.inside.log.lines ns c.self.inside.head c.visit_units.new.assigned c.self.inside.watches) (sym c.deref-2.ensures.value) state.ready
+
+abbrev IsSettle : ℕ → ℕ → ℕ → ℕ → ℕ → ℕ → Type 0
+IsSettle count done still solid firm len = ((count ≤ done) × (still ≡ done) × (solid ≡ firm)) ⊎ ((still ≡ count) × (solid ≡ len))
+
+pub invariant_of-self-in_err-found : goal.invariant_of-self-in_err-found
+invariant_of-self-in_err-found c =
+    let letters = c.self.inside.letters in
+    let log = c.self.inside.log in
+    let names = c.self.inside.names.items in
+    let units = c.self.inside.units.items in
+    let w = c.self.inside.watches in
+    let b = c.visit_units.new.assigned in
+    let done = c.self.inside.done in
+    let solid = c.self.inside.firm in
+    let marked = length c.self.inside.marked.items in
+    let state = state_visited letters c.self.inside.assigned b w names units log c.self.inside.head c.self.inside.sure done solid marked
+    c.self.invariant c.in_ok-hint.ensures.grown c.in_ok-hint.ensures.is_trail c.in_ok-hint.ensures.letters in
+    let true_units = subst (λ us. AreFirm log.inputs log.lines us (length us) (literals_of b.trail)) c.deref.ensures.value (none_case _ c.in_ok-hint.field-0 c.in-None.is c.in_ok-hint.ensures.found) in
+    let count : c.len.result ≡ length units = omega arith in
+    let cases : IsSettle (length units) done c.settle.new.done c.settle.new.firm solid (length b.trail) = rw (← count, ← c.len-2.ensures) c.settle.ensures in
+    let firm = state_firm letters b w names units log c.self.inside.head c.self.inside.sure done solid c.settle.new.done c.settle.new.firm marked state true_units cases in
+    let whole = state_grown letters b c.propagate.new.assigned w c.propagate.new.watches names units log c.self.inside.head c.self.inside.sure c.settle.new.done c.settle.new.firm c.propagate.new.head c.propagate.new.sure marked firm
+    c.in_err-found.ensures.grown c.in_err-found.ensures.letters c.in_err-found.ensures.low c.in_err-found.ensures.sure
+    (subst (λ ns. IsReady log.inputs log.lines ns c.propagate.new.head c.propagate.new.assigned c.propagate.new.watches) c.deref-2.ensures.value c.in_err-found.ensures.kept) in
+    whole
+
+pub returns-in_err-found-clause-grown : goal.returns-in_err-found-clause-grown
+returns-in_err-found-clause-grown c =
+    let letters = c.self.inside.letters in
+    let log = c.self.inside.log in
+    let a = c.self.inside.assigned in
+    let b = c.visit_units.new.assigned in
+    let d = c.propagate.new.assigned in
+    subst (λ s. Propagated s (state_of letters d.trail log)) c.self.view_is
+    (propagated letters log a.trail d.trail (grown_more a.trail b.trail d.trail c.in_ok-hint.ensures.grown c.in_err-found.ensures.grown))
+
+pub invariant_of-self-2 : goal.invariant_of-self-2
+invariant_of-self-2 c =
+    let letters = c.self.inside.letters in
+    let log = c.self.inside.log in
+    let names = c.self.inside.names.items in
+    let units = c.self.inside.units.items in
+    let w = c.self.inside.watches in
+    let b = c.visit_units.new.assigned in
+    let done = c.self.inside.done in
+    let solid = c.self.inside.firm in
+    let marked = length c.self.inside.marked.items in
+    let state = state_visited letters c.self.inside.assigned b w names units log c.self.inside.head c.self.inside.sure done solid marked
+    c.self.invariant c.in_ok-hint.ensures.grown c.in_ok-hint.ensures.is_trail c.in_ok-hint.ensures.letters in
+    let true_units = subst (λ us. AreFirm log.inputs log.lines us (length us) (literals_of b.trail)) c.deref.ensures.value (none_case _ c.in_ok-hint.field-0 c.in-None.is c.in_ok-hint.ensures.found) in
+    let count : c.len.result ≡ length units = omega arith in
+    let cases : IsSettle (length units) done c.settle.new.done c.settle.new.firm solid (length b.trail) = rw (← count, ← c.len-2.ensures) c.settle.ensures in
+    let firm = state_firm letters b w names units log c.self.inside.head c.self.inside.sure done solid c.settle.new.done c.settle.new.firm marked state true_units cases in
+    let whole = state_grown letters b c.propagate.new.assigned w c.propagate.new.watches names units log c.self.inside.head c.self.inside.sure c.settle.new.done c.settle.new.firm c.propagate.new.head c.propagate.new.sure marked firm
+    c.in_ok-found.ensures.grown c.in_ok-found.ensures.letters c.in_ok-found.ensures.low c.in_ok-found.ensures.sure
+    (subst (λ ns. IsReady log.inputs log.lines ns c.propagate.new.head c.propagate.new.assigned c.propagate.new.watches) c.deref-2.ensures.value c.in_ok-found.ensures.kept) in
+    whole
+
+pub returns-clause-grown : goal.returns-clause-grown
+returns-clause-grown c =
+    let letters = c.self.inside.letters in
+    let log = c.self.inside.log in
+    let a = c.self.inside.assigned in
+    let b = c.visit_units.new.assigned in
+    let d = c.propagate.new.assigned in
+    subst (λ s. Propagated s (state_of letters d.trail log)) c.self.view_is
+    (propagated letters log a.trail d.trail (grown_more a.trail b.trail d.trail c.in_ok-hint.ensures.grown c.in_ok-found.ensures.grown))
+
+found_weaker : {X : Type 0} (A B : Type 0) (P : X → Type 0) (o : Option X) → (A → B) → MatchOption o A P → MatchOption o B P
+found_weaker A B P None f h = f h
+found_weaker A B P (Some x) f h = h
+
+pub returns-clause-found : goal.returns-clause-found
+returns-clause-found c =
+    let letters = c.self.inside.letters in
+    let log = c.self.inside.log in
+    let names = c.self.inside.names.items in
+    let units = c.self.inside.units.items in
+    let w = c.self.inside.watches in
+    let b = c.visit_units.new.assigned in
+    let done = c.self.inside.done in
+    let solid = c.self.inside.firm in
+    let marked = length c.self.inside.marked.items in
+    let state = state_visited letters c.self.inside.assigned b w names units log c.self.inside.head c.self.inside.sure done solid marked
+    c.self.invariant c.in_ok-hint.ensures.grown c.in_ok-hint.ensures.is_trail c.in_ok-hint.ensures.letters in
+    let true_units = subst (λ us. AreFirm log.inputs log.lines us (length us) (literals_of b.trail)) c.deref.ensures.value (none_case _ c.in_ok-hint.field-0 c.in-None.is c.in_ok-hint.ensures.found) in
+    let count : c.len.result ≡ length units = omega arith in
+    let cases : IsSettle (length units) done c.settle.new.done c.settle.new.firm solid (length b.trail) = rw (← count, ← c.len-2.ensures) c.settle.ensures in
+    let firm = state_firm letters b w names units log c.self.inside.head c.self.inside.sure done solid c.settle.new.done c.settle.new.firm marked state true_units cases in
+    let whole = state_grown letters b c.propagate.new.assigned w c.propagate.new.watches names units log c.self.inside.head c.self.inside.sure c.settle.new.done c.settle.new.firm c.propagate.new.head c.propagate.new.sure marked firm
+    c.in_ok-found.ensures.grown c.in_ok-found.ensures.letters c.in_ok-found.ensures.low c.in_ok-found.ensures.sure
+    (subst (λ ns. IsReady log.inputs log.lines ns c.propagate.new.head c.propagate.new.assigned c.propagate.new.watches) c.deref-2.ensures.value c.in_ok-found.ensures.kept) in
+    let d = c.propagate.new.assigned in
+    let finish = finished (length units) done c.settle.new.done c.settle.new.firm solid (length b.trail) c.self.invariant.done_in cases in
+    found_weaker (c.propagate.new.head ≡ length d.trail) (IsSettled (state_of letters d.trail log)) (IsConflict log.inputs log.lines (literals_of d.trail)) c.in_ok-found.found
+    (λ all. settled letters d c.propagate.new.watches names units log c.propagate.new.head c.propagate.new.sure c.settle.new.done c.settle.new.firm marked whole c.told.ensures c.watching.ensures all finish)
+    c.in_ok-found.ensures.found

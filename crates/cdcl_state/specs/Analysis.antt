@@ -1,0 +1,59 @@
+-- The walk down the trail that explains a conflict.
+use Rattle.std.specs.Prelude.{◌≡◌, ℕ, ◌+◌, ◌^◌, ◌<◌, ◌≤◌, ◌⊎◌, Bool, true, false, List, [], ◌∷◌, ◌++◌, Option, None, map, take, reverse, length, All, AllPairs, Contains, slice_index_or}
+use Rattle.cnf_base.specs.declared.literal.Literal.{Literal}
+use Rattle.cnf_base.specs.declared.literal.Hint.{Hint}
+use Rattle.cnf_base.specs.Literal.{opposite}
+use Rattle.cnf_base.specs.Step.{Refutes}
+use Rattle.clause_log.specs.LogValue.{LogValue, greatest_u32}
+use Rattle.cdcl_state.specs.Trail.{StateValue, IsTrail, AreValues}
+use Rattle.cdcl_state.specs.Learnt.{blank_entry, literal_at, IsInside, IsDecision, IsLearnt}
+use Rattle.cdcl_state.specs.declared.assigned.Entry.{Entry}
+use Rattle.cdcl_state.specs.declared.analyze.Learnt.{Learnt}
+
+-- each letter of each clause is below n
+abbrev pub AreBelow : ℕ → List (List Literal) → Type 0
+AreBelow n clauses = All (λ clause. All (λ l. l.letter.0 < n) clause) clauses
+
+-- m is the opposite of a literal of the trail's first k
+abbrev pub IsUnder : List Entry → ℕ → Literal → Type 0
+IsUnder trail k m = (j : ℕ) × (j < k) × (m ≡ opposite (literal_at trail j))
+
+-- the false literals have the opposites of the marked ones below k and the clause, and nothing else that is not below k
+pub record Covers (trail : List Entry) (k : ℕ) (marked : List Bool) (clause falses : List Literal) : Type 0 where
+  pub marked_in : (j : ℕ) → j < k → slice_index_or marked (literal_at trail j).letter.0 false ≡ true → Contains falses (opposite (literal_at trail j))
+  pub clause_in : All (Contains falses) clause
+  pub only : All (λ m. Contains clause m ⊎ IsUnder trail k m) falses
+
+-- the part of the trail from k on is explained
+pub record IsWalk (inputs lines : List (List Literal)) (trail : List Entry) (k : ℕ) (marked : List Bool) (clause : List Literal) (hints : List Hint) (places : List ℕ) : Type 0 where
+  pub explains : (falses : List Literal) → Covers trail k marked clause falses → Refutes inputs lines greatest_u32 falses (reverse hints)
+  pub clause_is : clause ≡ map (λ p. opposite (literal_at trail p)) places
+  pub inside : All (IsInside trail) places
+  pub above : All (λ p. k ≤ p) places
+  pub falling : AllPairs (λ p q. q < p) places
+  pub within : k ≤ length trail
+
+-- the other trail is one of the same log, and has the same entries below `from`
+pub record IsLike (inputs lines : List (List Literal)) (trail other : List Entry) (from : ℕ) : Type 0 where
+  pub same : (k : ℕ) → k < from → slice_index_or other k blank_entry ≡ slice_index_or trail k blank_entry
+  pub long : from ≤ length other
+  pub is_trail : IsTrail inputs lines other
+  pub values : List (Option Bool)
+  pub told : AreValues values other
+  pub few : length values ≤ 2 ^ 32
+
+-- the trail up to a place, and then the decision that the literal there is false
+abbrev pub refuted_at : List Entry → ℕ → List Entry
+refuted_at trail place = take place trail ++ record { literal = opposite (literal_at trail place); level = place + 1; reason = None } ∷ []
+
+-- the state of these letters, trail and log
+abbrev pub state_of : ℕ → List Entry → LogValue → StateValue
+state_of letters trail log = record { letters = letters; trail = trail; log = log }
+
+-- the clause explains by decisions that the literal is false: with it the place of its opposite has the decision that it is true
+pub record IsRefuted (s : StateValue) (literal : Literal) (learnt : Learnt) : Type 0 where
+  pub place : ℕ
+  pub within : place < length s.trail
+  pub is : literal_at s.trail place ≡ opposite literal
+  pub explains : IsLearnt s.log (refuted_at s.trail place) learnt
+  pub decisions : All (IsDecision (refuted_at s.trail place)) learnt.places.items

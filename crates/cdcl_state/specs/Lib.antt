@@ -1,0 +1,9 @@
+pub mod Values
+pub mod Trail
+pub mod Learnt
+pub mod Watching
+pub mod Assigned
+pub mod Visit
+pub mod Sure
+pub mod State
+pub mod Analysis

@@ -1,0 +1,16 @@
+-- Literals and clauses under the values of some letters.
+use Rattle.std.specs.Prelude.{◌≡◌, ℕ, Bool, not, List, Option, Some, None, slice_index_or}
+use Rattle.cnf_base.specs.declared.literal.Literal.{Literal}
+
+-- the value of a letter, if it has one
+abbrev pub value_at : List (Option Bool) → ℕ → Option Bool
+value_at values letter = slice_index_or values letter None
+
+pub record IsTrueLiteral (values : List (Option Bool)) (l : Literal) : Type 0 where
+  pub is : value_at values l.letter.0 ≡ Some (not l.negated)
+
+pub record IsFalseLiteral (values : List (Option Bool)) (l : Literal) : Type 0 where
+  pub is : value_at values l.letter.0 ≡ Some l.negated
+
+pub record HasNoValue (values : List (Option Bool)) (l : Literal) : Type 0 where
+  pub is : value_at values l.letter.0 ≡ None

@@ -1,0 +1,196 @@
+// The trail: the literals that are true, in the order in which they became so, each with its level and its reason, and the
+// letters' values that it tells. After Marques-Silva and Sakallah, GRASP (1999).
+ghost use Rattle.std.specs.Prelude.{◌≡◌, ◌≢◌, ℕ, ◌+◌, ◌-◌, ◌^◌, ◌<◌, ◌≤◌, List, [], ◌∷◌, ◌++◌, ◌⊎◌, All, length, take, Option, Some, None, MatchOption, not, if◌then◌else◌, is_ok, slice_index_or, slice_set, Contains, ◌↔◌, IsTrue};
+ghost use Rattle.cdcl_state.specs.Trail.{IsUnset, literals_of, AreValues};
+ghost use Rattle.cdcl_state.specs.Learnt.{blank_entry, literal_at};
+
+use cnf_base::{Hint, Literal};
+use std::alloc::{AllocError, Global};
+use std::marker::Model;
+
+/// A literal that is true, and why.
+#[derive(Clone, Copy, Drop)]
+pub struct Entry {
+    pub literal: Literal,
+    /// One more than the place of the last decision up to here; 0 before the first.
+    pub level: usize,
+    /// The clause that forced it; a decision has none.
+    pub reason: Option<Hint>,
+}
+
+/// The trail, and the values that it tells.
+#[derive(Drop)]
+pub struct Assigned {
+    values: Vec<Option<bool>>,
+    trail: Vec<Entry>,
+    /// The level at which a letter was assigned last. Nothing is promised of it.
+    levels: Vec<usize>,
+}
+
+impl Model for Assigned {
+    ghost use Rattle.cdcl_state.specs.Trail.{AreValues};
+    ghost use Rattle.cdcl_state.specs.Assigned.{AssignedValue};
+
+    ghost Value = { AssignedValue };
+
+    ghost view = { λ a. record { values = a.values.items; trail = a.trail.items } };
+
+    ghost invariant = { λ a. AreValues a.values.items a.trail.items };
+}
+
+impl Assigned {
+    /// The values are those of the trail.
+    pub fn told(&self)
+        ensures { AreValues self.now.values self.now.trail }
+    {
+        let _ = &self.trail;
+    }
+
+    /// The number of entries.
+    pub fn len(&self) -> usize
+        ensures { result ≡ length self.now.trail }
+    {
+        self.trail.len()
+    }
+
+    /// The number of letters.
+    pub fn letters(&self) -> usize
+        ensures { result ≡ length self.now.values }
+    {
+        self.values.len()
+    }
+
+    /// The entry at a place.
+    pub fn entry(&self, place: usize) -> Entry
+        requires { place < length self.now.trail }
+        ensures { result ≡ slice_index_or self.now.trail place result }
+    {
+        self.trail[place]
+    }
+
+    /// Whether the literal is true.
+    pub fn holds(&self, literal: Literal) -> bool
+        requires { literal.letter.0 < length self.now.values }
+        ensures { IsTrue result ↔ Contains (literals_of self.now.trail) literal }
+    {
+        match self.values[literal.letter.0 as usize] {
+            Some(value) => value != literal.negated,
+            None => false,
+        }
+    }
+
+    /// The place at which the literal stands.
+    pub fn place(&self, literal: Literal) -> usize
+        requires { Contains (literals_of self.now.trail) literal }
+        ensures within { result < length self.now.trail }
+        ensures there { literal_at self.now.trail result ≡ literal }
+    {
+        let mut place = 0;
+        'along: while place < self.trail.len() {
+            if self.trail[place].literal == literal {
+                return place;
+            }
+            place += 1;
+        }
+        0
+    }
+
+    /// Makes room for one letter more.
+    pub fn letter(&mut self) -> Result<(), AllocError>
+        ensures values { self.new.values ≡ (if is_ok result then self.old.values ++ None ∷ [] else self.old.values) }
+        ensures trail { self.new.trail ≡ self.old.trail }
+    {
+        self.levels.push(0)?;
+        self.values.push(None)?;
+        Ok(())
+    }
+
+    /// The level of the last entry.
+    pub fn level(&self) -> usize
+        requires { 0 < length self.now.trail }
+        ensures { result ≡ (slice_index_or self.now.trail (length self.now.trail - 1) blank_entry).level }
+    {
+        self.trail[self.trail.len() - 1].level
+    }
+
+    /// Puts the entry on the trail.
+    pub fn assign(&mut self, entry: Entry) -> Result<(), AllocError>
+        requires unset { IsUnset (literals_of self.old.trail) entry.literal }
+        requires known { entry.literal.letter.0 < length self.old.values }
+        ensures trail { self.new.trail ≡ (if is_ok result then self.old.trail ++ entry ∷ [] else self.old.trail) }
+        ensures letters { length self.new.values ≡ length self.old.values }
+    {
+        self.trail.push(entry)?;
+        note(&mut self.levels, entry);
+        self.values[entry.literal.letter.0 as usize] = Some(!entry.literal.negated);
+        Ok(())
+    }
+
+    /// The level at which the letter was assigned last; nothing is promised.
+    pub fn level_of(&self, letter: usize) -> usize {
+        match self.levels.get(letter) {
+            Some(level) => *level,
+            None => 0,
+        }
+    }
+
+    /// Takes the last entry off the trail.
+    pub fn undo(&mut self)
+        requires { 0 < length self.old.trail }
+        ensures trail { self.new.trail ≡ take (length self.old.trail - 1) self.old.trail }
+        ensures letters { length self.new.values ≡ length self.old.values }
+    {
+        match self.trail.pop() {
+            None => {}
+            Some(entry) => {
+                self.values[entry.literal.letter.0 as usize] = None;
+            }
+        }
+    }
+
+    /// How many entries stand before the first of those at the end that are above the level.
+    pub fn front(&self, level: usize) -> usize
+        ensures within { result ≤ length self.now.trail }
+        ensures low { 0 < result → (slice_index_or self.now.trail (result - 1) blank_entry).level ≤ level }
+        ensures high { result < length self.now.trail → level < (slice_index_or self.now.trail result blank_entry).level }
+    {
+        let mut count = self.trail.len();
+        'down: while count > 0 {
+            if self.trail[count - 1].level <= level {
+                return count;
+            }
+            count -= 1;
+        }
+        0
+    }
+
+    /// Keeps the first `count` entries.
+    pub fn cut(&mut self, count: usize)
+        requires { count ≤ length self.old.trail }
+        ensures trail { self.new.trail ≡ take count self.old.trail }
+        ensures letters { length self.new.values ≡ length self.old.values }
+    {
+        'off: while self.len() > count {
+            self.undo();
+        }
+    }
+
+    /// No letters, and no trail.
+    pub fn new(alloc: Global) -> Self
+        ensures { result ≡ record { values = []; trail = [] } }
+    {
+        Assigned {
+            values: Vec::new(alloc),
+            trail: Vec::new(alloc),
+            levels: Vec::new(alloc),
+        }
+    }
+}
+
+/// Keeps the level at which a letter was assigned.
+fn note(levels: &mut Vec<usize>, entry: Entry) {
+    let letter = entry.literal.letter.0 as usize;
+    if letter < levels.len() {
+        levels[letter] = entry.level;
+    }
+}

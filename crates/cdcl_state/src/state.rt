@@ -1,0 +1,395 @@
+// The state of the solver: the trail, the log, and the log's clauses in the order in which they are watched.
+ghost use Rattle.std.specs.Prelude.{◌≡◌, ◌≢◌, ◌+◌, ◌<◌, ◌≤◌, [], ◌⊎◌, All, AllPairs, length, MatchOption, IfSome, IfOk, OnErr, OnOk};
+ghost use Rattle.cdcl_state.specs.Trail.{IsSettled, Propagated, IsConflict, literals_of, IsUnset, IsKnown, AreKnown, HasValue, AreSet, IsModel, with_log, with_letters};
+ghost use Rattle.cnf_base.specs.Step.{IsHintedStep};
+ghost use Rattle.clause_log.specs.LogValue.{IsLog, greatest_u32, with_line, with_input};
+ghost use Rattle.cdcl_state.specs.Watching.{AreApart};
+ghost use Rattle.cdcl_state.specs.Visit.{HaveSame};
+ghost use Rattle.cdcl_state.specs.Learnt.{IsDecided};
+
+use crate::assigned::{Assigned, Entry};
+use crate::decide::Choices;
+use crate::propagate::propagate;
+use crate::state::backjump::settle;
+use crate::store::{distinct, rewind, store, take_back};
+use crate::units::visit_units;
+use crate::watches::Watches;
+use crate::widen::widen;
+use clause_log::Log;
+use cnf_base::{Hint, Letter, Literal};
+use std::alloc::{AllocError, Global};
+use std::marker::Model;
+
+mod backjump;
+mod explain;
+mod learn;
+
+/// The literals that are true, in order, and the log that they follow from.
+#[derive(Drop)]
+pub struct State {
+    /// The known letters run from 1 to this number.
+    letters: usize,
+    assigned: Assigned,
+    log: Log,
+    // The clauses of at least two literals, and the hint that names each in the log.
+    watches: Watches,
+    names: Vec<Hint>,
+    /// The lists of what became false before this place of the trail were visited.
+    head: usize,
+    /// Of those, the ones that a way back need not visit again.
+    sure: usize,
+    // The clauses of one literal or none.
+    units: Vec<Hint>,
+    /// So many of them are true by the first `firm` entries of the trail.
+    done: usize,
+    firm: usize,
+    // Analysis and decisions.
+    marked: Vec<bool>,
+    choices: Choices,
+}
+
+impl Model for State {
+    ghost use Rattle.std.specs.Prelude.{length};
+    ghost use Rattle.cdcl_state.specs.Trail.{StateValue};
+    ghost use Rattle.cdcl_state.specs.State.{IsState};
+
+    ghost Value = { StateValue };
+
+    ghost view = { λ a. record { letters = a.letters; trail = a.assigned.trail; log = a.log } };
+
+    ghost invariant = { λ a. IsState a.letters a.assigned a.watches a.names.items a.units.items a.log a.head a.sure a.done a.firm (length a.marked.items) };
+}
+
+impl State {
+    /// No letters, no trail and an empty log.
+    pub fn new(alloc: Global) -> Self
+        ensures { result ≡ record { letters = 0; trail = []; log = record { inputs = []; lines = []; hints = [] } } }
+    {
+        State {
+            letters: 0,
+            assigned: Assigned::new(alloc),
+            log: Log::new(alloc),
+            watches: Watches::new(alloc),
+            names: Vec::new(alloc),
+            head: 0,
+            sure: 0,
+            units: Vec::new(alloc),
+            done: 0,
+            firm: 0,
+            marked: Vec::new(alloc),
+            choices: Choices::new(alloc),
+        }
+    }
+
+    /// Assigns what unit clauses force, until some clause is false or none is unit.
+    pub fn propagate(&mut self) -> Result<Option<Hint>, AllocError>
+        ensures grown { Propagated self.old self.new }
+        ensures found { IfOk result (λ found. MatchOption found (IsSettled self.new) (IsConflict self.new.log.inputs self.new.log.lines (literals_of self.new.trail))) }
+    {
+        match visit_units(&mut self.assigned, &self.log, &self.units, self.done)? {
+            Some(hint) => return Ok(Some(hint)),
+            None => {}
+        }
+        settle(
+            self.units.len(),
+            self.assigned.len(),
+            &mut self.done,
+            &mut self.firm,
+        );
+        let found = propagate(
+            &mut self.assigned,
+            &mut self.watches,
+            &self.names,
+            &self.log,
+            &mut self.head,
+            &mut self.sure,
+        )?;
+        self.choices.offer(&self.assigned);
+        self.watches.watching();
+        self.assigned.told();
+        Ok(found)
+    }
+
+    /// Whether the literal is true, if it has a value.
+    pub fn value(&self, literal: Literal) -> Option<bool>
+        requires { IsKnown self.now.letters literal }
+        ensures { MatchOption result (IsUnset (literals_of self.now.trail) literal) (HasValue (literals_of self.now.trail) literal) }
+    {
+        if self.assigned.holds(literal) {
+            return Some(true);
+        }
+        if self.assigned.holds(literal.opposite()) {
+            return Some(false);
+        }
+        None
+    }
+
+    /// A literal of a known letter that has no value, if there is one: first of the letters that may be decided, and
+    /// where none is left, of all of them.
+    pub fn free(&self) -> Option<Literal>
+        ensures { MatchOption result (AreSet self.now) (λ l. IsUnset (literals_of self.now.trail) l × IsKnown self.now.letters l) }
+    {
+        let _ = &self.assigned;
+        match self.ready() {
+            Some(literal) => return Some(literal),
+            None => {}
+        }
+        for letter in 1..self.letters + 1 {
+            let literal = self.choices.literal(letter as u32);
+            if self.value(literal).is_none() {
+                return Some(literal);
+            }
+        }
+        None
+    }
+
+    /// The letter that is held ready for a decision, if it has no value.
+    fn ready(&self) -> Option<Literal>
+        ensures { IfSome result (λ l. IsUnset (literals_of self.now.trail) l × IsKnown self.now.letters l) }
+    {
+        let letter = self.choices.held();
+        if letter < 1 {
+            return None;
+        }
+        if self.letters < letter as usize {
+            return None;
+        }
+        let literal = self.choices.literal(letter);
+        if self.value(literal).is_none() {
+            return Some(literal);
+        }
+        None
+    }
+
+    /// The letters' values, each under its number; that of number 0 means nothing.
+    pub fn model(&self, alloc: Global) -> Result<Vec<bool>, AllocError>
+        ensures { IfOk result (λ model. IsModel self.now model.items) }
+    {
+        let mut model: Vec<bool> = Vec::new(alloc);
+        model.push(false)?;
+        for letter in 1..self.letters + 1 {
+            let value = self.assigned.holds(Literal {
+                letter: Letter(letter as u32),
+                negated: false,
+            });
+            model.push(value)?;
+        }
+        Ok(model)
+    }
+
+    /// The trail has at most one entry a letter, the clauses' letters are known, and the lines follow.
+    pub fn bounded(&self)
+        ensures short { length self.now.trail ≤ self.now.letters + 1 }
+        ensures apart { AllPairs (λ e f. e.literal.letter.0 ≢ f.literal.letter.0) self.now.trail }
+        ensures steps { IsLog self.now.log }
+        ensures known_inputs { AreKnown self.now.letters self.now.log.inputs }
+        ensures known_lines { AreKnown self.now.letters self.now.log.lines }
+    {
+        self.assigned.told();
+        let _ = self.log.view();
+    }
+
+    /// Puts the clause behind the inputs, and answers its number there.
+    pub fn add(&mut self, alloc: Global, clause: &[Literal]) -> Result<u64, AllocError>
+        requires { All (IsKnown self.old.letters) clause.now }
+        ensures added { IfOk result (λ number. (self.new ≡ with_log self.old (with_input self.old.log clause.now)) × (number ≡ length self.new.log.inputs)) }
+        ensures refused { OnErr result (self.new ≡ self.old) }
+    {
+        let mut stored: Vec<Literal> = Vec::new(alloc);
+        distinct(&mut stored, clause)?;
+        if stored.len() < 2 {
+            return self.add_short(clause, &stored);
+        }
+        self.add_long(clause, &stored)
+    }
+
+    fn add_short(&mut self, clause: &[Literal], stored: &[Literal]) -> Result<u64, AllocError>
+        requires known { All (IsKnown self.old.letters) clause.now }
+        requires same { HaveSame clause.now stored.now }
+        requires short { length stored.now < 2 }
+        ensures added { IfOk result (λ number. (self.new ≡ with_log self.old (with_input self.old.log clause.now)) × (number ≡ length self.new.log.inputs)) }
+        ensures refused { OnErr result (self.new ≡ self.old) }
+    {
+        let count = self.units.len();
+        let number = next(self.log.view().inputs())?;
+        self.units.push(Hint::Clause(number))?;
+        match self.log.add_input(clause) {
+            Ok(number) => {
+                return Ok(number);
+            }
+            Err(_) => {
+                self.units.truncate(count);
+                return Err(AllocError);
+            }
+        }
+    }
+
+    fn add_long(&mut self, clause: &[Literal], stored: &[Literal]) -> Result<u64, AllocError>
+        requires known { All (IsKnown self.old.letters) clause.now }
+        requires same { HaveSame clause.now stored.now }
+        requires long { 2 ≤ length stored.now }
+        requires apart { AreApart stored.now }
+        ensures added { IfOk result (λ number. (self.new ≡ with_log self.old (with_input self.old.log clause.now)) × (number ≡ length self.new.log.inputs)) }
+        ensures refused { OnErr result (self.new ≡ self.old) }
+    {
+        self.watches.watching();
+        let count = self.names.len();
+        let number = next(self.log.view().inputs())?;
+        store(
+            &mut self.watches,
+            &mut self.names,
+            stored,
+            Hint::Clause(number),
+        )?;
+        match self.log.add_input(clause) {
+            Ok(number) => {
+                rewind(&self.assigned, stored, &mut self.head, &mut self.sure);
+                return Ok(number);
+            }
+            Err(_) => {
+                take_back(&mut self.watches, &mut self.names, count);
+                return Err(AllocError);
+            }
+        }
+    }
+
+    /// Puts the hinted step behind the lines, and answers its number there. Nothing is assigned.
+    pub fn derive(
+        &mut self,
+        alloc: Global,
+        clause: &[Literal],
+        hints: &[Hint],
+    ) -> Result<u64, AllocError>
+        requires step { IsHintedStep self.old.log.inputs self.old.log.lines greatest_u32 clause.now hints.now }
+        requires known { All (IsKnown self.old.letters) clause.now }
+        ensures added { IfOk result (λ number. (self.new ≡ with_log self.old (with_line self.old.log clause.now hints.now)) × (number ≡ length self.new.log.lines)) }
+        ensures refused { OnErr result (self.new ≡ self.old) }
+    {
+        let mut stored: Vec<Literal> = Vec::new(alloc);
+        distinct(&mut stored, clause)?;
+        if stored.len() < 2 {
+            return self.derive_short(clause, hints, &stored);
+        }
+        self.derive_long(clause, hints, &stored)
+    }
+
+    fn derive_short(
+        &mut self,
+        clause: &[Literal],
+        hints: &[Hint],
+        stored: &[Literal],
+    ) -> Result<u64, AllocError>
+        requires step { IsHintedStep self.old.log.inputs self.old.log.lines greatest_u32 clause.now hints.now }
+        requires known { All (IsKnown self.old.letters) clause.now }
+        requires same { HaveSame clause.now stored.now }
+        requires short { length stored.now < 2 }
+        ensures added { IfOk result (λ number. (self.new ≡ with_log self.old (with_line self.old.log clause.now hints.now)) × (number ≡ length self.new.log.lines)) }
+        ensures refused { OnErr result (self.new ≡ self.old) }
+    {
+        let count = self.units.len();
+        let number = next(self.log.view().lines())?;
+        self.units.push(Hint::Line(number))?;
+        match self.log.derive(clause, hints) {
+            Ok(number) => {
+                return Ok(number);
+            }
+            Err(_) => {
+                self.units.truncate(count);
+                return Err(AllocError);
+            }
+        }
+    }
+
+    fn derive_long(
+        &mut self,
+        clause: &[Literal],
+        hints: &[Hint],
+        stored: &[Literal],
+    ) -> Result<u64, AllocError>
+        requires step { IsHintedStep self.old.log.inputs self.old.log.lines greatest_u32 clause.now hints.now }
+        requires known { All (IsKnown self.old.letters) clause.now }
+        requires same { HaveSame clause.now stored.now }
+        requires long { 2 ≤ length stored.now }
+        requires apart { AreApart stored.now }
+        ensures added { IfOk result (λ number. (self.new ≡ with_log self.old (with_line self.old.log clause.now hints.now)) × (number ≡ length self.new.log.lines)) }
+        ensures refused { OnErr result (self.new ≡ self.old) }
+    {
+        self.watches.watching();
+        let count = self.names.len();
+        let number = next(self.log.view().lines())?;
+        store(
+            &mut self.watches,
+            &mut self.names,
+            stored,
+            Hint::Line(number),
+        )?;
+        match self.log.derive(clause, hints) {
+            Ok(number) => {
+                rewind(&self.assigned, stored, &mut self.head, &mut self.sure);
+                return Ok(number);
+            }
+            Err(_) => {
+                take_back(&mut self.watches, &mut self.names, count);
+                return Err(AllocError);
+            }
+        }
+    }
+
+    /// Makes the letters up to the count known.
+    pub fn letters(&mut self, alloc: Global, count: u32) -> Result<(), AllocError>
+        requires { self.old.letters ≤ count }
+        ensures known { OnOk result (self.new ≡ with_letters self.old count) }
+        ensures refused { OnErr result (self.new ≡ self.old) }
+    {
+        widen(
+            alloc,
+            &mut self.assigned,
+            &mut self.watches,
+            &mut self.marked,
+            &mut self.choices,
+            count,
+        )?;
+        self.letters = count as usize;
+        Ok(())
+    }
+
+    /// The log.
+    pub fn log(&self) -> &Log
+        ensures { result.now ≡ self.now.log }
+    {
+        &self.log
+    }
+
+    /// The log, and nothing else of the state.
+    pub fn into_log(self) -> Log
+        ensures { result ≡ self.log }
+    {
+        self.log
+    }
+
+    /// Decides the literal on a level of its own.
+    pub fn decide(&mut self, literal: Literal) -> Result<(), AllocError>
+        requires unset { IsUnset (literals_of self.old.trail) literal }
+        requires known { IsKnown self.old.letters literal }
+        ensures decided { OnOk result (IsDecided self.old self.new literal) }
+        ensures refused { OnErr result (self.new ≡ self.old) }
+    {
+        self.assigned.told();
+        let level = self.assigned.len() + 1;
+        self.assigned.assign(Entry {
+            literal,
+            level,
+            reason: None,
+        })
+    }
+}
+
+/// The number after this one, if there is memory for so many clauses.
+fn next(count: u64) -> Result<u64, AllocError>
+    ensures { IfOk result (λ number. number ≡ count + 1) }
+{
+    match count.checked_add(1) {
+        Some(number) => Ok(number),
+        None => Err(AllocError),
+    }
+}

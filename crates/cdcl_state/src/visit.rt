@@ -1,0 +1,91 @@
+// A clause that watches a literal that became false: the other watched literal is true, or another literal is watched in
+// its place, or the other is forced, or the clause is false.
+ghost use Rattle.std.specs.Prelude.{◌≡◌, ◌≢◌, ℕ, ◌+◌, ◌-◌, ◌*◌, ◌<◌, ◌≤◌, List, [], ◌∷◌, ◌++◌, ◌⊎◌, All, Contains, length, Option, Some, None, MatchOption, IfOk, slice_index_or, slice_set};
+ghost use Rattle.std.specs.List.{swap};
+ghost use Rattle.cnf_base.specs.Literal.{opposite};
+ghost use Rattle.cdcl_state.specs.Trail.{literals_of, IsConflict};
+ghost use Rattle.cdcl_state.specs.Learnt.{blank_entry};
+ghost use Rattle.cdcl_state.specs.Watching.{clause_of, list_of, IsWatch};
+ghost use Rattle.cdcl_state.specs.Sure.{IsSure};
+ghost use Rattle.cdcl_state.specs.Visit.{IsVisiting, IsGrown, IsFaced, IsReplacement, AreFalseFrom, false_at};
+
+use crate::assigned::{Assigned, Entry};
+use crate::watches::{Watches, number};
+use clause_log::Log;
+use cnf_base::{Hint, Literal};
+use std::alloc::AllocError;
+
+/// The place of a literal behind the first two that is not false.
+pub fn find(assigned: &Assigned, clause: &[Literal]) -> Option<usize>
+    requires { All (λ l. l.letter.0 < length assigned.now.values) clause.now }
+    ensures { MatchOption result (AreFalseFrom assigned.now.trail clause.now 2 (length clause.now)) (IsReplacement assigned.now.trail clause.now) }
+{
+    for j in 2..clause.len() {
+        if !assigned.holds(clause[j].opposite()) {
+            return Some(j);
+        }
+    }
+    None
+}
+
+/// Makes the literal, one of the first two, the second.
+pub fn face(watches: &mut Watches, clause: usize, literal: Literal)
+    requires known { clause < length watches.old.clauses }
+    requires watch { IsWatch (clause_of watches.old.clauses clause) literal }
+    ensures { IsFaced watches.old watches.new clause literal }
+{
+    watches.watching();
+    if number(watches.clause(clause)[1]) == number(literal) {
+        return;
+    }
+    watches.turn(clause);
+}
+
+/// Visits the clause at a place of the list of the literal that became false.
+pub fn visit(
+    assigned: &mut Assigned,
+    watches: &mut Watches,
+    names: &[Hint],
+    log: &Log,
+    place: usize,
+    i: usize,
+) -> Result<Option<Hint>, AllocError>
+    requires visiting { IsVisiting log.now.inputs log.now.lines names.now place (i + 1) assigned.old watches.old }
+    requires there { i < length (list_of watches.old.lists (false_at assigned.old.trail place)) }
+    ensures grown { IsGrown assigned.old.trail assigned.new.trail }
+    ensures letters { length assigned.new.values ≡ length assigned.old.values }
+    ensures kept { IsVisiting log.now.inputs log.now.lines names.now place (length (list_of watches.new.lists (false_at assigned.new.trail place))) assigned.new watches.new }
+    ensures sure { (n : ℕ) → n ≤ place → IsSure watches.old.clauses assigned.old.trail n → IsSure watches.new.clauses assigned.new.trail n }
+    ensures found { IfOk result (λ found. MatchOption found (IsVisiting log.now.inputs log.now.lines names.now place i assigned.new watches.new) (IsConflict log.now.inputs log.now.lines (literals_of assigned.new.trail))) }
+{
+    watches.watching();
+    assigned.told();
+    let falsified = assigned.entry(place).literal.opposite();
+    let clause = watches.watcher(falsified, i);
+    face(watches, clause, falsified);
+    watches.watching();
+    let other = watches.clause(clause)[0];
+    if assigned.holds(other) {
+        return Ok(None);
+    }
+    match find(assigned, watches.clause(clause)) {
+        Some(j) => {
+            let replacement = watches.clause(clause)[j];
+            watches.rewatch(clause, falsified, i, replacement, j)?;
+            watches.watching();
+            return Ok(None);
+        }
+        None => {}
+    }
+    let hint = names[clause];
+    if assigned.holds(other.opposite()) {
+        return Ok(Some(hint));
+    }
+    let level = assigned.level();
+    assigned.assign(Entry {
+        literal: other,
+        level,
+        reason: Some(hint),
+    })?;
+    Ok(None)
+}

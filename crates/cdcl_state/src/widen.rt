@@ -1,0 +1,66 @@
+// Room for more letters: a value, two lists of watchers and a mark for each. What is there keeps its place.
+ghost use Rattle.std.specs.Prelude.{◌≡◌, ◌<◌, ◌≤◌, ◌*◌, ◌^◌, ◌+◌, length, OnOk};
+
+use crate::assigned::Assigned;
+use crate::decide::Choices;
+use crate::watches::Watches;
+use std::alloc::{AllocError, Global};
+
+/// Makes room for one letter more.
+fn widen_one(
+    alloc: Global,
+    assigned: &mut Assigned,
+    watches: &mut Watches,
+    marked: &mut Vec<bool>,
+    choices: &mut Choices,
+) -> Result<(), AllocError>
+    requires sized { length watches.old.lists ≡ 2 * length assigned.old.values }
+    requires marks { length assigned.old.values ≤ length marked.old.items }
+    ensures trail { assigned.new.trail ≡ assigned.old.trail }
+    ensures clauses { watches.new.clauses ≡ watches.old.clauses }
+    ensures sized { length watches.new.lists ≡ 2 * length assigned.new.values }
+    ensures more { length assigned.old.values ≤ length assigned.new.values }
+    ensures few { length assigned.new.values ≤ length assigned.old.values + 1 }
+    ensures marks { length assigned.new.values ≤ length marked.new.items }
+    ensures ok { OnOk result (length assigned.new.values ≡ length assigned.old.values + 1) }
+{
+    marked.push(false)?;
+    choices.letter()?;
+    watches.watching();
+    watches.letter(alloc)?;
+    match assigned.letter() {
+        Ok(()) => {
+            return Ok(());
+        }
+        Err(_) => {
+            watches.forget_letter();
+            return Err(AllocError);
+        }
+    }
+}
+
+/// Makes room for the letters up to the count.
+pub fn widen(
+    alloc: Global,
+    assigned: &mut Assigned,
+    watches: &mut Watches,
+    marked: &mut Vec<bool>,
+    choices: &mut Choices,
+    count: u32,
+) -> Result<(), AllocError>
+    requires sized { length watches.old.lists ≡ 2 * length assigned.old.values }
+    requires few { length assigned.old.values ≤ 2 ^ 32 }
+    requires marks { length assigned.old.values ≤ length marked.old.items }
+    ensures trail { assigned.new.trail ≡ assigned.old.trail }
+    ensures clauses { watches.new.clauses ≡ watches.old.clauses }
+    ensures sized { length watches.new.lists ≡ 2 * length assigned.new.values }
+    ensures more { length assigned.old.values ≤ length assigned.new.values }
+    ensures few { length assigned.new.values ≤ 2 ^ 32 }
+    ensures marks { length assigned.new.values ≤ length marked.new.items }
+    ensures ok { OnOk result (count < length assigned.new.values) }
+{
+    'more: while assigned.letters() <= count as usize {
+        widen_one(alloc, assigned, watches, marked, choices)?;
+    }
+    Ok(())
+}
