@@ -1,0 +1,9 @@
+pub mod Letters
+pub mod Parts
+pub mod Clauses
+pub mod Assigned
+pub mod Pairs
+pub mod Laws
+pub mod Rows
+pub mod Numbered
+pub mod Targets

@@ -1,0 +1,39 @@
+//! Laws of the letters and the clause list. Each function is empty: its contract is the law, and a proof cites it by a call.
+ghost use Rattle.enc_layout.specs.Laws.{NumbersArePlaces, LettersAreCounted, FirstStatesFit, LowerDepthsFit, LettersAreKnown, ListsBegin, ListsGrow, StepsAreParts, AssignmentsRun, AssignmentsAccept, AssignmentsAreUnpruned, RunsAreAssigned, AcceptedRunsAreAssigned, UnprunedRunsAreAssigned, RunQuestionsAnswer, AcceptedQuestionsAnswer, UnprunedQuestionsAnswer};
+
+/// Numbers and letters agree, and each letter of the list is known. Depth 0 is within the limit, and what is below a depth within it.
+pub fn numbering()
+    ensures place { NumbersArePlaces }
+    ensures count { LettersAreCounted }
+    ensures first { FirstStatesFit }
+    ensures lower { LowerDepthsFit }
+    ensures known { LettersAreKnown }
+{}
+
+/// The list grows step by step, and a step part by part.
+pub fn steps()
+    ensures first { ListsBegin }
+    ensures more { ListsGrow }
+    ensures parts { StepsAreParts }
+{}
+
+/// An assignment that makes the clause list true with letters of step k gives a run by the letters of the entries.
+pub fn assignment_runs()
+    ensures run { AssignmentsRun }
+    ensures accepted { AssignmentsAccept }
+    ensures unpruned { AssignmentsAreUnpruned }
+{}
+
+/// Each such run extends to such an assignment.
+pub fn run_assigns()
+    ensures run { RunsAreAssigned }
+    ensures accepted { AcceptedRunsAreAssigned }
+    ensures unpruned { UnprunedRunsAreAssigned }
+{}
+
+/// What the three questions of a depth ask.
+pub fn questions()
+    ensures run { RunQuestionsAnswer }
+    ensures accepted { AcceptedQuestionsAnswer }
+    ensures unpruned { UnprunedQuestionsAnswer }
+{}

@@ -1,0 +1,65 @@
+-- The numbers that the clauses name are those of entries, places and eventualities.
+use Rattle.std.proofs.Common.{◌≡◌, ℕ, ◌+◌, ◌*◌, ◌/◌, ◌<◌, ◌≤◌, arith, refl, false, IsTrue, sym, subst, List, length, get_or, All, Contains}
+use Rattle.std.proofs.lemmas.List.Elements.{Contains-get_or}
+use Rattle.std.proofs.lemmas.Nat.{mul-le}
+use Rattle.ltl_syntax.specs.declared.node.Kind.{Kind}
+use Rattle.ltl_syntax.specs.declared.node.Kind.TheVariants as Kinds
+use Rattle.ltl_syntax.specs.Formula.{Formula}
+use Rattle.ltl_closure.specs.Norm.{Norm, NConst, NNext, NUntil}
+use Rattle.ltl_closure.specs.Closure.{closure, eventualities, is_eventuality}
+use Rattle.ltl_closure.specs.Entries.{place_in, numbers_of, ClosureValue}
+use Rattle.ltl_closure.specs.Run.{request_of, right_of}
+use Rattle.ltl_closure.proofs.Lists.{Contains-from_filter}
+use Rattle.enc_layout.specs.Letters.{Counts, LayoutValue, Fits, pair_count, letters_through}
+use Rattle.enc_layout.specs.Clauses.{layout_of, carried, eventuality}
+use Rattle.enc_layout.specs.Numbered.{IsNumber}
+use Rattle.enc_layout.proofs.Carries.{carried_in, right_in, eventuality_in}
+use Rattle.enc_layout.proofs.Standing.{known_number, numbers_known, entries_count}
+use Rattle.enc_layout.proofs.Writing.{third_child}
+use Rattle.loop_encode.specs.ByNumber.{carried_number, right_number, request_number}
+
+-- a carry has no more places than there are letters
+places_within : (kind : Kind) (c : Counts) (i : ℕ) → 0 < i → c.places ≤ letters_through kind c i
+places_within kind c i some =
+    let product : 1 * 2 ≤ i * (i + 1) = mul-le 1 2 i (i + 1) some (omega arith) in
+    let pairs : 1 ≤ i * (i + 1) / 2 = omega (arith, product) in
+    let all = mul-le 1 (pair_count kind c) (i * (i + 1) / 2) (pair_count kind c) pairs (omega arith) in
+    omega (arith, all, pair kind)
+  where
+    pair : (kind : Kind) → c.places ≤ pair_count kind c
+    pair Kinds.Infinite = omega arith
+    pair Kinds.Finite = omega arith
+
+pub places_few : (layout : LayoutValue) (i : ℕ) → 0 < i → Fits layout i → layout.counts.places ≤ 16777216
+places_few layout i some fits = omega (arith, fits, places_within layout.kind layout.counts i some)
+
+-- the number at an index of a list of members' numbers
+pub member_number : (f : Formula) (es : List Norm) (numbers : List ℕ) → numbers ≡ numbers_of f es → ((e : Norm) → Contains es e → Contains (closure f) e)
+    → (k : ℕ) → k < length numbers → IsNumber (length (closure f)) (get_or numbers k 0)
+member_number f es numbers is in_closure k lt = subst (All (IsNumber (length (closure f)))) (sym is) (numbers_known f es in_closure) k 0 lt
+
+request_in : (f : Formula) (e : Norm) → IsTrue (is_eventuality e) → Contains (closure f) e → Contains (closure f) (request_of e)
+request_in f (NUntil a b) h m = third_child f a b (NNext (NUntil a b)) (NUntil a b) refl m
+request_in f e h m = cc
+
+module _ (layout : LayoutValue) (c : ClosureValue) (own : layout ≡ layout_of c) where
+  known : (e : Norm) → Contains (closure c.formula) e → IsNumber layout.counts.entries (place_in (closure c.formula) e)
+  known e m = subst (λ n. IsNumber n (place_in (closure c.formula) e)) (sym (entries_count layout c own)) (known_number c.formula e m)
+
+  pub carried_known : (q : ℕ) → q < length (carried c.formula) → IsNumber layout.counts.entries (carried_number c.formula q)
+  carried_known q lt =
+      let e = get_or (carried c.formula) q (NConst false) in
+      known e (carried_in c.formula e (Contains-get_or (carried c.formula) q (NConst false) lt))
+
+  there : (m : ℕ) → m < length (eventualities c.formula) → Contains (eventualities c.formula) (eventuality c.formula m)
+  there m lt = Contains-get_or (eventualities c.formula) m (NConst false) lt
+
+  pub right_known : (m : ℕ) → m < length (eventualities c.formula) → IsNumber layout.counts.entries (right_number c.formula m)
+  right_known m lt =
+      let e = eventuality c.formula m in
+      known (right_of e) (right_in c.formula e (eventuality_in c.formula e (there m lt)))
+
+  pub request_known : (m : ℕ) → m < length (eventualities c.formula) → IsNumber layout.counts.entries (request_number c.formula m)
+  request_known m lt =
+      let e = eventuality c.formula m in
+      known (request_of e) (request_in c.formula e (Contains-from_filter is_eventuality (closure c.formula) e (there m lt)).1 (eventuality_in c.formula e (there m lt)))

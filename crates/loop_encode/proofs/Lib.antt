@@ -1,0 +1,4 @@
+mod Growing
+mod Linked
+mod Known
+mod Joined

@@ -1,0 +1,126 @@
+// Where two states have one carry. The carry of a state is the values of its next requests and of the arguments of its yesterday
+// requests, each at a place of its own. Where the letter of equal carries is true, they agree at each place; where it is not, the letter
+// of some place is true, and the carries differ there.
+ghost use Rattle.std.specs.Prelude.{◌≡◌, ◌+◌, ◌<◌, ◌≤◌, [], ◌∷◌, ◌++◌, length, OnOk, OnErr};
+ghost use Rattle.enc_layout.specs.Letters.{Equal, Fits, below};
+ghost use Rattle.enc_layout.specs.Clauses.{Plus, layout_of, clauses_in, carried, place_clauses};
+ghost use Rattle.enc_layout.specs.Numbered.{IsNumber, Extends};
+ghost use Rattle.loop_encode.specs.Rows.{comparison_rows};
+ghost use Rattle.loop_encode.specs.ByNumber.{argument_by, carried_number, place_by, differs_by};
+
+use cnf_base::{ClauseList, Literal};
+use enc_layout::{Layout, Part};
+use ltl_closure::{Closure, Entry};
+use std::alloc::AllocError;
+
+/// The number of a request's argument, and of any other entry its own.
+fn argument_of(number: u32, entry: Entry) -> u32
+    ensures { result ≡ argument_by number entry }
+{
+    match entry {
+        Entry::Next { argument, .. } | Entry::Yesterday { argument, .. } => argument,
+        _ => number,
+    }
+}
+
+/// The number of the entry whose value stands at a place of the carry, by its index from 0.
+fn carried_entry(closure: &Closure<'_>, index: usize) -> u32
+    requires { index < length (carried closure.now.formula) }
+    ensures { result ≡ carried_number closure.now.formula index }
+{
+    let nexts = closure.nexts();
+    if index < nexts.len() {
+        return nexts[index];
+    }
+    let request = closure.yesterdays()[index - nexts.len()];
+    argument_of(request, closure.entries()[request as usize - 1])
+}
+
+fn push_comparison(
+    out: &mut ClauseList,
+    differs: Literal,
+    equal: Literal,
+    first: Literal,
+    second: Literal,
+) -> Result<(), AllocError>
+    ensures ok { OnOk result (out.new ≡ out.old ++ comparison_rows differs equal first second) }
+    ensures err { OnErr result (Extends out.old out.new) }
+{
+    out.push(&[differs.opposite(), first, second])?;
+    out.push(&[differs.opposite(), first.opposite(), second.opposite()])?;
+    out.push(&[equal.opposite(), first.opposite(), second])?;
+    out.push(&[equal.opposite(), first, second.opposite()])
+}
+
+#[tactic(auto, using(enc_layout::proofs::ByKind::letters_less))]
+fn push_place(
+    layout: &Layout,
+    step: u32,
+    earlier: u32,
+    place: u32,
+    entry: u32,
+    out: &mut ClauseList,
+) -> Result<(), AllocError>
+    requires few { step ≤ 1000 }
+    requires fits { Fits layout.now step }
+    requires earlier { earlier < step }
+    requires place { (0 < place) × (place ≤ layout.now.counts.places) }
+    requires number { IsNumber layout.now.counts.entries entry }
+    ensures ok { OnOk result (out.new ≡ out.old ++ clauses_in layout.now.kind layout.now.counts (place_by step earlier place entry)) }
+    ensures err { OnErr result (Extends out.old out.new) }
+{
+    push_comparison(
+        out,
+        layout.positive(step, Part::Differs(earlier, place)),
+        layout.positive(step, Part::Equal(earlier)),
+        layout.entry(earlier, entry),
+        layout.entry(step, entry),
+    )
+}
+
+/// Appends what is said of each place of the two carries.
+pub fn push_places(
+    closure: &Closure<'_>,
+    layout: &Layout,
+    step: u32,
+    earlier: u32,
+    places: u32,
+    out: &mut ClauseList,
+) -> Result<(), AllocError>
+    requires own { layout.now ≡ layout_of closure.now }
+    requires few { step ≤ 1000 }
+    requires fits { Fits layout.now step }
+    requires earlier { earlier < step }
+    requires all { places ≡ length (carried closure.now.formula) }
+    ensures ok { OnOk result (out.new ≡ out.old ++ clauses_in layout.now.kind layout.now.counts (below places (place_clauses closure.now.formula step earlier))) }
+    ensures err { OnErr result (Extends out.old out.new) }
+{
+    for index in 0..places {
+        let entry = carried_entry(closure, index as usize);
+        push_place(layout, step, earlier, index + 1, entry, out)?;
+    }
+    Ok(())
+}
+
+/// Appends that the carries are equal or differ at some of their places.
+pub fn push_equal(
+    layout: &Layout,
+    step: u32,
+    earlier: u32,
+    places: u32,
+    out: &mut ClauseList,
+) -> Result<(), AllocError>
+    requires few { step ≤ 1000 }
+    requires fits { Fits layout.now step }
+    requires earlier { earlier < step }
+    requires all { places ≡ layout.now.counts.places }
+    ensures ok { OnOk result (out.new ≡ out.old ++ clauses_in layout.now.kind layout.now.counts ((Plus (Equal earlier step) ∷ below places (differs_by step earlier)) ∷ [])) }
+    ensures err { OnErr result (Extends out.old out.new) }
+{
+    out.push(&[layout.positive(step, Part::Equal(earlier))])?;
+    for place in 0..places {
+        let differs = layout.positive(step, Part::Differs(earlier, place + 1));
+        out.lengthen(differs)?;
+    }
+    Ok(())
+}

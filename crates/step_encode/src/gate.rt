@@ -1,0 +1,178 @@
+// The gates of entries: an entry's letter is true exactly where its operator says so of the letters of its operands and its request.
+ghost use Rattle.std.specs.Prelude.{◌≡◌, ◌≤◌, ◌++◌, length, All, OnOk, OnErr};
+ghost use Rattle.enc_layout.specs.Letters.{EntryAt, Fits};
+ghost use Rattle.enc_layout.specs.Clauses.{Plus, literal_in, clauses_in};
+ghost use Rattle.enc_layout.specs.Numbered.{IsNumber, IsInside, Extends};
+ghost use Rattle.step_encode.specs.Gates.{negation_rows, and_rows, or_rows, strong_rows, weak_rows};
+ghost use Rattle.step_encode.specs.ByNumber.{entry_gate, gates_part};
+
+use cnf_base::{ClauseList, Literal};
+use enc_layout::{Layout, Part};
+use ltl_closure::Entry;
+use std::alloc::AllocError;
+
+fn push_negation(out: &mut ClauseList, gate: Literal, letter: Literal) -> Result<(), AllocError>
+    ensures ok { OnOk result (out.new ≡ out.old ++ negation_rows gate letter) }
+    ensures err { OnErr result (Extends out.old out.new) }
+{
+    out.push(&[gate, letter])?;
+    out.push(&[gate.opposite(), letter.opposite()])
+}
+
+fn push_and(
+    out: &mut ClauseList,
+    gate: Literal,
+    left: Literal,
+    right: Literal,
+) -> Result<(), AllocError>
+    ensures ok { OnOk result (out.new ≡ out.old ++ and_rows gate left right) }
+    ensures err { OnErr result (Extends out.old out.new) }
+{
+    out.push(&[gate.opposite(), left])?;
+    out.push(&[gate.opposite(), right])?;
+    out.push(&[gate, left.opposite(), right.opposite()])
+}
+
+fn push_or(
+    out: &mut ClauseList,
+    gate: Literal,
+    left: Literal,
+    right: Literal,
+) -> Result<(), AllocError>
+    ensures ok { OnOk result (out.new ≡ out.old ++ or_rows gate left right) }
+    ensures err { OnErr result (Extends out.old out.new) }
+{
+    out.push(&[gate, left.opposite()])?;
+    out.push(&[gate, right.opposite()])?;
+    out.push(&[gate.opposite(), left, right])
+}
+
+/// The gate is: the right operand, or the left one and the request.
+fn push_strong(
+    out: &mut ClauseList,
+    gate: Literal,
+    left: Literal,
+    right: Literal,
+    request: Literal,
+) -> Result<(), AllocError>
+    ensures ok { OnOk result (out.new ≡ out.old ++ strong_rows gate left right request) }
+    ensures err { OnErr result (Extends out.old out.new) }
+{
+    out.push(&[gate, right.opposite()])?;
+    out.push(&[gate, left.opposite(), request.opposite()])?;
+    out.push(&[gate.opposite(), right, left])?;
+    out.push(&[gate.opposite(), right, request])
+}
+
+/// The gate is: the right operand, and the left one or the request.
+fn push_weak(
+    out: &mut ClauseList,
+    gate: Literal,
+    left: Literal,
+    right: Literal,
+    request: Literal,
+) -> Result<(), AllocError>
+    ensures ok { OnOk result (out.new ≡ out.old ++ weak_rows gate left right request) }
+    ensures err { OnErr result (Extends out.old out.new) }
+{
+    out.push(&[gate.opposite(), right])?;
+    out.push(&[gate.opposite(), left, request])?;
+    out.push(&[gate, right.opposite(), left.opposite()])?;
+    out.push(&[gate, right.opposite(), request.opposite()])
+}
+
+fn push_gate(
+    layout: &Layout,
+    step: u32,
+    number: u32,
+    entry: Entry,
+    out: &mut ClauseList,
+) -> Result<(), AllocError>
+    requires few { step ≤ 1000 }
+    requires fits { Fits layout.now step }
+    requires number { IsNumber layout.now.counts.entries number }
+    requires inside { IsInside layout.now.counts.entries entry }
+    ensures ok { OnOk result (out.new ≡ out.old ++ clauses_in layout.now.kind layout.now.counts (entry_gate step number entry)) }
+    ensures err { OnErr result (Extends out.old out.new) }
+{
+    let gate = layout.entry(step, number);
+    match entry {
+        Entry::True => out.push(&[gate]),
+        Entry::False => out.push(&[gate.opposite()]),
+        Entry::NotLetter(letter) => push_negation(out, gate, layout.entry(step, letter)),
+        Entry::And(left, right) => {
+            push_and(
+                out,
+                gate,
+                layout.entry(step, left),
+                layout.entry(step, right),
+            )
+        }
+        Entry::Or(left, right) => {
+            push_or(
+                out,
+                gate,
+                layout.entry(step, left),
+                layout.entry(step, right),
+            )
+        }
+        Entry::Until {
+            left,
+            right,
+            request,
+        }
+        | Entry::Since {
+            left,
+            right,
+            request,
+        } => {
+            push_strong(
+                out,
+                gate,
+                layout.entry(step, left),
+                layout.entry(step, right),
+                layout.entry(step, request),
+            )
+        }
+        Entry::Release {
+            left,
+            right,
+            request,
+        }
+        | Entry::Trigger {
+            left,
+            right,
+            request,
+        } => {
+            push_weak(
+                out,
+                gate,
+                layout.entry(step, left),
+                layout.entry(step, right),
+                layout.entry(step, request),
+            )
+        }
+        Entry::Letter(_) | Entry::Fresh(_) | Entry::Next { .. } | Entry::Yesterday { .. } => Ok(()),
+    }
+}
+
+/// Appends the gate of each entry, in their order.
+pub fn push_gates(
+    layout: &Layout,
+    step: u32,
+    entries: &[Entry],
+    out: &mut ClauseList,
+) -> Result<(), AllocError>
+    requires few { step ≤ 1000 }
+    requires fits { Fits layout.now step }
+    requires all { length entries.now ≡ layout.now.counts.entries }
+    requires short { length entries.now ≤ 1073741824 }
+    requires inside { All (IsInside layout.now.counts.entries) entries.now }
+    ensures ok { OnOk result (out.new ≡ out.old ++ clauses_in layout.now.kind layout.now.counts (gates_part entries.now step)) }
+    ensures err { OnErr result (Extends out.old out.new) }
+{
+    for (k, entry) in entries.iter().enumerate() {
+        push_gate(layout, step, k as u32 + 1, *entry, out)?;
+    }
+    Ok(())
+}

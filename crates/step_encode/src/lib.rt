@@ -1,0 +1,10 @@
+//! Appends the clauses that speak of states: that each is there after the one before it, the gates of its entries, and its requests.
+#![tactic(auto)]
+
+mod appending;
+mod gate;
+mod link;
+#[cfg(test)]
+mod tests;
+
+pub use appending::append;
