@@ -1,0 +1,123 @@
+-- What the solver's answers to the questions of a depth say of runs.
+use Rattle.std.proofs.Common.{◌≡◌, ℕ, true, arith, ap, sym, ◌∙◌, subst, List, [], ◌∷◌, All, None, Some}
+use Rattle.std.proofs.lemmas.List.Elements.{All-head, All-tail}
+use Rattle.ltl_syntax.specs.declared.node.Kind.{Kind}
+use Rattle.ltl_syntax.specs.Formula.{Formula}
+use Rattle.cnf_base.specs.declared.literal.Literal.{Literal as Signed}
+use Rattle.cnf_base.specs.Meaning.{Satisfies, literal_value}
+use Rattle.ltl_closure.specs.Entries.{ClosureValue}
+use Rattle.cdcl_state.specs.Trail.{IsKnown}
+use Rattle.cdcl.specs.Solving.{IsLonger, IsConsistent, IsSatisfiable}
+use Rattle.cdcl.specs.SolverValue.{SolverValue, IsAnswer, value_of}
+use Rattle.cdcl.specs.declared.solve.Answer.{Answer}
+use Rattle.cdcl.specs.declared.solve.Answer.TheVariants as answers
+use Rattle.enc_layout.specs.Letters.{LayoutValue, Meaning, Unpruned, Here, Accepted, IsLetter, letters_through}
+use Rattle.enc_layout.specs.Clauses.{Plus, counts, layout_of, literal_in, clause_list}
+use Rattle.enc_layout.specs.Assigned.{positive_of, AreSatisfiable, run_question, accepted_question, unpruned_question}
+use Rattle.enc_layout.specs.Targets.{negative_of}
+use Rattle.enc_layout.proofs.Questions.{run_asked, accepted_asked, unpruned_asked}
+use Rattle.unravel.specs.Depths.{IsThrough, IsRunAnswer, IsAcceptedAnswer, IsUnprunedAnswer}
+use Rattle.unravel.proofs.Lines.{only_from}
+use Rattle.unravel.proofs.Negated.{opposite_of_one, opposite_of_two, consistent_one, consistent_two, known_one, known_two}
+
+-- a literal of the closure's layout is one of its formula
+pub of_layout : (layout : LayoutValue) (c : ClosureValue) (p : Meaning) (l : Signed) → layout ≡ layout_of c → l ≡ literal_in layout.kind layout.counts (Plus p) → l ≡ positive_of c.formula c.kind p
+of_layout layout c p l own is = is ∙ ap (λ (m : LayoutValue). literal_in m.kind m.counts (Plus p)) own
+
+-- its letter is known
+pub question_known : (layout : LayoutValue) (c : ClosureValue) (k letters : ℕ) (p : Meaning) (l : Signed) → layout ≡ layout_of c → letters ≡ letters_through c.kind (counts c.formula) k
+    → IsLetter c.kind (counts c.formula) k p → l ≡ literal_in layout.kind layout.counts (Plus p) → All (IsKnown letters) (l ∷ [])
+question_known layout c k letters p l own all h is =
+    subst (λ (m : Signed). All (IsKnown letters) (m ∷ [])) (sym (of_layout layout c p l own is)) (known_one c.formula c.kind k letters all p h)
+
+-- a question of two literals
+pub two_known : (layout : LayoutValue) (c : ClosureValue) (k letters : ℕ) (p q : Meaning) (l m : Signed) → layout ≡ layout_of c → letters ≡ letters_through c.kind (counts c.formula) k
+    → IsLetter c.kind (counts c.formula) k p → IsLetter c.kind (counts c.formula) k q → l ≡ literal_in layout.kind layout.counts (Plus p) → m ≡ literal_in layout.kind layout.counts (Plus q)
+    → All (IsKnown letters) (l ∷ m ∷ [])
+two_known layout c k letters p q l m own all h g is also =
+    subst (λ (x : Signed). All (IsKnown letters) (x ∷ m ∷ [])) (sym (of_layout layout c p l own is))
+    (subst (λ (y : Signed). All (IsKnown letters) (positive_of c.formula c.kind p ∷ y ∷ [])) (sym (of_layout layout c q m own also)) (known_two c.formula c.kind k letters all p q h g))
+
+pub two_consistent : (layout : LayoutValue) (c : ClosureValue) (p q : Meaning) (l m : Signed) → layout ≡ layout_of c
+    → l ≡ literal_in layout.kind layout.counts (Plus p) → m ≡ literal_in layout.kind layout.counts (Plus q) → IsConsistent (l ∷ m ∷ [])
+two_consistent layout c p q l m own is also =
+    subst (λ (x : Signed). IsConsistent (x ∷ m ∷ [])) (sym (of_layout layout c p l own is))
+    (subst (λ (y : Signed). IsConsistent (positive_of c.formula c.kind p ∷ y ∷ [])) (sym (of_layout layout c q m own also)) (consistent_two c.formula c.kind p q))
+
+pub one_consistent : (layout : LayoutValue) (c : ClosureValue) (p : Meaning) (l : Signed) → layout ≡ layout_of c → l ≡ literal_in layout.kind layout.counts (Plus p) → IsConsistent (l ∷ [])
+one_consistent layout c p l own is = subst (λ (x : Signed). IsConsistent (x ∷ [])) (sym (of_layout layout c p l own is)) (consistent_one c.formula c.kind p)
+
+pub through_longer : (f : Formula) (kind : Kind) (k : ℕ) (old new : SolverValue) → IsThrough f kind k old → new.letters ≡ old.letters → IsLonger old.log new.log → IsThrough f kind k new
+through_longer f kind k old new h letters log = record { inputs = log.inputs ∙ h.inputs; letters = letters ∙ h.letters }
+
+module _ (f : Formula) (kind : Kind) (k : ℕ) (s : SolverValue) (through : IsThrough f kind k s) where
+  satisfiable : (question : List Signed) → IsAnswer s question answers.Sat → AreSatisfiable (clause_list f kind k) question
+  satisfiable question (long, holds, yes') = (value_of s, subst (Satisfies (value_of s)) through.inputs holds, yes')
+
+  not_satisfiable : (question : List Signed) → (IsSatisfiable s.log.inputs question → ⊥) → AreSatisfiable (clause_list f kind k) question → ⊥
+  not_satisfiable question none (v, holds, yes') = none (v, subst (Satisfies v) (sym through.inputs) holds, yes')
+
+  pub run_found : IsAnswer s (run_question f kind k) answers.Sat → IsRunAnswer f kind k s None
+  run_found a = (run_asked f kind k k (omega arith)).1 (satisfiable (run_question f kind k) a)
+
+  pub run_refuted : (line : ℕ) → IsAnswer s (run_question f kind k) (answers.Unsat line) → IsRunAnswer f kind k s (Some line)
+  run_refuted line (from, upto, negated, none) = (
+    λ r. not_satisfiable (run_question f kind k) none ((run_asked f kind k k (omega arith)).0 r),
+    only_from s.log.lines line (run_question f kind k) (negative_of f kind (Here k) ∷ []) (opposite_of_one f kind (Here k)) from upto negated,
+  )
+
+  pub accepted_found : IsAnswer s (accepted_question f kind k) answers.Sat → IsAcceptedAnswer f kind k s None
+  accepted_found (long, holds, yes') = record {
+    room = let e = through.letters in omega (arith, long);
+    holds = subst (Satisfies (value_of s)) through.inputs holds;
+    here = All-head (λ l. literal_value (value_of s) l ≡ true) (positive_of f kind (Here k)) (positive_of f kind (Accepted k) ∷ []) yes';
+    accepted = All-head (λ l. literal_value (value_of s) l ≡ true) (positive_of f kind (Accepted k)) []
+        (All-tail (λ l. literal_value (value_of s) l ≡ true) (positive_of f kind (Here k)) (positive_of f kind (Accepted k) ∷ []) yes');
+  }
+
+  pub accepted_refuted : (line : ℕ) → IsAnswer s (accepted_question f kind k) (answers.Unsat line) → IsAcceptedAnswer f kind k s (Some line)
+  accepted_refuted line (from, upto, negated, none) = (
+    λ r. not_satisfiable (accepted_question f kind k) none ((accepted_asked f kind k k (omega arith)).0 r),
+    only_from s.log.lines line (accepted_question f kind k) (negative_of f kind (Here k) ∷ negative_of f kind (Accepted k) ∷ []) (opposite_of_two f kind (Here k) (Accepted k)) from upto negated,
+  )
+
+  pub unpruned_found : IsAnswer s (unpruned_question f kind k) answers.Sat → IsUnprunedAnswer f kind k s None
+  unpruned_found a = (unpruned_asked f kind k).1 (satisfiable (unpruned_question f kind k) a)
+
+  pub unpruned_refuted : (line : ℕ) → IsAnswer s (unpruned_question f kind k) (answers.Unsat line) → IsUnprunedAnswer f kind k s (Some line)
+  unpruned_refuted line (from, upto, negated, none) = (
+    λ r. not_satisfiable (unpruned_question f kind k) none ((unpruned_asked f kind k).0 r),
+    only_from s.log.lines line (unpruned_question f kind k) (negative_of f kind (Here k) ∷ negative_of f kind Unpruned ∷ []) (opposite_of_two f kind (Here k) Unpruned) from upto negated,
+  )
+
+-- the same of literals that the closure's layout gave
+module _ (layout : LayoutValue) (c : ClosureValue) (own : layout ≡ layout_of c) (k : ℕ) (s : SolverValue) (through : IsThrough c.formula c.kind k s)
+    (here : Signed) (is : here ≡ literal_in layout.kind layout.counts (Plus (Here k))) (answer : Answer) where
+  one : IsAnswer s (here ∷ []) answer → IsAnswer s (run_question c.formula c.kind k) answer
+  one a = subst (λ (m : Signed). IsAnswer s (m ∷ []) answer) (of_layout layout c (Here k) here own is) a
+
+  two : (p : Meaning) (other : Signed) → other ≡ literal_in layout.kind layout.counts (Plus p) → IsAnswer s (here ∷ other ∷ []) answer
+      → IsAnswer s (positive_of c.formula c.kind (Here k) ∷ positive_of c.formula c.kind p ∷ []) answer
+  two p other also a =
+      subst (λ (m : Signed). IsAnswer s (positive_of c.formula c.kind (Here k) ∷ m ∷ []) answer) (of_layout layout c p other own also)
+      (subst (λ (m : Signed). IsAnswer s (m ∷ other ∷ []) answer) (of_layout layout c (Here k) here own is) a)
+
+  pub run_none : IsAnswer s (here ∷ []) answer → answer ≡ answers.Sat → IsRunAnswer c.formula c.kind k s None
+  run_none a e = run_found c.formula c.kind k s through (subst (IsAnswer s (run_question c.formula c.kind k)) e (one a))
+
+  pub run_some : (line : ℕ) → IsAnswer s (here ∷ []) answer → answer ≡ answers.Unsat line → IsRunAnswer c.formula c.kind k s (Some line)
+  run_some line a e = run_refuted c.formula c.kind k s through line (subst (IsAnswer s (run_question c.formula c.kind k)) e (one a))
+
+  module _ (other : Signed) (also : other ≡ literal_in layout.kind layout.counts (Plus (Accepted k))) (a : IsAnswer s (here ∷ other ∷ []) answer) where
+    pub accepted_none : answer ≡ answers.Sat → IsAcceptedAnswer c.formula c.kind k s None
+    accepted_none e = accepted_found c.formula c.kind k s through (subst (IsAnswer s (accepted_question c.formula c.kind k)) e (two (Accepted k) other also a))
+
+    pub accepted_some : (line : ℕ) → answer ≡ answers.Unsat line → IsAcceptedAnswer c.formula c.kind k s (Some line)
+    accepted_some line e = accepted_refuted c.formula c.kind k s through line (subst (IsAnswer s (accepted_question c.formula c.kind k)) e (two (Accepted k) other also a))
+
+  module _ (other : Signed) (also : other ≡ literal_in layout.kind layout.counts (Plus Unpruned)) (a : IsAnswer s (here ∷ other ∷ []) answer) where
+    pub unpruned_none : answer ≡ answers.Sat → IsUnprunedAnswer c.formula c.kind k s None
+    unpruned_none e = unpruned_found c.formula c.kind k s through (subst (IsAnswer s (unpruned_question c.formula c.kind k)) e (two Unpruned other also a))
+
+    pub unpruned_some : (line : ℕ) → answer ≡ answers.Unsat line → IsUnprunedAnswer c.formula c.kind k s (Some line)
+    unpruned_some line e = unpruned_refuted c.formula c.kind k s through line (subst (IsAnswer s (unpruned_question c.formula c.kind k)) e (two Unpruned other also a))

@@ -1,0 +1,11 @@
+mod Lines
+mod Negated
+mod Asking
+mod Rejections
+mod Grown
+mod Closing
+mod Agreeing
+mod Reading
+mod LetterEntries
+mod Rooms
+mod Verdicts

@@ -1,0 +1,85 @@
+-- What a solver holds of the depths that were asked, and what the questions of a depth were answered.
+use Rattle.std.specs.Prelude.{◌≡◌, ℕ, zero, suc, ◌<◌, true, List, [], ◌∷◌, ◌++◌, length, slice_index_or, All, Contains, Option, Some, None}
+use Rattle.ltl_syntax.specs.declared.node.Kind.{Kind}
+use Rattle.ltl_syntax.specs.Formula.{Formula}
+use Rattle.ltl_closure.specs.Run.{HasRun, HasAccepted, HasUnpruned, IsOpen}
+use Rattle.cnf_base.specs.declared.literal.Literal.{Literal as Signed}
+use Rattle.cnf_base.specs.Step.{numbered}
+use Rattle.cnf_base.specs.Meaning.{Satisfies}
+use Rattle.cdcl.specs.SolverValue.{SolverValue, value_of}
+use Rattle.enc_layout.specs.Letters.{Unpruned, Here, Accepted, letters_through}
+use Rattle.enc_layout.specs.Clauses.{counts, number_in, clause_list}
+use Rattle.enc_layout.specs.Targets.{negative_of}
+use Rattle.unravel.specs.declared.questions.Depth.{Depth}
+use Rattle.unravel.specs.declared.questions.Depth.TheVariants as depths
+
+-- the solver has the clauses and the letters through depth k
+pub record IsThrough (f : Formula) (kind : Kind) (k : ℕ) (s : SolverValue) : Type 0 where
+  pub inputs : s.log.inputs ≡ clause_list f kind k
+  pub letters : s.letters ≡ letters_through kind (counts f) k
+
+-- it has nothing yet
+pub record IsEmpty (s : SolverValue) : Type 0 where
+  pub inputs : s.log.inputs ≡ []
+  pub letters : s.letters ≡ 0
+
+-- it has those of the depths before k
+abbrev pub IsBefore : Formula → Kind → ℕ → SolverValue → Type 0
+IsBefore f kind zero s = IsEmpty s
+IsBefore f kind (suc k) s = IsThrough f kind k s
+
+-- the clauses stand behind the inputs, and all else is as before
+pub record HasAdded (clauses : List (List Signed)) (old new : SolverValue) : Type 0 where
+  pub inputs : new.log.inputs ≡ old.log.inputs ++ clauses
+  pub lines : new.log.lines ≡ old.log.lines
+  pub letters : new.letters ≡ old.letters
+
+-- the number names a line that has only these literals
+abbrev pub HasOnly : List (List Signed) → ℕ → List Signed → Type 0
+HasOnly lines number literals = (line : List Signed) × (numbered lines number ≡ Some line) × All (Contains literals) line
+
+-- the line refutes that a run is accepted at state k
+abbrev pub IsRejection : Formula → Kind → ℕ → List (List Signed) → ℕ → Type 0
+IsRejection f kind k lines number = HasOnly lines number (negative_of f kind (Here k) ∷ negative_of f kind (Accepted k) ∷ [])
+
+-- the line refutes that a run of k + 1 states is pruned nowhere
+abbrev pub IsPruning : Formula → Kind → ℕ → List (List Signed) → ℕ → Type 0
+IsPruning f kind k lines number = HasOnly lines number (negative_of f kind (Here k) ∷ negative_of f kind Unpruned ∷ [])
+
+-- the solver's values are those of an accepted run of k + 1 states
+pub record IsShowing (f : Formula) (kind : Kind) (k : ℕ) (s : SolverValue) : Type 0 where
+  pub room : letters_through kind (counts f) k < length s.model
+  pub holds : Satisfies (value_of s) (clause_list f kind k)
+  pub here : value_of s (number_in f kind (Here k)) ≡ true
+  pub accepted : value_of s (number_in f kind (Accepted k)) ≡ true
+
+-- there is a run of k + 1 states, or the line refutes its last state
+abbrev pub IsRunAnswer : Formula → Kind → ℕ → SolverValue → Option ℕ → Type 0
+IsRunAnswer f kind k s None = HasRun f k
+IsRunAnswer f kind k s (Some line) = (¬ HasRun f k) × HasOnly s.log.lines line (negative_of f kind (Here k) ∷ [])
+
+-- the values show an accepted run, or there is none
+abbrev pub IsAcceptedAnswer : Formula → Kind → ℕ → SolverValue → Option ℕ → Type 0
+IsAcceptedAnswer f kind k s None = IsShowing f kind k s
+IsAcceptedAnswer f kind k s (Some line) = (¬ HasAccepted f kind k) × IsRejection f kind k s.log.lines line
+
+-- there is a run that is pruned nowhere, or there is none
+abbrev pub IsUnprunedAnswer : Formula → Kind → ℕ → SolverValue → Option ℕ → Type 0
+IsUnprunedAnswer f kind k s None = HasUnpruned f kind k
+IsUnprunedAnswer f kind k s (Some line) = (¬ HasUnpruned f kind k) × IsPruning f kind k s.log.lines line
+
+-- what the answers of depth k say
+abbrev pub Tells : Formula → Kind → ℕ → SolverValue → Depth → Type 0
+Tells f kind k s (depths.NoRun line) = (¬ HasRun f k) × HasOnly s.log.lines line (negative_of f kind (Here k) ∷ [])
+Tells f kind k s depths.Accepted = IsShowing f kind k s
+Tells f kind k s (depths.Pruned rejected pruned) = (¬ HasAccepted f kind k) × (¬ HasUnpruned f kind k) × IsRejection f kind k s.log.lines rejected × IsPruning f kind k s.log.lines pruned
+Tells f kind k s (depths.Open rejected) = IsOpen f kind k × IsRejection f kind k s.log.lines rejected
+
+-- each depth before k is open
+abbrev pub AreOpen : Formula → Kind → ℕ → Type 0
+AreOpen f kind k = (j : ℕ) → j < k → IsOpen f kind j
+
+-- the targets name the lines that refute acceptance at each state before k
+pub record AreRejections (f : Formula) (kind : Kind) (k : ℕ) (lines : List (List Signed)) (targets : List ℕ) : Type 0 where
+  pub count : length targets ≡ k
+  pub each : (i : ℕ) → i < k → IsRejection f kind i lines (slice_index_or targets i 0)

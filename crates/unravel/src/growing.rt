@@ -1,0 +1,58 @@
+// A depth's clauses, put into the solver behind those of the depths before. What the solver has learnt of these stays.
+ghost use Rattle.std.specs.Prelude.{◌≡◌, ◌≤◌, OnOk};
+ghost use Rattle.cdcl_state.specs.Trail.{AreKnown};
+ghost use Rattle.enc_layout.specs.Letters.{Fits};
+ghost use Rattle.enc_layout.specs.Clauses.{layout_of, step_clauses, signed_clauses};
+ghost use Rattle.unravel.specs.Depths.{IsBefore, IsThrough, HasAdded};
+
+use cdcl::Solver;
+use cnf_base::{ClauseList, Clauses};
+use enc_layout::Layout;
+use ltl_closure::Closure;
+use std::alloc::{AllocError, Global};
+
+/// Puts the clauses of a step into the list, in place of what was there.
+fn write_step(closure: &Closure<'_>, step: u32, clauses: &mut ClauseList) -> Result<(), AllocError>
+    requires few { step ≤ 1000 }
+    requires fits { Fits (layout_of closure.now) step }
+    ensures { OnOk result (clauses.new ≡ signed_clauses closure.now.formula closure.now.kind (step_clauses closure.now.formula closure.now.kind step)) }
+{
+    let layout = Layout::of(closure);
+    clauses.truncate(0);
+    step_encode::append(closure, &layout, step, clauses)?;
+    loop_encode::append(closure, &layout, step, clauses)?;
+    prune_encode::append(closure, &layout, step, clauses)?;
+    Ok(())
+}
+
+/// Adds the clauses to the solver, in their order.
+fn add_all(alloc: Global, solver: &mut Solver, clauses: &ClauseList) -> Result<(), AllocError>
+    requires { AreKnown solver.old.letters clauses.now }
+    ensures { OnOk result (HasAdded clauses.now solver.old solver.new) }
+{
+    for index in 0..clauses.count() {
+        solver.add(alloc, clauses.clause(index + 1))?;
+    }
+    Ok(())
+}
+
+/// Makes the letters of a step known to the solver, which has those of the steps before, and adds the step's clauses. The list serves
+/// as a buffer.
+pub fn grow(
+    alloc: Global,
+    closure: &Closure<'_>,
+    step: u32,
+    clauses: &mut ClauseList,
+    solver: &mut Solver,
+) -> Result<(), AllocError>
+    requires few { step ≤ 1000 }
+    requires fits { Fits (layout_of closure.now) step }
+    requires before { IsBefore closure.now.formula closure.now.kind step solver.old }
+    ensures through { OnOk result (IsThrough closure.now.formula closure.now.kind step solver.new) }
+    ensures lines { OnOk result (solver.new.log.lines ≡ solver.old.log.lines) }
+{
+    write_step(closure, step, clauses)?;
+    let layout = Layout::of(closure);
+    solver.letters(alloc, layout.letters_through(step) as u32)?;
+    add_all(alloc, solver, clauses)
+}

@@ -1,0 +1,13 @@
+//! The depths of the tableau, one after another, over one solver: what the tableau says of a formula, with what shows it.
+#![tactic(auto)]
+
+mod deciding;
+mod decision;
+mod growing;
+mod questions;
+mod showing;
+#[cfg(test)]
+mod tests;
+
+pub use deciding::decide;
+pub use decision::Decision;

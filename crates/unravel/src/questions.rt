@@ -1,0 +1,119 @@
+// The three questions of a depth: whether there is a run of so many states, whether one is accepted, and whether one is pruned nowhere.
+// Each is put to the solver under the letters that ask it, and a refusal is a line of the log that the letters alone refute.
+ghost use Rattle.std.specs.Prelude.{◌≡◌, ◌≤◌, IfOk};
+ghost use Rattle.cdcl.specs.Solving.{IsLonger};
+ghost use Rattle.enc_layout.specs.Letters.{Fits};
+ghost use Rattle.enc_layout.specs.Clauses.{layout_of};
+ghost use Rattle.unravel.specs.Depths.{IsThrough, IsRunAnswer, IsAcceptedAnswer, IsUnprunedAnswer, Tells};
+
+use cdcl::{Answer, Solver};
+use enc_layout::{Layout, Part};
+use ltl_closure::Closure;
+use std::alloc::{AllocError, Global};
+
+/// What the questions of a depth were answered. Lines are those of the solver's log, from 1.
+#[derive(Clone, Copy, Drop)]
+pub enum Depth {
+    /// There is no run, as the line shows.
+    NoRun(u64),
+    /// A run is accepted, and the solver's values are those of one.
+    Accepted,
+    /// No run is accepted, and each is pruned, as the lines show.
+    Pruned { rejected: u64, pruned: u64 },
+    /// No run is accepted, as the line shows, and one is pruned nowhere.
+    Open(u64),
+}
+
+/// Asks whether there is a run of depth + 1 states. The line that is answered otherwise shows that there is none.
+fn refute_run(
+    alloc: Global,
+    closure: &Closure<'_>,
+    solver: &mut Solver,
+    depth: u32,
+) -> Result<Option<u64>, AllocError>
+    requires few { depth ≤ 1000 }
+    requires fits { Fits (layout_of closure.now) depth }
+    requires through { IsThrough closure.now.formula closure.now.kind depth solver.old }
+    ensures through { IsThrough closure.now.formula closure.now.kind depth solver.new }
+    ensures longer { IsLonger solver.old.log solver.new.log }
+    ensures answer { IfOk result (IsRunAnswer closure.now.formula closure.now.kind depth solver.new) }
+{
+    let layout = Layout::of(closure);
+    let here = layout.positive(depth, Part::Here);
+    match solver.solve(alloc, &[here])? {
+        Answer::Sat => Ok(None),
+        Answer::Unsat(line) => Ok(Some(line)),
+    }
+}
+
+/// Asks whether an accepted one is among them. Where there is one, the solver's values are those of one.
+fn refute_accepted(
+    alloc: Global,
+    closure: &Closure<'_>,
+    solver: &mut Solver,
+    depth: u32,
+) -> Result<Option<u64>, AllocError>
+    requires few { depth ≤ 1000 }
+    requires fits { Fits (layout_of closure.now) depth }
+    requires through { IsThrough closure.now.formula closure.now.kind depth solver.old }
+    ensures through { IsThrough closure.now.formula closure.now.kind depth solver.new }
+    ensures longer { IsLonger solver.old.log solver.new.log }
+    ensures answer { IfOk result (IsAcceptedAnswer closure.now.formula closure.now.kind depth solver.new) }
+{
+    let layout = Layout::of(closure);
+    let here = layout.positive(depth, Part::Here);
+    let accepted = layout.positive(depth, Part::Accepted);
+    match solver.solve(alloc, &[here, accepted])? {
+        Answer::Sat => Ok(None),
+        Answer::Unsat(line) => Ok(Some(line)),
+    }
+}
+
+/// Asks whether one that is pruned nowhere is among them.
+fn refute_unpruned(
+    alloc: Global,
+    closure: &Closure<'_>,
+    solver: &mut Solver,
+    depth: u32,
+) -> Result<Option<u64>, AllocError>
+    requires few { depth ≤ 1000 }
+    requires fits { Fits (layout_of closure.now) depth }
+    requires through { IsThrough closure.now.formula closure.now.kind depth solver.old }
+    ensures through { IsThrough closure.now.formula closure.now.kind depth solver.new }
+    ensures longer { IsLonger solver.old.log solver.new.log }
+    ensures answer { IfOk result (IsUnprunedAnswer closure.now.formula closure.now.kind depth solver.new) }
+{
+    let layout = Layout::of(closure);
+    let here = layout.positive(depth, Part::Here);
+    let unpruned = layout.may_prune().opposite();
+    match solver.solve(alloc, &[here, unpruned])? {
+        Answer::Sat => Ok(None),
+        Answer::Unsat(line) => Ok(Some(line)),
+    }
+}
+
+/// Asks the three questions in their order, up to the first that settles the formula.
+pub fn ask(
+    alloc: Global,
+    closure: &Closure<'_>,
+    solver: &mut Solver,
+    depth: u32,
+) -> Result<Depth, AllocError>
+    requires few { depth ≤ 1000 }
+    requires fits { Fits (layout_of closure.now) depth }
+    requires through { IsThrough closure.now.formula closure.now.kind depth solver.old }
+    ensures through { IsThrough closure.now.formula closure.now.kind depth solver.new }
+    ensures longer { IsLonger solver.old.log solver.new.log }
+    ensures tells { IfOk result (Tells closure.now.formula closure.now.kind depth solver.new) }
+{
+    if let Some(line) = refute_run(alloc, closure, solver, depth)? {
+        return Ok(Depth::NoRun(line));
+    }
+    match refute_accepted(alloc, closure, solver, depth)? {
+        None => Ok(Depth::Accepted),
+        Some(rejected) => match refute_unpruned(alloc, closure, solver, depth)? {
+            None => Ok(Depth::Open(rejected)),
+            Some(pruned) => Ok(Depth::Pruned { rejected, pruned }),
+        },
+    }
+}
