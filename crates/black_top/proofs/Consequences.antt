@@ -1,130 +1,182 @@
 -- What follows from an answer: the headline.
-use Rattle.std.proofs.Common.{◌≡◌, ◌∙◌, ℕ, Bool, true, false, List, Option, Ok, refl, sym, ap}
+use Rattle.std.proofs.Common.{◌≡◌, ◌∙◌, ℕ, ◌<◌, inl, inr, Bool, true, false, List, Option, Some, None, Ok, refl, sym, ap, subst, arith}
+use Rattle.std.proofs.lemmas.Bool.{cases_lt}
 use Rattle.ltl_io.specs.Outside.{Grows}
-use Rattle.ltl_syntax.specs.declared.node.Kind.TheVariants as kinds
+use Rattle.ltl_syntax.specs.declared.node.Kind.{Kind}
 use Rattle.ltl_syntax.specs.Formula.{Formula}
 use Rattle.ltl_parser.specs.Text.{IsAccepted}
 use Rattle.ltl_word.specs.declared.trace.Trace.{Trace}
 use Rattle.ltl_word.specs.Json.{IsReading}
-use Rattle.black_top.specs.declared.fault.Fault.{Fault}
-use Rattle.black_top.specs.declared.fault.Fault.TheVariants as faults
+use Rattle.ltl_closure.specs.Run.{IsVerdict, undecided as undecided_run, Undecided, bound}
+use Rattle.ltl_run.specs.Laws.{RunsSatisfy, UnsatIsSound, BoundSettles}
+use Rattle.unravel.specs.Decision.{IsTraceOfRun, IsModel}
+use Rattle.report.specs.declared.fault.Fault.{Fault}
+use Rattle.report.specs.declared.fault.Fault.TheVariants as faults
 use Rattle.black_top.specs.declared.status.Status.{Status}
 use Rattle.black_top.specs.declared.status.Status.TheVariants as statuses
-use Rattle.black_top.specs.Words.{Choice, Command, Solve, Check, Trace as TraceWord, Demo}
+use Rattle.black_top.specs.Words.{Choice, Command, Solve, Trace as TraceWord, Asks, kind_of, depth_of}
 use Rattle.black_top.specs.Parts.{IsCut}
-use Rattle.black_top.specs.Answer.{Answer, refused, sat, unsat, holds, fails, IsAnswer, not_taken, asked, Answers, SolveAnswers, IsParted, uncut, unread, accepted, IsJudged, not_json, not_trace, empty_loop, empty_states, many_cells, satisfied, violated, status_of, text_of, fault_status}
-use Rattle.black_top.specs.Run.{AreLeft, IsAnswered, OfFormula, PrintsModel, PrintsNone, OfTrace, PrintsHolds, PrintsFails}
+use Rattle.black_top.specs.Answer.{Answer, refused, sat, unsat, undecided, holds, fails, IsAnswer, not_taken, asked, Answers, IsInForce, IsReached, number_of, IsDecided, IsSettled, too_deep, decided, IsSolved, unreadable, settled, IsParted, uncut, unread, accepted, IsJudged, not_json, not_trace, empty_loop, empty_states, many_cells, satisfied, violated, status_of, text_of, fault_status}
+use Rattle.black_top.specs.declared.output.Output.{Output}
+use Rattle.black_top.specs.Inner.{Shows}
+use Rattle.black_top.specs.Run.{AreLeft, IsGiven, IsAnswered, OfFormula, PrintsModel, PrintsNone, PrintsUndecided, PrintsVerdict, AreFewLetters, OfTrace, PrintsHolds, PrintsFails}
+use Rattle.black_top.proofs.OneCommand.{command_one}
+use Rattle.black_top.proofs.OneAnswer.{TextLaws, refused_not_accepted}
 
--- ---- whose statuses they are
+-- ---- no refusal has the status of another answer
 
--- the answers of `solve` alone, and those of `trace` alone
-abbrev is_verdict : Status → Bool
-is_verdict statuses.Sat = true
-is_verdict statuses.Unsat = true
-is_verdict other = false
+abbrev is_refusal : Status → Bool
+is_refusal statuses.Usage = true
+is_refusal statuses.Text = true
+is_refusal statuses.Limit = true
+is_refusal other = false
 
-abbrev is_judgement : Status → Bool
-is_judgement statuses.Good = true
-is_judgement statuses.Negative = true
-is_judgement other = false
+fault_refuses : (fault : Fault) → is_refusal (fault_status fault) ≡ true
+fault_refuses faults.Usage = refl
+fault_refuses faults.NoSeparator = refl
+fault_refuses faults.Text = refl
+fault_refuses (faults.Lexical byte) = refl
+fault_refuses (faults.Grammar byte) = refl
+fault_refuses (faults.Nodes count) = refl
+fault_refuses (faults.Letters depth) = refl
+fault_refuses (faults.Cells count) = refl
+fault_refuses faults.NotJson = refl
+fault_refuses faults.NotTrace = refl
+fault_refuses faults.EmptyLoop = refl
+fault_refuses faults.EmptyStates = refl
 
-fault_no_verdict : (fault : Fault) → is_verdict (fault_status fault) ≡ false
-fault_no_verdict faults.Usage = refl
-fault_no_verdict faults.Text = refl
-fault_no_verdict (faults.Lexical byte) = refl
-fault_no_verdict (faults.Grammar byte) = refl
-fault_no_verdict (faults.Nodes count) = refl
-fault_no_verdict (faults.NotBuilt byte) = refl
-fault_no_verdict faults.NoSeparator = refl
-fault_no_verdict faults.NotJson = refl
-fault_no_verdict faults.NotTrace = refl
-fault_no_verdict faults.EmptyLoop = refl
-fault_no_verdict faults.EmptyStates = refl
-fault_no_verdict (faults.Cells count) = refl
+not_refused : (s : Status) (fault : Fault) → is_refusal s ≡ false → s ≡ fault_status fault → ⊥
+not_refused s fault not e = let f : false ≡ true = sym not ∙ ap is_refusal e ∙ fault_refuses fault in cc
 
-fault_no_judgement : (fault : Fault) → is_judgement (fault_status fault) ≡ false
-fault_no_judgement faults.Usage = refl
-fault_no_judgement faults.Text = refl
-fault_no_judgement (faults.Lexical byte) = refl
-fault_no_judgement (faults.Grammar byte) = refl
-fault_no_judgement (faults.Nodes count) = refl
-fault_no_judgement (faults.NotBuilt byte) = refl
-fault_no_judgement faults.NoSeparator = refl
-fault_no_judgement faults.NotJson = refl
-fault_no_judgement faults.NotTrace = refl
-fault_no_judgement faults.EmptyLoop = refl
-fault_no_judgement faults.EmptyStates = refl
-fault_no_judgement (faults.Cells count) = refl
+-- ---- what was printed
 
-judged_no_verdict : (f : Formula) (text : List ℕ) (a : Answer) → IsJudged f text a → is_verdict (status_of a) ≡ false
-judged_no_verdict f text a (not_json h) = refl
-judged_no_verdict f text a (not_trace h) = refl
-judged_no_verdict f text a (empty_loop h) = refl
-judged_no_verdict f text a (empty_states h) = refl
-judged_no_verdict f text a (many_cells t count h many) = refl
-judged_no_verdict f text a (satisfied t h few is) = refl
-judged_no_verdict f text a (violated t h few is) = refl
+-- an output that was written whole is an answer
+pub answered : {words : List (List ℕ)} {rest before after : Option (List ℕ)} {s : Status} (out : Output) (text : List ℕ) → (a : Answer) × IsGiven words rest a × Shows out a → text ≡ out.text.items → Grows text before after → out.status ≡ s
+    → IsAnswered words rest before after s
+answered {words} {rest} {before} {after} {s} out text (a, given, shows) same grown is = record {
+  answer = a;
+  given = given;
+  own = sym is ∙ shows.status;
+  printed = subst (λ (bytes : List ℕ). Grows bytes before after) (same ∙ shows.text) grown;
+}
 
-traced_no_verdict : (bytes : List ℕ) (a : Answer) → IsParted IsJudged bytes a → is_verdict (status_of a) ≡ false
-traced_no_verdict bytes a (uncut none) = refl
-traced_no_verdict bytes a (unread part second fault cut refuses) = fault_no_verdict fault
-traced_no_verdict bytes a (accepted part second f answer cut read judged) = judged_no_verdict f second a judged
+-- ---- the answer of the command that was asked for
 
-solved_no_judgement : (choices : List Choice) (part : List ℕ) (a : Answer) → SolveAnswers choices part a → is_judgement (status_of a) ≡ false
-solved_no_judgement choices part (refused fault) h = fault_no_judgement fault
-solved_no_judgement choices part (sat k t) h = refl
-solved_no_judgement choices part (unsat k) h = refl
-solved_no_judgement choices part holds h = absurd h
-solved_no_judgement choices part fails h = absurd h
+command_given : (words : List (List ℕ)) (bytes : List ℕ) (c : Command) (a : Answer) → IsAnswer words bytes a → Asks words c → Answers c bytes a
+command_given words bytes c a (not_taken n) asks = absurd (n c asks)
+command_given words bytes c a (asked d b asks' h) asks = subst (λ e. Answers e bytes a) (command_one words d c asks'.0 asks.0) h
 
-no_other : (test : Status → Bool) (s : Status) (a : Answer) → test (status_of a) ≡ false → test s ≡ true → s ≡ status_of a → ⊥
-no_other test s a other is e = let f : true ≡ false = sym is ∙ ap test e ∙ other in cc
+solved : {words : List (List ℕ)} {rest before after : Option (List ℕ)} {s : Status} (choices : List Choice) → Asks words (Solve choices) → (h : IsAnswered words rest before after s)
+    → IsSolved (kind_of choices) (depth_of choices) h.given.bytes h.answer
+solved {words} choices asks h = command_given words h.given.bytes (Solve choices) h.answer h.given.lawful asks
 
--- ---- SAT and UNSAT
+-- ---- SAT, UNSAT and UNDECIDED
 
-sat_given : (bytes : List ℕ) (before after : Option (List ℕ)) (c : Command) (a : Answer) → Answers c bytes a → statuses.Sat ≡ status_of a → Grows (text_of a) before after
-    → (f : Formula) × IsAccepted bytes f × PrintsModel kinds.Infinite f before after
-sat_given bytes before after c (refused fault) h e g = absurd (no_other is_verdict statuses.Sat (refused fault) (fault_no_verdict fault) refl e)
-sat_given bytes before after (Solve choices) (sat k t) (f, read, built, zero, model) e g = (f, read, record { depth = k; trace = t; model = model; printed = g })
-sat_given bytes before after (Check choices) (sat k t) h e g = absurd h
-sat_given bytes before after TraceWord (sat k t) h e g = absurd (no_other is_verdict statuses.Sat (sat k t) (traced_no_verdict bytes (sat k t) h) refl e)
-sat_given bytes before after (Demo n) (sat k t) h e g = absurd h
-sat_given bytes before after c (unsat k) h e g = absurd (cc)
-sat_given bytes before after c holds h e g = absurd (cc)
-sat_given bytes before after c fails h e g = absurd (cc)
+model_of : RunsSatisfy → (f : Formula) (kind : Kind) (k : ℕ) (t : Trace) → IsTraceOfRun f kind k t → IsModel f kind t
+model_of satisfy f kind k t (r, run, close, accepts, gives) = satisfy f kind k r close t run accepts gives
 
-unsat_given : (bytes : List ℕ) (before after : Option (List ℕ)) (c : Command) (a : Answer) → Answers c bytes a → statuses.Unsat ≡ status_of a → Grows (text_of a) before after
-    → (f : Formula) × IsAccepted bytes f × PrintsNone kinds.Infinite f before after
-unsat_given bytes before after c (refused fault) h e g = absurd (no_other is_verdict statuses.Unsat (refused fault) (fault_no_verdict fault) refl e)
-unsat_given bytes before after (Solve choices) (unsat k) (f, read, built, zero, none) e g = (f, read, record { depth = k; none = none; printed = g })
-unsat_given bytes before after (Check choices) (unsat k) h e g = absurd h
-unsat_given bytes before after TraceWord (unsat k) h e g = absurd (no_other is_verdict statuses.Unsat (unsat k) (traced_no_verdict bytes (unsat k) h) refl e)
-unsat_given bytes before after (Demo n) (unsat k) h e g = absurd h
-unsat_given bytes before after c (sat k t) h e g = absurd (cc)
-unsat_given bytes before after c holds h e g = absurd (cc)
-unsat_given bytes before after c fails h e g = absurd (cc)
+sat_decided : (f : Formula) (kind : Kind) (limit : ℕ) (before after : Option (List ℕ)) → RunsSatisfy → (a : Answer) → IsDecided f kind limit a → statuses.Sat ≡ status_of a → Grows (text_of a) before after
+    → PrintsModel kind f before after
+sat_decided f kind limit before after satisfy (sat k t) h e g = record { depth = k; trace = t; model = model_of satisfy f kind k t h.1; printed = g }
+sat_decided f kind limit before after satisfy (refused fault) h e g = absurd h
+sat_decided f kind limit before after satisfy (unsat k) h e g = absurd (cc)
+sat_decided f kind limit before after satisfy (undecided k) h e g = absurd (cc)
+sat_decided f kind limit before after satisfy holds h e g = absurd h
+sat_decided f kind limit before after satisfy fails h e g = absurd h
 
-sat_lawful : (words : List (List ℕ)) (bytes : List ℕ) (before after : Option (List ℕ)) (a : Answer) → IsAnswer words bytes a → statuses.Sat ≡ status_of a → Grows (text_of a) before after
-    → (f : Formula) × IsAccepted bytes f × PrintsModel kinds.Infinite f before after
-sat_lawful words bytes before after a (not_taken n) e g = absurd (cc)
-sat_lawful words bytes before after a (asked c a2 asks h) e g = sat_given bytes before after c a h e g
+unsat_decided : (f : Formula) (kind : Kind) (limit : ℕ) (before after : Option (List ℕ)) → UnsatIsSound → (a : Answer) → IsDecided f kind limit a → statuses.Unsat ≡ status_of a → Grows (text_of a) before after
+    → PrintsNone kind f before after
+unsat_decided f kind limit before after sound (unsat k) h e g = record { depth = k; none = λ t. sound f kind limit k t h; printed = g }
+unsat_decided f kind limit before after sound (refused fault) h e g = absurd h
+unsat_decided f kind limit before after sound (sat k t) h e g = absurd (cc)
+unsat_decided f kind limit before after sound (undecided k) h e g = absurd (cc)
+unsat_decided f kind limit before after sound holds h e g = absurd h
+unsat_decided f kind limit before after sound fails h e g = absurd h
 
-unsat_lawful : (words : List (List ℕ)) (bytes : List ℕ) (before after : Option (List ℕ)) (a : Answer) → IsAnswer words bytes a → statuses.Unsat ≡ status_of a → Grows (text_of a) before after
-    → (f : Formula) × IsAccepted bytes f × PrintsNone kinds.Infinite f before after
-unsat_lawful words bytes before after a (not_taken n) e g = absurd (cc)
-unsat_lawful words bytes before after a (asked c a2 asks h) e g = unsat_given bytes before after c a h e g
+-- an undecided verdict has the limit as its depth
+undecided_at : (f : Formula) (kind : Kind) (limit k : ℕ) → IsVerdict f kind limit (Undecided k) → k ≡ limit
+undecided_at f kind limit k (undecided_run each) = refl
 
-pub sat_from : {words : List (List ℕ)} {rest before after : Option (List ℕ)} → IsAnswered words rest before after statuses.Sat
-    → OfFormula rest (λ f. PrintsModel kinds.Infinite f before after)
-sat_from {words} {rest} {before} {after} h =
-    let r = sat_lawful words h.given.bytes before after h.answer h.given.lawful h.own h.printed in
-    (h.given.bytes, h.given.left, r.0, r.1, r.2)
+undecided_decided : (f : Formula) (kind : Kind) (wanted : Option ℕ) (limit : ℕ) (before after : Option (List ℕ)) → BoundSettles → IsInForce f kind (number_of wanted) limit → (a : Answer) → IsDecided f kind limit a
+    → statuses.Undecided ≡ status_of a → Grows (text_of a) before after → PrintsUndecided kind wanted f before after
+undecided_decided f kind wanted limit before after settles force (undecided k) h e g =
+    let same = undecided_at f kind limit k h in
+    let low : limit < bound f kind = elim (cases_lt limit (bound f kind)) [
+      | inl less ↦ less
+      | inr more ↦ absurd (settles f kind limit k more h)
+    ] in
+    record {
+      limit = limit;
+      in_force = force;
+      verdict = subst (λ d. IsVerdict f kind limit (Undecided d)) same h;
+      below_bound = low;
+      printed = subst (λ d. Grows (text_of (undecided d)) before after) same g;
+    }
+undecided_decided f kind wanted limit before after settles force (refused fault) h e g = absurd h
+undecided_decided f kind wanted limit before after settles force (sat k t) h e g = absurd (cc)
+undecided_decided f kind wanted limit before after settles force (unsat k) h e g = absurd (cc)
+undecided_decided f kind wanted limit before after settles force holds h e g = absurd h
+undecided_decided f kind wanted limit before after settles force fails h e g = absurd h
 
-pub unsat_from : {words : List (List ℕ)} {rest before after : Option (List ℕ)} → IsAnswered words rest before after statuses.Unsat
-    → OfFormula rest (λ f. PrintsNone kinds.Infinite f before after)
-unsat_from {words} {rest} {before} {after} h =
-    let r = unsat_lawful words h.given.bytes before after h.answer h.given.lawful h.own h.printed in
-    (h.given.bytes, h.given.left, r.0, r.1, r.2)
+-- an answer that is no refusal is a verdict at the limit in force
+abbrev IsVerdictOf : Kind → Option ℕ → List ℕ → Answer → Type 0
+IsVerdictOf kind wanted bytes a = (f : Formula) × IsAccepted bytes f × (limit : ℕ) × IsInForce f kind (number_of wanted) limit × IsReached wanted limit × IsDecided f kind limit a
+
+verdict_settled : (kind : Kind) (wanted : Option ℕ) (bytes : List ℕ) (f : Formula) (s : Status) → IsAccepted bytes f → is_refusal s ≡ false → (a : Answer) → IsSettled kind wanted f a → s ≡ status_of a → IsVerdictOf kind wanted bytes a
+verdict_settled kind wanted bytes f s read not a (too_deep n limit e force less) is = absurd (not_refused s (faults.Letters limit) not is)
+verdict_settled kind wanted bytes f s read not a (decided limit answer force reached h) is = (f, read, limit, force, reached, h)
+
+verdict_solved : (kind : Kind) (wanted : Option ℕ) (bytes : List ℕ) (s : Status) → is_refusal s ≡ false → (a : Answer) → IsSolved kind wanted bytes a → s ≡ status_of a → IsVerdictOf kind wanted bytes a
+verdict_solved kind wanted bytes s not a (unreadable fault h) is = absurd (not_refused s fault not is)
+verdict_solved kind wanted bytes s not a (settled f answer read h) is = verdict_settled kind wanted bytes f s read not a h is
+
+pub sat_from : {words : List (List ℕ)} {rest before after : Option (List ℕ)} → RunsSatisfy → (choices : List Choice) → Asks words (Solve choices) → IsAnswered words rest before after statuses.Sat
+    → OfFormula rest (λ f. PrintsModel (kind_of choices) f before after)
+sat_from {words} {rest} {before} {after} satisfy choices asks h =
+    let (f, read, limit, force, reached, is) = verdict_solved (kind_of choices) (depth_of choices) h.given.bytes statuses.Sat refl h.answer (solved choices asks h) h.own in
+    (h.given.bytes, h.given.left, f, read, sat_decided f (kind_of choices) limit before after satisfy h.answer is h.own h.printed)
+
+pub unsat_from : {words : List (List ℕ)} {rest before after : Option (List ℕ)} → UnsatIsSound → (choices : List Choice) → Asks words (Solve choices) → IsAnswered words rest before after statuses.Unsat
+    → OfFormula rest (λ f. PrintsNone (kind_of choices) f before after)
+unsat_from {words} {rest} {before} {after} sound choices asks h =
+    let (f, read, limit, force, reached, is) = verdict_solved (kind_of choices) (depth_of choices) h.given.bytes statuses.Unsat refl h.answer (solved choices asks h) h.own in
+    (h.given.bytes, h.given.left, f, read, unsat_decided f (kind_of choices) limit before after sound h.answer is h.own h.printed)
+
+pub undecided_from : {words : List (List ℕ)} {rest before after : Option (List ℕ)} → BoundSettles → (choices : List Choice) → Asks words (Solve choices) → IsAnswered words rest before after statuses.Undecided
+    → OfFormula rest (λ f. PrintsUndecided (kind_of choices) (depth_of choices) f before after)
+undecided_from {words} {rest} {before} {after} settles choices asks h =
+    let (f, read, limit, force, reached, is) = verdict_solved (kind_of choices) (depth_of choices) h.given.bytes statuses.Undecided refl h.answer (solved choices asks h) h.own in
+    (h.given.bytes, h.given.left, f, read, undecided_decided f (kind_of choices) (depth_of choices) limit before after settles force h.answer is h.own h.printed)
+
+-- ---- the verdict of an accepted formula whose letters are few
+
+not_deep : (kind : Kind) (wanted : Option ℕ) (f : Formula) (n limit : ℕ) → wanted ≡ Some n → IsInForce f kind n limit → limit < n → AreFewLetters kind wanted f → ⊥
+not_deep kind wanted f n limit e force less few =
+    let there = subst (λ o. AreFewLetters kind o f) e few in
+    let more = force.greatest n (omega arith) there in
+    absurd (omega (arith, more, less))
+
+verdict_few : (kind : Kind) (wanted : Option ℕ) (f : Formula) (before after : Option (List ℕ)) (s : Status) (a : Answer) → AreFewLetters kind wanted f → IsSettled kind wanted f a → s ≡ status_of a → Grows (text_of a) before after
+    → PrintsVerdict kind wanted f before after s
+verdict_few kind wanted f before after s a few (too_deep n limit e force less) is g = absurd (not_deep kind wanted f n limit e force less few)
+verdict_few kind wanted f before after s a few (decided limit answer force reached h) is g =
+    record { limit = limit; in_force = force; reached = reached; answer = a; decided = h; own = is; printed = g }
+
+verdict_accepted : (kind : Kind) (wanted : Option ℕ) (bytes : List ℕ) (f : Formula) (before after : Option (List ℕ)) (s : Status) (a : Answer) → TextLaws → IsAccepted bytes f → AreFewLetters kind wanted f
+    → IsSolved kind wanted bytes a → s ≡ status_of a → Grows (text_of a) before after → PrintsVerdict kind wanted f before after s
+verdict_accepted kind wanted bytes f before after s a laws read few (unreadable fault h) is g = absurd (refused_not_accepted bytes laws fault f h read)
+verdict_accepted kind wanted bytes f before after s a laws read few (settled f' answer read' h) is g =
+    verdict_few kind wanted f before after s a few (subst (λ x. IsSettled kind wanted x a) (laws.one_formula bytes f' f read'.reads read.reads) h) is g
+
+told_left : (rest : Option (List ℕ)) (bytes left : List ℕ) → rest ≡ Some bytes → AreLeft rest left → bytes ≡ left
+told_left (Some told) bytes left e is = let same : bytes ≡ told = cc in same ∙ is
+told_left None bytes left e is = absurd (cc)
+
+pub verdict_from : {words : List (List ℕ)} {rest before after : Option (List ℕ)} {s : Status} → TextLaws → (choices : List Choice) (bytes : List ℕ) (f : Formula) → Asks words (Solve choices) → rest ≡ Some bytes → IsAccepted bytes f
+    → AreFewLetters (kind_of choices) (depth_of choices) f → IsAnswered words rest before after s → PrintsVerdict (kind_of choices) (depth_of choices) f before after s
+verdict_from {words} {rest} {before} {after} {s} laws choices bytes f asks told read few h =
+    let same = told_left rest bytes h.given.bytes told h.given.left in
+    verdict_accepted (kind_of choices) (depth_of choices) h.given.bytes f before after s h.answer laws (subst (λ b. IsAccepted b f) same read) few (solved choices asks h) h.own h.printed
 
 -- ---- HOLDS and FAILS
 
@@ -149,30 +201,25 @@ judged_fails f text before after a (many_cells t count h many) e g = absurd (cc)
 judged_fails f text before after a (satisfied t h few is) e g = absurd (cc)
 
 -- a judgement comes of two parts, an accepted formula and its answer
-traced_parts : (bytes : List ℕ) (a : Answer) (s : Status) → IsParted IsJudged bytes a → is_judgement s ≡ true → s ≡ status_of a
+traced_parts : (bytes : List ℕ) (a : Answer) (s : Status) → IsParted IsJudged bytes a → is_refusal s ≡ false → s ≡ status_of a
     → (part second : List ℕ) × (f : Formula) × IsCut bytes part second × IsAccepted part f × IsJudged f second a
-traced_parts bytes a s (uncut none) is e = absurd (no_other is_judgement s (refused faults.NoSeparator) refl is e)
-traced_parts bytes a s (unread part second fault cut refuses) is e = absurd (no_other is_judgement s (refused fault) (fault_no_judgement fault) is e)
-traced_parts bytes a s (accepted part second f answer cut read judged) is e = (part, second, f, cut, read, judged)
+traced_parts bytes a s (uncut none) not e = absurd (not_refused s faults.NoSeparator not e)
+traced_parts bytes a s (unread part second fault cut refuses) not e = absurd (not_refused s fault not e)
+traced_parts bytes a s (accepted part second f answer cut read judged) not e = (part, second, f, cut, read, judged)
 
-judgement_given : (words : List (List ℕ)) (bytes : List ℕ) (a : Answer) (s : Status) → IsAnswer words bytes a → is_judgement s ≡ true → s ≡ status_of a
-    → (part second : List ℕ) × (f : Formula) × IsCut bytes part second × IsAccepted part f × IsJudged f second a
-judgement_given words bytes a s (not_taken n) is e = absurd (no_other is_judgement s (refused faults.Usage) refl is e)
-judgement_given words bytes a s (asked (Solve choices) b asks h) is e = absurd (no_other is_judgement s a (solved_no_judgement choices bytes a h) is e)
-judgement_given words bytes a s (asked (Check choices) b asks h) is e = absurd h
-judgement_given words bytes a s (asked TraceWord b asks h) is e = traced_parts bytes a s h is e
-judgement_given words bytes a s (asked (Demo n) b asks h) is e = absurd h
+traced : {words : List (List ℕ)} {rest before after : Option (List ℕ)} {s : Status} → Asks words TraceWord → (h : IsAnswered words rest before after s) → IsParted IsJudged h.given.bytes h.answer
+traced {words} asks h = command_given words h.given.bytes TraceWord h.answer h.given.lawful asks
 
-pub holds_from : {words : List (List ℕ)} {rest before after : Option (List ℕ)} → IsAnswered words rest before after statuses.Good
+pub holds_from : {words : List (List ℕ)} {rest before after : Option (List ℕ)} → Asks words TraceWord → IsAnswered words rest before after statuses.Good
     → OfTrace rest (λ f t. PrintsHolds f t before after)
-holds_from {words} {rest} {before} {after} h =
-    let (part, second, f, cut, read, judged) = judgement_given words h.given.bytes h.answer statuses.Good h.given.lawful refl h.own in
+holds_from {words} {rest} {before} {after} asks h =
+    let (part, second, f, cut, read, judged) = traced_parts h.given.bytes h.answer statuses.Good (traced asks h) refl h.own in
     let (t, reading, printed) = judged_holds f second before after h.answer judged h.own h.printed in
     record { bytes = h.given.bytes; left = h.given.left; part = part; second = second; cut = cut; formula = f; accepted = read; trace = t; read = reading; claim = printed }
 
-pub fails_from : {words : List (List ℕ)} {rest before after : Option (List ℕ)} → IsAnswered words rest before after statuses.Negative
+pub fails_from : {words : List (List ℕ)} {rest before after : Option (List ℕ)} → Asks words TraceWord → IsAnswered words rest before after statuses.Negative
     → OfTrace rest (λ f t. PrintsFails f t before after)
-fails_from {words} {rest} {before} {after} h =
-    let (part, second, f, cut, read, judged) = judgement_given words h.given.bytes h.answer statuses.Negative h.given.lawful refl h.own in
+fails_from {words} {rest} {before} {after} asks h =
+    let (part, second, f, cut, read, judged) = traced_parts h.given.bytes h.answer statuses.Negative (traced asks h) refl h.own in
     let (t, reading, printed) = judged_fails f second before after h.answer judged h.own h.printed in
     record { bytes = h.given.bytes; left = h.given.left; part = part; second = second; cut = cut; formula = f; accepted = read; trace = t; read = reading; claim = printed }

@@ -1,12 +1,9 @@
 pub mod Consequences
 pub mod Leaving
 pub mod OneCommand
-pub mod Values
-pub mod Turns
-pub mod Trying
-pub mod Names
-pub mod Plain
-pub mod Chosen
+pub mod Saying
+pub mod Numbers
+pub mod Settling
 pub mod Refusing
 pub mod Cutting
 pub mod Written

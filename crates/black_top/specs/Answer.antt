@@ -1,31 +1,33 @@
 -- The answer to a list of words and the bytes of the source: which answer comes where, with its status and its text.
 -- A further command, option or answer adds a case and changes no other.
-use Rattle.std.specs.Prelude.{◌≡◌, ◌≤◌, ℕ, List, Ok, Err}
+use Rattle.std.specs.Prelude.{◌≡◌, ◌<◌, ◌≤◌, ℕ, List, Option, Some, None, Ok, Err, true, false}
 use Rattle.ltl_syntax.specs.declared.node.Kind.{Kind}
-use Rattle.ltl_syntax.specs.declared.node.Kind.TheVariants as kinds
 use Rattle.ltl_syntax.specs.Formula.{Formula}
 use Rattle.ltl_parser.specs.Text.{IsAccepted}
 use Rattle.ltl_word.specs.declared.trace.Trace.{Trace}
-use Rattle.ltl_word.specs.Trace.{IsTrace, IsOfKind}
 use Rattle.ltl_word.specs.Holds.{Satisfies}
 use Rattle.ltl_word.specs.Json.{IsReading}
 use Rattle.ltl_word.specs.declared.json.TraceFault.TheVariants as trace_faults
 use Rattle.lasso_eval.specs.Cells.{cells, max_cells, AreTooMany}
-use Rattle.black_top.specs.declared.fault.Fault.{Fault}
-use Rattle.black_top.specs.declared.fault.Fault.TheVariants as faults
+use Rattle.ltl_closure.specs.Run.{IsVerdict, Sat, Unsat, Undecided}
+use Rattle.enc_layout.specs.Letters.{LayoutValue, Fits}
+use Rattle.enc_layout.specs.Clauses.{counts}
+use Rattle.unravel.specs.Decision.{IsTraceOfRun}
+use Rattle.report.specs.declared.fault.Fault.{Fault}
+use Rattle.report.specs.declared.fault.Fault.TheVariants as faults
+use Rattle.report.specs.Texts.{sat_text, unsat_text, undecided_text, traced_text, refused_text}
 use Rattle.black_top.specs.declared.status.Status.{Status}
 use Rattle.black_top.specs.declared.status.Status.TheVariants as statuses
-use Rattle.black_top.specs.Words.{Choice, Command, Solve, Check, Trace as TraceWord, Demo, Asks}
-use Rattle.black_top.specs.NotBuilt.{IsBuilt, IsNotBuilt}
+use Rattle.black_top.specs.Words.{Command, Solve, Check, Trace as TraceWord, Demo, Asks, kind_of, depth_of}
 use Rattle.black_top.specs.Parts.{IsCut, HasNoSeparator}
 use Rattle.black_top.specs.Reading.{RefusesPart}
-use Rattle.black_top.specs.Texts.{sat_text, unsat_text, holds_text, fails_text, fault_text}
 
--- a refusal; SAT at a depth with a trace; UNSAT at a depth; HOLDS; FAILS
+-- a refusal; SAT at a depth with a trace; UNSAT at a depth; UNDECIDED up to a depth; HOLDS; FAILS
 pub data Answer : Type 0 where
   refused : Fault → Answer
   sat : ℕ → Trace → Answer
   unsat : ℕ → Answer
+  undecided : ℕ → Answer
   holds : Answer
   fails : Answer
 
@@ -35,7 +37,7 @@ fault_status faults.Text = statuses.Limit
 fault_status (faults.Lexical byte) = statuses.Text
 fault_status (faults.Grammar byte) = statuses.Text
 fault_status (faults.Nodes count) = statuses.Limit
-fault_status (faults.NotBuilt byte) = statuses.Text
+fault_status (faults.Letters depth) = statuses.Limit
 fault_status faults.NoSeparator = statuses.Text
 fault_status faults.NotJson = statuses.Text
 fault_status faults.NotTrace = statuses.Text
@@ -47,32 +49,56 @@ abbrev pub status_of : Answer → Status
 status_of (refused fault) = fault_status fault
 status_of (sat depth trace) = statuses.Sat
 status_of (unsat depth) = statuses.Unsat
+status_of (undecided depth) = statuses.Undecided
 status_of holds = statuses.Good
 status_of fails = statuses.Negative
 
 abbrev pub text_of : Answer → List ℕ
-text_of (refused fault) = fault_text fault
+text_of (refused fault) = refused_text fault
 text_of (sat depth trace) = sat_text depth trace
-text_of (unsat depth) = unsat_text depth
-text_of holds = holds_text
-text_of fails = fails_text
+text_of (unsat depth) = unsat_text depth None None
+text_of (undecided depth) = undecided_text depth
+text_of holds = traced_text true
+text_of fails = traced_text false
 
--- a trace of the kind that satisfies the formula
-abbrev pub IsModel : Kind → Formula → Trace → Type 0
-IsModel kind f t = IsTrace t × IsOfKind t kind × Satisfies t f
+-- the layout of the letters of a formula's clauses
+abbrev pub layout : Formula → Kind → LayoutValue
+layout f kind = record { kind = kind; counts = counts f }
 
--- no trace of the kind satisfies the formula
-abbrev pub HasNoModel : Kind → Formula → Type 0
-HasNoModel kind f = (t : Trace) → ¬ (IsModel kind f t)
+-- the limit in force: the greatest depth up to n whose letters are within their limit
+pub record IsInForce (f : Formula) (kind : Kind) (n d : ℕ) : Type 0 where
+  pub below : d ≤ n
+  pub fits : Fits (layout f kind) d
+  pub greatest : (e : ℕ) → e ≤ n → Fits (layout f kind) e → e ≤ d
 
--- where each answer of `solve` comes: the part refused, the formula accepted but not built, SAT, UNSAT
-abbrev pub SolveAnswers : List Choice → List ℕ → Answer → Type 0
-SolveAnswers choices part (refused (faults.NotBuilt byte)) = (f : Formula) × IsAccepted part f × IsNotBuilt part byte
-SolveAnswers choices part (refused fault) = RefusesPart part fault
-SolveAnswers choices part (sat depth trace) = (f : Formula) × IsAccepted part f × IsBuilt part × (depth ≡ 0) × IsModel kinds.Infinite f trace
-SolveAnswers choices part (unsat depth) = (f : Formula) × IsAccepted part f × IsBuilt part × (depth ≡ 0) × HasNoModel kinds.Infinite f
-SolveAnswers choices part holds = ⊥
-SolveAnswers choices part fails = ⊥
+-- the number up to which the limit in force is taken: the depth that was asked for, or 64
+abbrev pub number_of : Option ℕ → ℕ
+number_of (Some n) = n
+number_of None = 64
+
+-- the limit is the depth that was asked for, where one was
+abbrev pub IsReached : Option ℕ → ℕ → Type 0
+IsReached (Some n) d = d ≡ n
+IsReached None d = Unit {0}
+
+-- the answer is the tableau's verdict at the limit, and its trace is that of an accepted run
+abbrev pub IsDecided : Formula → Kind → ℕ → Answer → Type 0
+IsDecided f kind limit (sat k t) = IsVerdict f kind limit (Sat k) × IsTraceOfRun f kind k t
+IsDecided f kind limit (unsat k) = IsVerdict f kind limit (Unsat k)
+IsDecided f kind limit (undecided k) = IsVerdict f kind limit (Undecided k)
+IsDecided f kind limit (refused fault) = ⊥
+IsDecided f kind limit holds = ⊥
+IsDecided f kind limit fails = ⊥
+
+-- the answer to an accepted formula: the depth that was asked for has too many letters, or the verdict at the limit in force
+pub data IsSettled (kind : Kind) (wanted : Option ℕ) (f : Formula) : Answer → Type 0 where
+  too_deep : (n limit : ℕ) → wanted ≡ Some n → IsInForce f kind n limit → limit < n → IsSettled kind wanted f (refused (faults.Letters limit))
+  decided : (limit : ℕ) (answer : Answer) → IsInForce f kind (number_of wanted) limit → IsReached wanted limit → IsDecided f kind limit answer → IsSettled kind wanted f answer
+
+-- the answer of `solve` to the formula part: the part is refused, or the formula is accepted and its answer comes
+pub data IsSolved (kind : Kind) (wanted : Option ℕ) (part : List ℕ) : Answer → Type 0 where
+  unreadable : (fault : Fault) → RefusesPart part fault → IsSolved kind wanted part (refused fault)
+  settled : (f : Formula) (answer : Answer) → IsAccepted part f → IsSettled kind wanted f answer → IsSolved kind wanted part answer
 
 -- the answer to an input of two parts: it has no separator, the formula part is refused, or the formula is accepted and
 -- its answer comes by the second part
@@ -93,7 +119,7 @@ pub data IsJudged (f : Formula) (text : List ℕ) : Answer → Type 0 where
 
 -- where each answer of a command comes
 abbrev pub Answers : Command → List ℕ → Answer → Type 0
-Answers (Solve choices) bytes answer = SolveAnswers choices bytes answer
+Answers (Solve choices) bytes answer = IsSolved (kind_of choices) (depth_of choices) bytes answer
 Answers (Check choices) bytes answer = ⊥
 Answers TraceWord bytes answer = IsParted IsJudged bytes answer
 Answers (Demo n) bytes answer = ⊥

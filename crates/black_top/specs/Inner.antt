@@ -1,31 +1,82 @@
 -- What the private calls give. No public contract cites this file.
-use Rattle.std.specs.Prelude.{◌≡◌, ◌<◌, ℕ, Bool, true, false, List, [], ◌∷◌, ◌++◌, length, map, All, bytes_eq, Option, None}
-use Rattle.std.specs.Set.{is_member, distinct_count}
-use Rattle.ltl_lexer.specs.declared.token.Token.{Token}
-use Rattle.ltl_lexer.specs.Tokens.{AreTokens, IsPartOf}
+use Rattle.std.specs.Prelude.{◌≡◌, ◌<◌, ◌≤◌, ℕ, List, ◌++◌, length, All, Option, Some, None}
+use Rattle.ltl_syntax.specs.declared.node.Kind.{Kind}
+use Rattle.ltl_syntax.specs.declared.node.Kind.TheVariants as kinds
 use Rattle.ltl_syntax.specs.Table.{tree_at}
-use Rattle.ltl_parser.specs.Grammar.{Reads}
-use Rattle.ltl_parser.specs.Text.{symbols, IsAccepted}
+use Rattle.ltl_parser.specs.Text.{IsAccepted}
+use Rattle.black_top.specs.declared.options.Options.{Options}
+use Rattle.black_top.specs.declared.options.SolveOption.{SolveOption}
+use Rattle.black_top.specs.declared.options.SolveOption.TheVariants as said
 use Rattle.black_top.specs.declared.output.Output.{Output}
 use Rattle.black_top.specs.declared.reading.Reading.{Reading}
 use Rattle.black_top.specs.declared.reading.Reading.TheVariants as readings
 use Rattle.black_top.specs.declared.words.Asked.{Asked}
 use Rattle.black_top.specs.declared.words.Asked.TheVariants as asked
-use Rattle.black_top.specs.Words.{Command, Solve, Trace as TraceWord}
-use Rattle.black_top.specs.NotBuilt.{spelling, names_of, AreBuilt}
+use Rattle.black_top.specs.Words.{Choice, Finite, Depth, Solve, Trace as TraceWord, Says, SayAll, Once, OfSolve, Asks, kind_of, depth_of}
 use Rattle.black_top.specs.Parts.{IsSeparator, EndsLine, BeginsLine}
 use Rattle.black_top.specs.Reading.{RefusesPart}
-use Rattle.black_top.specs.Answer.{Answer, Answers, status_of, text_of}
+use Rattle.black_top.specs.Answer.{Answer, status_of, text_of}
 use Rattle.black_top.specs.Run.{AreLeft}
 
--- the command that the words ask for
-abbrev pub command_of : Asked → Command
-command_of asked.Solve = Solve []
-command_of asked.Trace = TraceWord
+-- the choice that an option of `solve` is
+abbrev pub choice_of : SolveOption → Choice
+choice_of said.Finite = Finite
+choice_of (said.Depth n) = Depth n
 
--- the text is read as a formula by its tokens, or refused
+-- the options with a further one; none where it stands there already
+abbrev pub with_finite : Kind → Option ℕ → Option Options
+with_finite kinds.Infinite depth = Some (record { kind = kinds.Finite; depth = depth })
+with_finite kinds.Finite depth = None
+
+abbrev pub with_depth : Kind → Option ℕ → ℕ → Option Options
+with_depth kind None n = Some (record { kind = kind; depth = Some n })
+with_depth kind (Some m) n = None
+
+abbrev pub options_with : Options → SolveOption → Option Options
+options_with options said.Finite = with_finite options.kind options.depth
+options_with options (said.Depth n) = with_depth options.kind options.depth n
+
+-- a depth that is asked for is at most 1,000
+abbrev pub IsDepth : Option ℕ → Type 0
+IsDepth None = Unit {0}
+IsDepth (Some n) = n ≤ 1000
+
+-- the options are what the choices of `solve` say
+pub record AreOptions (choices : List Choice) (options : Options) : Type 0 where
+  pub once : Once choices
+  pub built : All OfSolve choices
+  pub kind : options.kind ≡ kind_of choices
+  pub depth : options.depth ≡ depth_of choices
+  pub small : IsDepth options.depth
+
+-- the words say choices of `solve`, which are these options
+pub record AreSaid (words : List (List ℕ)) (options : Options) : Type 0 where
+  pub choices : List Choice
+  pub said : SayAll choices words
+  pub are : AreOptions choices options
+
+-- the words say no choices of `solve`
+abbrev pub NoneAreSaid : List (List ℕ) → Type 0
+NoneAreSaid words = (choices : List Choice) → SayAll choices words → Once choices → All OfSolve choices → ⊥
+
+-- the first words say a choice of `solve`, and these words stand behind it
+pub record SaysFirst (words : List (List ℕ)) (option : SolveOption) (behind : List (List ℕ)) : Type 0 where
+  pub front : List (List ℕ)
+  pub whole : words ≡ front ++ behind
+  pub says : Says (choice_of option) front
+
+-- no first words say a choice of `solve`
+abbrev pub SaysNothing : List (List ℕ) → Type 0
+SaysNothing words = (c : Choice) (front behind : List (List ℕ)) → OfSolve c → Says c front → words ≡ front ++ behind → ⊥
+
+-- the words ask for the command
+abbrev pub IsAsked : List (List ℕ) → Asked → Type 0
+IsAsked words (asked.Solve options) = (choices : List Choice) × Asks words (Solve choices) × AreOptions choices options
+IsAsked words asked.Trace = Asks words TraceWord
+
+-- the text is read as a formula, or refused
 abbrev pub IsPartReading : List ℕ → Reading → Type 0
-IsPartReading text (readings.Formula tokens table root) = (root < length table.nodes) × IsAccepted text (tree_at table root) × AreTokens 0 text tokens.items None × Reads (symbols text tokens.items) (tree_at table root)
+IsPartReading text (readings.Formula table root) = (root < length table.nodes) × IsAccepted text (tree_at table root)
 IsPartReading text (readings.Refused fault) = RefusesPart text fault
 
 -- a separator line begins so many bytes from the start, and this stands behind it
@@ -44,25 +95,13 @@ pub record OpensSecond (bytes : List ℕ) (start : ℕ) (second : List ℕ) : Ty
 abbrev pub OpensNothing : List ℕ → ℕ → Type 0
 OpensNothing bytes start = (second : List ℕ) → ¬ (OpensSecond bytes start second)
 
--- the command's answer to what the source had left
-pub record IsAnswerOf (command : Command) (rest : Option (List ℕ)) (answer : Answer) : Type 0 where
+-- the answer comes of what the source had left
+pub record IsLeft (Comes : List ℕ → Answer → Type 0) (rest : Option (List ℕ)) (answer : Answer) : Type 0 where
   pub bytes : List ℕ
   pub left : AreLeft rest bytes
-  pub lawful : Answers command bytes answer
+  pub lawful : Comes bytes answer
 
 -- the output has the answer's status and its text
 pub record Shows (output : Output) (answer : Answer) : Type 0 where
   pub status : output.status ≡ status_of answer
   pub text : output.text.items ≡ text_of answer
-
--- the tokens before are built, and the kept ones brought their names, each another one
-pub record Bring (text : List ℕ) (before kept : List Token) : Type 0 where
-  pub built : AreBuilt text before
-  pub count : distinct_count bytes_eq (names_of text before) ≡ length kept
-  pub known : (name : List ℕ) → is_member bytes_eq (map (spelling text) kept) name ≡ is_member bytes_eq (names_of text before) name
-  pub fitting : All (IsPartOf text) kept
-
--- whether the token may come behind those before, and which are kept then
-abbrev pub Admits : List ℕ → List Token → Token → List Token → Bool → Type 0
-Admits text before token kept true = Bring text (before ++ token ∷ []) kept
-Admits text before token kept false = ¬ (AreBuilt text (before ++ token ∷ []))

@@ -1,10 +1,7 @@
 pub mod Status
 pub mod Words
-pub mod NotBuilt
 pub mod Parts
 pub mod Reading
-pub mod Texts
 pub mod Answer
-pub mod Search
 pub mod Inner
 pub mod Run

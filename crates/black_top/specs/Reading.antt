@@ -3,8 +3,8 @@ use Rattle.std.specs.Prelude.{◌≡◌, ◌≤◌, ◌<◌, ℕ, List, length}
 use Rattle.ltl_lexer.specs.Tokens.{IsLexicalFault}
 use Rattle.ltl_parser.specs.Text.{ReadsText, IsGrammarFault}
 use Rattle.ltl_syntax.specs.Formula.{Formula, nodes_in}
-use Rattle.black_top.specs.declared.fault.Fault.{Fault}
-use Rattle.black_top.specs.declared.fault.Fault.TheVariants as faults
+use Rattle.report.specs.declared.fault.Fault.{Fault}
+use Rattle.report.specs.declared.fault.Fault.TheVariants as faults
 
 -- the part reads as a formula of so many nodes, which are too many
 abbrev pub HasManyNodes : List ℕ → ℕ → Type 0

@@ -1,5 +1,5 @@
 -- What one call of the program did.
-use Rattle.std.specs.Prelude.{◌≡◌, ℕ, List, Option, IfSome, Bool, true, false, Ok}
+use Rattle.std.specs.Prelude.{◌≡◌, ◌<◌, ℕ, List, Option, Some, None, IfSome, Bool, true, false, Ok}
 use Rattle.ltl_io.specs.Outside.{Grows, GrowsByFront}
 use Rattle.ltl_syntax.specs.declared.node.Kind.{Kind}
 use Rattle.ltl_syntax.specs.Formula.{Formula}
@@ -7,12 +7,15 @@ use Rattle.ltl_parser.specs.Text.{IsAccepted}
 use Rattle.ltl_word.specs.declared.trace.Trace.{Trace}
 use Rattle.ltl_word.specs.Holds.{Satisfies}
 use Rattle.ltl_word.specs.Json.{IsReading}
+use Rattle.ltl_closure.specs.Run.{IsVerdict, Undecided, bound}
+use Rattle.enc_layout.specs.Letters.{Fits}
+use Rattle.unravel.specs.Decision.{IsModel, HasNoTrace}
+use Rattle.report.specs.Texts.{sat_text, unsat_text, undecided_text, traced_text}
 use Rattle.black_top.specs.declared.status.Status.{Status}
 use Rattle.black_top.specs.declared.status.Status.TheVariants as statuses
 use Rattle.black_top.specs.Words.{Command, Asks, ReadsNothing}
 use Rattle.black_top.specs.Parts.{IsCut}
-use Rattle.black_top.specs.Texts.{sat_text, unsat_text, holds_text, fails_text}
-use Rattle.black_top.specs.Answer.{Answer, IsAnswer, status_of, text_of, IsModel, HasNoModel}
+use Rattle.black_top.specs.Answer.{Answer, IsAnswer, IsInForce, IsReached, IsDecided, layout, number_of, status_of, text_of}
 
 -- the status is that of an answer, and not of a fault or of want of memory
 abbrev pub is_answer : Status → Bool
@@ -52,14 +55,37 @@ NeedsNothing words = (c : Command) → Asks words c → ReadsNothing c
 pub record PrintsModel (kind : Kind) (f : Formula) (before after : Option (List ℕ)) : Type 0 where
   pub depth : ℕ
   pub trace : Trace
-  pub model : IsModel kind f trace
+  pub model : IsModel f kind trace
   pub printed : Grows (sat_text depth trace) before after
 
 -- UNSAT was printed, and no trace of the kind satisfies the formula
 pub record PrintsNone (kind : Kind) (f : Formula) (before after : Option (List ℕ)) : Type 0 where
   pub depth : ℕ
-  pub none : HasNoModel kind f
-  pub printed : Grows (unsat_text depth) before after
+  pub none : HasNoTrace f kind
+  pub printed : Grows (unsat_text depth None None) before after
+
+-- UNDECIDED was printed: the verdict at the limit in force is so, and that limit is below the bound
+pub record PrintsUndecided (kind : Kind) (wanted : Option ℕ) (f : Formula) (before after : Option (List ℕ)) : Type 0 where
+  pub limit : ℕ
+  pub in_force : IsInForce f kind (number_of wanted) limit
+  pub verdict : IsVerdict f kind limit (Undecided limit)
+  pub below_bound : limit < bound f kind
+  pub printed : Grows (undecided_text limit) before after
+
+-- the letters through the depth that was asked for are within their limit
+abbrev pub AreFewLetters : Kind → Option ℕ → Formula → Type 0
+AreFewLetters kind (Some n) f = Fits (layout f kind) n
+AreFewLetters kind None f = Unit {0}
+
+-- the verdict at the limit in force was printed, with its status
+pub record PrintsVerdict (kind : Kind) (wanted : Option ℕ) (f : Formula) (before after : Option (List ℕ)) (status : Status) : Type 0 where
+  pub limit : ℕ
+  pub in_force : IsInForce f kind (number_of wanted) limit
+  pub reached : IsReached wanted limit
+  pub answer : Answer
+  pub decided : IsDecided f kind limit answer
+  pub own : status ≡ status_of answer
+  pub printed : Grows (text_of answer) before after
 
 -- what is claimed of the accepted formula that the source had left
 abbrev pub OfFormula : Option (List ℕ) → (Formula → Type 0) → Type 0
@@ -67,11 +93,11 @@ OfFormula rest Claim = (bytes : List ℕ) × AreLeft rest bytes × (f : Formula)
 
 -- HOLDS was printed, and the trace satisfies the formula
 abbrev pub PrintsHolds : Formula → Trace → Option (List ℕ) → Option (List ℕ) → Type 0
-PrintsHolds f t before after = Satisfies t f × Grows holds_text before after
+PrintsHolds f t before after = Satisfies t f × Grows (traced_text true) before after
 
 -- FAILS was printed, and the trace does not satisfy the formula
 abbrev pub PrintsFails : Formula → Trace → Option (List ℕ) → Option (List ℕ) → Type 0
-PrintsFails f t before after = ¬ (Satisfies t f) × Grows fails_text before after
+PrintsFails f t before after = ¬ (Satisfies t f) × Grows (traced_text false) before after
 
 -- what is claimed of the accepted formula and of the trace that the source had left
 pub record OfTrace (rest : Option (List ℕ)) (Claim : Formula → Trace → Type 0) : Type 0 where

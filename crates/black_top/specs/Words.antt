@@ -1,6 +1,8 @@
 -- The lists of words that are taken, and what they say.
-use Rattle.std.specs.Prelude.{◌≡◌, ◌≢◌, ◌≤◌, ◌⊎◌, ◌++◌, ℕ, List, [], ◌∷◌, length, codes, AllPairs, All}
+use Rattle.std.specs.Prelude.{◌≡◌, ◌≢◌, ◌≤◌, ◌⊎◌, ◌++◌, ℕ, List, [], ◌∷◌, length, codes, AllPairs, All, Option, Some, None}
 use Rattle.std.specs.Str.Parse.{IsNumeral, digits_value}
+use Rattle.ltl_syntax.specs.declared.node.Kind.{Kind}
+use Rattle.ltl_syntax.specs.declared.node.Kind.TheVariants as kinds
 
 -- what one option says
 pub data Choice : Type 0 where
@@ -52,6 +54,14 @@ SayAll (c ∷ cs) words = (front : List (List ℕ)) × (back : List (List ℕ)) 
 abbrev pub Once : List Choice → Type 0
 Once choices = AllPairs (λ a b. name a ≢ name b) choices
 
+-- the options of solve that are built so far
+abbrev pub OfSolve : Choice → Type 0
+OfSolve Finite = Unit {0}
+OfSolve (Depth n) = Unit {0}
+OfSolve Cert = ⊥
+OfSolve Core = ⊥
+OfSolve (Workers n) = ⊥
+
 -- the options of check
 abbrev pub OfCheck : Choice → Type 0
 OfCheck Finite = Unit {0}
@@ -69,8 +79,7 @@ Taken words (Demo n) = (digits : List ℕ) × IsNumber 2 2 64 digits n × (words
 
 -- what is built of the table so far; a further command or option takes its line out of the ⊥
 abbrev pub IsOffered : Command → Type 0
-IsOffered (Solve []) = Unit {0}
-IsOffered (Solve (c ∷ cs)) = ⊥
+IsOffered (Solve choices) = All OfSolve choices
 IsOffered (Check choices) = ⊥
 IsOffered Trace = Unit {0}
 IsOffered (Demo n) = ⊥
@@ -78,6 +87,18 @@ IsOffered (Demo n) = ⊥
 -- the words are taken as this command
 abbrev pub Asks : List (List ℕ) → Command → Type 0
 Asks words c = Taken words c × IsOffered c
+
+-- the kind of trace that the choices say: finite where it stands there
+abbrev pub kind_of : List Choice → Kind
+kind_of [] = kinds.Infinite
+kind_of (Finite ∷ cs) = kinds.Finite
+kind_of (c ∷ cs) = kind_of cs
+
+-- the depth that the choices say, where one stands there
+abbrev pub depth_of : List Choice → Option ℕ
+depth_of [] = None
+depth_of (Depth n ∷ cs) = Some n
+depth_of (c ∷ cs) = depth_of cs
 
 -- whether a command reads the source
 abbrev pub ReadsNothing : Command → Type 0

@@ -1,22 +1,20 @@
 // The answer to words and a source, by the command that the words ask for.
-ghost use Rattle.std.specs.Prelude.{◌≡◌, [], map, string_bytes, IfOk, OnOk, IsErrOf};
+ghost use Rattle.std.specs.Prelude.{◌≡◌, map, string_bytes, IfOk, OnOk, IsErrOf};
 ghost use Rattle.ltl_io.specs.Count.{Rose, Counts};
 ghost use Rattle.ltl_io.specs.declared.source.ReadRefused.TheVariants as read_refused;
-ghost use Rattle.black_top.specs.Words.{Solve, Trace as TraceWord};
-ghost use Rattle.black_top.specs.Answer.{Answer, SolveAnswers, IsParted, IsJudged};
-ghost use Rattle.black_top.specs.Inner.{Shows, IsAnswerOf};
+ghost use Rattle.black_top.specs.Answer.{Answer, IsSolved, IsParted, IsJudged};
+ghost use Rattle.black_top.specs.Inner.{Shows, IsDepth, IsLeft};
 ghost use Rattle.black_top.specs.Run.{IsGiven, NeedsNothing};
 
-use crate::fault::Fault;
+use crate::deciding::settle;
 use crate::judging::judge;
-use crate::not_built::first_not_built;
-use crate::output::{Output, refusal, sat, unsat};
+use crate::options::Options;
+use crate::output::{Output, refusal};
 use crate::parts::cut;
 use crate::reading::{MOST_BYTES, Reading, read_formula};
-use crate::search::find;
-use crate::witness::witness;
 use crate::words::{Asked, asked_command};
 use ltl_io::{ReadRefused, Source, read_whole};
+use report::Fault;
 use std::alloc::{AllocError, Global};
 
 /// What the program is to print, and its status.
@@ -34,26 +32,27 @@ pub fn answer<S: Source>(
 {
     match asked_command(words) {
         None => Ok(refusal(alloc, Fault::Usage)?),
-        Some(Asked::Solve) => solve(alloc, source),
+        Some(Asked::Solve(options)) => solve(alloc, options, source),
         Some(Asked::Trace) => trace(alloc, source),
     }
 }
 
 /// The answer of `solve`, which takes the whole source as a formula.
-fn solve<S: Source>(alloc: Global, source: &mut S) -> Result<Output, ReadRefused>
-    ensures given { IfOk result (λ out. (a : Answer) × IsAnswerOf (Solve []) (S.rest source.old) a × Shows out a) }
+fn solve<S: Source>(alloc: Global, options: Options, source: &mut S) -> Result<Output, ReadRefused>
+    requires depth { IsDepth options.depth }
+    ensures given { IfOk result (λ out. (a : Answer) × IsLeft (IsSolved options.kind options.depth) (S.rest source.old) a × Shows out a) }
     ensures fault { IsErrOf result read_refused.Fault → Rose (S.faults source.old) (S.faults source.new) }
     ensures no_memory { IsErrOf result read_refused.NoMemory → S.faults source.new ≡ S.faults source.old }
     ensures count { OnOk result (S.faults source.new ≡ S.faults source.old) }
     ensures counts { Counts (S.faults source.old) (S.faults source.new) }
 {
     let text = read_whole(alloc, source, MOST_BYTES)?;
-    Ok(solve_text(alloc, &text)?)
+    Ok(solve_text(alloc, options, &text)?)
 }
 
 /// The answer of `trace`, which takes a formula and a trace.
 fn trace<S: Source>(alloc: Global, source: &mut S) -> Result<Output, ReadRefused>
-    ensures given { IfOk result (λ out. (a : Answer) × IsAnswerOf TraceWord (S.rest source.old) a × Shows out a) }
+    ensures given { IfOk result (λ out. (a : Answer) × IsLeft (IsParted IsJudged) (S.rest source.old) a × Shows out a) }
     ensures fault { IsErrOf result read_refused.Fault → Rose (S.faults source.old) (S.faults source.new) }
     ensures no_memory { IsErrOf result read_refused.NoMemory → S.faults source.new ≡ S.faults source.old }
     ensures count { OnOk result (S.faults source.new ≡ S.faults source.old) }
@@ -64,23 +63,13 @@ fn trace<S: Source>(alloc: Global, source: &mut S) -> Result<Output, ReadRefused
 }
 
 /// The answer of `solve` to a text. One that is too long may be a front of the source.
-fn solve_text(alloc: Global, text: &[u8]) -> Result<Output, AllocError>
-    ensures { IfOk result (λ out. (a : Answer) × SolveAnswers [] text.now a × Shows out a) }
+fn solve_text(alloc: Global, options: Options, text: &[u8]) -> Result<Output, AllocError>
+    requires depth { IsDepth options.depth }
+    ensures { IfOk result (λ out. (a : Answer) × IsSolved options.kind options.depth text.now a × Shows out a) }
 {
-    let (tokens, table, root) = match read_formula(alloc, text)? {
-        Reading::Refused(fault) => return refusal(alloc, fault),
-        Reading::Formula {
-            tokens,
-            table,
-            root,
-        } => (tokens, table, root),
-    };
-    if let Some(byte) = first_not_built(alloc, text, &tokens)? {
-        return refusal(alloc, Fault::NotBuilt(byte));
-    }
-    match find(alloc, &table, root)? {
-        Some(values) => sat(alloc, 0, &witness(alloc, &table, &values)?),
-        None => unsat(alloc, 0),
+    match read_formula(alloc, text)? {
+        Reading::Refused(fault) => refusal(alloc, fault),
+        Reading::Formula { table, root } => settle(alloc, &table, root, options),
     }
 }
 
@@ -93,6 +82,6 @@ fn trace_input(alloc: Global, input: &[u8]) -> Result<Output, AllocError>
     };
     match read_formula(alloc, parts.formula)? {
         Reading::Refused(fault) => refusal(alloc, fault),
-        Reading::Formula { table, root, .. } => judge(alloc, &table, root, parts.second),
+        Reading::Formula { table, root } => judge(alloc, &table, root, parts.second),
     }
 }

@@ -4,11 +4,11 @@ ghost use Rattle.ltl_syntax.specs.Table.{tree_at};
 ghost use Rattle.black_top.specs.Answer.{Answer, IsJudged};
 ghost use Rattle.black_top.specs.Inner.{Shows};
 
-use crate::fault::Fault;
 use crate::output::{Output, fails, holds, refusal};
 use lasso_eval::EvalRefused;
 use ltl_syntax::FormulaTable;
 use ltl_word::{Trace, TraceFault};
+use report::Fault;
 use std::alloc::{AllocError, Global};
 
 /// HOLDS or FAILS, or why the text is no trace or is not evaluated.

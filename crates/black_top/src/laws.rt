@@ -12,7 +12,7 @@ pub fn one_command()
 pub fn one_answer()
     ensures { (words : List (List ℕ)) (bytes : List ℕ) (a b : Answer) → IsAnswer words bytes a → IsAnswer words bytes b → AreAlike a b }
 {
-    ltl_lexer::laws::one_list();
     ltl_parser::laws::one_outcome();
     ltl_word::laws::one_reading();
+    ltl_run::laws::one_verdict();
 }

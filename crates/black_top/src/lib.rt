@@ -2,20 +2,17 @@
 #![tactic(auto)]
 
 mod answer;
-mod evaluation;
-mod fault;
+mod deciding;
 mod judging;
 pub mod laws;
-mod not_built;
+mod options;
 mod output;
 mod parts;
 mod reading;
-mod search;
 mod status;
 #[cfg(test)]
 mod tests;
 mod top;
-mod witness;
 mod words;
 
 pub use status::Status;

@@ -2,10 +2,10 @@
 ghost use Rattle.std.specs.Prelude.{IfOk};
 ghost use Rattle.black_top.specs.Inner.{IsPartReading};
 
-use crate::fault::Fault;
-use ltl_lexer::{LexRefused, Token, tokens};
+use ltl_lexer::{LexRefused, tokens};
 use ltl_parser::{ParseRefused, parse};
 use ltl_syntax::FormulaTable;
+use report::Fault;
 use std::alloc::{AllocError, Global};
 
 /// The most bytes of a formula part.
@@ -15,11 +15,7 @@ pub const MOST_BYTES: usize = 1_048_576;
 #[derive(Drop)]
 pub enum Reading {
     /// The formula is the tree under the root.
-    Formula {
-        tokens: Vec<Token>,
-        table: FormulaTable,
-        root: u32,
-    },
+    Formula { table: FormulaTable, root: u32 },
     Refused(Fault),
 }
 
@@ -38,11 +34,7 @@ pub fn read_formula(alloc: Global, text: &[u8]) -> Result<Reading, AllocError>
         Err(LexRefused::NoMemory) => return Err(AllocError),
     };
     match parse(alloc, text, &tokens) {
-        Ok((table, root)) => Ok(Reading::Formula {
-            tokens,
-            table,
-            root,
-        }),
+        Ok((table, root)) => Ok(Reading::Formula { table, root }),
         Err(ParseRefused::Grammar(byte)) => Ok(Reading::Refused(Fault::Grammar(byte))),
         Err(ParseRefused::Nodes(count)) => Ok(Reading::Refused(Fault::Nodes(count))),
         Err(ParseRefused::NoMemory) => Err(AllocError),

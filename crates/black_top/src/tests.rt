@@ -9,34 +9,42 @@ use std::thread::Threads;
 const USAGE: &[u8] =
     b"usage: black solve [--finite] [--depth N] [--cert] [--core] [--workers N]\nusage: black check [--finite] [--workers N]\nusage: black trace\nusage: black demo N\n";
 
-fn list(alloc: Global, words: &[&str]) -> Result<Vec<String>, AllocError> {
+const RECURRING: &[u8] = b"G F p & G !p";
+
+const NINE: &[u8] = b"G F a & G F b & G F c & G F d & G F e & G F f & G F g & G F h & G F i";
+
+fn list(alloc: Global, words: &str) -> Result<Vec<String>, AllocError> {
     let mut all = Vec::new(alloc);
-    for word in words {
+    for word in words.split_whitespace() {
         all.push(String::from_str(alloc, word)?)?;
     }
     Ok(all)
 }
 
-/// Runs over a source that gives all at once and a sink that takes seven bytes a write.
+/// The status and the output over a source that gives all at once and a sink that takes seven bytes a write.
+fn answer<R: Threads + Sync>(
+    rt: &R,
+    alloc: Global,
+    words: &str,
+    input: &[u8],
+) -> Result<(Status, Vec<u8>), AllocError> {
+    let words = list(alloc, words)?;
+    let mut source = SureSource::new(input.to_vec(alloc)?);
+    let mut sink = MemorySink::new(alloc, 1024, 7, Vec::new(alloc))?;
+    let status = run(rt, alloc, &words, &mut source, &mut sink, &NoGate);
+    Ok((status, sink.content().to_vec(alloc)?))
+}
+
 fn shows<R: Threads + Abort + Sync>(
     rt: &R,
     alloc: Global,
-    words: &[&str],
+    words: &str,
     input: &[u8],
     output: &[u8],
     status: Status,
 ) -> Result<(), Fail> {
-    let mut source = SureSource::new(input.to_vec(alloc)?);
-    let mut sink = MemorySink::new(alloc, 1024, 7, Vec::new(alloc))?;
-    let given = run(
-        rt,
-        alloc,
-        &list(alloc, words)?,
-        &mut source,
-        &mut sink,
-        &NoGate,
-    );
-    assert!(rt; given == status && sink.content() == output);
+    let (given, text) = answer(rt, alloc, words, input)?;
+    assert!(rt; given == status && *text == *output);
     Ok(())
 }
 
@@ -48,21 +56,186 @@ fn padded(alloc: Global, byte: u8, count: usize, last: &[u8]) -> Result<Vec<u8>,
 }
 
 #[test]
-fn rows(rt: HostRuntime) -> Result<(), Fail> {
+fn without_operators(rt: HostRuntime) -> Result<(), Fail> {
     let alloc = rt.alloc();
     let p = b"SAT 0\n{\"kind\":\"infinite\",\"loop\":[[]],\"stem\":[[\"p\"]]}\n".as_slice();
     let q = b"SAT 0\n{\"kind\":\"infinite\",\"loop\":[[]],\"stem\":[[\"q\"]]}\n".as_slice();
     let none = b"SAT 0\n{\"kind\":\"infinite\",\"loop\":[[]],\"stem\":[[]]}\n".as_slice();
     let negations = padded(alloc, b'!', 16_383, b"p")?;
-    let one_more = padded(alloc, b'!', 16_384, b"p")?;
-    let spaces = padded(alloc, b' ', 1_048_576, b"")?;
-    let too_long = padded(alloc, b' ', 1_048_576, b" ")?;
-    let table: [(&[u8], &[u8], Status); 21] = [
+    let table: [(&[u8], &[u8], Status); 7] = [
         (b"p", p, Status::Sat),
         (b"p & !p", b"UNSAT 0\n", Status::Unsat),
         (b"p & !q", p, Status::Sat),
         (b"(p | q) & !p", q, Status::Sat),
         ("é && ~é".as_bytes(), b"UNSAT 0\n", Status::Unsat),
+        (
+            b"!(a&b&c&d&e&f&g&h&i&j&k&l&m&n&o&p)&a&b&c&d&e&f&g&h&i&j&k&l&m&n&o&p",
+            b"UNSAT 0\n",
+            Status::Unsat,
+        ),
+        (&negations, none, Status::Sat),
+    ];
+    for (input, output, status) in &table {
+        shows(&rt, alloc, "solve", input, output, *status)?;
+    }
+    Ok(())
+}
+
+#[test]
+fn infinite_traces(rt: HostRuntime) -> Result<(), Fail> {
+    let alloc = rt.alloc();
+    let table: [(&[u8], &[u8], Status); 10] = [
+        (
+            b"G p",
+            b"SAT 1\n{\"kind\":\"infinite\",\"loop\":[[\"p\"]],\"stem\":[[\"p\"]]}\n",
+            Status::Sat,
+        ),
+        (
+            b"p & G(p -> X !p) & G(!p -> X p)",
+            b"SAT 2\n{\"kind\":\"infinite\",\"loop\":[[],[\"p\"]],\"stem\":[[\"p\"]]}\n",
+            Status::Sat,
+        ),
+        (RECURRING, b"UNSAT 2\n", Status::Unsat),
+        (b"wX false", b"UNSAT 1\n", Status::Unsat),
+        (
+            b"G X true",
+            b"SAT 1\n{\"kind\":\"infinite\",\"loop\":[[]],\"stem\":[[]]}\n",
+            Status::Sat,
+        ),
+        (b"Y p", b"UNSAT 0\n", Status::Unsat),
+        (
+            b"Z false",
+            b"SAT 0\n{\"kind\":\"infinite\",\"loop\":[[]],\"stem\":[[]]}\n",
+            Status::Sat,
+        ),
+        (
+            b"F(p & !q & Y(q & !p))",
+            b"SAT 1\n{\"kind\":\"infinite\",\"loop\":[[]],\"stem\":[[\"q\"],[\"p\"]]}\n",
+            Status::Sat,
+        ),
+        (
+            b"G(req -> F grant) & G(grant -> Y O req) & G F req",
+            b"SAT 1\n{\"kind\":\"infinite\",\"loop\":[[\"grant\",\"req\"]],\"stem\":[[\"req\"]]}\n",
+            Status::Sat,
+        ),
+        (
+            b"G(p <-> Y !p)",
+            b"SAT 2\n{\"kind\":\"infinite\",\"loop\":[[\"p\"],[]],\"stem\":[[]]}\n",
+            Status::Sat,
+        ),
+    ];
+    for (input, output, status) in &table {
+        shows(&rt, alloc, "solve", input, output, *status)?;
+    }
+    Ok(())
+}
+
+#[test]
+fn options(rt: HostRuntime) -> Result<(), Fail> {
+    let alloc = rt.alloc();
+    let table: [(&str, &[u8], &[u8], Status); 13] = [
+        (
+            "solve --finite",
+            b"G p",
+            b"SAT 0\n{\"kind\":\"finite\",\"states\":[[\"p\"]]}\n",
+            Status::Sat,
+        ),
+        (
+            "solve --finite",
+            b"wX false",
+            b"SAT 0\n{\"kind\":\"finite\",\"states\":[[]]}\n",
+            Status::Sat,
+        ),
+        (
+            "solve --finite",
+            b"!p & X p",
+            b"SAT 1\n{\"kind\":\"finite\",\"states\":[[],[\"p\"]]}\n",
+            Status::Sat,
+        ),
+        ("solve --finite", b"G X true", b"UNSAT 1\n", Status::Unsat),
+        ("solve --finite", RECURRING, b"UNSAT 1\n", Status::Unsat),
+        (
+            "solve --depth 1",
+            RECURRING,
+            b"UNDECIDED 1\n",
+            Status::Undecided,
+        ),
+        (
+            "solve --depth=1",
+            RECURRING,
+            b"UNDECIDED 1\n",
+            Status::Undecided,
+        ),
+        ("solve --depth 16", RECURRING, b"UNSAT 2\n", Status::Unsat),
+        (
+            "solve --depth=1 --finite",
+            RECURRING,
+            b"UNSAT 1\n",
+            Status::Unsat,
+        ),
+        (
+            "solve --finite --depth 0000",
+            RECURRING,
+            b"UNDECIDED 0\n",
+            Status::Undecided,
+        ),
+        (
+            "solve --depth 1000",
+            NINE,
+            b"limit letters 16777216 greatest depth 937\n",
+            Status::Limit,
+        ),
+        (
+            "solve --depth 1000",
+            b"p",
+            b"SAT 0\n{\"kind\":\"infinite\",\"loop\":[[]],\"stem\":[[\"p\"]]}\n",
+            Status::Sat,
+        ),
+        (
+            "solve --depth 1000",
+            b"p &",
+            b"grammar fault at byte 3\n",
+            Status::Text,
+        ),
+    ];
+    for (words, input, output, status) in &table {
+        shows(&rt, alloc, words, input, output, *status)?;
+    }
+    Ok(())
+}
+
+#[test]
+fn refused_words(rt: HostRuntime) -> Result<(), Fail> {
+    let alloc = rt.alloc();
+    let table: [&str; 14] = [
+        "solve --depth 1001",
+        "solve --finite --finite",
+        "solve --dep 3",
+        "solve --depth",
+        "solve --depth=",
+        "solve --depth 00001",
+        "solve --depth +1",
+        "solve --depth=1 --depth 2",
+        "solve --cert",
+        "solve p",
+        "trace --finite",
+        "check",
+        "demo 1",
+        "",
+    ];
+    for words in &table {
+        shows(&rt, alloc, words, b"p", USAGE, Status::Usage)?;
+    }
+    Ok(())
+}
+
+#[test]
+fn refused_texts(rt: HostRuntime) -> Result<(), Fail> {
+    let alloc = rt.alloc();
+    let one_more = padded(alloc, b'!', 16_384, b"p")?;
+    let spaces = padded(alloc, b' ', 1_048_576, b"")?;
+    let too_long = padded(alloc, b' ', 1_048_576, b" ")?;
+    let table: [(&[u8], &[u8], Status); 11] = [
         (b"", b"grammar fault at byte 0\n", Status::Text),
         (b"p &", b"grammar fault at byte 3\n", Status::Text),
         (b"(p", b"grammar fault at byte 2\n", Status::Text),
@@ -71,36 +244,40 @@ fn rows(rt: HostRuntime) -> Result<(), Fail> {
         (b"p $ q", b"lexical fault at byte 2\n", Status::Text),
         (b"p) $", b"lexical fault at byte 3\n", Status::Text),
         (b"p\xff", b"lexical fault at byte 1\n", Status::Text),
-        (b"X p", b"not built at byte 0\n", Status::Text),
-        (b"p & G q", b"not built at byte 4\n", Status::Text),
-        (
-            b"!(a&b&c&d&e&f&g&h&i&j&k&l&m&n&o&p)&a&b&c&d&e&f&g&h&i&j&k&l&m&n&o&p",
-            b"UNSAT 0\n",
-            Status::Unsat,
-        ),
-        (
-            b"a&b&c&d&e&f&g&h&i&j&k&l&m&n&o&p&a&q&X r",
-            b"not built at byte 34\n",
-            Status::Text,
-        ),
-        (&negations, none, Status::Sat),
         (&one_more, b"limit nodes 16384 have 16385\n", Status::Limit),
         (&too_long, b"limit text 1048576\n", Status::Limit),
         (&spaces, b"grammar fault at byte 1048576\n", Status::Text),
     ];
     for (input, output, status) in &table {
-        shows(&rt, alloc, &["solve"], input, output, *status)?;
+        shows(&rt, alloc, "solve", input, output, *status)?;
     }
-    shows(
-        &rt,
-        alloc,
-        &["solve", "--depth", "3"],
-        b"p",
-        USAGE,
-        Status::Usage,
-    )?;
-    shows(&rt, alloc, &["check"], b"p", USAGE, Status::Usage)?;
-    shows(&rt, alloc, &[], b"p", USAGE, Status::Usage)
+    Ok(())
+}
+
+/// `solve` prints the first line and a trace on which `trace` says that the formula holds.
+fn shows_model<R: Threads + Abort + Sync>(
+    rt: &R,
+    alloc: Global,
+    formula: &[u8],
+    first_line: &[u8],
+) -> Result<(), Fail> {
+    let (status, text) = answer(rt, alloc, "solve", formula)?;
+    let Some(trace) = text.strip_prefix(first_line) else {
+        return Err(Fail::new("another first line"));
+    };
+    assert!(rt; status == Status::Sat);
+    let mut input = formula.to_vec(alloc)?;
+    input.extend_from_slice(b"\n---\n")?;
+    input.extend_from_slice(trace)?;
+    shows(rt, alloc, "trace", &input, b"HOLDS\n", Status::Good)
+}
+
+/// Formulas whose traces are not forced.
+#[test]
+fn printed_traces_hold(rt: HostRuntime) -> Result<(), Fail> {
+    let alloc = rt.alloc();
+    shows_model(&rt, alloc, b"X p", b"SAT 1\n")?;
+    shows_model(&rt, alloc, b"G X F p & G X F !p", b"SAT 2\n")
 }
 
 #[test]
@@ -210,16 +387,9 @@ fn trace_rows(rt: HostRuntime) -> Result<(), Fail> {
         (b"p $ q\n---\n[", b"lexical fault at byte 2\n", Status::Text),
     ];
     for (input, output, status) in &table {
-        shows(&rt, alloc, &["trace"], input, output, *status)?;
+        shows(&rt, alloc, "trace", input, output, *status)?;
     }
-    shows(
-        &rt,
-        alloc,
-        &["trace", "--finite"],
-        b"p",
-        USAGE,
-        Status::Usage,
-    )
+    Ok(())
 }
 
 #[test]
@@ -230,7 +400,7 @@ fn second_read_fails(rt: HostRuntime) -> Result<(), Fail> {
     let status = run(
         &rt,
         alloc,
-        &list(alloc, &["solve"])?,
+        &list(alloc, "solve")?,
         &mut source,
         &mut sink,
         &NoGate,
@@ -247,7 +417,7 @@ fn second_write_fails(rt: HostRuntime) -> Result<(), Fail> {
     let status = run(
         &rt,
         alloc,
-        &list(alloc, &["solve"])?,
+        &list(alloc, "solve")?,
         &mut source,
         &mut sink,
         &NoGate,

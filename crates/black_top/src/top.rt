@@ -1,10 +1,11 @@
 // The top call.
-ghost use Rattle.std.specs.Prelude.{◌≡◌, ◌⊎◌, ◌<◌, List, map, string_bytes, IsTrue};
+ghost use Rattle.std.specs.Prelude.{◌≡◌, ◌⊎◌, ◌<◌, ℕ, List, Some, map, string_bytes, IsTrue};
 ghost use Rattle.ltl_io.specs.Count.{Rose};
-ghost use Rattle.ltl_syntax.specs.declared.node.Kind.TheVariants as kinds;
+ghost use Rattle.ltl_syntax.specs.Formula.{Formula};
+ghost use Rattle.ltl_parser.specs.Text.{IsAccepted};
 ghost use Rattle.black_top.specs.declared.status.Status.TheVariants as statuses;
-ghost use Rattle.black_top.specs.Words.{Choice, Solve, Trace as TraceWord, Asks};
-ghost use Rattle.black_top.specs.Run.{is_answer, IsAnswered, IsCutOff, NeedsNothing, OfFormula, PrintsModel, PrintsNone, OfTrace, PrintsHolds, PrintsFails};
+ghost use Rattle.black_top.specs.Words.{Choice, Solve, Trace as TraceWord, Asks, kind_of, depth_of};
+ghost use Rattle.black_top.specs.Run.{is_answer, IsAnswered, IsCutOff, NeedsNothing, OfFormula, PrintsModel, PrintsNone, PrintsUndecided, AreFewLetters, PrintsVerdict, OfTrace, PrintsHolds, PrintsFails};
 
 use crate::Status;
 use crate::answer::answer;
@@ -33,12 +34,20 @@ pub fn run<R: Threads + Sync, S: Source, K: Sink, G: Gate + Sync>(
     ensures write_count { K.faults sink.old < K.faults sink.new → result ≡ statuses.WriteFault }
     ensures no_memory { result ≡ statuses.NoMemory → sink.new ≡ sink.old }
     ensures unread { NeedsNothing (map string_bytes words.now) → source.new ≡ source.old }
-    // SAT is printed only with a trace that satisfies the formula.
+    // SAT is printed only with a trace of the chosen kind that satisfies the formula.
     ensures sat { (choices : List Choice) → Asks (map string_bytes words.now) (Solve choices) → result ≡ statuses.Sat
-        → OfFormula (S.rest source.old) (λ f. PrintsModel kinds.Infinite f (K.content sink.old) (K.content sink.new)) }
-    // UNSAT is printed only where no trace satisfies the formula.
+        → OfFormula (S.rest source.old) (λ f. PrintsModel (kind_of choices) f (K.content sink.old) (K.content sink.new)) }
+    // UNSAT is printed only where no trace of the chosen kind satisfies the formula.
     ensures unsat { (choices : List Choice) → Asks (map string_bytes words.now) (Solve choices) → result ≡ statuses.Unsat
-        → OfFormula (S.rest source.old) (λ f. PrintsNone kinds.Infinite f (K.content sink.old) (K.content sink.new)) }
+        → OfFormula (S.rest source.old) (λ f. PrintsNone (kind_of choices) f (K.content sink.old) (K.content sink.new)) }
+    // UNDECIDED is printed only where the tableau's verdict at the limit in force is so, and never where that limit is at least the bound.
+    ensures undecided { (choices : List Choice) → Asks (map string_bytes words.now) (Solve choices) → result ≡ statuses.Undecided
+        → OfFormula (S.rest source.old) (λ f. PrintsUndecided (kind_of choices) (depth_of choices) f (K.content sink.old) (K.content sink.new)) }
+    // An accepted formula whose letters are few enough gets the tableau's verdict, or there was no memory, where neither count rose.
+    ensures decided { (choices : List Choice) (bytes : List ℕ) (f : Formula) → Asks (map string_bytes words.now) (Solve choices)
+        → S.rest source.old ≡ Some bytes → IsAccepted bytes f → AreFewLetters (kind_of choices) (depth_of choices) f
+        → ¬ (Rose (S.faults source.old) (S.faults source.new)) → ¬ (Rose (K.faults sink.old) (K.faults sink.new))
+        → (result ≡ statuses.NoMemory) ⊎ PrintsVerdict (kind_of choices) (depth_of choices) f (K.content sink.old) (K.content sink.new) result }
     // HOLDS is printed only where the trace satisfies the formula.
     ensures holds { Asks (map string_bytes words.now) TraceWord → result ≡ statuses.Good
         → OfTrace (S.rest source.old) (λ f t. PrintsHolds f t (K.content sink.old) (K.content sink.new)) }
@@ -46,6 +55,10 @@ pub fn run<R: Threads + Sync, S: Source, K: Sink, G: Gate + Sync>(
     ensures fails { Asks (map string_bytes words.now) TraceWord → result ≡ statuses.Negative
         → OfTrace (S.rest source.old) (λ f t. PrintsFails f t (K.content sink.old) (K.content sink.new)) }
 {
+    ltl_parser::laws::one_outcome();
+    ltl_run::laws::run_satisfies();
+    ltl_run::laws::unsatisfiable();
+    ltl_run::laws::bounded();
     match answer(alloc, words, source) {
         Err(ReadRefused::Fault) => Status::ReadFault,
         Err(ReadRefused::NoMemory) => Status::NoMemory,

@@ -1,26 +1,27 @@
-// The words of the command line. They are compared by hand: so far two lists of one word are taken.
+// The words of the command line. The command is compared by hand, and its options are read one after another.
 ghost use Rattle.std.specs.Prelude.{map, string_bytes, MatchOption};
 ghost use Rattle.black_top.specs.Words.{Command, Asks};
-ghost use Rattle.black_top.specs.Inner.{command_of};
+ghost use Rattle.black_top.specs.Inner.{IsAsked};
+
+use crate::options::{Options, solve_options};
 
 /// The commands that are built.
-#[derive(Clone, Copy, Debug, PartialEq, Eq)]
+#[derive(Clone, Copy)]
 pub enum Asked {
-    /// `solve` without options.
-    Solve,
+    Solve(Options),
     Trace,
 }
 
 /// The command that the words ask for.
 pub fn asked_command(words: &[String]) -> Option<Asked>
-    ensures { MatchOption result ((c : Command) → ¬ (Asks (map string_bytes words.now) c)) (λ command. Asks (map string_bytes words.now) (command_of command)) }
+    ensures { MatchOption result ((c : Command) → ¬ (Asks (map string_bytes words.now) c)) (IsAsked (map string_bytes words.now)) }
 {
-    if words.len() != 1 {
+    let [command, more @ ..] = words else {
         return None;
-    }
-    match words[0].as_str() {
-        "solve" => Some(Asked::Solve),
-        "trace" => Some(Asked::Trace),
+    };
+    match command.as_str() {
+        "solve" => Some(Asked::Solve(solve_options(more)?)),
+        "trace" if more.is_empty() => Some(Asked::Trace),
         _ => None,
     }
 }

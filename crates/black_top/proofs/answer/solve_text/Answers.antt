@@ -1,13 +1,15 @@
-use Rattle.std.proofs.Common.{subst}
 use Rattle.ltl_syntax.specs.Table.{tree_at}
-use Rattle.black_top.specs.NotBuilt.{AreBuilt}
-use Rattle.black_top.proofs.Plain.{formula_plain}
+use Rattle.black_top.specs.Answer.{refused, IsSolved, unreadable, settled, IsSettled}
+use Rattle.black_top.proofs.Showing.{shown, shown_as}
 use Rattle.black_top.proofs.answer.solve_text.Goals as goal
 
-pub find-requires-clause-plain : goal.find-requires-clause-plain
-find-requires-clause-plain c =
-    let text = c.args.text.now in
+pub returns-in-Refused : goal.returns-in-Refused
+returns-in-Refused c =
+    let refuses = rw c.in-Refused.is at c.in_ok-fault.ensures in
+    shown (IsSolved c.args.options.kind c.args.options.depth c.args.text.now) (refused c.in-Refused.fault) c.refusal.result (unreadable c.in-Refused.fault refuses) c.refusal.ensures
+
+pub returns-in-Formula : goal.returns-in-Formula
+returns-in-Formula c =
+    let f = tree_at c.in-Formula.table c.in-Formula.root in
     let reading = rw c.in-Formula.is at c.in_ok-fault.ensures in
-    let checked = rw c.in_default.is at c.in_ok-byte.ensures in
-    let built : AreBuilt text c.in-Formula.tokens.items = subst (AreBuilt text) c.deref.ensures.value checked in
-    formula_plain text c.in-Formula.tokens.items (tree_at c.in-Formula.table c.in-Formula.root) reading.3 built.propositional
+    shown_as (IsSettled c.args.options.kind c.args.options.depth f) (IsSolved c.args.options.kind c.args.options.depth c.args.text.now) c.settle.result (λ a h. settled f a reading.1 h) c.settle.ensures

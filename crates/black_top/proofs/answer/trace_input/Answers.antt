@@ -1,5 +1,5 @@
 use Rattle.ltl_syntax.specs.Table.{tree_at}
-use Rattle.black_top.specs.declared.fault.Fault.TheVariants as faults
+use Rattle.report.specs.declared.fault.Fault.TheVariants as faults
 use Rattle.black_top.specs.Answer.{refused, IsParted, uncut, unread, accepted, IsJudged}
 use Rattle.black_top.proofs.Showing.{shown, shown_as}
 use Rattle.black_top.proofs.answer.trace_input.Goals as goal
@@ -13,8 +13,8 @@ returns-in-Refused c =
     let refuses = rw c.in-Refused.is at c.in_ok-fault.ensures in
     shown (IsParted IsJudged c.args.input.now) (refused c.in-Refused.fault) c.refusal-in-Refused.result (unread parts.formula.now parts.second.now c.in-Refused.fault c.in-Some.ensures refuses) c.refusal-in-Refused.ensures
 
-pub returns : goal.returns
-returns c =
+pub returns-in-Formula : goal.returns-in-Formula
+returns-in-Formula c =
     let parts = c.in-Some.parts in
     let f = tree_at c.in-Formula.table c.in-Formula.root in
     let reading = rw c.in-Formula.is at c.in_ok-fault.ensures in

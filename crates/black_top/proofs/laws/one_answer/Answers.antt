@@ -5,12 +5,14 @@ pub returns : goal.returns
 returns c words bytes =
     let outcome = c.one_outcome.ensures in
     answer_one words bytes (record {
-      one_list = c.one_list.ensures;
-      one_lexical = outcome.one_lexical_fault;
-      one_grammar = outcome.one_grammar_fault;
-      one_formula = outcome.one_formula;
-      lexical_not_grammar = outcome.lexical_not_grammar;
-      lexical_not_read = outcome.lexical_not_read;
-      grammar_not_read = outcome.grammar_not_read;
+      text = record {
+        one_lexical = outcome.one_lexical_fault;
+        one_grammar = outcome.one_grammar_fault;
+        one_formula = outcome.one_formula;
+        lexical_not_grammar = outcome.lexical_not_grammar;
+        lexical_not_read = outcome.lexical_not_read;
+        grammar_not_read = outcome.grammar_not_read;
+      };
       one_reading = c.one_reading.ensures;
+      one_verdict = c.one_verdict.ensures;
     })

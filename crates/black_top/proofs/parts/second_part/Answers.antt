@@ -1,4 +1,4 @@
-use Rattle.std.proofs.Common.{◌≡◌, ◌∙◌, ℕ, ◌++◌, ◌∷◌, [], drop, length, inl, inr, ap, sym, codes, arith}
+use Rattle.std.proofs.Common.{◌∙◌, ◌++◌, ◌∷◌, [], inl, inr, ap, sym, codes, arith}
 use Rattle.black_top.proofs.Cutting.{IsStart, tail_is, stripped, told_second, told_second_return}
 use Rattle.black_top.proofs.parts.second_part.Goals.{else-start-gt0-via-then-start-gt0+else-bytes-start-ne10, else-start-gt0-via-else-start-gt0}
 use Rattle.black_top.proofs.parts.second_part.Goals as goal

@@ -1,0 +1,187 @@
+#!/usr/bin/env bash
+# Times the tableau over infinite traces on formulas that grow: token rings, counters, response patterns, past patterns and
+# requirements that conflict.
+#
+# It copies the repository into a temporary folder, adds a small program that reads a formula and decides it, lets `rt`
+# prove and build it, and prints a table: the answer with its depth, the clauses through that depth, the lines that the
+# solver learnt (handed out with UNSAT alone), seconds for the whole run and the most memory that it held. With KEEP set to
+# a folder the copy stays there, so that a second run builds nothing.
+set -eu
+top=$(cd "$(dirname "${BASH_SOURCE[0]}")/.." && pwd)
+work=${KEEP:-$(mktemp -d)}
+[ -n "${KEEP:-}" ] || trap 'rm -rf "$work"' EXIT
+mkdir -p "$work"
+program=$work/crates/solve_bench/out/solve_bench
+if ! [ -x "$program" ]; then
+    (cd "$top" && tar -c --exclude=out crates crates.txt HANDLES) | tar -x -C "$work"
+    git -C "$work" init -q
+    echo "solve_bench: ltl_io ltl_syntax ltl_lexer ltl_parser ltl_closure cnf_base clause_log enc_layout step_encode loop_encode prune_encode unravel" >> "$work/crates.txt"
+    mkdir -p "$work/crates/solve_bench/src"
+    cat > "$work/crates/solve_bench/src/main.rt" <<'RT'
+//! Reads a formula and prints what the tableau says of it, the depth, the clauses through it and the lines that were learnt.
+#![tactic(auto)]
+ghost use Rattle.std.specs.Prelude.{◌≡◌, ◌≤◌, IfOk};
+ghost use Rattle.enc_layout.specs.Letters.{Fits};
+ghost use Rattle.enc_layout.specs.Clauses.{layout_of};
+
+use cnf_base::{ClauseList, Clauses};
+use enc_layout::Layout;
+use ltl_closure::Closure;
+use ltl_io::{StdSource, read_whole};
+use ltl_lexer::tokens;
+use ltl_parser::parse;
+use ltl_syntax::Kind;
+use std::alloc::{AllocError, Global};
+use std::process::ExitCode;
+use unravel::{Decision, decide};
+
+#[derive(Drop)]
+struct Row {
+    answer: &'static str,
+    depth: u32,
+    lines: u64,
+}
+
+fn step_clauses(alloc: Global, closure: &Closure<'_>, layout: &Layout, step: u32) -> Result<u64, AllocError>
+    requires own { layout.now ≡ layout_of closure.now }
+    requires few { step ≤ 1000 }
+    requires fits { Fits layout.now step }
+{
+    let mut list = ClauseList::new(alloc);
+    step_encode::append(closure, layout, step, &mut list)?;
+    loop_encode::append(closure, layout, step, &mut list)?;
+    prune_encode::append(closure, layout, step, &mut list)?;
+    Ok(list.count())
+}
+
+#[tactic(auto, using(enc_layout::proofs::Fitting::lower_fits))]
+fn clauses_through(alloc: Global, closure: &Closure<'_>, depth: u32) -> Result<u64, AllocError> {
+    let layout = Layout::of(closure);
+    let mut count: u64 = 0;
+    for step in 0..layout.greatest_depth(if depth < 1000 { depth } else { 1000 }) + 1 {
+        count = count.saturating_add(step_clauses(alloc, closure, &layout, step)?);
+    }
+    Ok(count)
+}
+
+fn row(alloc: Global, closure: &Closure<'_>) -> Result<Row, AllocError> {
+    let layout = Layout::of(closure);
+    let limit = layout.greatest_depth(64);
+    match decide(alloc, closure, limit)? {
+        Decision::Sat { depth, .. } => Ok(Row { answer: "SAT", depth, lines: 0 }),
+        Decision::Unsat { depth, log, .. } => Ok(Row { answer: "UNSAT", depth, lines: log.view().lines() }),
+        Decision::Undecided { depth } => Ok(Row { answer: "UNDECIDED", depth, lines: 0 }),
+    }
+}
+
+fn main(rt: HostRuntime) -> ExitCode {
+    let alloc = rt.alloc();
+    let mut source = StdSource::new(rt.stdin());
+    let Ok(text) = read_whole(alloc, &mut source, 1_048_576) else {
+        return ExitCode::from(5);
+    };
+    if text.len() > 1_048_576 {
+        return ExitCode::from(4);
+    }
+    let Ok(found) = tokens(alloc, &text) else {
+        return ExitCode::from(3);
+    };
+    let Ok((table, root)) = parse(alloc, &text, &found) else {
+        return ExitCode::from(3);
+    };
+    let Ok(closure) = Closure::of(alloc, &table, root, Kind::Infinite) else {
+        return ExitCode::from(7);
+    };
+    let Ok(found) = row(alloc, &closure) else {
+        return ExitCode::from(7);
+    };
+    let Ok(clauses) = clauses_through(alloc, &closure, found.depth) else {
+        return ExitCode::from(7);
+    };
+    match println!(rt; "{} {} {} {}", found.answer, found.depth, clauses, found.lines) {
+        Ok(()) => ExitCode::from(0),
+        Err(_) => ExitCode::from(6),
+    }
+}
+RT
+    (cd "$work/crates/solve_bench" && rt run < /dev/null > "$work/build.log" 2>&1) || true
+fi
+[ -x "$program" ] || { tail -n 20 "$work/build.log" >&2; echo "there is no build" >&2; exit 1; }
+
+python3 - "$program" <<'PY'
+import os, subprocess, sys, time
+
+def conj(parts):
+    return " & ".join("(%s)" % part for part in parts)
+
+def ring(n):
+    parts = ["p0"]
+    parts += ["G (p%d -> X p%d)" % (i, (i + 1) % n) for i in range(n)]
+    parts += ["G F p%d" % i for i in range(n)]
+    parts += ["G !(p%d & p%d)" % (i, j) for i in range(n) for j in range(i + 1, n)]
+    return conj(parts)
+
+def counter(n):
+    # n bits that count up at each step, and come to all ones
+    parts = ["!b%d" % i for i in range(n)] + ["G (b0 <-> X !b0)"]
+    for i in range(1, n):
+        low = " & ".join("b%d" % j for j in range(i))
+        parts.append("G ((%s) -> (b%d <-> X !b%d))" % (low, i, i))
+        parts.append("G (!(%s) -> (b%d <-> X b%d))" % (low, i, i))
+    parts.append("F (%s)" % " & ".join("b%d" % i for i in range(n)))
+    return conj(parts)
+
+def stuck(n):
+    # the same counter, which is never to come to all ones
+    return counter(n).rsplit(" & (F ", 1)[0] + " & (G !(%s))" % " & ".join("b%d" % i for i in range(n))
+
+def responses(n):
+    return conj(["G (r%d -> F g%d)" % (i, i) for i in range(n)] + ["G F r%d" % i for i in range(n)])
+
+def exclusive(n):
+    # every request is answered, one at a time, and the answers need a request
+    parts = ["G (r%d -> F g%d)" % (i, i) for i in range(n)] + ["G (g%d -> O r%d)" % (i, i) for i in range(n)]
+    parts += ["G !(g%d & g%d)" % (i, j) for i in range(n) for j in range(i + 1, n)] + ["G F r%d" % i for i in range(n)]
+    return conj(parts)
+
+def starved(n):
+    return conj(["G (r%d -> F g%d)" % (i, i) for i in range(n)] + ["G F r0", "G (!g0 | Y !r0) & G (r0 -> X G !g0)"])
+
+def sinces(n):
+    return conj(["G (q%d <-> (q%d S p%d))" % (i, (i + 1) % n, i) for i in range(n)] + ["F G (%s)" % " & ".join("!p%d" % i for i in range(n))])
+
+def yesterdays(n):
+    return "F (" + " & ".join("%s p%d" % ("Y " * i, i) for i in range(1, n + 1)) + ") & G !(p1 & p2)"
+
+def conflict(n):
+    return conj(["G F p%d" % i for i in range(n)] + ["F G (%s)" % " | ".join("!p%d" % i for i in range(n))] + ["G (p%d -> X G p%d)" % (i, i) for i in range(n)])
+
+def untils(n):
+    return " U ".join("p%d" % i for i in range(n)) + " & G !p%d" % (n - 1)
+
+families = [("token ring", ring, [4, 8, 16, 32]), ("counter comes", counter, [2, 3, 4]), ("counter never comes", stuck, [2, 3, 4]),
+            ("responses", responses, [4, 16, 64]), ("one answer at a time", exclusive, [2, 4, 8]), ("a starved request", starved, [1, 2, 4]),
+            ("since", sinces, [2, 4, 8]), ("yesterdays", yesterdays, [4, 8, 16]), ("promises that conflict", conflict, [1, 2, 4]),
+            ("nested until", untils, [4, 16, 64])]
+print("| family | size | answer | clauses | lines | seconds | MiB |\n|---|---|---|---|---|---|---|")
+for name, make, sizes in families:
+    for n in sizes:
+        began = time.time()
+        child = subprocess.Popen([sys.argv[1]], stdin=subprocess.PIPE, stdout=subprocess.PIPE)
+        try:
+            out, _ = child.communicate(make(n).encode(), timeout=float(os.environ.get("LIMIT", "120")))
+        except subprocess.TimeoutExpired:
+            child.kill()
+            child.communicate()
+            print("| %s | %d | none in time | | | | |" % (name, n), flush=True)
+            continue
+        seconds = time.time() - began
+        with_memory = subprocess.run(["/usr/bin/time", "-f", "%M", sys.argv[1]], input=make(n).encode(), capture_output=True) if os.path.exists("/usr/bin/time") else None
+        memory = "%d" % (int(with_memory.stderr.split()[-1]) // 1024) if with_memory else ""
+        words = out.decode().split()
+        if child.returncode != 0 or len(words) != 4:
+            print("| %s | %d | status %d | | | | |" % (name, n, child.returncode), flush=True)
+            continue
+        lines = words[3] if words[0] == "UNSAT" else ""
+        print("| %s | %d | %s %s | %s | %s | %.2f | %s |" % (name, n, words[0], words[1], words[2], lines, seconds, memory), flush=True)
+PY

@@ -1,0 +1,30 @@
+// The refusals.
+
+/// A refusal, with the number that its line shows: a byte of the input from 0, a count of nodes or of cells, or a depth.
+#[derive(Clone, Copy, Debug, PartialEq, Eq)]
+pub enum Fault {
+    /// The words are not taken.
+    Usage,
+    /// The input has no separator line.
+    NoSeparator,
+    /// The formula's text is too long.
+    Text,
+    /// No token begins at the byte.
+    Lexical(u32),
+    /// The tokens read as no formula, by the byte of the first that is wrong.
+    Grammar(u32),
+    /// The formula has so many nodes.
+    Nodes(u32),
+    /// The clauses of the depth that was asked for have too many letters. The number is the greatest depth that has not.
+    Letters(u32),
+    /// The table of truth values has so many cells.
+    Cells(u128),
+    /// The trace text is no JSON.
+    NotJson,
+    /// The trace text is JSON of another form.
+    NotTrace,
+    /// The loop of the trace is empty.
+    EmptyLoop,
+    /// The list of states of the trace is empty.
+    EmptyStates,
+}

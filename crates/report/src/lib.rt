@@ -1,0 +1,13 @@
+//! The output texts: one call for each answer, which gives the whole text.
+#![tactic(auto)]
+
+mod fault;
+mod line;
+mod refusal;
+#[cfg(test)]
+mod tests;
+mod verdict;
+
+pub use fault::Fault;
+pub use refusal::refused;
+pub use verdict::{sat, traced, undecided, unsat};

@@ -1,0 +1,69 @@
+// The texts letter by letter. The expected lines are those of the documents.
+use crate::{Fault, refused, sat, traced, undecided, unsat};
+use ltl_word::Trace;
+use std::alloc::{AllocError, Global};
+use std::process::Abort;
+use std::test::Fail;
+
+fn is<R: Abort>(rt: &R, text: Result<Vec<u8>, AllocError>, wanted: &[u8]) -> Result<(), Fail> {
+    assert!(rt; *text? == *wanted);
+    Ok(())
+}
+
+#[test]
+fn refusals(rt: HostRuntime) -> Result<(), Fail> {
+    let alloc = rt.alloc();
+    let table: [(Fault, &[u8]); 12] = [
+        (
+            Fault::Usage,
+            b"usage: black solve [--finite] [--depth N] [--cert] [--core] [--workers N]\nusage: black check [--finite] [--workers N]\nusage: black trace\nusage: black demo N\n",
+        ),
+        (Fault::NoSeparator, b"no separator line\n"),
+        (Fault::Text, b"limit text 1048576\n"),
+        (Fault::Lexical(0), b"lexical fault at byte 0\n"),
+        (
+            Fault::Grammar(1_048_576),
+            b"grammar fault at byte 1048576\n",
+        ),
+        (Fault::Nodes(16_385), b"limit nodes 16384 have 16385\n"),
+        (
+            Fault::Letters(937),
+            b"limit letters 16777216 greatest depth 937\n",
+        ),
+        (
+            Fault::Cells(268_435_456),
+            b"limit cells 67108864 have 268435456\n",
+        ),
+        (Fault::NotJson, b"trace fault: not JSON\n"),
+        (Fault::NotTrace, b"trace fault: not a trace\n"),
+        (Fault::EmptyLoop, b"trace fault: loop is empty\n"),
+        (Fault::EmptyStates, b"trace fault: states is empty\n"),
+    ];
+    for (fault, wanted) in &table {
+        is(&rt, refused(alloc, fault), wanted)?;
+    }
+    Ok(())
+}
+
+#[test]
+fn verdicts(rt: HostRuntime) -> Result<(), Fail> {
+    let alloc = rt.alloc();
+    let json = b"{\"kind\":\"finite\",\"states\":[[\"p\"]]}";
+    let Ok(trace) = Trace::from_json(alloc, json) else {
+        return Err(Fail::new("the text is no trace"));
+    };
+    is(
+        &rt,
+        sat(alloc, 0, &trace),
+        b"SAT 0\n{\"kind\":\"finite\",\"states\":[[\"p\"]]}\n",
+    )?;
+    is(&rt, unsat(alloc, 2, None, None), b"UNSAT 2\n")?;
+    is(
+        &rt,
+        unsat(alloc, 0, Some(b"((p & !p) & {0})"), Some(b"ltlcert\n")),
+        b"UNSAT 0\ncore ((p & !p) & {0})\nltlcert\n",
+    )?;
+    is(&rt, undecided(alloc, 1000), b"UNDECIDED 1000\n")?;
+    is(&rt, traced(alloc, true), b"HOLDS\n")?;
+    is(&rt, traced(alloc, false), b"FAILS\n")
+}

@@ -1,0 +1,67 @@
+// The texts of the verdicts, and of the truth of a formula on a trace.
+ghost use Rattle.std.specs.Prelude.{◌≡◌, ◌++◌, IfOk};
+ghost use Rattle.std.specs.Option.{option_copied};
+ghost use Rattle.report.specs.Texts.{numbered, core_text, sat_text, unsat_text, undecided_text, traced_text};
+
+use crate::line::{line, numbered};
+use ltl_word::Trace;
+use std::alloc::{AllocError, Global};
+
+/// SAT at the depth, and the trace.
+pub fn sat(alloc: Global, depth: u32, trace: &Trace) -> Result<Vec<u8>, AllocError>
+    ensures { IfOk result (λ text. text.items ≡ sat_text depth trace.now) }
+{
+    let json = trace.to_json(alloc)?;
+    let mut text = numbered(alloc, b"SAT ", depth.into())?;
+    text.extend_from_slice(&json)?;
+    text.push(b'\n')?;
+    Ok(text)
+}
+
+/// UNSAT at the depth, with the printed core and the text of the certificate where they are given. The core has no newline,
+/// and the certificate stands as it is.
+pub fn unsat(
+    alloc: Global,
+    depth: u32,
+    core: Option<&[u8]>,
+    certificate: Option<&[u8]>,
+) -> Result<Vec<u8>, AllocError>
+    ensures { IfOk result (λ text. text.items ≡ unsat_text depth (option_copied core.entry) (option_copied certificate.entry)) }
+{
+    let mut text = numbered(alloc, b"UNSAT ", depth.into())?;
+    add_core(&mut text, core)?;
+    if let Some(certificate) = certificate {
+        text.extend_from_slice(certificate)?;
+    }
+    Ok(text)
+}
+
+/// UNDECIDED up to the depth.
+pub fn undecided(alloc: Global, depth: u32) -> Result<Vec<u8>, AllocError>
+    ensures { IfOk result (λ text. text.items ≡ undecided_text depth) }
+{
+    numbered(alloc, b"UNDECIDED ", depth.into())
+}
+
+/// HOLDS or FAILS.
+pub fn traced(alloc: Global, holds: bool) -> Result<Vec<u8>, AllocError>
+    ensures { IfOk result (λ text. text.items ≡ traced_text holds) }
+{
+    if holds {
+        line(alloc, b"HOLDS")
+    } else {
+        line(alloc, b"FAILS")
+    }
+}
+
+/// Puts the line of a core behind the text.
+fn add_core(text: &mut Vec<u8>, core: Option<&[u8]>) -> Result<(), AllocError>
+    ensures { IfOk result (λ _. text.new.items ≡ text.old.items ++ core_text (option_copied core.entry)) }
+{
+    if let Some(core) = core {
+        text.extend_from_slice(b"core ")?;
+        text.extend_from_slice(core)?;
+        text.push(b'\n')?;
+    }
+    Ok(())
+}
