@@ -36,7 +36,7 @@ use std::process::ExitCode;
 use unravel::{Decision, decide};
 
 #[derive(Drop)]
-struct Row {
+struct Found {
     answer: &'static str,
     depth: u32,
     lines: u64,
@@ -64,13 +64,13 @@ fn clauses_through(alloc: Global, closure: &Closure<'_>, depth: u32) -> Result<u
     Ok(count)
 }
 
-fn row(alloc: Global, closure: &Closure<'_>) -> Result<Row, AllocError> {
+fn decided(alloc: Global, closure: &Closure<'_>) -> Result<Found, AllocError> {
     let layout = Layout::of(closure);
     let limit = layout.greatest_depth(64);
     match decide(alloc, closure, limit)? {
-        Decision::Sat { depth, .. } => Ok(Row { answer: "SAT", depth, lines: 0 }),
-        Decision::Unsat { depth, log, .. } => Ok(Row { answer: "UNSAT", depth, lines: log.view().lines() }),
-        Decision::Undecided { depth } => Ok(Row { answer: "UNDECIDED", depth, lines: 0 }),
+        Decision::Sat { depth, .. } => Ok(Found { answer: "SAT", depth, lines: 0 }),
+        Decision::Unsat { depth, log, .. } => Ok(Found { answer: "UNSAT", depth, lines: log.view().lines() }),
+        Decision::Undecided { depth } => Ok(Found { answer: "UNDECIDED", depth, lines: 0 }),
     }
 }
 
@@ -92,7 +92,7 @@ fn main(rt: HostRuntime) -> ExitCode {
     let Ok(closure) = Closure::of(alloc, &table, root, Kind::Infinite) else {
         return ExitCode::from(7);
     };
-    let Ok(found) = row(alloc, &closure) else {
+    let Ok(found) = decided(alloc, &closure) else {
         return ExitCode::from(7);
     };
     let Ok(clauses) = clauses_through(alloc, &closure, found.depth) else {
@@ -159,10 +159,10 @@ def conflict(n):
 def untils(n):
     return " U ".join("p%d" % i for i in range(n)) + " & G !p%d" % (n - 1)
 
-families = [("token ring", ring, [4, 8, 16, 32]), ("counter comes", counter, [2, 3, 4]), ("counter never comes", stuck, [2, 3, 4]),
-            ("responses", responses, [4, 16, 64]), ("one answer at a time", exclusive, [2, 4, 8]), ("a starved request", starved, [1, 2, 4]),
-            ("since", sinces, [2, 4, 8]), ("yesterdays", yesterdays, [4, 8, 16]), ("promises that conflict", conflict, [1, 2, 4]),
-            ("nested until", untils, [4, 16, 64])]
+families = [("token ring", ring, [8, 16, 32]), ("counter comes", counter, [4, 5]), ("counter never comes", stuck, [3, 4, 5]),
+            ("responses", responses, [16, 64, 256]), ("one answer at a time", exclusive, [4, 8]), ("a starved request", starved, [1, 2, 3]),
+            ("since", sinces, [16, 64]), ("yesterdays", yesterdays, [8, 16, 24]), ("promises that conflict", conflict, [2, 4, 6]),
+            ("nested until", untils, [4, 5, 6])]
 print("| family | size | answer | clauses | lines | seconds | MiB |\n|---|---|---|---|---|---|---|")
 for name, make, sizes in families:
     for n in sizes:
