@@ -167,20 +167,82 @@ fn refuses(
     }
 }
 
+/// What is asked of the solver, and what has to come of it.
+#[derive(Clone, Copy)]
+enum Call {
+    /// The literals become an input.
+    Add,
+    /// Under the literals, values are found that make the others true as well.
+    Grants,
+    /// Under the literals, none are found.
+    Refuses,
+}
+
+/// The literals of these numbers, a negated one with a minus sign.
+fn literals(alloc: Global, numbers: &[i32]) -> Result<Vec<Literal>, AllocError> {
+    let mut literals: Vec<Literal> = Vec::new(alloc);
+    for number in numbers {
+        literals.push(Literal {
+            letter: Letter(number.unsigned_abs()),
+            negated: *number < 0,
+        })?;
+    }
+    Ok(literals)
+}
+
+fn take(
+    rt: &impl Abort,
+    alloc: Global,
+    solver: &mut Solver,
+    letters: u32,
+    row: &(Call, &[i32], &[i32]),
+) -> Result<(), AllocError>
+    requires { solver.old.letters ≡ letters }
+    ensures { solver.new.letters ≡ letters }
+{
+    let given = literals(alloc, row.1)?;
+    let wanted = literals(alloc, row.2)?;
+    match row.0 {
+        Call::Add => add(rt, alloc, solver, letters, &given),
+        Call::Grants => grants(rt, alloc, solver, letters, &given, &wanted),
+        Call::Refuses => refuses(rt, alloc, solver, letters, &given),
+    }
+}
+
+/// Makes the calls in their order.
+fn play(
+    rt: &impl Abort,
+    alloc: Global,
+    solver: &mut Solver,
+    letters: u32,
+    rows: &[(Call, &[i32], &[i32])],
+) -> Result<(), AllocError>
+    requires { solver.old.letters ≡ letters }
+    ensures { solver.new.letters ≡ letters }
+{
+    for row in rows {
+        take(rt, alloc, solver, letters, row)?;
+    }
+    Ok(())
+}
+
 #[test]
 fn answers_in_turn(rt: HostRuntime) -> Result<(), Fail> {
     let alloc = rt.alloc();
+    let rows: [(Call, &[i32], &[i32]); 9] = [
+        (Call::Add, &[1, 2], &[]),
+        (Call::Add, &[-1, 3], &[]),
+        (Call::Refuses, &[1, -3], &[]),
+        (Call::Grants, &[1], &[3]),
+        (Call::Add, &[-1], &[]),
+        (Call::Refuses, &[1], &[]),
+        (Call::Grants, &[], &[2]),
+        (Call::Add, &[-2], &[]),
+        (Call::Refuses, &[], &[]),
+    ];
     let mut solver = Solver::new(alloc);
     solver.letters(alloc, 3)?;
-    add(&rt, alloc, &mut solver, 3, &[plus(1), plus(2)])?;
-    add(&rt, alloc, &mut solver, 3, &[minus(1), plus(3)])?;
-    refuses(&rt, alloc, &mut solver, 3, &[plus(1), minus(3)])?;
-    grants(&rt, alloc, &mut solver, 3, &[plus(1)], &[plus(3)])?;
-    add(&rt, alloc, &mut solver, 3, &[minus(1)])?;
-    refuses(&rt, alloc, &mut solver, 3, &[plus(1)])?;
-    grants(&rt, alloc, &mut solver, 3, &[], &[plus(2)])?;
-    add(&rt, alloc, &mut solver, 3, &[minus(2)])?;
-    refuses(&rt, alloc, &mut solver, 3, &[])?;
+    play(&rt, alloc, &mut solver, 3, &rows)?;
     Ok(())
 }
 
@@ -188,34 +250,40 @@ fn answers_in_turn(rt: HostRuntime) -> Result<(), Fail> {
 #[test]
 fn takes_odd_clauses(rt: HostRuntime) -> Result<(), Fail> {
     let alloc = rt.alloc();
+    let rows: [(Call, &[i32], &[i32]); 8] = [
+        (Call::Add, &[1, 1, 2], &[]),
+        (Call::Add, &[3, -3], &[]),
+        (Call::Add, &[-1, -1], &[]),
+        (Call::Grants, &[3], &[2]),
+        (Call::Grants, &[-3], &[2]),
+        (Call::Refuses, &[-3, -2], &[]),
+        (Call::Add, &[], &[]),
+        (Call::Refuses, &[3], &[]),
+    ];
     let mut solver = Solver::new(alloc);
     grants(&rt, alloc, &mut solver, 0, &[], &[])?;
     solver.letters(alloc, 3)?;
-    add(&rt, alloc, &mut solver, 3, &[plus(1), plus(1), plus(2)])?;
-    add(&rt, alloc, &mut solver, 3, &[plus(3), minus(3)])?;
-    add(&rt, alloc, &mut solver, 3, &[minus(1), minus(1)])?;
-    grants(&rt, alloc, &mut solver, 3, &[plus(3)], &[plus(2)])?;
-    grants(&rt, alloc, &mut solver, 3, &[minus(3)], &[plus(2)])?;
-    refuses(&rt, alloc, &mut solver, 3, &[minus(3), minus(2)])?;
-    add(&rt, alloc, &mut solver, 3, &[])?;
-    refuses(&rt, alloc, &mut solver, 3, &[plus(3)])?;
+    play(&rt, alloc, &mut solver, 3, &rows)?;
     Ok(())
 }
 
 #[test]
 fn answers_again_by_one_line(rt: HostRuntime) -> Result<(), Fail> {
     let alloc = rt.alloc();
+    let first: [(Call, &[i32], &[i32]); 6] = [
+        (Call::Add, &[1, 2], &[]),
+        (Call::Add, &[1, -2], &[]),
+        (Call::Add, &[-1, 2], &[]),
+        (Call::Grants, &[], &[1, 2]),
+        (Call::Add, &[-1, -2], &[]),
+        (Call::Refuses, &[], &[]),
+    ];
+    let again: [(Call, &[i32], &[i32]); 2] = [(Call::Refuses, &[], &[]), (Call::Refuses, &[], &[])];
     let mut solver = Solver::new(alloc);
     solver.letters(alloc, 2)?;
-    add(&rt, alloc, &mut solver, 2, &[plus(1), plus(2)])?;
-    add(&rt, alloc, &mut solver, 2, &[plus(1), minus(2)])?;
-    add(&rt, alloc, &mut solver, 2, &[minus(1), plus(2)])?;
-    grants(&rt, alloc, &mut solver, 2, &[], &[plus(1), plus(2)])?;
-    add(&rt, alloc, &mut solver, 2, &[minus(1), minus(2)])?;
-    refuses(&rt, alloc, &mut solver, 2, &[])?;
+    play(&rt, alloc, &mut solver, 2, &first)?;
     let lines = solver.log().view().lines();
-    refuses(&rt, alloc, &mut solver, 2, &[])?;
-    refuses(&rt, alloc, &mut solver, 2, &[])?;
+    play(&rt, alloc, &mut solver, 2, &again)?;
     let now = solver.into_log().view().lines();
     assert!(rt; now <= lines.saturating_add(2));
     Ok(())
