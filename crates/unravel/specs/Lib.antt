@@ -1,3 +1,4 @@
 pub mod Decision
 pub mod Depths
 pub mod Values
+pub mod Settling

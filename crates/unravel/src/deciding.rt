@@ -1,11 +1,14 @@
 // The tableau, depth after depth: the encoders write a depth's clauses, the solver answers its questions, and the first depth that
 // settles the formula gives the decision. After Geatti, Gigante and Montanari, A SAT-based encoding of the one-pass and tree-shaped
 // tableau system for LTL (2019).
-ghost use Rattle.std.specs.Prelude.{◌≤◌, IfOk};
+ghost use Rattle.std.specs.Prelude.{◌≤◌, [], ◌∷◌, ◌++◌, IfOk, OnOk};
 ghost use Rattle.ltl_closure.specs.Run.{bound};
+ghost use Rattle.cdcl_state.specs.Trail.{AreKnown};
 ghost use Rattle.enc_layout.specs.Letters.{Fits};
 ghost use Rattle.enc_layout.specs.Clauses.{layout_of};
 ghost use Rattle.unravel.specs.Decision.{IsDecision, IsUnsat, IsUndecided, HasNoTrace};
+ghost use Rattle.unravel.specs.Depths.{IsShowing};
+ghost use Rattle.unravel.specs.Settling.{IsShown, IsRefuted, IsSettled};
 
 use crate::decision::Decision;
 use crate::growing::grow;
@@ -16,8 +19,7 @@ use cnf_base::ClauseList;
 use ltl_closure::Closure;
 use std::alloc::{AllocError, Global};
 
-/// Decides the closure's formula over its kind of trace, by depths from 0 up to the limit. One solver lives through all depths, so what
-/// it has learnt at one serves the next.
+/// Decides the closure's formula over its kind of trace, by depths from 0 up to the limit.
 pub fn decide(alloc: Global, closure: &Closure<'_>, limit: u32) -> Result<Decision, AllocError>
     requires few { limit ≤ 1000 }
     requires fits { Fits (layout_of closure.now) limit }
@@ -25,37 +27,77 @@ pub fn decide(alloc: Global, closure: &Closure<'_>, limit: u32) -> Result<Decisi
     ensures none { IfOk result (λ d. IsUnsat d → HasNoTrace closure.now.formula closure.now.kind) }
     ensures settled { IfOk result (λ d. bound closure.now.formula closure.now.kind ≤ limit → ¬ IsUndecided d) }
 {
+    match settle(alloc, closure, limit)? {
+        Some(decision) => Ok(decision),
+        None => Ok(Decision::Undecided { depth: limit }),
+    }
+}
+
+/// The decision at the first depth that settles the formula, if there is one up to the limit. One solver lives through all depths, so
+/// what it has learnt at one serves the next.
+fn settle(alloc: Global, closure: &Closure<'_>, limit: u32) -> Result<Option<Decision>, AllocError>
+    requires few { limit ≤ 1000 }
+    requires fits { Fits (layout_of closure.now) limit }
+    ensures { IfOk result (IsSettled closure.now.formula closure.now.kind limit) }
+{
     let mut solver = Solver::new(alloc);
     let mut clauses = ClauseList::new(alloc);
     let mut targets = Vec::new(alloc);
     for depth in 0..limit + 1 {
         grow(alloc, closure, depth, &mut clauses, &mut solver)?;
         match ask(alloc, closure, &mut solver, depth)? {
+            // A line that refutes the last state alone refutes it with any other letter.
             Depth::NoRun(line) => {
-                // A line that refutes the last state alone refutes it with any other letter.
-                targets.push(line)?;
-                targets.push(line)?;
-                return Ok(Decision::Unsat {
-                    depth,
-                    log: solver.into_log(),
-                    targets,
-                });
+                let decision = refuted(depth, solver, targets, line, line)?;
+                return Ok(Some(decision));
             }
             Depth::Accepted => {
-                let trace = shown_trace(alloc, closure, &solver, depth)?;
-                return Ok(Decision::Sat { depth, trace });
+                let decision = shown(alloc, closure, depth, &solver)?;
+                return Ok(Some(decision));
             }
             Depth::Pruned { rejected, pruned } => {
-                targets.push(rejected)?;
-                targets.push(pruned)?;
-                return Ok(Decision::Unsat {
-                    depth,
-                    log: solver.into_log(),
-                    targets,
-                });
+                let decision = refuted(depth, solver, targets, rejected, pruned)?;
+                return Ok(Some(decision));
             }
             Depth::Open(rejected) => targets.push(rejected)?,
         }
     }
-    Ok(Decision::Undecided { depth: limit })
+    Ok(None)
+}
+
+/// Satisfiable, by the trace of the solver's values.
+fn shown(
+    alloc: Global,
+    closure: &Closure<'_>,
+    depth: u32,
+    solver: &Solver,
+) -> Result<Decision, AllocError>
+    requires few { depth ≤ 1000 }
+    requires fits { Fits (layout_of closure.now) depth }
+    requires showing { IsShowing closure.now.formula closure.now.kind depth solver.now }
+    ensures { IfOk result (IsShown closure.now.formula closure.now.kind depth) }
+{
+    let trace = shown_trace(alloc, closure, solver, depth)?;
+    Ok(Decision::Sat { depth, trace })
+}
+
+/// Unsatisfiable, by the solver's log and two targets more.
+fn refuted(
+    depth: u32,
+    solver: Solver,
+    targets: Vec<u64>,
+    rejected: u64,
+    pruned: u64,
+) -> Result<Decision, AllocError>
+    ensures refuted { IfOk result (IsRefuted depth solver.log (targets.items ++ rejected ∷ [] ++ pruned ∷ [])) }
+    ensures known { OnOk result (AreKnown solver.letters solver.log.lines) }
+{
+    let mut targets = targets;
+    targets.push(rejected)?;
+    targets.push(pruned)?;
+    Ok(Decision::Unsat {
+        depth,
+        log: solver.into_log(),
+        targets,
+    })
 }

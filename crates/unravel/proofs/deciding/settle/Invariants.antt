@@ -1,5 +1,5 @@
 use Rattle.unravel.specs.Depths.{IsBefore, AreOpen, AreRejections}
-use Rattle.unravel.proofs.deciding.decide.Given as goal
+use Rattle.unravel.proofs.deciding.settle.Given as goal
 
 abbrev pub invariant-loop-depth : goal.invariant-loop-depth
 invariant-loop-depth l = record {

@@ -1,0 +1,66 @@
+use Rattle.std.proofs.Common.{subst, [], ◌∷◌, ◌++◌}
+use Rattle.enc_layout.specs.Clauses.{layout_of}
+use Rattle.enc_layout.proofs.Fitting.{lower_fits}
+use Rattle.unravel.specs.Depths.{Tells}
+use Rattle.unravel.proofs.Rejections.{refutes_acceptance, refutes_unpruned}
+use Rattle.unravel.proofs.Verdicts.{within_limit, open_more, before_more, shown_decided, refuted_decided, no_run_verdict, pruned_verdict, refuted, rejected_more, open_through}
+use Rattle.unravel.proofs.deciding.settle.Goals as goal
+
+pub grow-requires-clause-fits : goal.grow-requires-clause-fits
+grow-requires-clause-fits c = lower_fits (layout_of c.args.closure.now) c.loop-depth.depth c.args.limit (within_limit c.loop-depth.depth c.args.limit c.loop-depth-test.true) c.requires.fits
+
+pub ask-requires-clause-fits : goal.ask-requires-clause-fits
+ask-requires-clause-fits c = lower_fits (layout_of c.args.closure.now) c.loop-depth.depth c.args.limit (within_limit c.loop-depth.depth c.args.limit c.loop-depth-test.true) c.requires.fits
+
+pub shown-requires-clause-fits : goal.shown-requires-clause-fits
+shown-requires-clause-fits c = lower_fits (layout_of c.args.closure.now) c.loop-depth.depth c.args.limit (within_limit c.loop-depth.depth c.args.limit c.loop-depth-test.true) c.requires.fits
+
+pub returns-in-NoRun : goal.returns-in-NoRun
+returns-in-NoRun c =
+    let f = c.args.closure.now.formula in
+    let kind = c.args.closure.now.kind in
+    let k = c.loop-depth.depth in
+    let asked = c.ask.new.solver in
+    let tells = subst (Tells f kind k asked) c.in-NoRun.is c.in_ok-line.ensures.tells in
+    refuted_decided f kind c.args.limit k asked.log (c.loop-depth.targets.items ++ c.in-NoRun.line ∷ [] ++ c.in-NoRun.line ∷ []) c.in_ok-decision-in-NoRun.decision
+    (no_run_verdict f kind c.args.limit k (within_limit k c.args.limit c.loop-depth-test.true) c.loop-depth.invariant.still tells.0)
+    (refuted f kind k c.loop-depth.targets.items c.loop-depth.solver c.grow.new.solver asked c.loop-depth.invariant.rejected c.in_ok-grow.ensures.lines c.ask.ensures.longer
+    c.ask.ensures.through c.in-NoRun.line c.in-NoRun.line (refutes_acceptance f kind k asked.log.lines c.in-NoRun.line tells.1) (refutes_unpruned f kind k asked.log.lines c.in-NoRun.line tells.1)
+    c.in_ok-decision-in-NoRun.ensures.known)
+    c.in_ok-decision-in-NoRun.ensures.refuted
+
+pub returns-in-Accepted : goal.returns-in-Accepted
+returns-in-Accepted c =
+    let k = c.loop-depth.depth in
+    shown_decided c.args.closure.now.formula c.args.closure.now.kind c.args.limit k (within_limit k c.args.limit c.loop-depth-test.true) c.loop-depth.invariant.still
+    c.in_ok-decision-in-Accepted.decision c.in_ok-decision-in-Accepted.ensures
+
+pub returns-in-Pruned : goal.returns-in-Pruned
+returns-in-Pruned c =
+    let f = c.args.closure.now.formula in
+    let kind = c.args.closure.now.kind in
+    let k = c.loop-depth.depth in
+    let asked = c.ask.new.solver in
+    let tells = subst (Tells f kind k asked) c.in-Pruned.is c.in_ok-line.ensures.tells in
+    refuted_decided f kind c.args.limit k asked.log (c.loop-depth.targets.items ++ c.in-Pruned.rejected ∷ [] ++ c.in-Pruned.pruned ∷ []) c.in_ok-decision-in-Pruned.decision
+    (pruned_verdict f kind c.args.limit k (within_limit k c.args.limit c.loop-depth-test.true) c.loop-depth.invariant.still tells.0 tells.1)
+    (refuted f kind k c.loop-depth.targets.items c.loop-depth.solver c.grow.new.solver asked c.loop-depth.invariant.rejected c.in_ok-grow.ensures.lines c.ask.ensures.longer
+    c.ask.ensures.through c.in-Pruned.rejected c.in-Pruned.pruned tells.2 tells.3 c.in_ok-decision-in-Pruned.ensures.known)
+    c.in_ok-decision-in-Pruned.ensures.refuted
+
+pub loop-depth-preserved : goal.loop-depth-preserved
+loop-depth-preserved c =
+    let f = c.args.closure.now.formula in
+    let kind = c.args.closure.now.kind in
+    let k = c.loop-depth.depth in
+    let asked = c.ask.new.solver in
+    let tells = subst (Tells f kind k asked) c.in-Open.is c.in_ok-line.ensures.tells in
+    record {
+      before = before_more f kind k asked c.ask.ensures.through;
+      still = open_more f kind k c.loop-depth.invariant.still tells.0;
+      rejected = rejected_more f kind k c.loop-depth.targets.items c.loop-depth.solver c.grow.new.solver asked c.loop-depth.invariant.rejected c.in_ok-grow.ensures.lines c.ask.ensures.longer
+          c.in-Open.rejected tells.1 c.push.new.self.items c.in_ok-push-in-Open.ensures.items;
+    }
+
+pub returns : goal.returns
+returns c = open_through c.args.closure.now.formula c.args.closure.now.kind c.args.limit c.loop-depth.depth c.loop-depth-test.false c.loop-depth.invariant.still
