@@ -9,9 +9,10 @@ use Rattle.ltl_syntax.specs.declared.node.Kind.TheVariants as Kinds
 use Rattle.ltl_syntax.specs.Formula.{Formula}
 use Rattle.ltl_closure.specs.Norm.{Norm, NConst, NNext, NYesterday, NWeakYesterday, pos_of}
 use Rattle.ltl_closure.specs.Closure.{closure, nexts, yesterdays, eventualities, argument, is_yesterday}
-use Rattle.ltl_closure.specs.Run.{States, IsRun, val, carry, request_of, right_of, is_pending, is_fulfilled, IsFulfilledIn, IsAccepted, Empty, Loop, End, IsPrunedAt, Pair}
+use Rattle.ltl_closure.specs.Run.{States, IsRun, val, carry, request_of, right_of, is_pending, is_fulfilled, IsFulfilledIn, IsAccepted, Empty, Loop, IsPrunedAt, Pair}
 use Rattle.ltl_closure.proofs.Lists.{Contains-filter}
 use Rattle.ltl_closure.proofs.Entries.{closure_root}
+use Rattle.ltl_run.specs.TraceOf.{ClosesTo}
 use Rattle.enc_layout.proofs.Pairing.{pair_from_triple}
 use Rattle.enc_layout.specs.Letters.{Meaning, Unpruned, Here, Accepted, EmptyAt, Repeated, Seen, Equal, LoopTo, Differs, Fulfilled, New, below}
 use Rattle.enc_layout.specs.Clauses.{Clause, Plus, Minus, clause_true, letter_of, carried, carried_letter, eventuality, part_a, part_b, start, next_clauses, before_clauses, part_c, place_clauses, equal_clause, fulfilled_clauses, loop_clause, closing_clauses, pair_clauses, part_d, is_strong_next, part_e, seen_clauses, new_clauses, pruned_clause, part_f, step_clauses, clauses_through}
@@ -148,28 +149,48 @@ module _ (f : Formula) (d : ℕ) (v : Meaning → Bool) (holds : Each (IsTrueCla
           ]
     ]
 
-  pub reads_accepted : (k : ℕ) → k ≤ d → IsTrue (v (Accepted k)) → IsAccepted f run k Kinds.Infinite
-  reads_accepted k le h =
-      let p = (in_parts f Kinds.Infinite d v holds k le).1.1.1.1.0 in
-      elim (or_then (v (Accepted k)) (v (EmptyAt k)) (clause_true v (below k (λ l. Plus (LoopTo l k) ∷ []))) p.0 h) [
-        | inl empty ↦ Empty (λ e m. then_not (v (EmptyAt k)) (v (letter_of f k e)) (map-Each (IsTrueClause v) (λ t. Minus (EmptyAt k) ∷ Minus (letter_of f k t) ∷ []) (nexts f) p.1 e m) empty)
-        | inr some ↦
-            let w = some_below v k (λ l. LoopTo l k) some in
-            let l = w.0 in
-            let lt : l < k = w.1 in
-            let c = Each-right (IsTrueClause v) (below (length (eventualities f)) (fulfilled_clauses f k l)) ((Minus (LoopTo l k) ∷ Plus (Equal l k) ∷ []) ∷ below (length (eventualities f)) (λ m. loop_clause f k l m ∷ [])) (of_rest f Kinds.Infinite d v holds k l le lt).1 in
-            Loop l lt (equal_same f Kinds.Infinite d v holds k l le lt (then1 (v (LoopTo l k)) (v (Equal l k)) c.0 w.2))
-            (λ e m pending.
+  -- where the letter of the loop to l is true, the run closes to l
+  pub reads_loop : (k l : ℕ) → k ≤ d → l < k → IsTrue (v (LoopTo l k)) → ClosesTo f run l k
+  reads_loop k l le lt h =
+      let c = Each-right (IsTrueClause v) (below (length (eventualities f)) (fulfilled_clauses f k l)) ((Minus (LoopTo l k) ∷ Plus (Equal l k) ∷ []) ∷ below (length (eventualities f)) (λ m. loop_clause f k l m ∷ [])) (of_rest f Kinds.Infinite d v holds k l le lt).1 in
+      record {
+        earlier = lt;
+        one = equal_same f Kinds.Infinite d v holds k l le lt (then1 (v (LoopTo l k)) (v (Equal l k)) c.0 h);
+        fulfilled = λ e m pending.
             let u = place_of (eventualities f) e (NConst false) m in
             let closes = (below-Each (IsTrueClause v) (length (eventualities f)) (λ m. loop_clause f k l m ∷ []) c.1 u.0 u.1).0 in
             subst (IsFulfilledIn run l k) u.2
             (reads_fulfilled u.0 u.1 l k le lt
-            (then2 (v (LoopTo l k)) (v (letter_of f k (request_of (eventuality f u.0)))) (v (Fulfilled l k (suc u.0))) closes w.2 (subst (λ z. IsTrue (is_pending (run k) z)) (sym u.2) pending))))
+            (then2 (v (LoopTo l k)) (v (letter_of f k (request_of (eventuality f u.0)))) (v (Fulfilled l k (suc u.0))) closes h (subst (λ z. IsTrue (is_pending (run k) z)) (sym u.2) pending)));
+      }
+
+  -- where the letter of acceptance is true, no next request is, or the letter of some loop is
+  empty_or_loop : (k : ℕ) → k ≤ d → IsTrue (v (Accepted k)) → ((e : Norm) → Contains (nexts f) e → IsFalse (run k e)) ⊎ ((l : ℕ) × (l < k) × IsTrue (v (LoopTo l k)))
+  empty_or_loop k le h =
+      let p = (in_parts f Kinds.Infinite d v holds k le).1.1.1.1.0 in
+      elim (or_then (v (Accepted k)) (v (EmptyAt k)) (clause_true v (below k (λ l. Plus (LoopTo l k) ∷ []))) p.0 h) [
+        | inl empty ↦ inl (λ e m. then_not (v (EmptyAt k)) (v (letter_of f k e)) (map-Each (IsTrueClause v) (λ t. Minus (EmptyAt k) ∷ Minus (letter_of f k t) ∷ []) (nexts f) p.1 e m) empty)
+        | inr some ↦ inr (some_below v k (λ l. LoopTo l k) some)
       ]
     where
       or_then : (a b c : Bool) → IsTrue (not a || (b || c)) → IsTrue a → IsTrue b ⊎ IsTrue c
       or_then true b c h k = or_cases b c h
       or_then false b c h k = cc
+
+  pub reads_empty : (k : ℕ) → k ≤ d → IsTrue (v (Accepted k)) → ((l : ℕ) → l < k → IsFalse (v (LoopTo l k))) → (e : Norm) → Contains (nexts f) e → IsFalse (run k e)
+  reads_empty k le h none = elim (empty_or_loop k le h) [
+    | inl empty ↦ empty
+    | inr w ↦ absurd (clash (v (LoopTo w.0 k)) w.2 (none w.0 w.1))
+  ]
+    where
+      clash : (a : Bool) → IsTrue a → IsFalse a → ⊥
+      clash a h k = cc
+
+  pub reads_accepted : (k : ℕ) → k ≤ d → IsTrue (v (Accepted k)) → IsAccepted f run k Kinds.Infinite
+  reads_accepted k le h = elim (empty_or_loop k le h) [
+    | inl empty ↦ Empty empty
+    | inr w ↦ let c = reads_loop k w.0 le w.1 w.2 in Loop w.0 c.earlier c.one c.fulfilled
+  ]
 
   pub reads_unpruned : IsTrue (v Unpruned) → (i : ℕ) → i ≤ d → IsPrunedAt f run i Kinds.Infinite → ⊥
   reads_unpruned final i le pruned =
@@ -212,9 +233,10 @@ module _ (f : Formula) (d : ℕ) (v : Meaning → Bool) (holds : Each (IsTrueCla
       pairs_at i le = below-Each (IsTrueClause v) i (λ h. below (length (eventualities f)) (new_clauses f i h) ++ pruned_clause f i h ∷ []) (Each-right (IsTrueClause v) (below i (seen_clauses f i)) (below i (λ h. below (length (eventualities f)) (new_clauses f i h) ++ pruned_clause f i h ∷ [])) (in_parts f Kinds.Infinite d v holds i le).1.1.1.1.1)
 
 module _ (f : Formula) (d : ℕ) (v : Meaning → Bool) (holds : Each (IsTrueClause v) (clauses_through f Kinds.Finite d)) where
-  pub reads_ended : (k : ℕ) → k ≤ d → IsTrue (v (Accepted k)) → IsAccepted f (read f Kinds.Finite d v holds) k Kinds.Finite
-  reads_ended k le h = End (λ a m. then_not (v (Accepted k)) (v (letter_of f k (NNext a)))
-      (map-Each (IsTrueClause v) (λ t. Minus (Accepted k) ∷ Minus (letter_of f k t) ∷ []) (filter is_strong_next (closure f)) (in_parts f Kinds.Finite d v holds k le).1.1.1.1.0 (NNext a) (Contains-filter is_strong_next (closure f) (NNext a) m refl)) h)
+  -- where the letter of acceptance is true, no strong next request is
+  pub reads_ended : (k : ℕ) → k ≤ d → IsTrue (v (Accepted k)) → (a : Norm) → Contains (closure f) (NNext a) → IsFalse (read f Kinds.Finite d v holds k (NNext a))
+  reads_ended k le h a m = then_not (v (Accepted k)) (v (letter_of f k (NNext a)))
+      (map-Each (IsTrueClause v) (λ t. Minus (Accepted k) ∷ Minus (letter_of f k t) ∷ []) (filter is_strong_next (closure f)) (in_parts f Kinds.Finite d v holds k le).1.1.1.1.0 (NNext a) (Contains-filter is_strong_next (closure f) (NNext a) m refl)) h
 
   pub reads_distinct : IsTrue (v Unpruned) → (i : ℕ) → i ≤ d → IsPrunedAt f (read f Kinds.Finite d v holds) i Kinds.Finite → ⊥
   reads_distinct final i le (Pair j lt one) =

@@ -1,11 +1,14 @@
 -- What the laws of the clause list say. They are stated for both kinds of trace.
-use Rattle.std.specs.Prelude.{◌≡◌, ℕ, suc, ◌<◌, ◌≤◌, ◌↔◌, ◌++◌, Bool, true, List, length, get_or, All}
+use Rattle.std.specs.Prelude.{◌≡◌, ℕ, suc, ◌<◌, ◌≤◌, ◌↔◌, ◌++◌, Bool, true, false, List, length, get_or, All}
 use Rattle.ltl_syntax.specs.declared.node.Kind.{Kind}
+use Rattle.ltl_syntax.specs.declared.node.Kind.TheVariants as Kinds
 use Rattle.ltl_syntax.specs.Formula.{Formula}
 use Rattle.cnf_base.specs.declared.literal.Literal.{Literal as Signed}
 use Rattle.cnf_base.specs.Meaning.{Satisfies}
 use Rattle.ltl_closure.specs.Run.{States, IsRun, IsAccepted, IsUnpruned, HasRun, HasAccepted, HasUnpruned}
-use Rattle.enc_layout.specs.Letters.{Meaning, Unpruned, Here, Accepted, Counts, LayoutValue, AreFew, IsLetter, all_letters, letters_through, Fits, number_of}
+use Rattle.ltl_run.specs.declared.run_state.Close.TheVariants as closes
+use Rattle.ltl_run.specs.TraceOf.{Accepts}
+use Rattle.enc_layout.specs.Letters.{Meaning, Unpruned, Here, Accepted, LoopTo, Counts, LayoutValue, AreFew, IsLetter, all_letters, letters_through, Fits, number_of}
 use Rattle.enc_layout.specs.Clauses.{counts, number_in, state_clauses, loop_clauses, prune_clauses, step_clauses, signed_clauses, clause_list}
 use Rattle.enc_layout.specs.Assigned.{states_of, Shows, AreSatisfiable, run_question, accepted_question, unpruned_question}
 
@@ -53,6 +56,21 @@ AssignmentsRun = (f : Formula) (kind : Kind) (d k : ℕ) (v : ℕ → Bool) → 
 abbrev pub AssignmentsAccept : Type 0
 AssignmentsAccept = (f : Formula) (kind : Kind) (d k : ℕ) (v : ℕ → Bool) → k ≤ d → Satisfies v (clause_list f kind d) → v (number_in f kind (Accepted k)) ≡ true
     → IsAccepted f (states_of f kind v) k kind
+
+-- for infinite traces, where the letter of the loop from state k to l is true, by that loop
+abbrev pub AssignmentsLoop : Type 0
+AssignmentsLoop = (f : Formula) (kind : Kind) (d k l : ℕ) (v : ℕ → Bool) → kind ≡ Kinds.Infinite → k ≤ d → l < k → Satisfies v (clause_list f kind d) → v (number_in f kind (LoopTo l k)) ≡ true
+    → Accepts (closes.Loop l) f (states_of f kind v) k kind
+
+-- where the letter of acceptance is true and that of no loop from state k, by having no next request there
+abbrev pub AssignmentsEmpty : Type 0
+AssignmentsEmpty = (f : Formula) (kind : Kind) (d k : ℕ) (v : ℕ → Bool) → kind ≡ Kinds.Infinite → k ≤ d → Satisfies v (clause_list f kind d) → v (number_in f kind (Accepted k)) ≡ true
+    → ((l : ℕ) → l < k → v (number_in f kind (LoopTo l k)) ≡ false) → Accepts closes.Empty f (states_of f kind v) k kind
+
+-- for finite traces, where the letter of acceptance is true, by its end
+abbrev pub AssignmentsEnd : Type 0
+AssignmentsEnd = (f : Formula) (kind : Kind) (d k : ℕ) (v : ℕ → Bool) → kind ≡ Kinds.Finite → k ≤ d → Satisfies v (clause_list f kind d) → v (number_in f kind (Accepted k)) ≡ true
+    → Accepts closes.End f (states_of f kind v) k kind
 
 -- where the list through k and letter 1 are true, that run is pruned nowhere
 abbrev pub AssignmentsAreUnpruned : Type 0

@@ -15,7 +15,7 @@ use Rattle.enc_layout.specs.Letters.{LayoutValue, Meaning, Unpruned, Here, Accep
 use Rattle.enc_layout.specs.Clauses.{Plus, counts, layout_of, literal_in, clause_list}
 use Rattle.enc_layout.specs.Assigned.{positive_of, AreSatisfiable, run_question, accepted_question, unpruned_question}
 use Rattle.enc_layout.specs.Targets.{negative_of}
-use Rattle.enc_layout.proofs.Questions.{run_asked, accepted_asked, unpruned_asked}
+use Rattle.enc_layout.specs.Laws.{RunQuestionsAnswer, AcceptedQuestionsAnswer, UnprunedQuestionsAnswer}
 use Rattle.unravel.specs.Depths.{IsThrough, IsRunAnswer, IsAcceptedAnswer, IsUnprunedAnswer}
 use Rattle.unravel.proofs.Lines.{only_from}
 use Rattle.unravel.proofs.Negated.{opposite_of_one, opposite_of_two, consistent_one, consistent_two, known_one, known_two}
@@ -57,12 +57,12 @@ module _ (f : Formula) (kind : Kind) (k : ℕ) (s : SolverValue) (through : IsTh
   not_satisfiable : (question : List Signed) → (IsSatisfiable s.log.inputs question → ⊥) → AreSatisfiable (clause_list f kind k) question → ⊥
   not_satisfiable question none (v, holds, yes') = none (v, subst (Satisfies v) (sym through.inputs) holds, yes')
 
-  pub run_found : IsAnswer s (run_question f kind k) answers.Sat → IsRunAnswer f kind k s None
-  run_found a = (run_asked f kind k k (omega arith)).1 (satisfiable (run_question f kind k) a)
+  pub run_found : RunQuestionsAnswer → IsAnswer s (run_question f kind k) answers.Sat → IsRunAnswer f kind k s None
+  run_found asked a = (asked f kind k k (omega arith)).1 (satisfiable (run_question f kind k) a)
 
-  pub run_refuted : (line : ℕ) → IsAnswer s (run_question f kind k) (answers.Unsat line) → IsRunAnswer f kind k s (Some line)
-  run_refuted line (from, upto, negated, none) = (
-    λ r. not_satisfiable (run_question f kind k) none ((run_asked f kind k k (omega arith)).0 r),
+  pub run_refuted : RunQuestionsAnswer → (line : ℕ) → IsAnswer s (run_question f kind k) (answers.Unsat line) → IsRunAnswer f kind k s (Some line)
+  run_refuted asked line (from, upto, negated, none) = (
+    λ r. not_satisfiable (run_question f kind k) none ((asked f kind k k (omega arith)).0 r),
     only_from s.log.lines line (run_question f kind k) (negative_of f kind (Here k) ∷ []) (opposite_of_one f kind (Here k)) from upto negated,
   )
 
@@ -75,18 +75,18 @@ module _ (f : Formula) (kind : Kind) (k : ℕ) (s : SolverValue) (through : IsTh
         (All-tail (λ l. literal_value (value_of s) l ≡ true) (positive_of f kind (Here k)) (positive_of f kind (Accepted k) ∷ []) yes');
   }
 
-  pub accepted_refuted : (line : ℕ) → IsAnswer s (accepted_question f kind k) (answers.Unsat line) → IsAcceptedAnswer f kind k s (Some line)
-  accepted_refuted line (from, upto, negated, none) = (
-    λ r. not_satisfiable (accepted_question f kind k) none ((accepted_asked f kind k k (omega arith)).0 r),
+  pub accepted_refuted : AcceptedQuestionsAnswer → (line : ℕ) → IsAnswer s (accepted_question f kind k) (answers.Unsat line) → IsAcceptedAnswer f kind k s (Some line)
+  accepted_refuted asked line (from, upto, negated, none) = (
+    λ r. not_satisfiable (accepted_question f kind k) none ((asked f kind k k (omega arith)).0 r),
     only_from s.log.lines line (accepted_question f kind k) (negative_of f kind (Here k) ∷ negative_of f kind (Accepted k) ∷ []) (opposite_of_two f kind (Here k) (Accepted k)) from upto negated,
   )
 
-  pub unpruned_found : IsAnswer s (unpruned_question f kind k) answers.Sat → IsUnprunedAnswer f kind k s None
-  unpruned_found a = (unpruned_asked f kind k).1 (satisfiable (unpruned_question f kind k) a)
+  pub unpruned_found : UnprunedQuestionsAnswer → IsAnswer s (unpruned_question f kind k) answers.Sat → IsUnprunedAnswer f kind k s None
+  unpruned_found asked a = (asked f kind k).1 (satisfiable (unpruned_question f kind k) a)
 
-  pub unpruned_refuted : (line : ℕ) → IsAnswer s (unpruned_question f kind k) (answers.Unsat line) → IsUnprunedAnswer f kind k s (Some line)
-  unpruned_refuted line (from, upto, negated, none) = (
-    λ r. not_satisfiable (unpruned_question f kind k) none ((unpruned_asked f kind k).0 r),
+  pub unpruned_refuted : UnprunedQuestionsAnswer → (line : ℕ) → IsAnswer s (unpruned_question f kind k) (answers.Unsat line) → IsUnprunedAnswer f kind k s (Some line)
+  unpruned_refuted asked line (from, upto, negated, none) = (
+    λ r. not_satisfiable (unpruned_question f kind k) none ((asked f kind k).0 r),
     only_from s.log.lines line (unpruned_question f kind k) (negative_of f kind (Here k) ∷ negative_of f kind Unpruned ∷ []) (opposite_of_two f kind (Here k) Unpruned) from upto negated,
   )
 
@@ -102,22 +102,22 @@ module _ (layout : LayoutValue) (c : ClosureValue) (own : layout ≡ layout_of c
       subst (λ (m : Signed). IsAnswer s (positive_of c.formula c.kind (Here k) ∷ m ∷ []) answer) (of_layout layout c p other own also)
       (subst (λ (m : Signed). IsAnswer s (m ∷ other ∷ []) answer) (of_layout layout c (Here k) here own is) a)
 
-  pub run_none : IsAnswer s (here ∷ []) answer → answer ≡ answers.Sat → IsRunAnswer c.formula c.kind k s None
-  run_none a e = run_found c.formula c.kind k s through (subst (IsAnswer s (run_question c.formula c.kind k)) e (one a))
+  pub run_none : RunQuestionsAnswer → IsAnswer s (here ∷ []) answer → answer ≡ answers.Sat → IsRunAnswer c.formula c.kind k s None
+  run_none asked a e = run_found c.formula c.kind k s through asked (subst (IsAnswer s (run_question c.formula c.kind k)) e (one a))
 
-  pub run_some : (line : ℕ) → IsAnswer s (here ∷ []) answer → answer ≡ answers.Unsat line → IsRunAnswer c.formula c.kind k s (Some line)
-  run_some line a e = run_refuted c.formula c.kind k s through line (subst (IsAnswer s (run_question c.formula c.kind k)) e (one a))
+  pub run_some : RunQuestionsAnswer → (line : ℕ) → IsAnswer s (here ∷ []) answer → answer ≡ answers.Unsat line → IsRunAnswer c.formula c.kind k s (Some line)
+  run_some asked line a e = run_refuted c.formula c.kind k s through asked line (subst (IsAnswer s (run_question c.formula c.kind k)) e (one a))
 
   module _ (other : Signed) (also : other ≡ literal_in layout.kind layout.counts (Plus (Accepted k))) (a : IsAnswer s (here ∷ other ∷ []) answer) where
     pub accepted_none : answer ≡ answers.Sat → IsAcceptedAnswer c.formula c.kind k s None
     accepted_none e = accepted_found c.formula c.kind k s through (subst (IsAnswer s (accepted_question c.formula c.kind k)) e (two (Accepted k) other also a))
 
-    pub accepted_some : (line : ℕ) → answer ≡ answers.Unsat line → IsAcceptedAnswer c.formula c.kind k s (Some line)
-    accepted_some line e = accepted_refuted c.formula c.kind k s through line (subst (IsAnswer s (accepted_question c.formula c.kind k)) e (two (Accepted k) other also a))
+    pub accepted_some : AcceptedQuestionsAnswer → (line : ℕ) → answer ≡ answers.Unsat line → IsAcceptedAnswer c.formula c.kind k s (Some line)
+    accepted_some asked line e = accepted_refuted c.formula c.kind k s through asked line (subst (IsAnswer s (accepted_question c.formula c.kind k)) e (two (Accepted k) other also a))
 
   module _ (other : Signed) (also : other ≡ literal_in layout.kind layout.counts (Plus Unpruned)) (a : IsAnswer s (here ∷ other ∷ []) answer) where
-    pub unpruned_none : answer ≡ answers.Sat → IsUnprunedAnswer c.formula c.kind k s None
-    unpruned_none e = unpruned_found c.formula c.kind k s through (subst (IsAnswer s (unpruned_question c.formula c.kind k)) e (two Unpruned other also a))
+    pub unpruned_none : UnprunedQuestionsAnswer → answer ≡ answers.Sat → IsUnprunedAnswer c.formula c.kind k s None
+    unpruned_none asked e = unpruned_found c.formula c.kind k s through asked (subst (IsAnswer s (unpruned_question c.formula c.kind k)) e (two Unpruned other also a))
 
-    pub unpruned_some : (line : ℕ) → answer ≡ answers.Unsat line → IsUnprunedAnswer c.formula c.kind k s (Some line)
-    unpruned_some line e = unpruned_refuted c.formula c.kind k s through line (subst (IsAnswer s (unpruned_question c.formula c.kind k)) e (two Unpruned other also a))
+    pub unpruned_some : UnprunedQuestionsAnswer → (line : ℕ) → answer ≡ answers.Unsat line → IsUnprunedAnswer c.formula c.kind k s (Some line)
+    unpruned_some asked line e = unpruned_refuted c.formula c.kind k s through asked line (subst (IsAnswer s (unpruned_question c.formula c.kind k)) e (two Unpruned other also a))

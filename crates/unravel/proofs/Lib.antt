@@ -3,7 +3,6 @@ mod Negated
 mod Asking
 mod Rejections
 mod Grown
-mod Closing
 mod Agreeing
 mod Reading
 mod LetterEntries

@@ -40,6 +40,7 @@ fn settle(alloc: Global, closure: &Closure<'_>, limit: u32) -> Result<Option<Dec
     requires fits { Fits (layout_of closure.now) limit }
     ensures { IfOk result (IsSettled closure.now.formula closure.now.kind limit) }
 {
+    enc_layout::laws::numbering();
     let mut solver = Solver::new(alloc);
     let mut clauses = ClauseList::new(alloc);
     let mut targets = Vec::new(alloc);

@@ -51,6 +51,8 @@ pub fn grow(
     ensures through { OnOk result (IsThrough closure.now.formula closure.now.kind step solver.new) }
     ensures lines { OnOk result (solver.new.log.lines ≡ solver.old.log.lines) }
 {
+    enc_layout::laws::numbering();
+    enc_layout::laws::steps();
     write_step(closure, step, clauses)?;
     let layout = Layout::of(closure);
     solver.letters(alloc, layout.letters_through(step) as u32)?;

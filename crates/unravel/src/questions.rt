@@ -38,6 +38,7 @@ fn refute_run(
     ensures longer { IsLonger solver.old.log solver.new.log }
     ensures answer { IfOk result (IsRunAnswer closure.now.formula closure.now.kind depth solver.new) }
 {
+    enc_layout::laws::questions();
     let layout = Layout::of(closure);
     let here = layout.positive(depth, Part::Here);
     match solver.solve(alloc, &[here])? {
@@ -60,6 +61,7 @@ fn refute_accepted(
     ensures longer { IsLonger solver.old.log solver.new.log }
     ensures answer { IfOk result (IsAcceptedAnswer closure.now.formula closure.now.kind depth solver.new) }
 {
+    enc_layout::laws::questions();
     let layout = Layout::of(closure);
     let here = layout.positive(depth, Part::Here);
     let accepted = layout.positive(depth, Part::Accepted);
@@ -83,6 +85,7 @@ fn refute_unpruned(
     ensures longer { IsLonger solver.old.log solver.new.log }
     ensures answer { IfOk result (IsUnprunedAnswer closure.now.formula closure.now.kind depth solver.new) }
 {
+    enc_layout::laws::questions();
     let layout = Layout::of(closure);
     let here = layout.positive(depth, Part::Here);
     let unpruned = layout.may_prune().opposite();

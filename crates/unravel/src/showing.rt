@@ -35,6 +35,7 @@ pub fn shown_trace(
     ensures run { IfOk result (IsTraceOfRun closure.now.formula closure.now.kind depth) }
     ensures model { IfOk result (IsModel closure.now.formula closure.now.kind) }
 {
+    enc_layout::laws::assignment_runs();
     let states = read_states(alloc, closure, solver, depth)?;
     let close = closing_rule(closure, solver, depth);
     trace_of(alloc, closure, &states, close)
@@ -139,6 +140,7 @@ fn closing_rule(closure: &Closure<'_>, solver: &Solver, depth: u32) -> Close
     requires showing { IsShowing closure.now.formula closure.now.kind depth solver.now }
     ensures { Accepts result closure.now.formula (states_of closure.now.formula closure.now.kind (value_of solver.now)) depth closure.now.kind }
 {
+    enc_layout::laws::assignment_runs();
     match closure.kind() {
         Kind::Infinite => loop_rule(closure, solver, depth),
         Kind::Finite => Close::End,
@@ -153,6 +155,7 @@ fn loop_rule(closure: &Closure<'_>, solver: &Solver, depth: u32) -> Close
     requires showing { IsShowing closure.now.formula closure.now.kind depth solver.now }
     ensures { Accepts result closure.now.formula (states_of closure.now.formula closure.now.kind (value_of solver.now)) depth closure.now.kind }
 {
+    enc_layout::laws::assignment_runs();
     let layout = Layout::of(closure);
     for earlier in 0..depth {
         if solver.value(layout.letter(depth, Part::Loop(earlier))) {

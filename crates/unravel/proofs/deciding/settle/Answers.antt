@@ -1,19 +1,18 @@
 use Rattle.std.proofs.Common.{subst, [], ◌∷◌, ◌++◌}
 use Rattle.enc_layout.specs.Clauses.{layout_of}
-use Rattle.enc_layout.proofs.Fitting.{lower_fits}
 use Rattle.unravel.specs.Depths.{Tells}
 use Rattle.unravel.proofs.Rejections.{refutes_acceptance, refutes_unpruned}
 use Rattle.unravel.proofs.Verdicts.{within_limit, open_more, before_more, shown_decided, refuted_decided, no_run_verdict, pruned_verdict, refuted, rejected_more, open_through}
 use Rattle.unravel.proofs.deciding.settle.Goals as goal
 
 pub grow-requires-clause-fits : goal.grow-requires-clause-fits
-grow-requires-clause-fits c = lower_fits (layout_of c.args.closure.now) c.loop-depth.depth c.args.limit (within_limit c.loop-depth.depth c.args.limit c.loop-depth-test.true) c.requires.fits
+grow-requires-clause-fits c = c.numbering.ensures.lower (layout_of c.args.closure.now) c.loop-depth.depth c.args.limit (within_limit c.loop-depth.depth c.args.limit c.loop-depth-test.true) c.requires.fits
 
 pub ask-requires-clause-fits : goal.ask-requires-clause-fits
-ask-requires-clause-fits c = lower_fits (layout_of c.args.closure.now) c.loop-depth.depth c.args.limit (within_limit c.loop-depth.depth c.args.limit c.loop-depth-test.true) c.requires.fits
+ask-requires-clause-fits c = c.numbering.ensures.lower (layout_of c.args.closure.now) c.loop-depth.depth c.args.limit (within_limit c.loop-depth.depth c.args.limit c.loop-depth-test.true) c.requires.fits
 
 pub shown-requires-clause-fits : goal.shown-requires-clause-fits
-shown-requires-clause-fits c = lower_fits (layout_of c.args.closure.now) c.loop-depth.depth c.args.limit (within_limit c.loop-depth.depth c.args.limit c.loop-depth-test.true) c.requires.fits
+shown-requires-clause-fits c = c.numbering.ensures.lower (layout_of c.args.closure.now) c.loop-depth.depth c.args.limit (within_limit c.loop-depth.depth c.args.limit c.loop-depth-test.true) c.requires.fits
 
 pub returns-in-NoRun : goal.returns-in-NoRun
 returns-in-NoRun c =

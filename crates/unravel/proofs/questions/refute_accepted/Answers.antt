@@ -22,4 +22,4 @@ pub returns-in-Unsat-clause-answer : goal.returns-in-Unsat-clause-answer
 returns-in-Unsat-clause-answer c =
     let through = through_longer c.args.closure.now.formula c.args.closure.now.kind c.args.depth c.args.solver.now c.solve.new.self c.requires.through c.solve.ensures.letters c.solve.ensures.log in
     accepted_some c.of-layout.result c.args.closure.now c.of-layout.ensures.layout c.args.depth c.solve.new.self through c.positive-here.result c.positive-here.ensures c.in_ok-solve.field-0
-    c.positive-accepted.result c.positive-accepted.ensures c.in_ok-solve.ensures.answer c.in-Unsat.line c.in-Unsat.is
+    c.positive-accepted.result c.positive-accepted.ensures c.in_ok-solve.ensures.answer c.questions.ensures.accepted c.in-Unsat.line c.in-Unsat.is
