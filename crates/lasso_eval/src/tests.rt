@@ -30,6 +30,48 @@ fn push(rt: &impl Abort, table: &mut FormulaTable, node: Node) -> Result<u32, Fa
     Ok(table.push(node)?)
 }
 
+fn unary_of(word: &str) -> Option<UnaryOp> {
+    match word {
+        "!" => Some(UnaryOp::Not),
+        "X" => Some(UnaryOp::Next),
+        "wX" => Some(UnaryOp::WeakNext),
+        "F" => Some(UnaryOp::Eventually),
+        "G" => Some(UnaryOp::Always),
+        "Y" => Some(UnaryOp::Yesterday),
+        "Z" => Some(UnaryOp::WeakYesterday),
+        "O" => Some(UnaryOp::Once),
+        "H" => Some(UnaryOp::Historically),
+        _ => None,
+    }
+}
+
+fn binary_of(word: &str) -> Option<BinaryOp> {
+    match word {
+        "&" => Some(BinaryOp::And),
+        "|" => Some(BinaryOp::Or),
+        "->" => Some(BinaryOp::Implies),
+        "<->" => Some(BinaryOp::Iff),
+        "U" => Some(BinaryOp::Until),
+        "R" => Some(BinaryOp::Release),
+        "W" => Some(BinaryOp::WeakUntil),
+        "M" => Some(BinaryOp::StrongRelease),
+        "S" => Some(BinaryOp::Since),
+        "T" => Some(BinaryOp::Trigger),
+        _ => None,
+    }
+}
+
+fn operand_of(rt: &impl Abort, table: &mut FormulaTable, word: &str) -> Result<Node, Fail> {
+    assert!(rt; table.letters() < 100);
+    match word {
+        "true" => Ok(Node::Const(true)),
+        "false" => Ok(Node::Const(false)),
+        "{7}" => Ok(Node::Fresh(7)),
+        "p" => Ok(Node::Letter(table.name("p")?)),
+        _ => Ok(Node::Letter(table.name("q")?)),
+    }
+}
+
 // Pushes a formula whose operators stand behind their operands, and answers its number.
 fn formula(
     rt: &impl Abort,
@@ -39,45 +81,13 @@ fn formula(
 ) -> Result<u32, Fail> {
     let mut stack: Vec<u32> = Vec::new(alloc);
     for word in text.split_whitespace() {
-        let unary = match word {
-            "!" => Some(UnaryOp::Not),
-            "X" => Some(UnaryOp::Next),
-            "wX" => Some(UnaryOp::WeakNext),
-            "F" => Some(UnaryOp::Eventually),
-            "G" => Some(UnaryOp::Always),
-            "Y" => Some(UnaryOp::Yesterday),
-            "Z" => Some(UnaryOp::WeakYesterday),
-            "O" => Some(UnaryOp::Once),
-            "H" => Some(UnaryOp::Historically),
-            _ => None,
-        };
-        let binary = match word {
-            "&" => Some(BinaryOp::And),
-            "|" => Some(BinaryOp::Or),
-            "->" => Some(BinaryOp::Implies),
-            "<->" => Some(BinaryOp::Iff),
-            "U" => Some(BinaryOp::Until),
-            "R" => Some(BinaryOp::Release),
-            "W" => Some(BinaryOp::WeakUntil),
-            "M" => Some(BinaryOp::StrongRelease),
-            "S" => Some(BinaryOp::Since),
-            "T" => Some(BinaryOp::Trigger),
-            _ => None,
-        };
-        let node = if let Some(op) = unary {
+        let node = if let Some(op) = unary_of(word) {
             Node::Unary(op, stack.pop().expect(rt, "an operand"))
-        } else if let Some(op) = binary {
+        } else if let Some(op) = binary_of(word) {
             let right = stack.pop().expect(rt, "a right operand");
             Node::Binary(op, stack.pop().expect(rt, "a left operand"), right)
         } else {
-            assert!(rt; table.letters() < 100);
-            match word {
-                "true" => Node::Const(true),
-                "false" => Node::Const(false),
-                "{7}" => Node::Fresh(7),
-                "p" => Node::Letter(table.name("p")?),
-                _ => Node::Letter(table.name("q")?),
-            }
+            operand_of(rt, table, word)?
         };
         stack.push(push(rt, table, node)?)?;
     }

@@ -1,7 +1,7 @@
 // The gates of entries: an entry's letter is true exactly where its operator says so of the letters of its operands and its request.
 ghost use Rattle.std.specs.Prelude.{◌≡◌, ◌≤◌, ◌++◌, length, All, OnOk, OnErr};
 ghost use Rattle.enc_layout.specs.Letters.{EntryAt, Fits};
-ghost use Rattle.enc_layout.specs.Clauses.{Plus, literal_in, clauses_in};
+ghost use Rattle.enc_layout.specs.Clauses.{Plus, literal_in, clauses_in, strong_gate, weak_gate};
 ghost use Rattle.enc_layout.specs.Numbered.{IsNumber, IsInside, Extends};
 ghost use Rattle.step_encode.specs.Gates.{negation_rows, and_rows, or_rows, strong_rows, weak_rows};
 ghost use Rattle.step_encode.specs.ByNumber.{entry_gate, gates_part};
@@ -81,6 +81,63 @@ fn push_weak(
     out.push(&[gate, right.opposite(), request.opposite()])
 }
 
+/// The gate of an until or a since, over the entries of these numbers.
+fn push_strong_gate(
+    layout: &Layout,
+    step: u32,
+    number: u32,
+    left: u32,
+    right: u32,
+    request: u32,
+    out: &mut ClauseList,
+) -> Result<(), AllocError>
+    requires few { step ≤ 1000 }
+    requires fits { Fits layout.now step }
+    requires number { IsNumber layout.now.counts.entries number }
+    requires left { IsNumber layout.now.counts.entries left }
+    requires right { IsNumber layout.now.counts.entries right }
+    requires request { IsNumber layout.now.counts.entries request }
+    ensures ok { OnOk result (out.new ≡ out.old ++ clauses_in layout.now.kind layout.now.counts (strong_gate (EntryAt step number) (EntryAt step left) (EntryAt step right) (EntryAt step request))) }
+    ensures err { OnErr result (Extends out.old out.new) }
+{
+    push_strong(
+        out,
+        layout.entry(step, number),
+        layout.entry(step, left),
+        layout.entry(step, right),
+        layout.entry(step, request),
+    )
+}
+
+/// The gate of a release or a trigger, over the entries of these numbers.
+fn push_weak_gate(
+    layout: &Layout,
+    step: u32,
+    number: u32,
+    left: u32,
+    right: u32,
+    request: u32,
+    out: &mut ClauseList,
+) -> Result<(), AllocError>
+    requires few { step ≤ 1000 }
+    requires fits { Fits layout.now step }
+    requires number { IsNumber layout.now.counts.entries number }
+    requires left { IsNumber layout.now.counts.entries left }
+    requires right { IsNumber layout.now.counts.entries right }
+    requires request { IsNumber layout.now.counts.entries request }
+    ensures ok { OnOk result (out.new ≡ out.old ++ clauses_in layout.now.kind layout.now.counts (weak_gate (EntryAt step number) (EntryAt step left) (EntryAt step right) (EntryAt step request))) }
+    ensures err { OnErr result (Extends out.old out.new) }
+{
+    push_weak(
+        out,
+        layout.entry(step, number),
+        layout.entry(step, left),
+        layout.entry(step, right),
+        layout.entry(step, request),
+    )
+}
+
+/// The gate of an entry. A letter and a request have none.
 fn push_gate(
     layout: &Layout,
     step: u32,
@@ -101,20 +158,12 @@ fn push_gate(
         Entry::False => out.push(&[gate.opposite()]),
         Entry::NotLetter(letter) => push_negation(out, gate, layout.entry(step, letter)),
         Entry::And(left, right) => {
-            push_and(
-                out,
-                gate,
-                layout.entry(step, left),
-                layout.entry(step, right),
-            )
+            let (left, right) = (layout.entry(step, left), layout.entry(step, right));
+            push_and(out, gate, left, right)
         }
         Entry::Or(left, right) => {
-            push_or(
-                out,
-                gate,
-                layout.entry(step, left),
-                layout.entry(step, right),
-            )
+            let (left, right) = (layout.entry(step, left), layout.entry(step, right));
+            push_or(out, gate, left, right)
         }
         Entry::Until {
             left,
@@ -125,15 +174,7 @@ fn push_gate(
             left,
             right,
             request,
-        } => {
-            push_strong(
-                out,
-                gate,
-                layout.entry(step, left),
-                layout.entry(step, right),
-                layout.entry(step, request),
-            )
-        }
+        } => push_strong_gate(layout, step, number, left, right, request, out),
         Entry::Release {
             left,
             right,
@@ -143,15 +184,7 @@ fn push_gate(
             left,
             right,
             request,
-        } => {
-            push_weak(
-                out,
-                gate,
-                layout.entry(step, left),
-                layout.entry(step, right),
-                layout.entry(step, request),
-            )
-        }
+        } => push_weak_gate(layout, step, number, left, right, request, out),
         Entry::Letter(_) | Entry::Fresh(_) | Entry::Next { .. } | Entry::Yesterday { .. } => Ok(()),
     }
 }
