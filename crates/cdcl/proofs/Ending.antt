@@ -10,7 +10,7 @@ use Rattle.cnf_base.specs.Step.{IsHintedStep}
 use Rattle.cnf_base.proofs.SameLiteral.{opposite_opposite}
 use Rattle.clause_log.specs.LogValue.{greatest_u32}
 use Rattle.cdcl_state.specs.Trail.{StateValue, literals_of, IsBack}
-use Rattle.cdcl_state.specs.Learnt.{blank_entry, literal_at, IsDecision}
+use Rattle.cdcl_state.specs.Learnt.{blank_entry, literal_at, IsDecision, IsFront}
 use Rattle.cdcl_state.specs.Analysis.{refuted_at, IsRefuted}
 use Rattle.cdcl_state.specs.declared.assigned.Entry.{Entry}
 use Rattle.cdcl_state.specs.declared.analyze.Learnt.{Learnt}
@@ -22,13 +22,15 @@ use Rattle.cdcl.specs.declared.solve.Answer.{Answer}
 use Rattle.cdcl.specs.declared.solve.Answer.TheVariants.{Sat, Unsat}
 use Rattle.cdcl.proofs.Search.{EachDecision, IsGuided, IsAssumed, HasNoNear, IsSearch, each_take, each_forced, assumed_negated, after_none, after_trail, places_of, fuel}
 
--- at the start no decision stands
-pub search_start : (old new : StateValue) (assumptions : List Literal) (level : ℕ) → IsBack old new level → All (λ e. e.reason ≢ None) new.trail → IsSearch old new assumptions
-search_start old new assumptions level back forced = record {
-  after = after_trail old old _ new (after_none old) back.front;
-  guided = each_forced (IsGuided assumptions) new.trail forced;
-  near = inl (each_forced (IsAssumed assumptions) new.trail forced, ap (λ (s : StateValue). s.log.lines) back.front);
-}
+-- at the start no decision stands but of assumptions
+pub search_start : (old new : StateValue) (assumptions : List Literal) → IsFront old new → All (λ e. e.reason ≡ None → Contains assumptions e.literal) new.trail → IsSearch old new assumptions
+search_start old new assumptions front decided =
+    let each : EachDecision (IsAssumed assumptions) new.trail = λ k below free. decided k blank_entry below free in
+    record {
+      after = after_trail old old _ new (after_none old) front.after;
+      guided = λ k below free. inl (each k below free);
+      near = inl (each, ap (λ (s : StateValue). s.log.lines) front.after);
+    }
 
 -- a way back keeps what holds of the search
 pub search_back : (old s new : StateValue) (assumptions : List Literal) (level : ℕ) → IsSearch old s assumptions → IsBack s new level → IsSearch old new assumptions

@@ -3,8 +3,6 @@
 // After Luby, Sinclair and Zuckerman, Optimal speedup of Las Vegas algorithms (1993).
 ghost use Rattle.std.specs.Prelude.{◌≡◌, ◌+◌, ◌⊎◌, true, false};
 
-use cdcl_state::restart::luby;
-
 /// The conflicts of one question, as far as they decide when the search begins anew.
 #[derive(Drop)]
 pub struct Pace {
@@ -38,4 +36,29 @@ impl Pace {
         self.left -= 1;
         true
     }
+}
+
+/// The number of a place of Luby's sequence: 1, 1, 2, 1, 1, 2, 4, ..
+fn luby(place: u32) -> u64 {
+    let mut at = place as u64 + 1;
+    for _ in 0..64 {
+        let size = enclosing(at);
+        if size == at {
+            return size / 2 + 1;
+        }
+        at = at.saturating_sub(size / 2).max(1);
+    }
+    1
+}
+
+/// The least of 1, 3, 7, 15, .. that is not less.
+fn enclosing(at: u64) -> u64 {
+    let mut size: u64 = 1;
+    for _ in 0..40 {
+        if size >= at {
+            return size;
+        }
+        size = size.saturating_mul(2).saturating_add(1);
+    }
+    size
 }

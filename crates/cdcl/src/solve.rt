@@ -31,7 +31,6 @@ fn finish(state: &mut State, alloc: Global, learnt: &Learnt) -> Result<Answer, A
     ensures near { length state.new.log.lines ≤ length state.old.log.lines + 1 }
     ensures answer { IfOk result (IsLast state.new learnt.now.clause.items) }
 {
-    state.reset();
     let line = state.derive(alloc, &learnt.clause, &learnt.hints)?;
     Ok(Answer::Unsat(line))
 }
@@ -57,7 +56,8 @@ pub fn solve(
     ensures near { (clause : List Literal) (hints : List Hint) → IsNegated assumptions.now clause → IsHintedStep state.old.log.inputs state.old.log.lines greatest_u32 clause hints → length state.new.log.lines ≤ length state.old.log.lines + 1 }
     ensures answer { IfOk result (IsFound state.new assumptions.now) }
 {
-    state.reset();
+    // What an earlier question left stays as far as only assumptions of this one were decided.
+    state.retreat(assumptions);
     let mut pace = Pace::new();
     'search: loop {
         let found = state.propagate()?;

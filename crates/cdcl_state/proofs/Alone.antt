@@ -8,8 +8,8 @@ use Rattle.cnf_base.specs.declared.literal.Hint.{Hint}
 use Rattle.cnf_base.specs.Step.{named}
 use Rattle.cdcl_state.specs.Trail.{literals_of, IsReason, IsTrail, StandsAt, HasLevel}
 use Rattle.cdcl_state.specs.Learnt.{blank_entry, place_level}
-use Rattle.cdcl_state.specs.Visit.{IsGrown}
-use Rattle.cdcl_state.specs.State.{IsOne, HasTrue, AreFirm}
+use Rattle.cdcl_state.specs.Visit.{HasTrue, IsGrown}
+use Rattle.cdcl_state.specs.State.{IsOne, AreFirm}
 use Rattle.cdcl_state.specs.declared.assigned.Entry.{Entry}
 use Rattle.cdcl_state.proofs.Assign.{level_there}
 use Rattle.cdcl_state.proofs.Turn.{levels_rise}

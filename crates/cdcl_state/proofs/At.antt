@@ -9,15 +9,15 @@ use Rattle.cnf_base.specs.declared.literal.Literal.{Literal}
 use Rattle.cnf_base.specs.declared.literal.Hint.{Hint}
 use Rattle.cnf_base.specs.Literal.{opposite}
 use Rattle.cnf_base.proofs.SameLiteral.{opposite_opposite}
-use Rattle.cdcl_state.specs.Trail.{literals_of, HasLevel, IsTrail, AreValues, StandsAt, IsReason, IsConflict}
+use Rattle.cdcl_state.specs.Trail.{literals_of, HasLevel, IsTrail, StandsAt, IsReason, IsConflict}
 use Rattle.cdcl_state.specs.Learnt.{blank_entry, literal_at}
 use Rattle.cdcl_state.specs.declared.assigned.Entry.{Entry}
 use Rattle.cdcl_state.proofs.Assign.{entry_there, level_there}
-use Rattle.cdcl_state.specs.Watching.{AreFirst, IsWatch, IsWatching, clause_of, list_of, code, WatchValue}
-use Rattle.cdcl_state.proofs.Moves.{first_two, are_first, code_same}
+use Rattle.cdcl_watches.specs.Watching.{IsWatch, IsWatching, clause_of, list_of, code, WatchValue}
+use Rattle.cdcl_watches.proofs.Moves.{first_two, code_same}
 use Rattle.cdcl_state.specs.Assigned.{AssignedValue}
-use Rattle.cdcl_state.specs.Visit.{IsVisiting, IsFaced, IsReplacement, AreFalseFrom, false_at, blank_hint}
-use Rattle.cdcl_state.specs.Watching.{blank}
+use Rattle.cdcl_state.specs.Visit.{HasTrue, IsVisiting, IsFaced, IsReplacement, AreFalseFrom, false_at, watcher_at, blank_hint}
+use Rattle.cdcl_watches.specs.Watching.{blank}
 use Rattle.cdcl_state.proofs.Guard.{visit_kept, visit_turned, visit_moved, visit_grown}
 
 -- the literal is the second already
@@ -50,7 +50,6 @@ faced_turned w v c l known watch differ clauses_is lists_is =
 pub record IsAt (inputs lines : List (List Literal)) (names : List Hint) (k i : ℕ) (a : AssignedValue) (w : WatchValue) (c : ℕ) : Type 0 where
   pub visiting : IsVisiting inputs lines names k (i + 1) a w
   pub watching : IsWatching w.clauses w.lists
-  pub are : AreValues a.values a.trail
   pub low : i < length (list_of w.lists (false_at a.trail k))
   pub at : get_or (list_of w.lists (false_at a.trail k)) i 0 ≡ c
   pub known : c < length w.clauses
@@ -64,7 +63,7 @@ visit_weak inputs lines names k i n a w le v = record {
   guarded = v.guarded;
   within = v.within;
   sized = v.sized;
-  done = λ j b from below first. v.done j b (omega arith) below first;
+  done = λ j from below. v.done j (omega arith) below;
 }
 
 -- nothing is said of a list that is not begun
@@ -75,18 +74,17 @@ visit_all inputs lines names k i a w v = record {
   guarded = v.guarded;
   within = v.within;
   sized = v.sized;
-  done = λ j b from below first. absurd (omega (arith, from, below));
+  done = λ j from below. absurd (omega (arith, from, below));
 }
 
-pub at_faced : (inputs lines : List (List Literal)) (names : List Hint) (k i : ℕ) (a : AssignedValue) (w v : WatchValue) (c : ℕ) (l : Literal) → l ≡ false_at a.trail k → AreValues a.values a.trail → IsWatching v.clauses v.lists
+pub at_faced : (inputs lines : List (List Literal)) (names : List Hint) (k i : ℕ) (a : AssignedValue) (w v : WatchValue) (c : ℕ) (l : Literal) → l ≡ false_at a.trail k → IsWatching v.clauses v.lists
     → i < length (list_of w.lists (false_at a.trail k)) → get_or (list_of w.lists (false_at a.trail k)) i 0 ≡ c → c < length w.clauses → IsFaced w v c l → IsVisiting inputs lines names k (i + 1) a w → IsAt inputs lines names k i a v c
-at_faced inputs lines names k i a w v c l l_is are new_watching low at known faced visiting =
+at_faced inputs lines names k i a w v c l l_is new_watching low at known faced visiting =
     let second : false_at a.trail k ≡ get_or (clause_of v.clauses c) 1 blank = sym l_is ∙ faced.second ∙ get_or_default (clause_of v.clauses c) 1 l blank (omega (arith, faced.long)) in
     elim faced.same [
       | inl same ↦ record {
         visiting = subst (IsVisiting inputs lines names k (i + 1) a) (sym same) visiting;
         watching = new_watching;
-        are = are;
         low = subst (λ (u : WatchValue). i < length (list_of u.lists (false_at a.trail k))) (sym same) low;
         at = ap (λ (u : WatchValue). get_or (list_of u.lists (false_at a.trail k)) i 0) same ∙ at;
         known = subst (λ (u : WatchValue). c < length u.clauses) (sym same) known;
@@ -100,7 +98,6 @@ at_faced inputs lines names k i a w v c l l_is are new_watching low at known fac
           record {
             visiting = visit_turned inputs lines names k (i + 1) a w c v known was_long turned.0 turned.1 visiting;
             watching = new_watching;
-            are = are;
             low = subst (λ ls. i < length (list_of ls (false_at a.trail k))) (sym turned.1) low;
             at = ap (λ ls. get_or (list_of ls (false_at a.trail k)) i 0) turned.1 ∙ at;
             known = omega (arith, known, ap length turned.0, length-set w.clauses c s);
@@ -110,13 +107,10 @@ at_faced inputs lines names k i a w v c l l_is are new_watching low at known fac
     ]
 
 module _ (inputs lines : List (List Literal)) (names : List Hint) (k i : ℕ) (a : AssignedValue) (w : WatchValue) (c : ℕ) (at : IsAt inputs lines names k i a w c) where
-  at_first : AreFirst (clause_of w.clauses c) (false_at a.trail k) (get_or (clause_of w.clauses c) 0 blank)
-  at_first = are_first (clause_of w.clauses c) (false_at a.trail k) (get_or (clause_of w.clauses c) 0 blank) blank at.long (inr (at.second, refl))
-
   pub at_true : Contains (literals_of a.trail) (get_or (clause_of w.clauses c) 0 blank) → IsVisiting inputs lines names k i a w
   at_true there =
-      visit_kept inputs lines names k i a w at.watching (get_or (clause_of w.clauses c) 0 blank) at.low
-      (subst (λ n. AreFirst (clause_of w.clauses n) (false_at a.trail k) (get_or (clause_of w.clauses c) 0 blank)) (sym at.at) at_first) there at.visiting
+      let r = clause_of w.clauses c in
+      visit_kept inputs lines names k i a w (subst (λ n. HasTrue (literals_of a.trail) (clause_of w.clauses n)) (sym at.at) (get_or r 0 blank, Contains-get_or r 0 blank (omega (arith, at.long)), there)) at.visiting
 
   pub at_second_false : Contains (literals_of a.trail) (opposite (false_at a.trail k))
   at_second_false = subst (Contains (literals_of a.trail)) (sym (opposite_opposite (literal_at a.trail k))) (entry_there a.trail k blank_entry at.visiting.within)
@@ -161,11 +155,11 @@ module _ (inputs lines : List (List Literal)) (names : List Hint) (k i : ℕ) (a
         ];
       }
 
-  pub at_moved : (v : WatchValue) (j : ℕ) → IsWatching v.clauses v.lists → IsReplacement a.trail (clause_of w.clauses c) j → (m : Literal) → m ≡ get_or (clause_of w.clauses c) j blank → (f : Literal) → f ≡ false_at a.trail k
+  pub at_moved : (v : WatchValue) (j : ℕ) → IsReplacement a.trail (clause_of w.clauses c) j → (m : Literal) → m ≡ get_or (clause_of w.clauses c) j blank → (f : Literal) → f ≡ false_at a.trail k
       → v.clauses ≡ set w.clauses c (swap (clause_of w.clauses c) 1 j) → v.lists ≡ set (set w.lists (code m) (list_of w.lists m ++ c ∷ [])) (code f) (swap_remove (list_of w.lists f) i 0)
       → IsVisiting inputs lines names k i a v
-  at_moved v j new_watching found m m_is f f_is clauses_is lists_is =
-      visit_moved inputs lines names k i a w v c j m at.are at.watching new_watching at.low at.at at.known found.behind found.within at.second m_is
+  at_moved v j found m m_is f f_is clauses_is lists_is =
+      visit_moved inputs lines names k i a w v c j m at.watching at.low at.known found.behind found.within at.second m_is
       (λ there. found.not_false (subst (λ l. Contains (literals_of a.trail) (opposite l)) m_is there)) clauses_is
       (lists_is ∙ ap (λ l. set (set w.lists (code m) (list_of w.lists m ++ c ∷ [])) (code l) (swap_remove (list_of w.lists l) i 0)) f_is) at.visiting
 
@@ -221,11 +215,11 @@ module _ (inputs lines : List (List Literal)) (names : List Hint) (k i : ℕ) (a
       let low_l : i < length (list_of w.lists l) = subst (λ m. i < length (list_of w.lists m)) (sym f_is) low in
       watching.only x l (subst (Contains (list_of w.lists l)) (sym x_is) (Contains-get_or (list_of w.lists l) i 0 low_l))
 
-  pub at_from : (v : WatchValue) → e ≡ get_or a.trail k e → l ≡ opposite e.literal → x ≡ get_or (list_of w.lists l) i 0 → AreValues a.values a.trail → IsWatching w.clauses w.lists → IsWatching v.clauses v.lists
+  pub at_from : (v : WatchValue) → e ≡ get_or a.trail k e → l ≡ opposite e.literal → x ≡ get_or (list_of w.lists l) i 0 → IsWatching w.clauses w.lists → IsWatching v.clauses v.lists
       → i < length (list_of w.lists (false_at a.trail k)) → IsVisiting inputs lines names k (i + 1) a w → IsFaced w v x l → IsAt inputs lines names k i a v x
-  at_from v e_is l_is x_is are watching new_watching low visiting faced =
+  at_from v e_is l_is x_is watching new_watching low visiting faced =
       let f_is = false_is e_is l_is visiting.within in
-      at_faced inputs lines names k i a w v x l f_is are new_watching low (sym (x_is ∙ ap (λ m. get_or (list_of w.lists m) i 0) f_is)) (watch_from e_is l_is x_is watching low visiting.within).0 faced visiting
+      at_faced inputs lines names k i a w v x l f_is new_watching low (sym (x_is ∙ ap (λ m. get_or (list_of w.lists m) i 0) f_is)) (watch_from e_is l_is x_is watching low visiting.within).0 faced visiting
 
 pub visit_same : (inputs lines : List (List Literal)) (names : List Hint) (k i : ℕ) (a n : AssignedValue) (w : WatchValue) → n.trail ≡ a.trail → length n.values ≡ length a.values → IsVisiting inputs lines names k i a w → IsVisiting inputs lines names k i n w
 visit_same inputs lines names k i a n w trail_is values_is v =
@@ -252,9 +246,8 @@ at_assigned inputs lines names k i a w c at e n stands e_is trail_is values_is =
     let same : false_at n.trail k ≡ false_at a.trail k =
     ap (λ t. false_at t k) trail_is ∙ ap (λ (f : Entry). opposite f.literal) (get_or_append_left a.trail (e ∷ []) blank_entry k at.visiting.within) in
     let pushed : literals_of n.trail ≡ literals_of a.trail ++ e.literal ∷ [] = ap literals_of trail_is ∙ map-append (λ f. f.literal) a.trail (e ∷ []) in
-    visit_kept inputs lines names k i n w at.watching b
-    (subst (λ f. i < length (list_of w.lists f)) (sym same) at.low)
-    (subst (λ f. AreFirst (clause_of w.clauses (get_or (list_of w.lists f) i 0)) f b) (sym same)
-    (subst (λ m. AreFirst (clause_of w.clauses m) (false_at a.trail k) b) (sym at.at) (are_first (clause_of w.clauses c) (false_at a.trail k) b blank at.long (inr (at.second, refl)))))
-    (subst (λ t. Contains t b) (sym pushed) (subst (Contains (literals_of a.trail ++ e.literal ∷ [])) e_is (Contains-push (literals_of a.trail) e.literal)))
+    let b_true : Contains (literals_of n.trail) b = subst (λ t. Contains t b) (sym pushed) (subst (Contains (literals_of a.trail ++ e.literal ∷ [])) e_is (Contains-push (literals_of a.trail) e.literal)) in
+    let told : HasTrue (literals_of n.trail) (clause_of w.clauses c) = (b, Contains-get_or (clause_of w.clauses c) 0 blank (omega (arith, at.long)), b_true) in
+    visit_kept inputs lines names k i n w
+    (subst (λ f. HasTrue (literals_of n.trail) (watcher_at w f i)) (sym same) (subst (λ m. HasTrue (literals_of n.trail) (clause_of w.clauses m)) (sym at.at) told))
     after

@@ -1,5 +1,5 @@
 -- A clause more in the log, and among those that are watched or short.
-use Rattle.std.proofs.Common.{◌≡◌, ℕ, zero, suc, ◌<◌, ◌≤◌, ◌+◌, ◌*◌, ◌⊎◌, inl, inr, List, [], ◌∷◌, ◌++◌, Option, Some, None, IfSome, take, All, Contains, length, get_or, refl, sym, ap, ◌∙◌, subst, arith, length-set}
+use Rattle.std.proofs.Common.{◌≡◌, ℕ, zero, suc, ◌<◌, ◌≤◌, ◌+◌, ◌*◌, ◌⊎◌, inl, inr, List, [], ◌∷◌, ◌++◌, Option, Some, None, IfSome, take, All, length, get_or, refl, sym, ap, ◌∙◌, subst, arith, length-set}
 use Rattle.std.proofs.lemmas.Bool.{cases_lt}
 use Rattle.std.proofs.lemmas.List.{get_or_append_left, get_or_at, length_push}
 use Rattle.std.proofs.lemmas.List.Elements.{All-contains, All-push}
@@ -11,16 +11,15 @@ use Rattle.cnf_base.specs.Literal.{opposite}
 use Rattle.cnf_base.specs.Step.{named, numbered}
 use Rattle.clause_log.specs.LogValue.{LogValue, with_input, with_line}
 use Rattle.cdcl_state.specs.Trail.{literals_of, IsTrail, IsReason, StandsAt, HasLevel, IsKnown, AreKnown}
-use Rattle.cdcl_state.specs.Learnt.{blank_entry, literal_at}
-use Rattle.cdcl_state.specs.Watching.{AreFirst, AreApart, WatchValue, list_of, code, with_clause, with_watch, blank}
+use Rattle.cdcl_state.specs.Learnt.{literal_at, place_level}
+use Rattle.cdcl_watches.specs.Watching.{IsWatch, AreApart, WatchValue, clause_of, list_of, code, with_clause, with_watch, blank}
 use Rattle.cdcl_state.specs.Assigned.{AssignedValue}
-use Rattle.cdcl_state.specs.Visit.{IsStored, IsGuarded, HaveSame, IsUnwatched, blank_hint}
-use Rattle.cdcl_state.specs.Sure.{IsSure}
-use Rattle.cdcl_state.specs.State.{IsState, IsOne, IsListed, AreLong, AreShort, AreFirm, HasTrue}
+use Rattle.cdcl_state.specs.Visit.{HasTrue, IsStored, IsGuarded, HaveSame, IsUnwatched, IsRewound, blank_hint}
+use Rattle.cdcl_state.specs.Sure.{IsSure, IsTrueBy}
+use Rattle.cdcl_state.specs.State.{IsState, IsOne, IsListed, AreLong, AreShort, AreFirm}
 use Rattle.cdcl_state.specs.declared.assigned.Entry.{Entry}
-use Rattle.cdcl_state.proofs.Moves.{first_two}
+use Rattle.cdcl_watches.proofs.Moves.{first_two}
 use Rattle.cdcl_state.proofs.Ready.{code_known}
-use Rattle.cdcl_state.proofs.Assign.{entry_there}
 
 some_same : {X : Type 0} {x y : X} {o : Option X} → o ≡ Some x → o ≡ Some y → x ≡ y
 some_same a b = cc
@@ -137,32 +136,32 @@ module _ (old new : LogValue) (hint : Hint) (clause : List Literal) (more : IsMo
       let same : told.0 ≡ other = some_same (more.kept (get_or units u blank_hint) told.0 told.1) is in
       subst (HasTrue true_ones) same (firm u told.0 below told.1)
 
--- a literal that became false on the trail is none of the first two
-pub not_false_first : (trail : List Entry) (r : List Literal) (k : ℕ) (x y : Literal) → IsUnwatched trail r → k < length trail → AreFirst r x y → ¬ (literal_at trail k ≡ opposite x)
-not_false_first trail r k x y free low first is =
-    let there : Contains (literals_of trail) (opposite x) = subst (Contains (literals_of trail)) is (entry_there trail k blank_entry low) in
-    elim (first_two r x y blank first) [
-      | inl e ↦ free.0 (subst (λ l. Contains (literals_of trail) (opposite l)) e.0 there)
-      | inr e ↦ free.1 (subst (λ l. Contains (literals_of trail) (opposite l)) e.0 there)
-    ]
+-- a literal that became false below the place is none of the first two
+pub not_false_first : (trail : List Entry) (r : List Literal) (place k : ℕ) (x : Literal) → IsUnwatched trail r place → k < place → IsWatch r x → ¬ (literal_at trail k ≡ opposite x)
+not_false_first trail r place k x free low watch is = elim (first_two r x watch.0 blank watch.1) [
+  | inl e ↦ (free k low).0 (is ∙ ap opposite e.0)
+  | inr e ↦ (free k low).1 (is ∙ ap opposite e.0)
+]
 
 module _ (clauses : List (List Literal)) (r : List Literal) (trail : List Entry) where
-  pub guarded_added : (head : ℕ) → IsGuarded clauses trail head → ((k : ℕ) (x y : Literal) → AreFirst r x y → k < head → literal_at trail k ≡ opposite x → Contains (literals_of trail) y) → IsGuarded (clauses ++ r ∷ []) trail head
-  guarded_added head guarded here c k x y known first below is_false = elim (cases_lt c (length clauses)) [
-    | inl low ↦ guarded c k x y low (subst (λ s. AreFirst s x y) (get_or_append_left clauses (r ∷ []) [] c low) first) below is_false
+  pub guarded_added : (head : ℕ) → IsGuarded clauses trail head → ((k : ℕ) (x : Literal) → IsWatch r x → k < head → literal_at trail k ≡ opposite x → HasTrue (literals_of trail) r) → IsGuarded (clauses ++ r ∷ []) trail head
+  guarded_added head guarded here c k x known watch below is_false = elim (cases_lt c (length clauses)) [
+    | inl low ↦
+        let same : clause_of (clauses ++ r ∷ []) c ≡ clause_of clauses c = get_or_append_left clauses (r ∷ []) [] c low in
+        subst (HasTrue (literals_of trail)) (sym same) (guarded c k x low (subst (λ s. IsWatch s x) same watch) below is_false)
     | inr high ↦
-        let last : length clauses ≡ c = omega (arith, known, length_push clauses r) in
-        here k x y (subst (λ s. AreFirst s x y) (get_or_at clauses r [] [] c last) first) below is_false
+        let same : clause_of (clauses ++ r ∷ []) c ≡ r = get_or_at clauses r [] [] c (omega (arith, known, length_push clauses r)) in
+        subst (HasTrue (literals_of trail)) (sym same) (here k x (subst (λ s. IsWatch s x) same watch) below is_false)
   ]
 
-  pub sure_added : (sure : ℕ) → IsSure clauses trail sure
-      → ((k : ℕ) (x y : Literal) → AreFirst r x y → k < sure → literal_at trail k ≡ opposite x → (j : ℕ) × (j < length trail) × (literal_at trail j ≡ y) × ((get_or trail j blank_entry).level ≤ (get_or trail k blank_entry).level))
-      → IsSure (clauses ++ r ∷ []) trail sure
-  sure_added sure is_sure here c k x y known first below is_false = elim (cases_lt c (length clauses)) [
-    | inl low ↦ is_sure c k x y low (subst (λ s. AreFirst s x y) (get_or_append_left clauses (r ∷ []) [] c low) first) below is_false
+  pub sure_added : (sure : ℕ) → IsSure clauses trail sure → ((k : ℕ) (x : Literal) → IsWatch r x → k < sure → literal_at trail k ≡ opposite x → IsTrueBy trail (place_level trail k) r) → IsSure (clauses ++ r ∷ []) trail sure
+  sure_added sure is_sure here c k x known watch below is_false = elim (cases_lt c (length clauses)) [
+    | inl low ↦
+        let same : clause_of (clauses ++ r ∷ []) c ≡ clause_of clauses c = get_or_append_left clauses (r ∷ []) [] c low in
+        subst (IsTrueBy trail (place_level trail k)) (sym same) (is_sure c k x low (subst (λ s. IsWatch s x) same watch) below is_false)
     | inr high ↦
-        let last : length clauses ≡ c = omega (arith, known, length_push clauses r) in
-        here k x y (subst (λ s. AreFirst s x y) (get_or_at clauses r [] [] c last) first) below is_false
+        let same : clause_of (clauses ++ r ∷ []) c ≡ r = get_or_at clauses r [] [] c (omega (arith, known, length_push clauses r)) in
+        subst (IsTrueBy trail (place_level trail k)) (sym same) (here k x (subst (λ s. IsWatch s x) same watch) below is_false)
   ]
 
 -- a clause that was put behind the watched ones leaves the number of lists
@@ -176,26 +175,20 @@ lists_added w r =
 module _ (letters : ℕ) (a : AssignedValue) (w : WatchValue) (names units : List Hint) (log next : LogValue) (head sure done firm marked : ℕ) (hint : Hint) (clause : List Literal)
     (state : IsState letters a w names units log head sure done firm marked) (more : IsMore log next hint clause) (known_inputs : AreKnown letters next.inputs) (known_lines : AreKnown letters next.lines) where
   -- a clause of at least two literals more
-  pub state_long : (r : List Literal) (h s : ℕ) → HaveSame clause r → 2 ≤ length r → AreApart r → ((h ≡ head) × (s ≡ sure) × IsUnwatched a.trail r) ⊎ ((h ≡ 0) × (s ≡ 0))
+  pub state_long : (r : List Literal) (h s : ℕ) → HaveSame clause r → 2 ≤ length r → AreApart r → IsRewound a.trail r head sure h s
       → IsState letters a (with_clause w r) (names ++ hint ∷ []) units next h s done firm marked
-  state_long r h s same long apart cases = record {
+  state_long r h s same long apart rewound = record {
     ready = record {
       is_trail = trail_more log next hint clause more a.trail state.ready.is_trail;
       stored = stored_more log next hint clause more w.clauses names r same state.ready.stored;
-      guarded = elim cases [
-        | inl kept ↦ subst (λ n. IsGuarded (w.clauses ++ r ∷ []) a.trail n) (sym kept.0)
-            (guarded_added w.clauses r a.trail head state.ready.guarded (λ k x y first below is. absurd (not_false_first a.trail r k x y kept.2 (omega (arith, below, state.ready.within)) first is)))
-        | inr none ↦ λ c k x y known first below is. absurd (omega (arith, below, none.0))
-      ];
-      within = elim cases [ inl kept ↦ omega (arith, kept.0, state.ready.within) | inr none ↦ omega (arith, none.0) ];
+      guarded = guarded_added w.clauses r a.trail h (λ c k x known watch below is. state.ready.guarded c k x known watch (omega (arith, below, rewound.head_falls)) is)
+          (λ k x watch below is. absurd (not_false_first a.trail r h k x rewound.free below watch is));
+      within = omega (arith, rewound.head_falls, state.ready.within);
       sized = lists_added w r ∙ state.ready.sized;
     };
-    low = elim cases [ inl kept ↦ omega (arith, kept.0, kept.1, state.low) | inr none ↦ omega (arith, none.0, none.1) ];
-    is_sure = elim cases [
-      | inl kept ↦ subst (λ n. IsSure (w.clauses ++ r ∷ []) a.trail n) (sym kept.1)
-          (sure_added w.clauses r a.trail sure state.is_sure (λ k x y first below is. absurd (not_false_first a.trail r k x y kept.2 (omega (arith, below, state.low, state.ready.within)) first is)))
-      | inr none ↦ λ c k x y known first below is. absurd (omega (arith, below, none.1))
-    ];
+    low = rewound.low;
+    is_sure = sure_added w.clauses r a.trail s (λ c k x known watch below is. state.is_sure c k x known watch (omega (arith, below, rewound.sure_falls)) is)
+        (λ k x watch below is. absurd (not_false_first a.trail r h k x rewound.free (omega (arith, below, rewound.low)) watch is));
     all = λ x c is. elim (more.only x c is) [
       | inl old ↦ elim (state.all x c old) [ inl at ↦ inl (listed_more log next hint clause more names hint x at) | inr at ↦ inr at ]
       | inr e ↦ inl (listed_last log next hint clause more names hint x e)

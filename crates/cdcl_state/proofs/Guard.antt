@@ -9,19 +9,18 @@ use Rattle.std.proofs.lemmas.List.Elements.{All-contains, All-weaker, Contains-g
 use Rattle.cnf_base.specs.declared.literal.Literal.{Literal}
 use Rattle.cnf_base.specs.declared.literal.Hint.{Hint}
 use Rattle.cnf_base.specs.Literal.{opposite}
-use Rattle.cnf_base.proofs.SameLiteral.{opposite_opposite}
 use Rattle.cdcl_state.specs.Values.{value_at}
 use Rattle.cdcl_state.specs.Trail.{literals_of, IsTrail, AreValues, StandsAt}
 use Rattle.cdcl_state.specs.Learnt.{blank_entry, literal_at}
 use Rattle.cdcl_state.specs.declared.assigned.Entry.{Entry}
 use Rattle.cdcl_state.proofs.Assign.{entry_there, trail_push}
 use Rattle.cdcl_state.proofs.Bridge.{true_value, false_value}
-use Rattle.cdcl_state.specs.Watching.{AreFirst, AreApart, IsWatching, clause_of, list_of, code, WatchValue}
-use Rattle.cdcl_state.proofs.Moves.{first_two, are_first, contains_swapped, contains_unswapped, list_same}
-use Rattle.cdcl_state.proofs.Removed.{length-removed, place_before}
+use Rattle.cdcl_watches.specs.Watching.{IsWatch, IsWatching, clause_of, list_of, code, WatchValue}
+use Rattle.cdcl_watches.proofs.Moves.{first_two, are_first, contains_swapped, contains_unswapped, list_same}
+use Rattle.cdcl_watches.proofs.Removed.{length-removed, place_before}
 use Rattle.cdcl_state.specs.Assigned.{AssignedValue}
-use Rattle.cdcl_state.specs.Visit.{HaveSame, IsStored, IsVisiting, false_at}
-use Rattle.cdcl_state.specs.Watching.{blank}
+use Rattle.cdcl_state.specs.Visit.{HasTrue, HaveSame, IsStored, IsVisiting, false_at, watcher_at}
+use Rattle.cdcl_watches.specs.Watching.{blank}
 
 -- no literal is true beside its opposite
 pub not_both : (values : List (Option Bool)) (trail : List Entry) → AreValues values trail → (l : Literal) → Contains (literals_of trail) l → ¬ Contains (literals_of trail) (opposite l)
@@ -33,29 +32,12 @@ not_both values trail are l here there =
     go true e = cc
     go false e = cc
 
--- the other of the first two is told by the one
-pub other_is : (r : List Literal) (a b c : Literal) → AreApart r → AreFirst r a b → AreFirst r a c → b ≡ c
-other_is r a b c apart one two =
-    elim (first_two r a b a one) [
-      | inl h ↦ elim (first_two r a c a two) [
-        | inl g ↦ h.1 ∙ sym g.1
-        | inr g ↦ absurd (apart 0 1 a (omega arith) (omega (arith, one.long)) (sym h.0 ∙ g.0))
-      ]
-      | inr h ↦ elim (first_two r a c a two) [
-        | inl g ↦ absurd (apart 0 1 a (omega arith) (omega (arith, one.long)) (sym g.0 ∙ h.0))
-        | inr g ↦ h.1 ∙ sym g.1
-      ]
-    ]
-
-pub first_swap : (r : List Literal) (a b : Literal) → AreFirst r a b → AreFirst r b a
-first_swap r a b h = are_first r b a a h.long (elim (first_two r a b a h) [ inl e ↦ inr (e.1, e.0) | inr e ↦ inl (e.1, e.0) ])
-
--- turned first literals are the first literals
-pub first_turned : (r : List Literal) (a b : Literal) → AreFirst (swap r 0 1) a b → AreFirst r a b
-first_turned r a b h =
+-- what the turned clause watches, the clause watches
+pub watch_turned : (r : List Literal) (a : Literal) → IsWatch (swap r 0 1) a → IsWatch r a
+watch_turned r a (b, h) =
     let long : 2 ≤ length r = omega (arith, h.long, length-swap r 0 1) in
     let S = swapped_from_swap r (swap r 0 1) 0 1 a (omega arith) (omega arith) refl in
-    are_first r a b a long (elim (first_two (swap r 0 1) a b a h) [ inl p ↦ inr (p.0 ∙ S.0, p.1 ∙ S.1) | inr p ↦ inl (p.0 ∙ S.1, p.1 ∙ S.0) ])
+    (b, are_first r a b a long (elim (first_two (swap r 0 1) a b a h) [ inl p ↦ inr (p.0 ∙ S.0, p.1 ∙ S.1) | inr p ↦ inl (p.0 ∙ S.1, p.1 ∙ S.0) ]))
 
 same_swapped : (clause r : List Literal) (i j : ℕ) → i < length r → j < length r → HaveSame clause r → HaveSame clause (swap r i j)
 same_swapped clause r i j i_low j_low same = record {
@@ -83,32 +65,44 @@ stored_swapped inputs lines clauses names c i j known i_low j_low stored =
           );
     }
 
--- what is first in a clause after one is replaced
-pub first_set : (clauses : List (List Literal)) (c : ℕ) (s : List Literal) (k : ℕ) (a b : Literal) → c < length clauses → AreFirst (clause_of (set clauses c s) k) a b → ((k ≡ c) × AreFirst s a b) ⊎ ((k ≢ c) × AreFirst (clause_of clauses k) a b)
-first_set clauses c s k a b known h = elim (cases_eq k c) [
-  | inl same ↦ inl (same, subst (λ r. AreFirst r a b) (get_or-set_same clauses c s [] known) (subst (λ n. AreFirst (clause_of (set clauses c s) n) a b) same h))
-  | inr other ↦ inr (other, subst (λ r. AreFirst r a b) (get_or-set_other clauses c k s [] other) h)
+-- what a clause watches after one is replaced
+pub watch_set : (clauses : List (List Literal)) (c : ℕ) (s : List Literal) (k : ℕ) (a : Literal) → c < length clauses → IsWatch (clause_of (set clauses c s) k) a → ((k ≡ c) × IsWatch s a) ⊎ ((k ≢ c) × IsWatch (clause_of clauses k) a)
+watch_set clauses c s k a known h = elim (cases_eq k c) [
+  | inl same ↦ inl (same, subst (λ r. IsWatch r a) (get_or-set_same clauses c s [] known) (subst (λ n. IsWatch (clause_of (set clauses c s) n) a) same h))
+  | inr other ↦ inr (other, subst (λ r. IsWatch r a) (get_or-set_other clauses c k s [] other) h)
 ]
+
+-- the clauses have the literals that they had after one is turned or moved
+pub literal_set : (clauses : List (List Literal)) (c i j k : ℕ) (l : Literal) → c < length clauses → i < length (clause_of clauses c) → j < length (clause_of clauses c) → Contains (clause_of clauses k) l
+    → Contains (clause_of (set clauses c (swap (clause_of clauses c) i j)) k) l
+literal_set clauses c i j k l known i_low j_low there =
+    let r = clause_of clauses c in
+    let s = swap r i j in
+    elim (cases_eq k c) [
+      | inl same ↦
+          let in_r : Contains r l = subst (λ n. Contains (clause_of clauses n) l) same there in
+          subst (λ n. Contains (clause_of (set clauses c s) n) l) (sym same) (subst (λ x. Contains x l) (sym (get_or-set_same clauses c s [] known)) (contains_swapped r i j l i_low j_low in_r))
+      | inr other ↦ subst (λ x. Contains x l) (sym (get_or-set_other clauses c k s [] other)) there
+    ]
+
+-- and so the true ones
+pub true_set : (clauses now : List (List Literal)) (true_ones : List Literal) (c i j k : ℕ) → c < length clauses → i < length (clause_of clauses c) → j < length (clause_of clauses c) → now ≡ set clauses c (swap (clause_of clauses c) i j)
+    → HasTrue true_ones (clause_of clauses k) → HasTrue true_ones (clause_of now k)
+true_set clauses now true_ones c i j k known i_low j_low is told =
+    (told.0, subst (λ cs. Contains (clause_of cs k) told.0) (sym is) (literal_set clauses c i j k told.0 known i_low j_low told.1), told.2)
 
 module _ (inputs lines : List (List Literal)) (names : List Hint) (k i : ℕ) (a : AssignedValue) (w : WatchValue) where
   -- the clause at i is done
-  pub visit_kept : IsWatching w.clauses w.lists → (b : Literal) → i < length (list_of w.lists (false_at a.trail k)) → AreFirst (clause_of w.clauses (get_or (list_of w.lists (false_at a.trail k)) i 0)) (false_at a.trail k) b
-      → Contains (literals_of a.trail) b → IsVisiting inputs lines names k (i + 1) a w → IsVisiting inputs lines names k i a w
-  visit_kept watching b low first is_true visiting = record {
+  pub visit_kept : HasTrue (literals_of a.trail) (watcher_at w (false_at a.trail k) i) → IsVisiting inputs lines names k (i + 1) a w → IsVisiting inputs lines names k i a w
+  visit_kept told visiting = record {
     is_trail = visiting.is_trail;
     stored = visiting.stored;
     guarded = visiting.guarded;
     within = visiting.within;
     sized = visiting.sized;
-    done = λ j x from below x_first. elim (cases_eq j i) [
-      | inr other ↦ visiting.done j x (omega (arith, other)) below x_first
-      | inl at ↦
-          let ls = list_of w.lists (false_at a.trail k) in
-          let c = get_or ls i 0 in
-          let c_in : Contains ls c = Contains-get_or ls i 0 low in
-          let known = (watching.only c (false_at a.trail k) c_in).0 in
-          subst (Contains (literals_of a.trail))
-          (other_is (clause_of w.clauses c) (false_at a.trail k) b x (watching.apart c known) first (subst (λ n. AreFirst (clause_of w.clauses (get_or ls n 0)) (false_at a.trail k) x) at x_first)) is_true
+    done = λ j from below. elim (cases_eq j i) [
+      | inr other ↦ visiting.done j (omega (arith, other)) below
+      | inl at ↦ subst (λ n. HasTrue (literals_of a.trail) (watcher_at w (false_at a.trail k) n)) (sym at) told
     ];
   }
 
@@ -116,31 +110,32 @@ module _ (inputs lines : List (List Literal)) (names : List Hint) (k i : ℕ) (a
   pub visit_turned : (c : ℕ) (v : WatchValue) → c < length w.clauses → 2 ≤ length (clause_of w.clauses c) → v.clauses ≡ set w.clauses c (swap (clause_of w.clauses c) 0 1) → v.lists ≡ w.lists
       → IsVisiting inputs lines names k i a w → IsVisiting inputs lines names k i a v
   visit_turned c v known long clauses_is lists_is visiting =
-      let s = swap (clause_of w.clauses c) 0 1 in
-      let back : (n : ℕ) (x y : Literal) → AreFirst (clause_of v.clauses n) x y → AreFirst (clause_of w.clauses n) x y = λ n x y h.
-      elim (first_set w.clauses c s n x y known (subst (λ cs. AreFirst (clause_of cs n) x y) clauses_is h)) [
-        | inl here ↦ subst (λ m. AreFirst (clause_of w.clauses m) x y) (sym here.0) (first_turned (clause_of w.clauses c) x y here.1)
+      let r = clause_of w.clauses c in
+      let T = literals_of a.trail in
+      let f = false_at a.trail k in
+      let back : (n : ℕ) (x : Literal) → IsWatch (clause_of v.clauses n) x → IsWatch (clause_of w.clauses n) x = λ n x h.
+      elim (watch_set w.clauses c (swap r 0 1) n x known (subst (λ cs. IsWatch (clause_of cs n) x) clauses_is h)) [
+        | inl here ↦ subst (λ m. IsWatch (clause_of w.clauses m) x) (sym here.0) (watch_turned r x here.1)
         | inr other ↦ other.1
       ] in
-      let len : length v.clauses ≡ length w.clauses = ap length clauses_is ∙ length-set w.clauses c s in
+      let still : (n : ℕ) → HasTrue T (clause_of w.clauses n) → HasTrue T (clause_of v.clauses n) = λ n. true_set w.clauses v.clauses T c 0 1 n known (omega arith) (omega arith) clauses_is in
+      let len : length v.clauses ≡ length w.clauses = ap length clauses_is ∙ length-set w.clauses c (swap r 0 1) in
       record {
         is_trail = visiting.is_trail;
         stored = subst (λ cs. IsStored inputs lines cs names) (sym clauses_is) (stored_swapped inputs lines w.clauses names c 0 1 known (omega arith) (omega arith) visiting.stored);
-        guarded = λ n p x y low first below at. visiting.guarded n p x y (omega arith) (back n x y first) below at;
+        guarded = λ n p x low watch below at. still n (visiting.guarded n p x (omega arith) (back n x watch) below at);
         within = visiting.within;
         sized = ap length lists_is ∙ visiting.sized;
-        done = subst (λ ls. (j : ℕ) (b : Literal) → i ≤ j → j < length (list_of ls (false_at a.trail k)) → AreFirst (clause_of v.clauses (get_or (list_of ls (false_at a.trail k)) j 0)) (false_at a.trail k) b → Contains (literals_of a.trail) b) (sym lists_is)
-            (λ j b from below first. visiting.done j b from below (back (get_or (list_of w.lists (false_at a.trail k)) j 0) (false_at a.trail k) b first));
+        done = subst (λ ls. (j : ℕ) → i ≤ j → j < length (list_of ls f) → HasTrue T (clause_of v.clauses (get_or (list_of ls f) j 0))) (sym lists_is) (λ j from below. still (get_or (list_of w.lists f) j 0) (visiting.done j from below));
       }
 
   -- the clause at i watches another literal that is not false
-  pub visit_moved : (v : WatchValue) (c j : ℕ) (m : Literal) → AreValues a.values a.trail → IsWatching w.clauses w.lists → IsWatching v.clauses v.lists
-      → i < length (list_of w.lists (false_at a.trail k)) → get_or (list_of w.lists (false_at a.trail k)) i 0 ≡ c → c < length w.clauses → 2 ≤ j → j < length (clause_of w.clauses c)
+  pub visit_moved : (v : WatchValue) (c j : ℕ) (m : Literal) → IsWatching w.clauses w.lists → i < length (list_of w.lists (false_at a.trail k)) → c < length w.clauses → 2 ≤ j → j < length (clause_of w.clauses c)
       → false_at a.trail k ≡ get_or (clause_of w.clauses c) 1 blank → m ≡ get_or (clause_of w.clauses c) j blank → ¬ Contains (literals_of a.trail) (opposite m)
       → v.clauses ≡ set w.clauses c (swap (clause_of w.clauses c) 1 j)
       → v.lists ≡ set (set w.lists (code m) (list_of w.lists m ++ c ∷ [])) (code (false_at a.trail k)) (swap_remove (list_of w.lists (false_at a.trail k)) i 0)
       → IsVisiting inputs lines names k (i + 1) a w → IsVisiting inputs lines names k i a v
-  visit_moved v c j m are watching new_watching low at known high j_low second_is m_is not_false clauses_is lists_is visiting =
+  visit_moved v c j m watching low known high j_low second_is m_is not_false clauses_is lists_is visiting =
       let T = literals_of a.trail in
       let f = false_at a.trail k in
       let r = clause_of w.clauses c in
@@ -151,8 +146,8 @@ module _ (inputs lines : List (List Literal)) (names : List Hint) (k i : ℕ) (a
       let s0 : get_or s 0 blank ≡ x0 = S.2 0 (λ e. omega (arith, e)) (λ e. omega (arith, e)) in
       let s1 : get_or s 1 blank ≡ m = S.0 ∙ sym m_is in
       let len : length v.clauses ≡ length w.clauses = ap length clauses_is ∙ length-set w.clauses c s in
-      let r_first : AreFirst r x0 f = are_first r x0 f blank (omega arith) (inl (refl, second_is)) in
-      let true_k : Contains T (opposite f) = subst (Contains T) (sym (opposite_opposite (literal_at a.trail k))) (entry_there a.trail k blank_entry visiting.within) in
+      let r_watch : IsWatch r x0 = (f, are_first r x0 f blank (omega arith) (inl (refl, second_is))) in
+      let still : (n : ℕ) → HasTrue T (clause_of w.clauses n) → HasTrue T (clause_of v.clauses n) = λ n. true_set w.clauses v.clauses T c 1 j n known (omega arith) j_low clauses_is in
       let code_f : code f < length w.lists = subst (λ l. code l < length w.lists) (sym second_is) (watching.fits c known 1 blank (omega arith)) in
       let grown = list_of w.lists m ++ c ∷ [] in
       let half = set w.lists (code m) grown in
@@ -160,28 +155,22 @@ module _ (inputs lines : List (List Literal)) (names : List Hint) (k i : ℕ) (a
       record {
         is_trail = visiting.is_trail;
         stored = subst (λ cs. IsStored inputs lines cs names) (sym clauses_is) (stored_swapped inputs lines w.clauses names c 1 j known (omega arith) (omega arith) visiting.stored);
-        guarded = λ n p x y n_low first below is_false. elim (first_set w.clauses c s n x y known (subst (λ cs. AreFirst (clause_of cs n) x y) clauses_is first)) [
-          | inr other ↦ visiting.guarded n p x y (omega arith) other.1 below is_false
+        guarded = λ n p x n_low watch below is_false. elim (watch_set w.clauses c s n x known (subst (λ cs. IsWatch (clause_of cs n) x) clauses_is watch)) [
+          | inr other ↦ still n (visiting.guarded n p x (omega arith) other.1 below is_false)
           | inl here ↦
               let there : Contains T (opposite x) = subst (Contains T) is_false (entry_there a.trail p blank_entry (omega (arith, visiting.within))) in
-              elim (first_two s x y blank here.1) [
-                | inl e ↦ absurd (not_both a.values a.trail are f (visiting.guarded c p x0 f known r_first below (is_false ∙ ap opposite (e.0 ∙ s0))) true_k)
+              elim (first_two s x here.1.0 blank here.1.1) [
+                | inl e ↦ subst (λ q. HasTrue T (clause_of v.clauses q)) (sym here.0) (still c (visiting.guarded c p x0 known r_watch below (is_false ∙ ap opposite (e.0 ∙ s0))))
                 | inr e ↦ absurd (not_false (subst (λ l. Contains T (opposite l)) (e.0 ∙ s1) there))
               ]
         ];
         within = visiting.within;
         sized = ap length lists_is ∙ length-set half (code f) (swap_remove ls i 0) ∙ length-set w.lists (code m) grown ∙ visiting.sized;
-        done = subst (λ xs. (q : ℕ) (b : Literal) → i ≤ q → q < length xs → AreFirst (clause_of v.clauses (get_or xs q 0)) f b → Contains T b) (sym new_list)
-            (λ q b from below first.
+        done = subst (λ xs. (q : ℕ) → i ≤ q → q < length xs → HasTrue T (clause_of v.clauses (get_or xs q 0))) (sym new_list)
+            (λ q from below.
             let before = place_before ls i 0 low q (omega (arith, below, length-removed ls i 0 low)) in
             let later : i + 1 ≤ before.0 = elim before.4 [ inl e ↦ omega (arith, e, before.2) | inr e ↦ omega (arith, e.0, before.1, before.2, low, below, length-removed ls i 0 low, from, e.1) ] in
-            let is : get_or (swap_remove ls i 0) q 0 ≡ get_or ls before.0 0 = before.3 0 in
-            let differ : get_or ls before.0 0 ≢ c = λ e. watching.once f i before.0 0 (omega arith) before.1 (at ∙ sym e) in
-            let first_v : AreFirst (clause_of (set w.clauses c s) (get_or ls before.0 0)) f b = subst (λ cs. AreFirst (clause_of cs (get_or ls before.0 0)) f b) clauses_is (subst (λ n. AreFirst (clause_of v.clauses n) f b) is first) in
-            elim (first_set w.clauses c s (get_or ls before.0 0) f b known first_v) [
-              | inl here ↦ absurd (differ here.0)
-              | inr other ↦ visiting.done before.0 b later before.1 other.1
-            ]);
+            subst (λ n. HasTrue T (clause_of v.clauses n)) (sym (before.3 0)) (still (get_or ls before.0 0) (visiting.done before.0 later before.1)));
       }
 
   -- one entry more
@@ -190,6 +179,7 @@ module _ (inputs lines : List (List Literal)) (names : List Hint) (k i : ℕ) (a
       let pushed : literals_of (a.trail ++ e ∷ []) ≡ literals_of a.trail ++ e.literal ∷ [] = map-append (λ f. f.literal) a.trail (e ∷ []) in
       let more : (l : Literal) → Contains (literals_of a.trail) l → Contains (literals_of n.trail) l = λ l h.
       subst (λ t. Contains (literals_of t) l) (sym trail_is) (subst (λ t. Contains t l) (sym pushed) (Contains-append_left (literals_of a.trail) (e.literal ∷ []) l h)) in
+      let still : (r : List Literal) → HasTrue (literals_of a.trail) r → HasTrue (literals_of n.trail) r = λ r told. (told.0, told.1, more told.0 told.2) in
       let same_at : (p : ℕ) → p < length a.trail → literal_at n.trail p ≡ literal_at a.trail p = λ p p_low.
       ap (λ (t : List Entry). literal_at t p) trail_is ∙ ap (λ (f : Entry). f.literal) (get_or_append_left a.trail (e ∷ []) blank_entry p p_low) in
       let longer : length n.trail ≡ length a.trail + 1 = ap length trail_is ∙ length_push a.trail e in
@@ -197,11 +187,10 @@ module _ (inputs lines : List (List Literal)) (names : List Hint) (k i : ℕ) (a
       record {
         is_trail = subst (IsTrail inputs lines) (sym trail_is) (trail_push inputs lines a.trail e visiting.is_trail stands);
         stored = visiting.stored;
-        guarded = λ c p x y known first below is_false. more y (visiting.guarded c p x y known first below (sym (same_at p (omega (arith, visiting.within))) ∙ is_false));
+        guarded = λ c p x known watch below is_false. still (clause_of w.clauses c) (visiting.guarded c p x known watch below (sym (same_at p (omega (arith, visiting.within))) ∙ is_false));
         within = omega (arith, visiting.within);
         sized = visiting.sized ∙ ap (λ m. 2 * m) (sym values_is);
-        done = subst (λ f. (j : ℕ) (b : Literal) → i ≤ j → j < length (list_of w.lists f) → AreFirst (clause_of w.clauses (get_or (list_of w.lists f) j 0)) f b → Contains (literals_of n.trail) b) (sym f_same)
-            (λ j b from below first. more b (visiting.done j b from below first));
+        done = subst (λ f. (j : ℕ) → i ≤ j → j < length (list_of w.lists f) → HasTrue (literals_of n.trail) (watcher_at w f j)) (sym f_same) (λ j from below. still (watcher_at w (false_at a.trail k) j) (visiting.done j from below));
       }
 
 -- a literal is true where the values say so

@@ -1,5 +1,5 @@
 -- The state after a learnt clause was attached and its first literal assigned.
-use Rattle.std.proofs.Common.{◌≡◌, ℕ, ◌<◌, ◌≤◌, ◌-◌, ◌⊎◌, inr, List, [], ◌∷◌, ◌++◌, Bool, Option, Some, take, map, All, AllPairs, length, get_or, refl, sym, ap, ◌∙◌, subst, arith, length-take-le}
+use Rattle.std.proofs.Common.{◌≡◌, ℕ, ◌<◌, ◌≤◌, ◌-◌, ◌⊎◌, List, [], ◌∷◌, ◌++◌, Bool, Option, Some, take, map, All, AllPairs, length, get_or, sym, ap, ◌∙◌, subst, arith, length-take-le}
 use Rattle.std.proofs.lemmas.List.{length-map, get_or-map, length_push}
 use Rattle.std.proofs.lemmas.List.Elements.{All-contains_itself}
 use Rattle.cnf_base.specs.declared.literal.Literal.{Literal}
@@ -10,7 +10,7 @@ use Rattle.clause_log.specs.LogValue.{LogValue}
 use Rattle.cdcl_state.specs.Trail.{AreValues, IsBack, AreKnown, MayStand}
 use Rattle.cdcl_state.specs.Learnt.{literal_at, IsInside, IsDecision, IsTarget, IsAsserting}
 use Rattle.cdcl_state.specs.Analysis.{state_of}
-use Rattle.cdcl_state.specs.Watching.{AreApart, WatchValue, with_clause, blank}
+use Rattle.cdcl_watches.specs.Watching.{AreApart, WatchValue, with_clause, blank}
 use Rattle.cdcl_state.specs.Assigned.{AssignedValue}
 use Rattle.cdcl_state.specs.Sure.{IsSure}
 use Rattle.cdcl_state.specs.State.{IsState}
@@ -52,7 +52,8 @@ module _ (letters : ℕ) (a b : AssignedValue) (w : WatchValue) (names units : L
   learned_cut long =
       let here = state_back letters a b w names units log head sure done firm marked m n level still solid state trail_is values_is fits (back_of letters a b log n level state.ready.is_trail trail_is fits low high) m_sure m_n units_are in
       state_long letters b w names units log next m m still solid marked (Line line) clause here more known_inputs known_lines clause 0 0
-      (record { there = All-contains_itself clause; back = All-contains_itself clause }) long (learnt_apart a.values a.trail clause places are clause_is inside falling) (inr (refl, refl))
+      (record { there = All-contains_itself clause; back = All-contains_itself clause }) long (learnt_apart a.values a.trail clause places are clause_is inside falling)
+      (record { head_falls = omega (arith); sure_falls = omega (arith); low = omega (arith); free = λ k below. absurd (omega (arith, below)) })
 
   -- and after
   pub learned : (d : AssignedValue) → AreValues d.values d.trail → length d.values ≡ length b.values → d.trail ≡ b.trail ++ record { literal = u; level = level; reason = Some (Line line) } ∷ [] → u ≡ get_or clause 0 blank → 2 ≤ length clause
@@ -66,4 +67,4 @@ module _ (letters : ℕ) (a b : AssignedValue) (w : WatchValue) (names units : L
       let m_low : m ≤ length b.trail = omega (arith, len, m_n) in
       state_raise letters d (with_clause w clause) (names ++ Line line ∷ []) units next 0 0 still solid marked m pushed (omega (arith, m_low, ap length is, length_push b.trail e))
       (subst (λ t. IsSure (with_clause w clause).clauses t m) (sym is)
-      (learnt_sure d.values w.clauses clause b.trail e m (subst (AreValues d.values) is told) m_low here.is_sure first second))
+      (learnt_sure d.values w.clauses clause b.trail e m (subst (AreValues d.values) is told) m_low here.is_sure (omega (arith, long)) first second))

@@ -1,7 +1,8 @@
 -- A learnt clause is attached where it forces its first literal.
-use Rattle.std.proofs.Common.{◌≡◌, ℕ, ◌<◌, ◌≤◌, ◌+◌, inl, inr, List, [], ◌∷◌, ◌++◌, Bool, Option, map, All, AllPairs, length, get_or, refl, sym, ap, ◌∙◌, arith}
+use Rattle.std.proofs.Common.{◌≡◌, ℕ, ◌<◌, ◌≤◌, ◌+◌, inl, inr, List, [], ◌∷◌, ◌++◌, Bool, Option, map, All, AllPairs, Contains, length, get_or, refl, sym, ap, ◌∙◌, subst, arith}
 use Rattle.std.proofs.lemmas.Bool.{cases_lt, cases_eq}
 use Rattle.std.proofs.lemmas.List.{get_or_append_left, get_or_at, length_push, get_or-map, length-map}
+use Rattle.std.proofs.lemmas.List.Elements.{Contains-get_or}
 use Rattle.cnf_base.specs.declared.literal.Literal.{Literal}
 use Rattle.cnf_base.specs.declared.literal.Hint.{Hint}
 use Rattle.cnf_base.specs.Literal.{opposite}
@@ -9,12 +10,12 @@ use Rattle.cnf_base.proofs.SameLiteral.{opposite_opposite}
 use Rattle.clause_log.specs.LogValue.{LogValue}
 use Rattle.cdcl_state.specs.Trail.{StateValue, AreValues, IsTrail, IsBack}
 use Rattle.cdcl_state.specs.Learnt.{blank_entry, literal_at, IsInside, IsDecision, IsTarget, IsAsserting}
-use Rattle.cdcl_state.specs.Watching.{WatchValue, blank}
+use Rattle.cdcl_watches.specs.Watching.{WatchValue, blank}
 use Rattle.cdcl_state.specs.Assigned.{AssignedValue}
 use Rattle.cdcl_state.specs.Sure.{IsSure}
 use Rattle.cdcl_state.specs.State.{IsState}
 use Rattle.cdcl_state.specs.declared.assigned.Entry.{Entry}
-use Rattle.cdcl_state.proofs.Moves.{first_two}
+use Rattle.cdcl_watches.proofs.Moves.{first_two}
 use Rattle.cdcl_state.proofs.Walk.{places_apart}
 use Rattle.cdcl_state.proofs.Turn.{level_at, kept_at, low_kept, decision_level}
 use Rattle.cdcl_state.proofs.Sure.{guarded_sure}
@@ -84,15 +85,16 @@ second_kept old new b clause places is_trail back target clause_is inside long =
 
 -- behind the trail stands the first literal, on the level of the second: the rule holds of the new clause
 pub learnt_sure : (values : List (Option Bool)) (clauses : List (List Literal)) (r : List Literal) (trail : List Entry) (e : Entry) (m : ℕ) → AreValues values (trail ++ e ∷ []) → m ≤ length trail → IsSure clauses trail m
-    → e.literal ≡ get_or r 0 blank → IsSecond trail (get_or r 1 blank) e.level → IsSure (clauses ++ r ∷ []) (trail ++ e ∷ []) m
-learnt_sure values clauses r trail e m are fits sure first second =
+    → 0 < length r → e.literal ≡ get_or r 0 blank → IsSecond trail (get_or r 1 blank) e.level → IsSure (clauses ++ r ∷ []) (trail ++ e ∷ []) m
+learnt_sure values clauses r trail e m are fits sure some first second =
     let t = trail ++ e ∷ [] in
     let n = length trail in
     let longer : length t ≡ n + 1 = length_push trail e in
     let last : get_or t n blank_entry ≡ e = get_or_at trail e [] blank_entry n refl in
     let p = second.place in
     let p_at : get_or t p blank_entry ≡ get_or trail p blank_entry = get_or_append_left trail (e ∷ []) blank_entry p second.within in
-    sure_added clauses r t m (sure_push clauses trail (e ∷ []) m fits sure) (λ k x y watch below is. elim (first_two r x y blank watch) [
+    let u_in : Contains r (literal_at t n) = subst (Contains r) (sym (ap (λ (f : Entry). f.literal) last ∙ first)) (Contains-get_or r 0 blank some) in
+    sure_added clauses r t m (sure_push clauses trail (e ∷ []) m fits sure) (λ k x watch below is. elim (first_two r x watch.0 blank watch.1) [
       | inl one ↦ absurd (places_apart values t are k n (omega (arith, below, longer)) (omega (arith, longer)) (λ same. omega (arith, same, below))
           (ap (λ (l : Literal). l.letter.0) (is ∙ ap opposite (one.0 ∙ sym first)) ∙ ap (λ (f : Entry). f.literal.letter.0) (sym last)))
       | inr two ↦
@@ -102,5 +104,5 @@ learnt_sure values clauses r trail e m are fits sure first second =
                 (ap (λ (l : Literal). l.letter.0) (is ∙ ap opposite two.0 ∙ sym second.is) ∙ ap (λ (f : Entry). f.literal.letter.0) (sym p_at)))
           ] in
           let level : level_at t k ≡ e.level = ap (level_at t) same ∙ ap (λ (f : Entry). f.level) p_at ∙ second.same in
-          (n, omega (arith, longer), ap (λ (f : Entry). f.literal) last ∙ first ∙ sym two.1, omega (arith, level, ap (λ (f : Entry). f.level) last))
+          (n, omega (arith, longer), u_in, omega (arith, level, ap (λ (f : Entry). f.level) last))
     ])

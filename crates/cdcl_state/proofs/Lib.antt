@@ -1,5 +1,7 @@
 pub mod Bridge
 pub mod Assign
+pub mod Places
+pub mod Queue
 pub mod Bound
 pub mod Weight
 pub mod Measure
@@ -13,16 +15,12 @@ pub mod Attach
 pub mod Distinct
 pub mod Learning
 pub mod Learned
+pub mod Marking
+pub mod Retreat
 pub mod Short
 pub mod Room
 pub mod Turn
 pub mod Jump
-pub mod Moves
-pub mod ListEdits
-pub mod Pieces
-pub mod Adds
-pub mod Removed
-pub mod Added
 pub mod Guard
 pub mod Settled
 pub mod Sure

@@ -7,12 +7,12 @@ use Rattle.cnf_base.specs.declared.literal.Literal.{Literal}
 use Rattle.cnf_base.specs.declared.literal.Hint.{Hint}
 use Rattle.cnf_base.specs.Literal.{opposite}
 use Rattle.cnf_base.proofs.SameLiteral.{opposite_opposite}
-use Rattle.cdcl_state.specs.Trail.{AreValues}
+use Rattle.cdcl_state.specs.Trail.{literals_of, AreValues}
 use Rattle.cdcl_state.specs.Learnt.{blank_entry}
 use Rattle.cdcl_state.specs.declared.assigned.Entry.{Entry}
-use Rattle.cdcl_state.specs.Watching.{AreFirst, IsWatching, clause_of, list_of, code, WatchValue}
+use Rattle.cdcl_watches.specs.Watching.{IsWatch, IsWatching, clause_of, list_of, code, WatchValue}
 use Rattle.cdcl_state.specs.Assigned.{AssignedValue}
-use Rattle.cdcl_state.specs.Visit.{IsVisiting, IsReady, IsGrown, false_at}
+use Rattle.cdcl_state.specs.Visit.{HasTrue, IsVisiting, IsReady, IsGrown, false_at}
 
 pub grown_none : (t : List Entry) → IsGrown t t
 grown_none t = record { more = []; trail = sym (append-nil t); forced = All-nil (λ (e : Entry). e.reason ≢ None) }
@@ -39,7 +39,7 @@ module _ (inputs lines : List (List Literal)) (names : List Hint) (k : ℕ) (a :
     guarded = r.guarded;
     within = there;
     sized = r.sized;
-    done = λ j b from below first. absurd (omega (arith, from, below, all));
+    done = λ j from below. absurd (omega (arith, from, below, all));
   }
 
   pub still_ready : (i : ℕ) → IsVisiting inputs lines names k i a w → IsReady inputs lines names k a w
@@ -53,7 +53,7 @@ module _ (inputs lines : List (List Literal)) (names : List Hint) (k : ℕ) (a :
     guarded = v.guarded;
     within = v.within;
     sized = v.sized;
-    done = λ j b from below first. absurd (omega (arith, from, below, all));
+    done = λ j from below. absurd (omega (arith, from, below, all));
   }
 
   -- the whole list was visited
@@ -61,15 +61,15 @@ module _ (inputs lines : List (List Literal)) (names : List Hint) (k : ℕ) (a :
   end_visit watching v = record {
     is_trail = v.is_trail;
     stored = v.stored;
-    guarded = λ c p x y known first below is_false. elim (cases_lt p k) [
-      | inl old ↦ v.guarded c p x y known first old is_false
+    guarded = λ c p x known watch below is_false. elim (cases_lt p k) [
+      | inl old ↦ v.guarded c p x known watch old is_false
       | inr high ↦
+          let f = false_at a.trail k in
           let last : p ≡ k = omega arith in
-          let x_is : x ≡ false_at a.trail k = sym (opposite_opposite x) ∙ ap opposite (sym is_false) ∙ ap (λ n. false_at a.trail n) last in
-          let first_k : AreFirst (clause_of w.clauses c) (false_at a.trail k) y = subst (λ l. AreFirst (clause_of w.clauses c) l y) x_is first in
-          let there = watching.watched c (false_at a.trail k) known (y, first_k) in
-          let is : get_or (list_of w.lists (false_at a.trail k)) there.0 0 ≡ c = get_or_default (list_of w.lists (false_at a.trail k)) there.0 0 c there.1 ∙ there.2 in
-          v.done there.0 y (omega arith) there.1 (subst (λ n. AreFirst (clause_of w.clauses n) (false_at a.trail k) y) (sym is) first_k)
+          let x_is : x ≡ f = sym (opposite_opposite x) ∙ ap opposite (sym is_false) ∙ ap (λ n. false_at a.trail n) last in
+          let there = watching.watched c f known (subst (IsWatch (clause_of w.clauses c)) x_is watch) in
+          let is : get_or (list_of w.lists f) there.0 0 ≡ c = get_or_default (list_of w.lists f) there.0 0 c there.1 ∙ there.2 in
+          subst (λ n. HasTrue (literals_of a.trail) (clause_of w.clauses n)) is (v.done there.0 (omega arith) there.1)
     ];
     within = omega (arith, v.within);
     sized = v.sized;

@@ -7,7 +7,7 @@ use Rattle.cnf_base.specs.declared.literal.Literal.{Literal}
 use Rattle.cnf_base.specs.declared.literal.Hint.{Hint}
 use Rattle.clause_log.specs.LogValue.{LogValue}
 use Rattle.cdcl_state.specs.Trail.{IsKnown, AreKnown, literals_of, positive}
-use Rattle.cdcl_state.specs.Watching.{WatchValue}
+use Rattle.cdcl_watches.specs.Watching.{WatchValue}
 use Rattle.cdcl_state.specs.Assigned.{AssignedValue}
 use Rattle.cdcl_state.specs.State.{IsState}
 use Rattle.cdcl_state.specs.declared.assigned.Entry.{Entry}

@@ -1,5 +1,5 @@
 -- Where the watch rule holds on the whole trail, the trail is settled.
-use Rattle.std.proofs.Common.{◌≡◌, ◌≢◌, ℕ, ◌<◌, ◌≤◌, ◌⊎◌, inl, inr, List, Bool, Option, Some, Contains, length, get_or, refl, sym, ◌∙◌, subst, arith}
+use Rattle.std.proofs.Common.{◌≡◌, ℕ, ◌<◌, ◌≤◌, ◌⊎◌, inl, inr, List, Bool, Option, Some, Contains, length, get_or, refl, sym, ◌∙◌, subst, arith}
 use Rattle.std.proofs.lemmas.List.{get_or-map, length-map}
 use Rattle.std.proofs.lemmas.List.Elements.{All-contains, Contains-get_or}
 use Rattle.cnf_base.specs.declared.literal.Literal.{Literal}
@@ -10,10 +10,10 @@ use Rattle.clause_log.specs.LogValue.{LogValue}
 use Rattle.cdcl_state.specs.Trail.{literals_of, AreValues, IsConflict, IsReason, IsUnset}
 use Rattle.cdcl_state.specs.Learnt.{blank_entry, literal_at}
 use Rattle.cdcl_state.specs.declared.assigned.Entry.{Entry}
-use Rattle.cdcl_state.specs.Watching.{AreFirst, AreApart, clause_of}
-use Rattle.cdcl_state.proofs.Moves.{are_first}
+use Rattle.cdcl_watches.specs.Watching.{IsWatch, AreApart, clause_of}
+use Rattle.cdcl_watches.proofs.Moves.{are_first}
 use Rattle.cdcl_state.specs.Visit.{HaveSame, IsGuarded}
-use Rattle.cdcl_state.specs.Watching.{blank}
+use Rattle.cdcl_watches.specs.Watching.{blank}
 use Rattle.cdcl_state.proofs.Guard.{not_both}
 
 -- a true literal stands at a place of the trail
@@ -23,11 +23,15 @@ place_of trail l (k, low, is) =
     (k, below, sym (get_or-map (λ (e : Entry). e.literal) trail k blank_entry l below) ∙ is)
 
 module _ (values : List (Option Bool)) (trail : List Entry) (are : AreValues values trail) (clauses : List (List Literal)) (guarded : IsGuarded clauses trail (length trail)) where
-  -- where one of the first two is false, the other is true
-  other_true : (c : ℕ) (a b : Literal) → c < length clauses → AreFirst (clause_of clauses c) a b → Contains (literals_of trail) (opposite a) → Contains (literals_of trail) b
-  other_true c a b known first a_false =
+  -- where a watched literal is false, and each literal but u, u is true
+  lone_by : (c : ℕ) (u a : Literal) → c < length clauses → IsWatch (clause_of clauses c) a → Contains (literals_of trail) (opposite a) → ((l : Literal) → Contains (clause_of clauses c) l → (l ≡ u) ⊎ Contains (literals_of trail) (opposite l)) → Contains (literals_of trail) u
+  lone_by c u a known watch a_false others =
       let place = place_of trail (opposite a) a_false in
-      guarded c place.0 a b known first place.1 place.2
+      let told = guarded c place.0 a known watch place.1 place.2 in
+      elim (others told.0 told.1) [
+        | inl is ↦ subst (Contains (literals_of trail)) is told.2
+        | inr is_false ↦ absurd (not_both values trail are told.0 told.2 is_false)
+      ]
 
   -- where each literal but u is false, u is true
   lone_true : (c : ℕ) (u : Literal) → c < length clauses → AreApart (clause_of clauses c) → 2 ≤ length (clause_of clauses c) → ((l : Literal) → Contains (clause_of clauses c) l → (l ≡ u) ⊎ Contains (literals_of trail) (opposite l)) → Contains (literals_of trail) u
@@ -35,21 +39,13 @@ module _ (values : List (Option Bool)) (trail : List Entry) (are : AreValues val
       let r = clause_of clauses c in
       let a = get_or r 0 blank in
       let b = get_or r 1 blank in
-      let a_in : Contains r a = Contains-get_or r 0 blank (omega arith) in
-      let b_in : Contains r b = Contains-get_or r 1 blank (omega arith) in
-      let ab : AreFirst r a b = are_first r a b blank long (inl (refl, refl)) in
-      let ba : AreFirst r b a = are_first r b a blank long (inr (refl, refl)) in
-      let differ : a ≢ b = apart 0 1 blank (omega arith) (omega arith) in
-      elim (others a a_in) [
-        | inr a_false ↦
-            let b_true = other_true c a b known ab a_false in
-            elim (others b b_in) [
-              | inl is ↦ subst (Contains (literals_of trail)) is b_true
-              | inr b_false ↦ absurd (not_both values trail are b b_true b_false)
-            ]
-        | inl a_is ↦ elim (others b b_in) [
-          | inl b_is ↦ absurd (differ (a_is ∙ sym b_is))
-          | inr b_false ↦ subst (Contains (literals_of trail)) a_is (other_true c b a known ba b_false)
+      let a_watch : IsWatch r a = (b, are_first r a b blank long (inl (refl, refl))) in
+      let b_watch : IsWatch r b = (a, are_first r b a blank long (inr (refl, refl))) in
+      elim (others a (Contains-get_or r 0 blank (omega arith))) [
+        | inr a_false ↦ lone_by c u a known a_watch a_false others
+        | inl a_is ↦ elim (others b (Contains-get_or r 1 blank (omega arith))) [
+          | inl b_is ↦ absurd (apart 0 1 blank (omega arith) (omega arith) (a_is ∙ sym b_is))
+          | inr b_false ↦ lone_by c u b known b_watch b_false others
         ]
       ]
 

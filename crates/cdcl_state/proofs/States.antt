@@ -11,11 +11,11 @@ use Rattle.clause_log.specs.LogValue.{LogValue}
 use Rattle.cdcl_state.specs.Trail.{literals_of, AreValues, IsTrail, IsBack, IsSettled, IsConflict, IsReason, IsUnset, IsKnown, AreKnown, StandsAt, Propagated}
 use Rattle.cdcl_state.specs.Learnt.{blank_entry, literal_at}
 use Rattle.cdcl_state.specs.Analysis.{AreBelow, state_of}
-use Rattle.cdcl_state.specs.Watching.{WatchValue, IsWatching, clause_of}
+use Rattle.cdcl_watches.specs.Watching.{WatchValue, IsWatching, clause_of}
 use Rattle.cdcl_state.specs.Assigned.{AssignedValue}
-use Rattle.cdcl_state.specs.Visit.{IsReady, IsStored, IsGrown, IsGuarded, HaveSame, blank_hint}
+use Rattle.cdcl_state.specs.Visit.{HasTrue, IsReady, IsStored, IsGrown, IsGuarded, HaveSame, blank_hint}
 use Rattle.cdcl_state.specs.Sure.{IsSure}
-use Rattle.cdcl_state.specs.State.{IsState, IsOne, AreLong, AreFirm, HasTrue, AreKnownDecisions}
+use Rattle.cdcl_state.specs.State.{IsState, IsOne, AreLong, AreFirm, AreKnownDecisions}
 use Rattle.cdcl_state.specs.declared.assigned.Entry.{Entry}
 use Rattle.cdcl_state.proofs.Guard.{not_both}
 use Rattle.cdcl_state.proofs.Settled.{settled_watched}
@@ -183,17 +183,17 @@ back_of letters a b log n level is_trail trail_is fits low high =
 
 -- entries more behind the trail keep the watch rule
 pub guarded_push : (clauses : List (List Literal)) (trail more : List Entry) (n : ℕ) → n ≤ length trail → IsGuarded clauses trail n → IsGuarded clauses (trail ++ more) n
-guarded_push clauses trail more n fits guarded c k a b known first below is_false =
+guarded_push clauses trail more n fits guarded c k a known watch below is_false =
     let same : literal_at (trail ++ more) k ≡ literal_at trail k = ap (λ (f : Entry). f.literal) (get_or_append_left trail more blank_entry k (omega arith)) in
-    subst (λ ls. Contains ls b) (sym (map-append (λ (f : Entry). f.literal) trail more))
-    (Contains-append_left (literals_of trail) (literals_of more) b (guarded c k a b known first below (sym same ∙ is_false)))
+    let told = guarded c k a known watch below (sym same ∙ is_false) in
+    (told.0, told.1, subst (λ ls. Contains ls told.0) (sym (map-append (λ (f : Entry). f.literal) trail more)) (Contains-append_left (literals_of trail) (literals_of more) told.0 told.2))
 
 pub sure_push : (clauses : List (List Literal)) (trail more : List Entry) (n : ℕ) → n ≤ length trail → IsSure clauses trail n → IsSure clauses (trail ++ more) n
-sure_push clauses trail more n fits sure c k a b known first below is_false =
+sure_push clauses trail more n fits sure c k a known watch below is_false =
     let k_same = get_or_append_left trail more blank_entry k (omega arith) in
-    let at = sure c k a b known first below (ap (λ (f : Entry). f.literal) (sym k_same) ∙ is_false) in
+    let at = sure c k a known watch below (ap (λ (f : Entry). f.literal) (sym k_same) ∙ is_false) in
     let j_same = get_or_append_left trail more blank_entry at.0 at.1 in
-    (at.0, omega (arith, at.1, length-append trail more), ap (λ (f : Entry). f.literal) j_same ∙ at.2, omega (arith, at.3, ap (λ (f : Entry). f.level) j_same, ap (λ (f : Entry). f.level) k_same))
+    (at.0, omega (arith, at.1, length-append trail more), subst (Contains (clause_of clauses c)) (ap (λ (f : Entry). f.literal) (sym j_same)) at.2, omega (arith, at.3, ap (λ (f : Entry). f.level) j_same, ap (λ (f : Entry). f.level) k_same))
 
 -- a decision stands behind the trail
 pub decision_stands : (inputs lines : List (List Literal)) (trail : List Entry) (l : Literal) (level : ℕ) → IsTrail inputs lines trail → level ≡ length trail + 1 → StandsAt inputs lines trail (record { literal = l; level = level; reason = None })

@@ -16,10 +16,10 @@ use Rattle.cdcl_state.specs.Learnt.{IsInside}
 use Rattle.cdcl_state.specs.Analysis.{IsUnder, Covers, IsWalk}
 use Rattle.cdcl_state.specs.declared.assigned.Entry.{Entry}
 
-Contains_cons : {X : Type 0} (x y : X) (xs : List X) → Contains xs y → Contains (x ∷ xs) y
+pub Contains_cons : {X : Type 0} (x y : X) (xs : List X) → Contains xs y → Contains (x ∷ xs) y
 Contains_cons x y xs there = (suc there.0, omega (arith, there.1), there.2)
 
-Contains_head : {X : Type 0} (x : X) (xs : List X) → Contains (x ∷ xs) x
+pub Contains_head : {X : Type 0} (x : X) (xs : List X) → Contains (x ∷ xs) x
 Contains_head x xs = (0, omega arith, refl)
 
 pub Contains_map : {X Y : Type 0} (f : X → Y) (d : X) (xs : List X) (y : Y) → Contains (map f xs) y → (x : X) × Contains xs x × (y ≡ f x)
@@ -34,20 +34,19 @@ true_place trail k m within (j, below, is) =
     let low_take : j < length (take k trail) = omega (arith, length-take-le k trail within) in
     (j, low, ap (λ (e : Entry). e.literal) (sym (get_or-take k trail j blank_entry low)) ∙ sym (get_or-map (λ (e : Entry). e.literal) (take k trail) j blank_entry m low_take) ∙ is)
 
-module _ (trail : List Entry) (k : ℕ) (marked : List Bool) (clause : List Literal) where
-  pub covers_skip : (falses : List Literal) → get_or marked (literal_at trail k).letter.0 false ≡ false → Covers trail k marked clause falses → Covers trail (k + 1) marked clause falses
-  covers_skip falses unmarked covers = record {
-    marked_in = λ j below is. elim (cases_lt j k) [
-      | inl low ↦ covers.marked_in j low is
-      | inr high ↦
-          let same : j ≡ k = omega arith in
-          absurd (false≢true (sym unmarked ∙ ap (λ i. get_or marked (literal_at trail i).letter.0 false) (sym same) ∙ is))
-    ];
-    clause_in = covers.clause_in;
-    only = All-weaker (λ m. Contains clause m ⊎ IsUnder trail k m) (λ m. Contains clause m ⊎ IsUnder trail (k + 1) m)
-        (λ m h. elim h [ inl c ↦ inl c | inr b ↦ inr (b.0, omega (arith, b.1), b.2) ]) falses covers.only;
-  }
+-- the marked letters below n stand below k, and are marked still
+abbrev pub StandBelow : List Entry → ℕ → ℕ → (ℕ → Type 0) → (ℕ → Type 0) → Type 0
+StandBelow trail n k marked more = (j : ℕ) → j < n → marked (literal_at trail j).letter.0 → (j < k) × more (literal_at trail j).letter.0
 
+covers_pass : (trail : List Entry) (n k : ℕ) (marked more : ℕ → Type 0) (clause falses : List Literal) → k ≤ n → StandBelow trail n k marked more → Covers trail k more clause falses → Covers trail n marked clause falses
+covers_pass trail n k marked more clause falses fits below covers = record {
+  marked_in = λ j low is. let here = below j low is in covers.marked_in j here.0 here.1;
+  clause_in = covers.clause_in;
+  only = All-weaker (λ m. Contains clause m ⊎ IsUnder trail k m) (λ m. Contains clause m ⊎ IsUnder trail n m)
+      (λ m h. elim h [ inl c ↦ inl c | inr b ↦ inr (b.0, omega (arith, b.1, fits), b.2) ]) falses covers.only;
+}
+
+module _ (trail : List Entry) (k : ℕ) (marked : ℕ → Type 0) (clause : List Literal) where
   pub covers_keep : (falses : List Literal) → Covers trail k marked (clause ++ opposite (literal_at trail k) ∷ []) falses → Covers trail (k + 1) marked clause falses
   covers_keep falses covers =
       let u = opposite (literal_at trail k) in
@@ -67,7 +66,7 @@ module _ (trail : List Entry) (k : ℕ) (marked : List Bool) (clause : List Lite
             ]) falses covers.only;
       }
 
-  pub covers_resolve : (more : List Bool) (falses : List Literal) → ((x : ℕ) → get_or marked x false ≡ true → get_or more x false ≡ true) → Covers trail k more clause falses
+  pub covers_resolve : (more : ℕ → Type 0) (falses : List Literal) → ((x : ℕ) → marked x → more x) → Covers trail k more clause falses
       → Covers trail (k + 1) marked clause (opposite (literal_at trail k) ∷ falses)
   covers_resolve more falses kept covers =
       let u = opposite (literal_at trail k) in
@@ -92,21 +91,21 @@ places_apart values trail are i j ilow jlow differ same = elim (cases_lt i j) [
 ]
 
 -- what is false on the first k and marked is covered
-covered : (trail : List Entry) (k : ℕ) (marked : List Bool) (clause falses : List Literal) → Covers trail k marked clause falses → k ≤ length trail
-    → (l : Literal) → Contains (literals_of (take k trail)) (opposite l) → get_or marked l.letter.0 false ≡ true → Contains falses l
+covered : (trail : List Entry) (k : ℕ) (marked : ℕ → Type 0) (clause falses : List Literal) → Covers trail k marked clause falses → k ≤ length trail
+    → (l : Literal) → Contains (literals_of (take k trail)) (opposite l) → marked l.letter.0 → Contains falses l
 covered trail k marked clause falses covers within l there is_marked =
     let place = true_place trail k (opposite l) within there in
     let same_letter : (literal_at trail place.0).letter.0 ≡ l.letter.0 = ap (λ (m : Literal). m.letter.0) place.2 in
-    let inside = covers.marked_in place.0 place.1 (ap (λ x. get_or marked x false) same_letter ∙ is_marked) in
+    let inside = covers.marked_in place.0 place.1 (subst marked (sym same_letter) is_marked) in
     subst (Contains falses) (ap opposite place.2 ∙ opposite_opposite l) inside
 
 -- known letters are numbers of a `u32`
 within_u32 : (letters : ℕ) (clause : List Literal) → letters ≤ 2 ^ 32 → All (λ l. l.letter.0 < letters) clause → IsWithin greatest_u32 clause
 within_u32 letters clause few known k d below = omega (arith, known k d below, few)
 
-pub walk_start : (inputs lines : List (List Literal)) (trail : List Entry) (letters : ℕ) (marked : List Bool) (hint : Hint) (clause : List Literal)
+pub walk_start : (inputs lines : List (List Literal)) (trail : List Entry) (letters : ℕ) (marked : ℕ → Type 0) (hint : Hint) (clause : List Literal)
     → named inputs lines hint ≡ Some clause → All (λ l. l.letter.0 < letters) clause → letters ≤ 2 ^ 32 → All (λ l. Contains (literals_of trail) (opposite l)) clause
-    → All (λ l. get_or marked l.letter.0 false ≡ true) clause
+    → All (λ l. marked l.letter.0) clause
     → IsWalk inputs lines trail (length trail) marked [] (hint ∷ []) []
 walk_start inputs lines trail letters marked hint clause is known few all_false all_marked = record {
   explains = λ falses covers. conflict {clause = clause} (record { is = is; within = λ _ _. within_u32 letters clause few known })
@@ -120,17 +119,19 @@ walk_start inputs lines trail letters marked hint clause is known few all_false 
   within = omega arith;
 }
 
-module _ (inputs lines : List (List Literal)) (trail : List Entry) (k : ℕ) (marked : List Bool) (clause : List Literal) (hints : List Hint) (places : List ℕ) (walk : IsWalk inputs lines trail (k + 1) marked clause hints places) where
-  pub walk_skip : get_or marked (literal_at trail k).letter.0 false ≡ false → IsWalk inputs lines trail k marked clause hints places
-  walk_skip unmarked = record {
-    explains = λ falses covers. walk.explains falses (covers_skip trail k marked clause falses unmarked covers);
-    clause_is = walk.clause_is;
-    inside = walk.inside;
-    above = λ i d below. omega (arith, walk.above i d below);
-    falling = walk.falling;
-    within = omega (arith, walk.within);
-  }
+-- what is not marked is passed over
+pub walk_pass : (inputs lines : List (List Literal)) (trail : List Entry) (n k : ℕ) (marked more : ℕ → Type 0) (clause : List Literal) (hints : List Hint) (places : List ℕ) → k ≤ n → StandBelow trail n k marked more
+    → IsWalk inputs lines trail n marked clause hints places → IsWalk inputs lines trail k more clause hints places
+walk_pass inputs lines trail n k marked more clause hints places fits below walk = record {
+  explains = λ falses covers. walk.explains falses (covers_pass trail n k marked more clause falses fits below covers);
+  clause_is = walk.clause_is;
+  inside = walk.inside;
+  above = λ i d low. omega (arith, walk.above i d low, fits);
+  falling = walk.falling;
+  within = omega (arith, walk.within, fits);
+}
 
+module _ (inputs lines : List (List Literal)) (trail : List Entry) (k : ℕ) (marked : ℕ → Type 0) (clause : List Literal) (hints : List Hint) (places : List ℕ) (walk : IsWalk inputs lines trail (k + 1) marked clause hints places) where
   pub walk_keep : IsWalk inputs lines trail k marked (clause ++ opposite (literal_at trail k) ∷ []) hints (places ++ k ∷ [])
   walk_keep = record {
     explains = λ falses covers. walk.explains falses (covers_keep trail k marked clause falses covers);
@@ -146,9 +147,9 @@ module _ (inputs lines : List (List Literal)) (trail : List Entry) (k : ℕ) (ma
     within = omega (arith, walk.within);
   }
 
-  pub walk_resolve : (letters : ℕ) (values : List (Option Bool)) (more : List Bool) (hint : Hint) (reason : IsReason inputs lines (literals_of (take k trail)) (literal_at trail k) hint)
+  pub walk_resolve : (letters : ℕ) (values : List (Option Bool)) (more : ℕ → Type 0) (hint : Hint) (reason : IsReason inputs lines (literals_of (take k trail)) (literal_at trail k) hint)
       → AreValues values trail → All (λ l. l.letter.0 < letters) reason.clause → letters ≤ 2 ^ 32
-      → ((x : ℕ) → get_or marked x false ≡ true → get_or more x false ≡ true) → All (λ l. get_or more l.letter.0 false ≡ true) reason.clause
+      → ((x : ℕ) → marked x → more x) → All (λ l. more l.letter.0) reason.clause
       → IsWalk inputs lines trail k more clause (hints ++ hint ∷ []) places
   walk_resolve letters values more hint reason are known few kept all_marked =
       let u = literal_at trail k in
@@ -185,7 +186,7 @@ module _ (inputs lines : List (List Literal)) (trail : List Entry) (k : ℕ) (ma
       }
 
 -- at the foot of the trail the clause with its hints is a hinted step
-pub walk_end : (values : List (Option Bool)) (inputs lines : List (List Literal)) (trail : List Entry) (marked : List Bool) (clause : List Literal) (hints : List Hint) (places : List ℕ)
+pub walk_end : (values : List (Option Bool)) (inputs lines : List (List Literal)) (trail : List Entry) (marked : ℕ → Type 0) (clause : List Literal) (hints : List Hint) (places : List ℕ)
     → AreValues values trail → length values ≤ 2 ^ 32 → IsWalk inputs lines trail 0 marked clause hints places → IsHintedStep inputs lines greatest_u32 clause (reverse hints)
 walk_end values inputs lines trail marked clause hints places are few walk =
     let from_place : (m : Literal) → Contains clause m → (p : ℕ) × (p < length trail) × (m ≡ opposite (literal_at trail p)) =

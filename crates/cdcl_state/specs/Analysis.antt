@@ -1,5 +1,5 @@
 -- The walk down the trail that explains a conflict.
-use Rattle.std.specs.Prelude.{◌≡◌, ℕ, ◌+◌, ◌^◌, ◌<◌, ◌≤◌, ◌⊎◌, Bool, true, false, List, [], ◌∷◌, ◌++◌, Option, None, map, take, reverse, length, All, AllPairs, Contains, slice_index_or}
+use Rattle.std.specs.Prelude.{◌≡◌, ℕ, ◌+◌, ◌^◌, ◌<◌, ◌≤◌, ◌⊎◌, Bool, List, [], ◌∷◌, ◌++◌, Option, None, map, take, reverse, length, All, AllPairs, Contains, slice_index_or}
 use Rattle.cnf_base.specs.declared.literal.Literal.{Literal}
 use Rattle.cnf_base.specs.declared.literal.Hint.{Hint}
 use Rattle.cnf_base.specs.Literal.{opposite}
@@ -7,6 +7,7 @@ use Rattle.cnf_base.specs.Step.{Refutes}
 use Rattle.clause_log.specs.LogValue.{LogValue, greatest_u32}
 use Rattle.cdcl_state.specs.Trail.{StateValue, IsTrail, AreValues}
 use Rattle.cdcl_state.specs.Learnt.{blank_entry, literal_at, IsInside, IsDecision, IsLearnt}
+use Rattle.cdcl_state.specs.Marks.{MarksValue, IsMarked}
 use Rattle.cdcl_state.specs.declared.assigned.Entry.{Entry}
 use Rattle.cdcl_state.specs.declared.analyze.Learnt.{Learnt}
 
@@ -14,18 +15,22 @@ use Rattle.cdcl_state.specs.declared.analyze.Learnt.{Learnt}
 abbrev pub AreBelow : ℕ → List (List Literal) → Type 0
 AreBelow n clauses = All (λ clause. All (λ l. l.letter.0 < n) clause) clauses
 
+-- of the trail's first `end` places each whose letter is marked waits
+abbrev pub AreWaiting : List Entry → ℕ → MarksValue → Type 0
+AreWaiting trail end marks = (j : ℕ) → j < end → j < length trail → IsMarked marks (literal_at trail j).letter.0 → Contains marks.waiting j
+
 -- m is the opposite of a literal of the trail's first k
 abbrev pub IsUnder : List Entry → ℕ → Literal → Type 0
 IsUnder trail k m = (j : ℕ) × (j < k) × (m ≡ opposite (literal_at trail j))
 
 -- the false literals have the opposites of the marked ones below k and the clause, and nothing else that is not below k
-pub record Covers (trail : List Entry) (k : ℕ) (marked : List Bool) (clause falses : List Literal) : Type 0 where
-  pub marked_in : (j : ℕ) → j < k → slice_index_or marked (literal_at trail j).letter.0 false ≡ true → Contains falses (opposite (literal_at trail j))
+pub record Covers (trail : List Entry) (k : ℕ) (marked : ℕ → Type 0) (clause falses : List Literal) : Type 0 where
+  pub marked_in : (j : ℕ) → j < k → marked (literal_at trail j).letter.0 → Contains falses (opposite (literal_at trail j))
   pub clause_in : All (Contains falses) clause
   pub only : All (λ m. Contains clause m ⊎ IsUnder trail k m) falses
 
 -- the part of the trail from k on is explained
-pub record IsWalk (inputs lines : List (List Literal)) (trail : List Entry) (k : ℕ) (marked : List Bool) (clause : List Literal) (hints : List Hint) (places : List ℕ) : Type 0 where
+pub record IsWalk (inputs lines : List (List Literal)) (trail : List Entry) (k : ℕ) (marked : ℕ → Type 0) (clause : List Literal) (hints : List Hint) (places : List ℕ) : Type 0 where
   pub explains : (falses : List Literal) → Covers trail k marked clause falses → Refutes inputs lines greatest_u32 falses (reverse hints)
   pub clause_is : clause ≡ map (λ p. opposite (literal_at trail p)) places
   pub inside : All (IsInside trail) places

@@ -1,8 +1,8 @@
 pub mod Values
 pub mod Trail
 pub mod Learnt
-pub mod Watching
 pub mod Assigned
+pub mod Marks
 pub mod Visit
 pub mod Sure
 pub mod State

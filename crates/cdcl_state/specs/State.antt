@@ -5,10 +5,10 @@ use Rattle.cnf_base.specs.declared.literal.Hint.{Hint}
 use Rattle.cnf_base.specs.Step.{named}
 use Rattle.clause_log.specs.LogValue.{LogValue}
 use Rattle.cdcl_state.specs.Trail.{literals_of, IsKnown, AreKnown}
-use Rattle.cdcl_state.specs.Watching.{WatchValue}
+use Rattle.cdcl_watches.specs.Watching.{WatchValue}
 use Rattle.cdcl_state.specs.Assigned.{AssignedValue}
 use Rattle.cdcl_state.specs.Sure.{IsSure}
-use Rattle.cdcl_state.specs.Visit.{IsReady, blank_hint}
+use Rattle.cdcl_state.specs.Visit.{HasTrue, IsReady, blank_hint}
 use Rattle.cdcl_state.specs.declared.assigned.Entry.{Entry}
 
 -- all literals of the clause are one
@@ -30,10 +30,6 @@ AreLong inputs lines names = (c : ℕ) (clause : List Literal) → c < length na
 -- each short clause is one of the log's, and has one literal alone, or none
 abbrev pub AreShort : List (List Literal) → List (List Literal) → List Hint → Type 0
 AreShort inputs lines units = (u : ℕ) → u < length units → (clause : List Literal) × (named inputs lines (slice_index_or units u blank_hint) ≡ Some clause) × IsOne clause
-
--- the clause has a literal among the true ones
-abbrev pub HasTrue : List Literal → List Literal → Type 0
-HasTrue true_ones clause = (l : Literal) × Contains clause l × Contains true_ones l
 
 -- the first short clauses have a true literal
 abbrev pub AreFirm : List (List Literal) → List (List Literal) → List Hint → ℕ → List Literal → Type 0

@@ -9,7 +9,7 @@ use Rattle.cnf_base.specs.Step.{named}
 use Rattle.cdcl_state.specs.Trail.{literals_of, IsTrail}
 use Rattle.cdcl_state.specs.Learnt.{literal_at}
 use Rattle.cdcl_state.specs.declared.assigned.Entry.{Entry}
-use Rattle.cdcl_state.specs.Watching.{AreFirst, clause_of, list_of, WatchValue, blank}
+use Rattle.cdcl_watches.specs.Watching.{IsWatch, clause_of, list_of, WatchValue, blank}
 use Rattle.cdcl_state.specs.Assigned.{AssignedValue}
 
 -- the two clauses have the same literals
@@ -26,22 +26,30 @@ pub record IsStored (inputs lines clauses : List (List Literal)) (names : List H
   pub paired : length names ≡ length clauses
   pub from_log : (c : ℕ) → c < length clauses → (clause : List Literal) × (named inputs lines (slice_index_or names c blank_hint) ≡ Some clause) × HaveSame clause (clause_of clauses c)
 
--- where one of the first two literals is false from a place below head on, the other one is true
+-- the clause has a literal among the true ones
+abbrev pub HasTrue : List Literal → List Literal → Type 0
+HasTrue true_ones clause = (l : Literal) × Contains clause l × Contains true_ones l
+
+-- where a clause watches a literal that is false from a place below head on, it has a true one
 abbrev pub IsGuarded : List (List Literal) → List Entry → ℕ → Type 0
-IsGuarded clauses trail head = (c k : ℕ) (a b : Literal) → c < length clauses → AreFirst (clause_of clauses c) a b → k < head → literal_at trail k ≡ opposite a → Contains (literals_of trail) b
+IsGuarded clauses trail head = (c k : ℕ) (a : Literal) → c < length clauses → IsWatch (clause_of clauses c) a → k < head → literal_at trail k ≡ opposite a → HasTrue (literals_of trail) (clause_of clauses c)
 
 -- the literal that the entry at a place makes false
 abbrev pub false_at : List Entry → ℕ → Literal
 false_at trail k = opposite (literal_at trail k)
 
--- the list of the literal that became false at the place k has been visited from i on
+-- the clause at a place of the literal's list
+abbrev pub watcher_at : WatchValue → Literal → ℕ → List Literal
+watcher_at w l i = clause_of w.clauses (slice_index_or (list_of w.lists l) i 0)
+
+-- the list of the literal that became false at the place k has been visited from i on: the clauses there have true literals
 pub record IsVisiting (inputs lines : List (List Literal)) (names : List Hint) (k i : ℕ) (a : AssignedValue) (w : WatchValue) : Type 0 where
   pub is_trail : IsTrail inputs lines a.trail
   pub stored : IsStored inputs lines w.clauses names
   pub guarded : IsGuarded w.clauses a.trail k
   pub within : k < length a.trail
   pub sized : length w.lists ≡ 2 * length a.values
-  pub done : (j : ℕ) (b : Literal) → i ≤ j → j < length (list_of w.lists (false_at a.trail k)) → AreFirst (clause_of w.clauses (slice_index_or (list_of w.lists (false_at a.trail k)) j 0)) (false_at a.trail k) b → Contains (literals_of a.trail) b
+  pub done : (j : ℕ) → i ≤ j → j < length (list_of w.lists (false_at a.trail k)) → HasTrue (literals_of a.trail) (watcher_at w (false_at a.trail k) j)
 
 -- entries that have reasons were put behind the trail
 pub record IsGrown (old new : List Entry) : Type 0 where
@@ -73,6 +81,13 @@ pub record IsReady (inputs lines : List (List Literal)) (names : List Hint) (hea
   pub within : head ≤ length a.trail
   pub sized : length w.lists ≡ 2 * length a.values
 
--- neither of the first two literals is false on the trail
-abbrev pub IsUnwatched : List Entry → List Literal → Type 0
-IsUnwatched trail clause = (¬ Contains (literals_of trail) (opposite (slice_index_or clause 0 blank))) × (¬ Contains (literals_of trail) (opposite (slice_index_or clause 1 blank)))
+-- no entry below the place makes one of the first two literals false
+abbrev pub IsUnwatched : List Entry → List Literal → ℕ → Type 0
+IsUnwatched trail clause place = (k : ℕ) → k < place → (literal_at trail k ≢ opposite (slice_index_or clause 0 blank)) × (literal_at trail k ≢ opposite (slice_index_or clause 1 blank))
+
+-- the marks went back to where neither of the first two literals is false
+pub record IsRewound (trail : List Entry) (clause : List Literal) (old_head old_sure head sure : ℕ) : Type 0 where
+  pub head_falls : head ≤ old_head
+  pub sure_falls : sure ≤ old_sure
+  pub low : sure ≤ head
+  pub free : IsUnwatched trail clause head

@@ -7,11 +7,13 @@ ghost use Rattle.std.specs.Prelude.{◌≡◌, ℕ, ◌^◌, ◌<◌, ◌≤◌,
 ghost use Rattle.cnf_base.specs.Step.{named};
 ghost use Rattle.cdcl_state.specs.Trail.{IsTrail, IsConflict, literals_of};
 ghost use Rattle.cdcl_state.specs.Learnt.{blank_entry, IsDecision, IsLearnt};
-ghost use Rattle.cdcl_state.specs.Analysis.{AreBelow, IsLike, IsWalk, refuted_at, state_of};
+ghost use Rattle.cdcl_state.specs.Analysis.{AreBelow, AreWaiting, IsLike, IsWalk, refuted_at, state_of};
+ghost use Rattle.cdcl_state.specs.Marks.{IsMarked};
 ghost use Rattle.cdcl_state.specs.declared.assigned.Entry.{Entry};
 ghost use Rattle.cdcl_state.specs.declared.analyze.Cut.TheVariants.{Decisions};
 
 use crate::assigned::{Assigned, Entry};
+use crate::marks::Marks;
 use crate::minimize::is_covered;
 use clause_log::{Log, LogView};
 use cnf_base::{Hint, Literal};
@@ -47,29 +49,60 @@ pub fn clause_of<'a>(view: &LogView<'a>, hint: Hint) -> &'a [Literal]
 }
 
 /// Counts a letter that is marked anew and stands on the level of the cut.
-fn count(assigned: &Assigned, cut: Cut, marked: &Vec<bool>, literal: Literal, open: &mut usize) {
+fn count(assigned: &Assigned, cut: Cut, place: usize, open: &mut usize) {
     match cut {
         Cut::Decisions => {}
         Cut::FirstUnique(level) => {
-            let letter = literal.letter.0 as usize;
-            if marked.get(letter) == Some(&false) && assigned.level_of(letter) == level {
+            if assigned.level_at(place) == level {
                 *open = open.saturating_add(1);
             }
         }
     }
 }
 
+/// Marks the letter, and lets its place wait if it had no mark.
+fn mark_letter(
+    assigned: &Assigned,
+    cut: Cut,
+    letter: usize,
+    marks: &mut Marks,
+    open: &mut usize,
+) -> Result<(), AllocError>
+    requires known { letter < length assigned.now.values }
+    requires size { length assigned.now.values ≤ length marks.old.stamps }
+    ensures size { length marks.new.stamps ≡ length marks.old.stamps }
+    ensures kept { OnOk result ((x : ℕ) → IsMarked marks.old x → IsMarked marks.new x) }
+    ensures marked { OnOk result (IsMarked marks.new letter) }
+    ensures waiting { OnOk result ((end : ℕ) → AreWaiting assigned.now.trail end marks.old → AreWaiting assigned.now.trail end marks.new) }
+{
+    if marks.has(letter) {
+        return Ok(());
+    }
+    let place = assigned.place_of(letter);
+    count(assigned, cut, place, open);
+    marks.mark(letter, place)?;
+    Ok(())
+}
+
 /// Marks the letters of the clause, and counts those that are new on the level of the cut.
-fn mark(assigned: &Assigned, cut: Cut, clause: &[Literal], marked: &mut Vec<bool>, open: &mut usize)
-    requires { All (λ l. l.letter.0 < length marked.old.items) clause.now }
-    ensures kept { (x : ℕ) → slice_index_or marked.old.items x false ≡ true → slice_index_or marked.new.items x false ≡ true }
-    ensures all { All (λ l. slice_index_or marked.new.items l.letter.0 false ≡ true) clause.now }
-    ensures size { length marked.new.items ≡ length marked.old.items }
+fn mark(
+    assigned: &Assigned,
+    cut: Cut,
+    clause: &[Literal],
+    marks: &mut Marks,
+    open: &mut usize,
+) -> Result<(), AllocError>
+    requires known { All (λ l. l.letter.0 < length assigned.now.values) clause.now }
+    requires size { length assigned.now.values ≤ length marks.old.stamps }
+    ensures size { length marks.new.stamps ≡ length marks.old.stamps }
+    ensures kept { OnOk result ((x : ℕ) → IsMarked marks.old x → IsMarked marks.new x) }
+    ensures all { OnOk result (All (λ l. IsMarked marks.new l.letter.0) clause.now) }
+    ensures waiting { OnOk result ((end : ℕ) → AreWaiting assigned.now.trail end marks.old → AreWaiting assigned.now.trail end marks.new) }
 {
     for literal in clause {
-        count(assigned, cut, marked, *literal, open);
-        marked[literal.letter.0 as usize] = true;
+        mark_letter(assigned, cut, literal.letter.0 as usize, marks, open)?;
     }
+    Ok(())
 }
 
 /// Whether an entry that has this reason is to be resolved away: of the cut's level all but the last one that is open,
@@ -80,7 +113,7 @@ fn resolves(
     cut: Cut,
     entry: Entry,
     hint: Hint,
-    marked: &Vec<bool>,
+    marks: &Marks,
     open: &mut usize,
 ) -> bool
     ensures { cut ≡ Decisions → result ≡ true }
@@ -91,7 +124,7 @@ fn resolves(
         }
         Cut::FirstUnique(level) => {
             if entry.level != level {
-                return entry.level == 0 || is_covered(assigned, view, hint, marked);
+                return entry.level == 0 || is_covered(assigned, view, hint, marks);
             }
             if *open <= 1 {
                 return false;
@@ -123,13 +156,13 @@ fn cite(learnt: &mut Learnt, hint: Hint) -> Result<(), AllocError>
     Ok(())
 }
 
-/// Goes down the trail below `from`, and resolves the marked literals or keeps them in the clause.
+/// Goes down the marked places of the trail below `from`, and resolves their literals or keeps them in the clause.
 fn walk(
     assigned: &Assigned,
     log: &Log,
     cut: Cut,
     from: usize,
-    marked: &mut Vec<bool>,
+    marks: &mut Marks,
     open: &mut usize,
     learnt: &mut Learnt,
 ) -> Result<(), AllocError>
@@ -138,26 +171,23 @@ fn walk(
     requires known_lines { AreBelow (length assigned.now.values) log.now.lines }
     requires few { length assigned.now.values ≤ 2 ^ 32 }
     requires from { from ≤ length assigned.now.trail }
-    requires size { length assigned.now.values ≤ length marked.old.items }
-    ensures size { length marked.new.items ≡ length marked.old.items }
-    ensures walked { OnOk result ((t : List Entry) → IsLike log.now.inputs log.now.lines assigned.now.trail t from → IsWalk log.now.inputs log.now.lines t from marked.old.items learnt.old.clause.items learnt.old.hints.items learnt.old.places.items → IsWalk log.now.inputs log.now.lines t 0 marked.new.items learnt.new.clause.items learnt.new.hints.items learnt.new.places.items) }
+    requires size { length assigned.now.values ≤ length marks.old.stamps }
+    requires waiting { AreWaiting assigned.now.trail from marks.old }
+    ensures size { length marks.new.stamps ≡ length marks.old.stamps }
+    ensures walked { OnOk result ((t : List Entry) → IsLike log.now.inputs log.now.lines assigned.now.trail t from → IsWalk log.now.inputs log.now.lines t from (IsMarked marks.old) learnt.old.clause.items learnt.old.hints.items learnt.old.places.items → IsWalk log.now.inputs log.now.lines t 0 (IsMarked marks.new) learnt.new.clause.items learnt.new.hints.items learnt.new.places.items) }
     ensures decided { OnOk result ((t : List Entry) → IsLike log.now.inputs log.now.lines assigned.now.trail t from → cut ≡ Decisions → All (IsDecision t) learnt.old.places.items → All (IsDecision t) learnt.new.places.items) }
 {
     assigned.told();
     let view = log.view();
     let mut end = from;
-    'down: while end > 0 {
-        let place = end - 1;
+    'down: while let Some(place) = marks.pop(end) {
         end = place;
         let entry = assigned.entry(place);
-        if !marked[entry.literal.letter.0 as usize] {
-            continue 'down;
-        }
         match entry.reason {
             Some(hint) => {
-                if resolves(assigned, &view, cut, entry, hint, marked, open) {
+                if resolves(assigned, &view, cut, entry, hint, marks, open) {
                     cite(learnt, hint)?;
-                    mark(assigned, cut, clause_of(&view, hint), marked, open);
+                    mark(assigned, cut, clause_of(&view, hint), marks, open)?;
                     continue 'down;
                 }
                 keep(learnt, entry.literal.opposite(), place)?;
@@ -178,21 +208,22 @@ pub fn explain(
     assigned: &Assigned,
     log: &Log,
     cut: Cut,
-    marked: &mut Vec<bool>,
+    marks: &mut Marks,
     conflict: Hint,
 ) -> Result<Learnt, AllocError>
     requires is_trail { IsTrail log.now.inputs log.now.lines assigned.now.trail }
     requires known_inputs { AreBelow (length assigned.now.values) log.now.inputs }
     requires known_lines { AreBelow (length assigned.now.values) log.now.lines }
     requires few { length assigned.now.values ≤ 2 ^ 32 }
-    requires size { length assigned.now.values ≤ length marked.old.items }
+    requires size { length assigned.now.values ≤ length marks.old.stamps }
     requires conflict { IsConflict log.now.inputs log.now.lines (literals_of assigned.now.trail) conflict }
-    ensures size { length marked.new.items ≡ length marked.old.items }
+    ensures size { length marks.new.stamps ≡ length marks.old.stamps }
     ensures learnt { IfOk result (IsLearnt log.now assigned.now.trail) }
     ensures decided { IfOk result (λ learnt. cut ≡ Decisions → All (IsDecision assigned.now.trail) learnt.places.items) }
 {
     assigned.told();
     let view = log.view();
+    marks.begin()?;
     let mut open: usize = 0;
     let mut learnt = Learnt {
         clause: Vec::new(alloc),
@@ -200,13 +231,13 @@ pub fn explain(
         places: Vec::new(alloc),
     };
     cite(&mut learnt, conflict)?;
-    mark(assigned, cut, clause_of(&view, conflict), marked, &mut open);
+    mark(assigned, cut, clause_of(&view, conflict), marks, &mut open)?;
     walk(
         assigned,
         log,
         cut,
         assigned.len(),
-        marked,
+        marks,
         &mut open,
         &mut learnt,
     )?;
@@ -219,7 +250,7 @@ pub fn explain_forced(
     alloc: Global,
     assigned: &Assigned,
     log: &Log,
-    marked: &mut Vec<bool>,
+    marks: &mut Marks,
     place: usize,
     hint: Hint,
 ) -> Result<Learnt, AllocError>
@@ -227,15 +258,16 @@ pub fn explain_forced(
     requires known_inputs { AreBelow (length assigned.now.values) log.now.inputs }
     requires known_lines { AreBelow (length assigned.now.values) log.now.lines }
     requires few { length assigned.now.values ≤ 2 ^ 32 }
-    requires size { length assigned.now.values ≤ length marked.old.items }
+    requires size { length assigned.now.values ≤ length marks.old.stamps }
     requires place { place < length assigned.now.trail }
     requires forced { (slice_index_or assigned.now.trail place blank_entry).reason ≡ Some hint }
-    ensures size { length marked.new.items ≡ length marked.old.items }
+    ensures size { length marks.new.stamps ≡ length marks.old.stamps }
     ensures learnt { IfOk result (IsLearnt log.now (refuted_at assigned.now.trail place)) }
     ensures decided { IfOk result (λ learnt. All (IsDecision (refuted_at assigned.now.trail place)) learnt.places.items) }
 {
     assigned.told();
     let view = log.view();
+    marks.begin()?;
     let mut open: usize = 0;
     let mut learnt = Learnt {
         clause: Vec::new(alloc),
@@ -248,15 +280,15 @@ pub fn explain_forced(
         assigned,
         Cut::Decisions,
         clause_of(&view, hint),
-        marked,
+        marks,
         &mut open,
-    );
+    )?;
     walk(
         assigned,
         log,
         Cut::Decisions,
         place,
-        marked,
+        marks,
         &mut open,
         &mut learnt,
     )?;

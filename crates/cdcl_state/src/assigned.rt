@@ -23,19 +23,19 @@ pub struct Entry {
 pub struct Assigned {
     values: Vec<Option<bool>>,
     trail: Vec<Entry>,
-    /// The level at which a letter was assigned last. Nothing is promised of it.
-    levels: Vec<usize>,
+    /// The place of the trail at which a letter was assigned last.
+    places: Vec<usize>,
 }
 
 impl Model for Assigned {
     ghost use Rattle.cdcl_state.specs.Trail.{AreValues};
-    ghost use Rattle.cdcl_state.specs.Assigned.{AssignedValue};
+    ghost use Rattle.cdcl_state.specs.Assigned.{AssignedValue, ArePlaces};
 
     ghost Value = { AssignedValue };
 
     ghost view = { λ a. record { values = a.values.items; trail = a.trail.items } };
 
-    ghost invariant = { λ a. AreValues a.values.items a.trail.items };
+    ghost invariant = { λ a. AreValues a.values.items a.trail.items × ArePlaces a.places.items a.values.items a.trail.items };
 }
 
 impl Assigned {
@@ -85,14 +85,7 @@ impl Assigned {
         ensures within { result < length self.now.trail }
         ensures there { literal_at self.now.trail result ≡ literal }
     {
-        let mut place = 0;
-        'along: while place < self.trail.len() {
-            if self.trail[place].literal == literal {
-                return place;
-            }
-            place += 1;
-        }
-        0
+        self.places[literal.letter.0 as usize]
     }
 
     /// Makes room for one letter more.
@@ -100,7 +93,7 @@ impl Assigned {
         ensures values { self.new.values ≡ (if is_ok result then self.old.values ++ None ∷ [] else self.old.values) }
         ensures trail { self.new.trail ≡ self.old.trail }
     {
-        self.levels.push(0)?;
+        self.places.push(0)?;
         self.values.push(None)?;
         Ok(())
     }
@@ -120,16 +113,34 @@ impl Assigned {
         ensures trail { self.new.trail ≡ (if is_ok result then self.old.trail ++ entry ∷ [] else self.old.trail) }
         ensures letters { length self.new.values ≡ length self.old.values }
     {
+        let place = self.trail.len();
         self.trail.push(entry)?;
-        note(&mut self.levels, entry);
-        self.values[entry.literal.letter.0 as usize] = Some(!entry.literal.negated);
+        let letter = entry.literal.letter.0 as usize;
+        self.places[letter] = place;
+        self.values[letter] = Some(!entry.literal.negated);
         Ok(())
     }
 
-    /// The level at which the letter was assigned last; nothing is promised.
+    /// The place of the trail at which the letter stands, if it stands there.
+    pub fn place_of(&self, letter: usize) -> usize
+        requires { letter < length self.now.values }
+        ensures { (k : ℕ) → k < length self.now.trail → (literal_at self.now.trail k).letter.0 ≡ letter → result ≡ k }
+    {
+        self.places[letter]
+    }
+
+    /// The level of the letter, if it stands on the trail; nothing is promised.
     pub fn level_of(&self, letter: usize) -> usize {
-        match self.levels.get(letter) {
-            Some(level) => *level,
+        match self.places.get(letter) {
+            Some(place) => self.level_at(*place),
+            None => 0,
+        }
+    }
+
+    /// The level of the entry at a place, if there is one; nothing is promised.
+    pub fn level_at(&self, place: usize) -> usize {
+        match self.trail.get(place) {
+            Some(entry) => entry.level,
             None => 0,
         }
     }
@@ -182,15 +193,7 @@ impl Assigned {
         Assigned {
             values: Vec::new(alloc),
             trail: Vec::new(alloc),
-            levels: Vec::new(alloc),
+            places: Vec::new(alloc),
         }
-    }
-}
-
-/// Keeps the level at which a letter was assigned.
-fn note(levels: &mut Vec<usize>, entry: Entry) {
-    let letter = entry.literal.letter.0 as usize;
-    if letter < levels.len() {
-        levels[letter] = entry.level;
     }
 }

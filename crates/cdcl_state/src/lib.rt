@@ -2,17 +2,15 @@
 #![tactic(auto)]
 
 pub mod analyze;
-pub mod arena;
 pub mod assigned;
 pub mod decide;
+pub mod marks;
 pub mod minimize;
 pub mod propagate;
-pub mod restart;
+pub mod repeats;
 pub mod state;
 pub mod store;
 pub mod units;
 pub mod unmark;
 pub mod visit;
-pub mod watch_lists;
-pub mod watches;
 pub mod widen;

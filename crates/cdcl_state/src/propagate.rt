@@ -3,13 +3,13 @@
 // Zhang and Malik, Chaff (2001).
 ghost use Rattle.std.specs.Prelude.{◌≡◌, ◌≢◌, ℕ, ◌+◌, ◌-◌, ◌*◌, ◌<◌, ◌≤◌, List, length, Option, Some, None, MatchOption, IfOk};
 ghost use Rattle.cdcl_state.specs.Trail.{literals_of, IsConflict};
-ghost use Rattle.cdcl_state.specs.Watching.{list_of};
+ghost use Rattle.cdcl_watches.specs.Watching.{list_of};
 ghost use Rattle.cdcl_state.specs.Sure.{IsSure};
 ghost use Rattle.cdcl_state.specs.Visit.{IsVisiting, IsGrown, IsReady, false_at};
 
 use crate::assigned::Assigned;
 use crate::visit::visit;
-use crate::watches::Watches;
+use cdcl_watches::watches::Watches;
 use clause_log::Log;
 use cnf_base::Hint;
 use std::alloc::AllocError;

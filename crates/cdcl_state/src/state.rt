@@ -3,18 +3,20 @@ ghost use Rattle.std.specs.Prelude.{◌≡◌, ◌≢◌, ◌+◌, ◌<◌, ◌�
 ghost use Rattle.cdcl_state.specs.Trail.{IsSettled, Propagated, IsConflict, literals_of, IsUnset, IsKnown, AreKnown, HasValue, AreSet, IsModel, with_log, with_letters};
 ghost use Rattle.cnf_base.specs.Step.{IsHintedStep};
 ghost use Rattle.clause_log.specs.LogValue.{IsLog, greatest_u32, with_line, with_input};
-ghost use Rattle.cdcl_state.specs.Watching.{AreApart};
+ghost use Rattle.cdcl_watches.specs.Watching.{AreApart};
 ghost use Rattle.cdcl_state.specs.Visit.{HaveSame};
 ghost use Rattle.cdcl_state.specs.Learnt.{IsDecided};
 
 use crate::assigned::{Assigned, Entry};
-use crate::decide::Choices;
+use crate::decide::offer;
+use crate::marks::Marks;
 use crate::propagate::propagate;
 use crate::state::backjump::settle;
-use crate::store::{distinct, rewind, store, take_back};
+use crate::store::{distinct, is_ready, lead, rewind, store, take_back};
 use crate::units::visit_units;
-use crate::watches::Watches;
 use crate::widen::widen;
+use cdcl_activity::choices::Choices;
+use cdcl_watches::watches::Watches;
 use clause_log::Log;
 use cnf_base::{Hint, Letter, Literal};
 use std::alloc::{AllocError, Global};
@@ -44,7 +46,7 @@ pub struct State {
     done: usize,
     firm: usize,
     // Analysis and decisions.
-    marked: Vec<bool>,
+    marks: Marks,
     choices: Choices,
 }
 
@@ -57,7 +59,7 @@ impl Model for State {
 
     ghost view = { λ a. record { letters = a.letters; trail = a.assigned.trail; log = a.log } };
 
-    ghost invariant = { λ a. IsState a.letters a.assigned a.watches a.names.items a.units.items a.log a.head a.sure a.done a.firm (length a.marked.items) };
+    ghost invariant = { λ a. IsState a.letters a.assigned a.watches a.names.items a.units.items a.log a.head a.sure a.done a.firm (length a.marks.stamps) };
 }
 
 impl State {
@@ -76,7 +78,7 @@ impl State {
             units: Vec::new(alloc),
             done: 0,
             firm: 0,
-            marked: Vec::new(alloc),
+            marks: Marks::new(alloc),
             choices: Choices::new(alloc),
         }
     }
@@ -104,7 +106,7 @@ impl State {
             &mut self.head,
             &mut self.sure,
         )?;
-        self.choices.offer(&self.assigned);
+        offer(&mut self.choices, &self.assigned);
         self.watches.watching();
         self.assigned.told();
         Ok(found)
@@ -195,12 +197,26 @@ impl State {
         ensures added { IfOk result (λ number. (self.new ≡ with_log self.old (with_input self.old.log clause.now)) × (number ≡ length self.new.log.inputs)) }
         ensures refused { OnErr result (self.new ≡ self.old) }
     {
+        if is_ready(&self.assigned, &mut self.marks, clause) {
+            return self.add_stored(clause, clause);
+        }
         let mut stored: Vec<Literal> = Vec::new(alloc);
         distinct(&mut stored, clause)?;
+        lead(&self.assigned, &mut stored);
+        self.add_stored(clause, &stored)
+    }
+
+    fn add_stored(&mut self, clause: &[Literal], stored: &[Literal]) -> Result<u64, AllocError>
+        requires known { All (IsKnown self.old.letters) clause.now }
+        requires same { HaveSame clause.now stored.now }
+        requires apart { AreApart stored.now }
+        ensures added { IfOk result (λ number. (self.new ≡ with_log self.old (with_input self.old.log clause.now)) × (number ≡ length self.new.log.inputs)) }
+        ensures refused { OnErr result (self.new ≡ self.old) }
+    {
         if stored.len() < 2 {
-            return self.add_short(clause, &stored);
+            return self.add_short(clause, stored);
         }
-        self.add_long(clause, &stored)
+        self.add_long(clause, stored)
     }
 
     fn add_short(&mut self, clause: &[Literal], stored: &[Literal]) -> Result<u64, AllocError>
@@ -345,7 +361,7 @@ impl State {
             alloc,
             &mut self.assigned,
             &mut self.watches,
-            &mut self.marked,
+            &mut self.marks,
             &mut self.choices,
             count,
         )?;

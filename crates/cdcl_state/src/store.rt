@@ -1,10 +1,14 @@
 // A clause comes into the state: each of its literals once, watched by the first two. A repeated literal is dropped.
-ghost use Rattle.std.specs.Prelude.{◌≡◌, ℕ, ◌<◌, ◌≤◌, ◌⊎◌, ◌↔◌, IsTrue, List, [], ◌∷◌, ◌++◌, length, take, All, Contains, OnOk, if◌then◌else◌, is_ok};
-ghost use Rattle.cdcl_state.specs.Watching.{code, AreApart, IsAdded, WatchValue, with_clause};
-ghost use Rattle.cdcl_state.specs.Visit.{HaveSame, IsUnwatched};
+ghost use Rattle.std.specs.Prelude.{◌≡◌, ◌≢◌, ℕ, ◌<◌, ◌≤◌, ◌⊎◌, ◌↔◌, IsTrue, List, [], ◌∷◌, ◌++◌, length, take, All, Contains, OnOk, if◌then◌else◌, is_ok};
+ghost use Rattle.cdcl_watches.specs.Watching.{code, AreApart, IsAdded, WatchValue, with_clause};
+ghost use Rattle.cnf_base.specs.Literal.{opposite};
+ghost use Rattle.cdcl_state.specs.Learnt.{literal_at};
+ghost use Rattle.cdcl_state.specs.Visit.{HaveSame, IsRewound};
 
 use crate::assigned::Assigned;
-use crate::watches::Watches;
+use crate::marks::Marks;
+use crate::repeats::repeats;
+use cdcl_watches::watches::Watches;
 use cnf_base::{Hint, Literal};
 use std::alloc::AllocError;
 
@@ -53,6 +57,50 @@ pub fn distinct(out: &mut Vec<Literal>, clause: &[Literal]) -> Result<(), AllocE
     Ok(())
 }
 
+/// Whether the literal at the place is false.
+fn is_false(assigned: &Assigned, clause: &[Literal], place: usize) -> bool
+    requires place { place < length clause.now }
+    requires known { All (λ l. l.letter.0 < length assigned.now.values) clause.now }
+{
+    assigned.holds(clause[place].opposite())
+}
+
+/// Puts literals that are not false first, as far as there are two.
+pub fn lead(assigned: &Assigned, clause: &mut Vec<Literal>)
+    requires known { All (λ l. l.letter.0 < length assigned.now.values) clause.old.items }
+    requires apart { AreApart clause.old.items }
+    ensures apart { AreApart clause.new.items }
+    ensures same { HaveSame clause.old.items clause.new.items }
+{
+    let mut next = 0;
+    'along: for place in 0..clause.len() {
+        if next == 2 {
+            return;
+        }
+        if is_false(assigned, clause, place) {
+            continue 'along;
+        }
+        clause.swap(next, place);
+        next += 1;
+    }
+}
+
+/// Whether the clause may be watched by its first two literals as it stands: no letter is in it twice, and neither of the two is false.
+pub fn is_ready(assigned: &Assigned, marks: &mut Marks, clause: &[Literal]) -> bool
+    requires known { All (λ l. l.letter.0 < length assigned.now.values) clause.now }
+    requires marks { length assigned.now.values ≤ length marks.old.stamps }
+    ensures size { length marks.new.stamps ≡ length marks.old.stamps }
+    ensures apart { IsTrue result → AreApart clause.now }
+{
+    if 0 < clause.len() && is_false(assigned, clause, 0) {
+        return false;
+    }
+    if 1 < clause.len() && is_false(assigned, clause, 1) {
+        return false;
+    }
+    !repeats(marks, clause)
+}
+
 /// Puts the clause among the watched ones, under its name.
 pub fn store(
     watches: &mut Watches,
@@ -89,20 +137,33 @@ pub fn take_back(watches: &mut Watches, names: &mut Vec<Hint>, count: usize)
     names.truncate(count);
 }
 
-/// Where one of the clause's first two literals is false, all lists are visited again.
+/// Where the literal is false from a place below the head on, the head goes back to that place.
+fn lower(assigned: &Assigned, literal: Literal, head: &mut usize)
+    requires known { literal.letter.0 < length assigned.now.values }
+    requires within { head.old ≤ length assigned.now.trail }
+    ensures falls { head.new ≤ head.old }
+    ensures free { (k : ℕ) → k < head.new → literal_at assigned.now.trail k ≢ opposite literal }
+{
+    if !assigned.holds(literal.opposite()) {
+        return;
+    }
+    let place = assigned.place_of(literal.letter.0 as usize);
+    if place < *head {
+        *head = place;
+    }
+}
+
+/// The lists from where one of the clause's first two literals became false on are visited again.
 pub fn rewind(assigned: &Assigned, clause: &[Literal], head: &mut usize, sure: &mut usize)
     requires long { 2 ≤ length clause.now }
     requires known { All (λ l. l.letter.0 < length assigned.now.values) clause.now }
-    ensures { ((head.new ≡ head.old) × (sure.new ≡ sure.old) × IsUnwatched assigned.now.trail clause.now) ⊎ ((head.new ≡ 0) × (sure.new ≡ 0)) }
+    requires within { head.old ≤ length assigned.now.trail }
+    requires low { sure.old ≤ head.old }
+    ensures { IsRewound assigned.now.trail clause.now head.old sure.old head.new sure.new }
 {
-    if assigned.holds(clause[0].opposite()) {
-        *head = 0;
-        *sure = 0;
-        return;
-    }
-    if assigned.holds(clause[1].opposite()) {
-        *head = 0;
-        *sure = 0;
-        return;
+    lower(assigned, clause[0], head);
+    lower(assigned, clause[1], head);
+    if *head < *sure {
+        *sure = *head;
     }
 }

@@ -5,8 +5,8 @@ ghost use Rattle.cnf_base.specs.Step.{named};
 ghost use Rattle.cnf_base.specs.declared.literal.Literal.{Literal};
 ghost use Rattle.cdcl_state.specs.Learnt.{place_level};
 ghost use Rattle.cdcl_state.specs.Trail.{IsTrail, IsConflict, literals_of};
-ghost use Rattle.cdcl_state.specs.Visit.{IsGrown};
-ghost use Rattle.cdcl_state.specs.State.{AreShort, AreFirm, HasTrue, IsOne};
+ghost use Rattle.cdcl_state.specs.Visit.{HasTrue, IsGrown};
+ghost use Rattle.cdcl_state.specs.State.{AreShort, AreFirm, IsOne};
 ghost use Rattle.cdcl_state.specs.Analysis.{AreBelow};
 
 use crate::analyze::clause_of;

@@ -1,9 +1,9 @@
-// What an analysis leaves for the next: no marks, and the letters that it marked more active. A mark that stays, where
-// there was no memory, costs a longer clause and nothing else.
+// What an analysis leaves for the next: the letters that it marked are more active, each once, since its mark goes.
 ghost use Rattle.std.specs.Prelude.{◌≡◌, length};
 
 use crate::analyze::Learnt;
-use crate::decide::Choices;
+use crate::marks::Marks;
+use cdcl_activity::choices::Choices;
 use clause_log::{Log, LogView};
 use cnf_base::{Hint, Literal};
 
@@ -26,38 +26,33 @@ pub fn clause_at<'a>(view: &LogView<'a>, hint: Hint) -> Option<&'a [Literal]> {
 }
 
 /// Takes the mark off the letter, and makes it more active if it had one.
-fn unmark_letter(letter: u32, marked: &mut Vec<bool>, choices: &mut Choices)
-    ensures { length marked.new.items ≡ length marked.old.items }
+fn unmark_letter(letter: u32, marks: &mut Marks, choices: &mut Choices)
+    ensures { length marks.new.stamps ≡ length marks.old.stamps }
 {
-    let place = letter as usize;
-    if place >= marked.len() {
-        return;
-    }
-    if marked[place] {
-        marked[place] = false;
+    if marks.unmark(letter as usize) {
         choices.bump(letter);
     }
 }
 
 /// Takes the marks off the clause's letters.
-fn unmark_clause(clause: &[Literal], marked: &mut Vec<bool>, choices: &mut Choices)
-    ensures { length marked.new.items ≡ length marked.old.items }
+fn unmark_clause(clause: &[Literal], marks: &mut Marks, choices: &mut Choices)
+    ensures { length marks.new.stamps ≡ length marks.old.stamps }
 {
     for literal in clause {
-        unmark_letter(literal.letter.0, marked, choices);
+        unmark_letter(literal.letter.0, marks, choices);
     }
 }
 
 /// Takes off the marks that an analysis set, and lets the next one count more.
-pub fn unmark(log: &Log, learnt: &Learnt, marked: &mut Vec<bool>, choices: &mut Choices)
-    ensures { length marked.new.items ≡ length marked.old.items }
+pub fn unmark(log: &Log, learnt: &Learnt, marks: &mut Marks, choices: &mut Choices)
+    ensures { length marks.new.stamps ≡ length marks.old.stamps }
 {
     let view = log.view();
     for hint in &learnt.hints {
         if let Some(clause) = clause_at(&view, *hint) {
-            unmark_clause(clause, marked, choices);
+            unmark_clause(clause, marks, choices);
         }
     }
-    unmark_clause(&learnt.clause, marked, choices);
+    unmark_clause(&learnt.clause, marks, choices);
     choices.decay();
 }

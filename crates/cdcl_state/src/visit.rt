@@ -1,16 +1,18 @@
-// A clause that watches a literal that became false: the other watched literal is true, or another literal is watched in
-// its place, or the other is forced, or the clause is false.
-ghost use Rattle.std.specs.Prelude.{◌≡◌, ◌≢◌, ℕ, ◌+◌, ◌-◌, ◌*◌, ◌<◌, ◌≤◌, List, [], ◌∷◌, ◌++◌, ◌⊎◌, All, Contains, length, Option, Some, None, MatchOption, IfOk, slice_index_or, slice_set};
+// A clause that watches a literal that became false: its blocker is true, or the other watched literal is, or another
+// literal is watched in its place, or the other is forced, or the clause is false. A blocker is a literal of the clause
+// that the list holds beside it: most clauses are true already, and a true blocker spares loading them. After Sorensson
+// and Een, MiniSat 2.1 (2008).
+ghost use Rattle.std.specs.Prelude.{◌≡◌, ◌≢◌, ℕ, ◌+◌, ◌-◌, ◌*◌, ◌<◌, ◌≤◌, List, [], ◌∷◌, ◌++◌, ◌⊎◌, All, Contains, length, Option, Some, None, MatchOption, IfOk, IsTrue, slice_index_or, slice_set};
 ghost use Rattle.std.specs.List.{swap};
 ghost use Rattle.cnf_base.specs.Literal.{opposite};
 ghost use Rattle.cdcl_state.specs.Trail.{literals_of, IsConflict};
 ghost use Rattle.cdcl_state.specs.Learnt.{blank_entry};
-ghost use Rattle.cdcl_state.specs.Watching.{clause_of, list_of, IsWatch};
+ghost use Rattle.cdcl_watches.specs.Watching.{code, clause_of, list_of, IsWatch};
 ghost use Rattle.cdcl_state.specs.Sure.{IsSure};
-ghost use Rattle.cdcl_state.specs.Visit.{IsVisiting, IsGrown, IsFaced, IsReplacement, AreFalseFrom, false_at};
+ghost use Rattle.cdcl_state.specs.Visit.{HasTrue, IsVisiting, IsGrown, IsFaced, IsReplacement, AreFalseFrom, false_at, watcher_at};
 
 use crate::assigned::{Assigned, Entry};
-use crate::watches::{Watches, number};
+use cdcl_watches::watches::{Watches, number};
 use clause_log::Log;
 use cnf_base::{Hint, Literal};
 use std::alloc::AllocError;
@@ -41,6 +43,17 @@ pub fn face(watches: &mut Watches, clause: usize, literal: Literal)
     watches.turn(clause);
 }
 
+/// Whether the blocker at a place of the literal's list is true.
+fn blocker_holds(assigned: &Assigned, watches: &Watches, literal: Literal, place: usize) -> bool
+    requires known { code literal < length watches.now.lists }
+    requires place { place < length (list_of watches.now.lists literal) }
+    requires sized { length watches.now.lists ≡ 2 * length assigned.now.values }
+    ensures { IsTrue result → HasTrue (literals_of assigned.now.trail) (watcher_at watches.now literal place) }
+{
+    watches.watching();
+    assigned.holds(watches.blocker(literal, place))
+}
+
 /// Visits the clause at a place of the list of the literal that became false.
 pub fn visit(
     assigned: &mut Assigned,
@@ -59,20 +72,22 @@ pub fn visit(
     ensures found { IfOk result (λ found. MatchOption found (IsVisiting log.now.inputs log.now.lines names.now place i assigned.new watches.new) (IsConflict log.now.inputs log.now.lines (literals_of assigned.new.trail))) }
 {
     watches.watching();
-    assigned.told();
     let falsified = assigned.entry(place).literal.opposite();
+    if blocker_holds(assigned, watches, falsified, i) {
+        return Ok(None);
+    }
     let clause = watches.watcher(falsified, i);
     face(watches, clause, falsified);
     watches.watching();
     let other = watches.clause(clause)[0];
     if assigned.holds(other) {
+        watches.refresh(falsified, i, 0);
         return Ok(None);
     }
     match find(assigned, watches.clause(clause)) {
         Some(j) => {
             let replacement = watches.clause(clause)[j];
             watches.rewatch(clause, falsified, i, replacement, j)?;
-            watches.watching();
             return Ok(None);
         }
         None => {}

@@ -2,8 +2,9 @@
 ghost use Rattle.std.specs.Prelude.{◌≡◌, ◌<◌, ◌≤◌, ◌*◌, ◌^◌, ◌+◌, length, OnOk};
 
 use crate::assigned::Assigned;
-use crate::decide::Choices;
-use crate::watches::Watches;
+use crate::marks::Marks;
+use cdcl_activity::choices::Choices;
+use cdcl_watches::watches::Watches;
 use std::alloc::{AllocError, Global};
 
 /// Makes room for one letter more.
@@ -11,20 +12,20 @@ fn widen_one(
     alloc: Global,
     assigned: &mut Assigned,
     watches: &mut Watches,
-    marked: &mut Vec<bool>,
+    marks: &mut Marks,
     choices: &mut Choices,
 ) -> Result<(), AllocError>
     requires sized { length watches.old.lists ≡ 2 * length assigned.old.values }
-    requires marks { length assigned.old.values ≤ length marked.old.items }
+    requires marks { length assigned.old.values ≤ length marks.old.stamps }
     ensures trail { assigned.new.trail ≡ assigned.old.trail }
     ensures clauses { watches.new.clauses ≡ watches.old.clauses }
     ensures sized { length watches.new.lists ≡ 2 * length assigned.new.values }
     ensures more { length assigned.old.values ≤ length assigned.new.values }
     ensures few { length assigned.new.values ≤ length assigned.old.values + 1 }
-    ensures marks { length assigned.new.values ≤ length marked.new.items }
+    ensures marks { length assigned.new.values ≤ length marks.new.stamps }
     ensures ok { OnOk result (length assigned.new.values ≡ length assigned.old.values + 1) }
 {
-    marked.push(false)?;
+    marks.letter()?;
     choices.letter()?;
     watches.watching();
     watches.letter(alloc)?;
@@ -44,23 +45,23 @@ pub fn widen(
     alloc: Global,
     assigned: &mut Assigned,
     watches: &mut Watches,
-    marked: &mut Vec<bool>,
+    marks: &mut Marks,
     choices: &mut Choices,
     count: u32,
 ) -> Result<(), AllocError>
     requires sized { length watches.old.lists ≡ 2 * length assigned.old.values }
     requires few { length assigned.old.values ≤ 2 ^ 32 }
-    requires marks { length assigned.old.values ≤ length marked.old.items }
+    requires marks { length assigned.old.values ≤ length marks.old.stamps }
     ensures trail { assigned.new.trail ≡ assigned.old.trail }
     ensures clauses { watches.new.clauses ≡ watches.old.clauses }
     ensures sized { length watches.new.lists ≡ 2 * length assigned.new.values }
     ensures more { length assigned.old.values ≤ length assigned.new.values }
     ensures few { length assigned.new.values ≤ 2 ^ 32 }
-    ensures marks { length assigned.new.values ≤ length marked.new.items }
+    ensures marks { length assigned.new.values ≤ length marks.new.stamps }
     ensures ok { OnOk result (count < length assigned.new.values) }
 {
     'more: while assigned.letters() <= count as usize {
-        widen_one(alloc, assigned, watches, marked, choices)?;
+        widen_one(alloc, assigned, watches, marks, choices)?;
     }
     Ok(())
 }

@@ -1,11 +1,14 @@
 // Going back: the entries above a level come off the trail, and their letters may be decided again. The lists that were
 // visited for the entries that stay need no new visit. After Marques-Silva and Sakallah, GRASP (1999).
-ghost use Rattle.std.specs.Prelude.{◌≡◌, ◌≢◌, ◌≤◌, ◌⊎◌, All, None};
+ghost use Rattle.std.specs.Prelude.{◌≡◌, ◌≢◌, ℕ, ◌<◌, ◌≤◌, ◌⊎◌, All, Contains, IsTrue, None, length, slice_index_or};
 ghost use Rattle.cdcl_state.specs.Trail.{IsBack};
+ghost use Rattle.cdcl_state.specs.Learnt.{blank_entry, literal_at, IsDecision, IsFront};
 
-use crate::assigned::Assigned;
-use crate::decide::Choices;
+use crate::assigned::{Assigned, Entry};
 use crate::state::State;
+use crate::store::has;
+use cdcl_activity::choices::Choices;
+use cnf_base::Literal;
 
 impl State {
     /// Takes back the entries above the level.
@@ -21,6 +24,17 @@ impl State {
         loosen(count, &mut self.done, &mut self.firm);
     }
 
+    /// Takes back the first decision that is none of these literals, and all that came after it.
+    pub fn retreat(&mut self, kept: &[Literal])
+        ensures front { IsFront self.old self.new }
+        ensures decided { All (λ e. e.reason ≡ None → Contains kept.now e.literal) self.new.trail }
+    {
+        let place = first_other(&self.assigned, kept);
+        if place < self.assigned.len() {
+            self.backjump(place);
+        }
+    }
+
     /// Takes back all decisions and what they forced.
     pub fn reset(&mut self)
         ensures back { IsBack self.old self.new 0 }
@@ -29,6 +43,31 @@ impl State {
         self.backjump(0);
         let _ = &self.assigned;
     }
+}
+
+/// Whether the entry is a decision, and none of these literals.
+fn is_other(entry: Entry, kept: &[Literal]) -> bool
+    ensures yes { IsTrue result → entry.reason ≡ None }
+    ensures no { ¬ IsTrue result → entry.reason ≡ None → Contains kept.now entry.literal }
+{
+    match entry.reason {
+        Some(_) => false,
+        None => !has(kept, entry.literal),
+    }
+}
+
+/// The place of the first decision that is none of these literals; the trail's length where there is none.
+fn first_other(assigned: &Assigned, kept: &[Literal]) -> usize
+    ensures within { result ≤ length assigned.now.trail }
+    ensures other { result < length assigned.now.trail → IsDecision assigned.now.trail result }
+    ensures before { (k : ℕ) → k < result → (slice_index_or assigned.now.trail k blank_entry).reason ≡ None → Contains kept.now (literal_at assigned.now.trail k) }
+{
+    for place in 0..assigned.len() {
+        if is_other(assigned.entry(place), kept) {
+            return place;
+        }
+    }
+    assigned.len()
 }
 
 pub fn smaller(a: usize, b: usize) -> usize

@@ -28,10 +28,10 @@ impl State {
             &self.assigned,
             &self.log,
             cut,
-            &mut self.marked,
+            &mut self.marks,
             conflict,
         )?;
-        unmark(&self.log, &learnt, &mut self.marked, &mut self.choices);
+        unmark(&self.log, &learnt, &mut self.marks, &mut self.choices);
         Ok(learnt)
     }
 
@@ -91,11 +91,11 @@ impl State {
                     alloc,
                     &self.assigned,
                     &self.log,
-                    &mut self.marked,
+                    &mut self.marks,
                     place,
                     hint,
                 )?;
-                unmark(&self.log, &learnt, &mut self.marked, &mut self.choices);
+                unmark(&self.log, &learnt, &mut self.marks, &mut self.choices);
                 return Ok(learnt);
             }
             None => {

@@ -18,7 +18,7 @@ found (Ok answer) s assumptions clause negated is = last_found s assumptions cla
 found (Err e) s assumptions clause negated is = tt
 
 pub search-init : goal.search-init
-search-init c = search_start c.args.state.now c.reset.new.self c.args.assumptions.now 0 c.reset.ensures.back c.reset.ensures.forced
+search-init c = search_start c.args.state.now c.retreat.new.self c.args.assumptions.now c.retreat.ensures.front c.retreat.ensures.decided
 
 pub returns-then-is_assumed-clause-answer : goal.returns-then-is_assumed-clause-answer
 returns-then-is_assumed-clause-answer c =

@@ -3,12 +3,12 @@ use mathlib.Core.Bool.{false≢true}
 use Rattle.std.proofs.lemmas.List.{take_all}
 use Rattle.std.proofs.lemmas.List.Elements.{All-contains, All-more}
 use Rattle.cnf_base.specs.Literal.{opposite}
-use Rattle.cdcl_state.specs.Watching.{blank}
+use Rattle.cdcl_state.specs.Learnt.{blank_entry}
 use Rattle.cdcl.proofs.tests.are_consistent.Goals as goal
 
 pub loop-literal-preserved : goal.loop-literal-preserved
 loop-literal-preserved c =
-    All-more (λ m. ¬ Contains c.args.literals.now (opposite m)) c.args.literals.now c.loop-literal.literal-index blank
+    All-more (λ m. ¬ Contains c.args.literals.now (opposite m)) c.args.literals.now c.loop-literal.literal-index blank_entry.literal
     (omega (arith, c.loop-literal-test.true)) c.loop-literal.invariant
     (λ there. false≢true (sym c.if-has.false ∙ c.has.ensures.1 (subst (Contains c.args.literals.now) (sym c.opposite.ensures) there)))
 

@@ -6,6 +6,7 @@ use Rattle.clause_log.specs.LogValue.{LogValue}
 use Rattle.cdcl_state.specs.Trail.{literals_of}
 use Rattle.cdcl_state.specs.Learnt.{IsDecision}
 use Rattle.cdcl_state.specs.Analysis.{IsLike, IsWalk}
+use Rattle.cdcl_state.specs.Marks.{IsMarked}
 use Rattle.cdcl_state.proofs.Bridge.{named_has}
 use Rattle.cdcl_state.proofs.Walk.{walk_start, walk_end}
 use Rattle.cdcl_state.proofs.analyze.explain.Goals as goal
@@ -25,9 +26,9 @@ returns-clause-learnt c =
     let given = c.requires.conflict in
     let known = named_has (All (λ l. l.letter.0 < letters)) log.inputs log.lines c.args.conflict clause c.requires.known_inputs c.requires.known_lines is in
     let like : IsLike log.inputs log.lines trail trail (length trail) = record { same = λ k low. refl; long = omega arith; is_trail = c.requires.is_trail; values = values; told = c.told.ensures; few = c.requires.few } in
-    let start = walk_start log.inputs log.lines trail letters c.mark.new.marked.items c.args.conflict clause is known c.requires.few
-    (subst (All (λ l. Contains (literals_of trail) (opposite l))) (some_same given.is is) given.all_false) c.mark.ensures.all in
-    let begun : IsWalk log.inputs log.lines trail c.len.result c.mark.new.marked.items c.cite.new.learnt.clause.items c.cite.new.learnt.hints.items c.cite.new.learnt.places.items =
+    let start = walk_start log.inputs log.lines trail letters (IsMarked c.mark.new.marks) c.args.conflict clause is known c.requires.few
+    (subst (All (λ l. Contains (literals_of trail) (opposite l))) (some_same given.is is) given.all_false) c.in_ok-mark.ensures.all in
+    let begun : IsWalk log.inputs log.lines trail c.len.result (IsMarked c.mark.new.marks) c.cite.new.learnt.clause.items c.cite.new.learnt.hints.items c.cite.new.learnt.places.items =
     rw (c.len.ensures, c.in_ok-cite.ensures.clause, c.in_ok-cite.ensures.hints, c.in_ok-cite.ensures.places, c.new.ensures.items, c.new-2.ensures.items, c.new-3.ensures.items) start in
     let walked = c.in_ok-walk.ensures.walked trail (subst (IsLike log.inputs log.lines trail trail) (sym c.len.ensures) like) begun in
     record {
@@ -45,3 +46,7 @@ returns-clause-decided c = λ is_cut.
     let like : IsLike log.inputs log.lines trail trail (length trail) = record { same = λ k low. refl; long = omega arith; is_trail = c.requires.is_trail; values = values; told = c.told.ensures; few = c.requires.few } in
     c.in_ok-walk.ensures.decided trail (subst (IsLike log.inputs log.lines trail trail) (sym c.len.ensures) like) is_cut
     (rw (c.in_ok-cite.ensures.places, c.new-3.ensures.items) (All-nil (IsDecision trail)))
+
+-- no letter was marked before the clause's letters were
+pub walk-requires-clause-waiting : goal.walk-requires-clause-waiting
+walk-requires-clause-waiting c = c.in_ok-mark.ensures.waiting c.len.result (λ j low inside is. absurd (c.in_ok-begin.ensures.none _ is))

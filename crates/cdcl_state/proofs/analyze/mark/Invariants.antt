@@ -1,10 +1,12 @@
-use Rattle.std.proofs.Common.{◌≡◌, ℕ, true, take, All, get_or, length}
-use mathlib.Core.Bool.{false}
+use Rattle.std.proofs.Common.{◌≡◌, ℕ, take, All, length}
+use Rattle.cdcl_state.specs.Analysis.{AreWaiting}
+use Rattle.cdcl_state.specs.Marks.{IsMarked}
 use Rattle.cdcl_state.proofs.analyze.mark.Given as goal
 
 abbrev pub invariant-loop-literal : goal.invariant-loop-literal
 invariant-loop-literal l = record {
-  kept : (x : ℕ) → get_or l.initial.marked.items x false ≡ true → get_or l.marked.items x false ≡ true;
-  size : length l.marked.items ≡ length l.initial.marked.items;
-  seen : All (λ m. get_or l.marked.items m.letter.0 false ≡ true) (take l.literal-index l.clause);
+  kept : (x : ℕ) → IsMarked l.initial.marks x → IsMarked l.marks x;
+  size : length l.marks.stamps ≡ length l.initial.marks.stamps;
+  seen : All (λ m. IsMarked l.marks m.letter.0) (take l.literal-index l.clause);
+  waiting : (end : ℕ) → AreWaiting l.assigned.trail end l.initial.marks → AreWaiting l.assigned.trail end l.marks;
 }

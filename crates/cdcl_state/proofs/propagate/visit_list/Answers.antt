@@ -3,7 +3,7 @@ use Rattle.std.proofs.lemmas.List.{get_or_default}
 use Rattle.cnf_base.specs.Literal.{opposite}
 use Rattle.cdcl_state.specs.Learnt.{blank_entry}
 use Rattle.cdcl_state.specs.declared.assigned.Entry.{Entry}
-use Rattle.cdcl_state.specs.Watching.{code}
+use Rattle.cdcl_watches.specs.Watching.{code}
 use Rattle.cdcl_state.specs.Visit.{IsVisiting, false_at}
 use Rattle.cdcl_state.proofs.Ready.{none_case, grown_more, grown_at, end_visit, list_known}
 use Rattle.cdcl_state.proofs.propagate.visit_list.Goals as goal

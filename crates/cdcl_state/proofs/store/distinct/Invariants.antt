@@ -1,5 +1,5 @@
 use Rattle.std.proofs.Common.{take, All, Contains}
-use Rattle.cdcl_state.specs.Watching.{AreApart}
+use Rattle.cdcl_watches.specs.Watching.{AreApart}
 use Rattle.cdcl_state.proofs.store.distinct.Given as goal
 
 abbrev pub invariant-loop-literal : goal.invariant-loop-literal

@@ -4,8 +4,9 @@ use Rattle.cnf_base.specs.Literal.{opposite}
 use Rattle.cnf_base.specs.Step.{named}
 use Rattle.clause_log.specs.LogValue.{LogValue}
 use Rattle.cdcl_state.specs.Trail.{literals_of, IsTrail}
-use Rattle.cdcl_state.specs.Watching.{blank}
-use Rattle.cdcl_state.specs.State.{IsOne, HasTrue}
+use Rattle.cdcl_watches.specs.Watching.{blank}
+use Rattle.cdcl_state.specs.Visit.{HasTrue}
+use Rattle.cdcl_state.specs.State.{IsOne}
 use Rattle.cdcl_state.specs.declared.assigned.Entry.{Entry}
 use Rattle.cdcl_state.proofs.Assign.{trail_push}
 use Rattle.cdcl_state.proofs.Bridge.{named_has}

@@ -1,6 +1,6 @@
 use Rattle.std.proofs.Common.{get_or, sym, ap, ◌∙◌}
-use Rattle.cdcl_state.specs.Watching.{code}
-use Rattle.cdcl_state.specs.Watching.{blank}
+use Rattle.cdcl_watches.specs.Watching.{code}
+use Rattle.cdcl_watches.specs.Watching.{blank}
 use Rattle.cdcl_state.proofs.At.{faced_same, faced_turned}
 use Rattle.cdcl_state.proofs.visit.face.Goals as goal
 

@@ -3,7 +3,7 @@ use mathlib.Core.Bool.{false≢true}
 use Rattle.std.proofs.lemmas.Bool.{cases_lt}
 use Rattle.cnf_base.specs.Literal.{opposite}
 use Rattle.cdcl_state.specs.Trail.{literals_of}
-use Rattle.cdcl_state.specs.Watching.{blank}
+use Rattle.cdcl_watches.specs.Watching.{blank}
 use Rattle.cdcl_state.proofs.visit.find.Goals as goal
 
 pub loop-j-preserved : goal.loop-j-preserved

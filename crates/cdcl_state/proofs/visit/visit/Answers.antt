@@ -6,13 +6,13 @@ use Rattle.cnf_base.specs.Literal.{opposite}
 use Rattle.cdcl_state.specs.Trail.{literals_of, StandsAt}
 use Rattle.cdcl_state.specs.Learnt.{blank_entry}
 use Rattle.cdcl_state.specs.declared.assigned.Entry.{Entry}
-use Rattle.cdcl_state.specs.Watching.{clause_of, list_of, WatchValue}
-use Rattle.cdcl_state.specs.Visit.{IsVisiting, IsReplacement, AreFalseFrom, false_at, blank_hint}
-use Rattle.cdcl_state.specs.Watching.{blank}
+use Rattle.cdcl_watches.specs.Watching.{clause_of, list_of, WatchValue}
+use Rattle.cdcl_state.specs.Visit.{HasTrue, IsVisiting, IsReplacement, AreFalseFrom, false_at, watcher_at, blank_hint}
+use Rattle.cdcl_watches.specs.Watching.{blank}
 use Rattle.cdcl_state.specs.Sure.{IsSure}
 use Rattle.cdcl_state.proofs.SureVisit.{sure_faced, sure_moved, sure_grown}
-use Rattle.cdcl_state.proofs.Guard.{visit_grown}
-use Rattle.cdcl_state.proofs.At.{false_is, watch_from, at_from, at_true, at_reason, at_conflict, at_moved, at_letters, at_second_false, visit_all, visit_same, same_watch, at_assigned, last_level}
+use Rattle.cdcl_state.proofs.Guard.{visit_kept, visit_grown}
+use Rattle.cdcl_state.proofs.At.{false_is, watch_from, at_from, at_true, at_reason, at_conflict, at_moved, at_letters, visit_all, visit_same, same_watch, at_assigned, last_level}
 use Rattle.cdcl_state.proofs.visit.visit.Goals as goal
 
 pub face-requires-clause-known : goal.face-requires-clause-known
@@ -23,32 +23,40 @@ pub face-requires-clause-watch : goal.face-requires-clause-watch
 face-requires-clause-watch c =
     (watch_from c.args.log.now.inputs c.args.log.now.lines c.args.names.now c.args.place c.args.i c.args.assigned.now c.args.watches.now c.entry.result c.opposite-falsified.result c.watcher-clause.result c.entry.ensures c.opposite-falsified.ensures c.watcher-clause.ensures c.watching.ensures c.requires.there c.requires.visiting.within).1
 
+pub returns-then-blocker_holds-clause-found : goal.returns-then-blocker_holds-clause-found
+returns-then-blocker_holds-clause-found c =
+    let f_is = false_is c.args.log.now.inputs c.args.log.now.lines c.args.names.now c.args.place c.args.i c.args.assigned.now c.args.watches.now c.entry.result c.opposite-falsified.result c.args.i c.entry.ensures c.opposite-falsified.ensures c.requires.visiting.within in
+    let told : HasTrue (literals_of c.args.assigned.now.trail) (watcher_at c.args.watches.now (false_at c.args.assigned.now.trail c.args.place) c.args.i) =
+    subst (λ l. HasTrue (literals_of c.args.assigned.now.trail) (watcher_at c.args.watches.now l c.args.i)) f_is (c.blocker_holds.ensures c.if-blocker_holds.true) in
+    visit_kept c.args.log.now.inputs c.args.log.now.lines c.args.names.now c.args.place c.args.i c.args.assigned.now c.args.watches.now told c.requires.visiting
+
 pub returns-then-holds-clause-kept : goal.returns-then-holds-clause-kept
 returns-then-holds-clause-kept c =
     let at = at_from c.args.log.now.inputs c.args.log.now.lines c.args.names.now c.args.place c.args.i c.args.assigned.now c.args.watches.now c.entry.result c.opposite-falsified.result c.watcher-clause.result c.face.new.watches
-    c.entry.ensures c.opposite-falsified.ensures c.watcher-clause.ensures c.told.ensures c.watching.ensures c.watching-2.ensures c.requires.there c.requires.visiting c.face.ensures in
+    c.entry.ensures c.opposite-falsified.ensures c.watcher-clause.ensures c.watching.ensures c.watching-2.ensures c.requires.there c.requires.visiting c.face.ensures in
     let first : get_or c.clause.result.now 0 blank ≡ get_or (clause_of c.face.new.watches.clauses c.watcher-clause.result) 0 blank = ap (λ r. get_or r 0 blank) c.clause.ensures in
     let done = at_true c.args.log.now.inputs c.args.log.now.lines c.args.names.now c.args.place c.args.i c.args.assigned.now c.face.new.watches c.watcher-clause.result at (subst (Contains (literals_of c.args.assigned.now.trail)) first (c.holds.ensures.0 c.if-holds.true)) in
-    visit_all c.args.log.now.inputs c.args.log.now.lines c.args.names.now c.args.place c.args.i c.args.assigned.now c.face.new.watches done
+    subst (λ (u : WatchValue). IsVisiting c.args.log.now.inputs c.args.log.now.lines c.args.names.now c.args.place (length (list_of u.lists (false_at c.args.assigned.now.trail c.args.place))) c.args.assigned.now u) (sym c.refresh.ensures)
+    (visit_all c.args.log.now.inputs c.args.log.now.lines c.args.names.now c.args.place c.args.i c.args.assigned.now c.face.new.watches done)
 
 pub returns-then-holds-clause-found : goal.returns-then-holds-clause-found
 returns-then-holds-clause-found c =
     let at = at_from c.args.log.now.inputs c.args.log.now.lines c.args.names.now c.args.place c.args.i c.args.assigned.now c.args.watches.now c.entry.result c.opposite-falsified.result c.watcher-clause.result c.face.new.watches
-    c.entry.ensures c.opposite-falsified.ensures c.watcher-clause.ensures c.told.ensures c.watching.ensures c.watching-2.ensures c.requires.there c.requires.visiting c.face.ensures in
+    c.entry.ensures c.opposite-falsified.ensures c.watcher-clause.ensures c.watching.ensures c.watching-2.ensures c.requires.there c.requires.visiting c.face.ensures in
     let first : get_or c.clause.result.now 0 blank ≡ get_or (clause_of c.face.new.watches.clauses c.watcher-clause.result) 0 blank = ap (λ r. get_or r 0 blank) c.clause.ensures in
     let done = at_true c.args.log.now.inputs c.args.log.now.lines c.args.names.now c.args.place c.args.i c.args.assigned.now c.face.new.watches c.watcher-clause.result at (subst (Contains (literals_of c.args.assigned.now.trail)) first (c.holds.ensures.0 c.if-holds.true)) in
-    done
+    subst (IsVisiting c.args.log.now.inputs c.args.log.now.lines c.args.names.now c.args.place c.args.i c.args.assigned.now) (sym c.refresh.ensures) done
 
 pub find-requires : goal.find-requires
 find-requires c =
     let at = at_from c.args.log.now.inputs c.args.log.now.lines c.args.names.now c.args.place c.args.i c.args.assigned.now c.args.watches.now c.entry.result c.opposite-falsified.result c.watcher-clause.result c.face.new.watches
-    c.entry.ensures c.opposite-falsified.ensures c.watcher-clause.ensures c.told.ensures c.watching.ensures c.watching-2.ensures c.requires.there c.requires.visiting c.face.ensures in
+    c.entry.ensures c.opposite-falsified.ensures c.watcher-clause.ensures c.watching.ensures c.watching-2.ensures c.requires.there c.requires.visiting c.face.ensures in
     subst (All (λ l. l.letter.0 < length c.args.assigned.now.values)) (sym c.clause-2.ensures) (at_letters c.args.log.now.inputs c.args.log.now.lines c.args.names.now c.args.place c.args.i c.args.assigned.now c.face.new.watches c.watcher-clause.result at)
 
 pub returns-in_err-rewatch-in-Some-clause-kept : goal.returns-in_err-rewatch-in-Some-clause-kept
 returns-in_err-rewatch-in-Some-clause-kept c =
     let at = at_from c.args.log.now.inputs c.args.log.now.lines c.args.names.now c.args.place c.args.i c.args.assigned.now c.args.watches.now c.entry.result c.opposite-falsified.result c.watcher-clause.result c.face.new.watches
-    c.entry.ensures c.opposite-falsified.ensures c.watcher-clause.ensures c.told.ensures c.watching.ensures c.watching-2.ensures c.requires.there c.requires.visiting c.face.ensures in
+    c.entry.ensures c.opposite-falsified.ensures c.watcher-clause.ensures c.watching.ensures c.watching-2.ensures c.requires.there c.requires.visiting c.face.ensures in
     let same : c.rewatch.new.self ≡ c.face.new.watches = same_watch c.rewatch.new.self c.face.new.watches c.in_err-rewatch-in-Some.ensures.clauses c.in_err-rewatch-in-Some.ensures.lists in
     subst (λ (u : WatchValue). IsVisiting c.args.log.now.inputs c.args.log.now.lines c.args.names.now c.args.place (length (list_of u.lists (false_at c.args.assigned.now.trail c.args.place))) c.args.assigned.now u) (sym same)
     (visit_all c.args.log.now.inputs c.args.log.now.lines c.args.names.now c.args.place (c.args.i + 1) c.args.assigned.now c.face.new.watches at.visiting)
@@ -56,37 +64,37 @@ returns-in_err-rewatch-in-Some-clause-kept c =
 pub returns-in-Some-clause-kept : goal.returns-in-Some-clause-kept
 returns-in-Some-clause-kept c =
     let at = at_from c.args.log.now.inputs c.args.log.now.lines c.args.names.now c.args.place c.args.i c.args.assigned.now c.args.watches.now c.entry.result c.opposite-falsified.result c.watcher-clause.result c.face.new.watches
-    c.entry.ensures c.opposite-falsified.ensures c.watcher-clause.ensures c.told.ensures c.watching.ensures c.watching-2.ensures c.requires.there c.requires.visiting c.face.ensures in
+    c.entry.ensures c.opposite-falsified.ensures c.watcher-clause.ensures c.watching.ensures c.watching-2.ensures c.requires.there c.requires.visiting c.face.ensures in
     let row = c.clause-2.ensures in
     let row_3 = c.clause-in-Some.ensures in
     let found : IsReplacement c.args.assigned.now.trail (clause_of c.face.new.watches.clauses c.watcher-clause.result) c.in-Some.j = subst (λ r. IsReplacement c.args.assigned.now.trail r c.in-Some.j) row c.in-Some.ensures in
     let f_is = false_is c.args.log.now.inputs c.args.log.now.lines c.args.names.now c.args.place c.args.i c.args.assigned.now c.args.watches.now c.entry.result c.opposite-falsified.result c.watcher-clause.result c.entry.ensures c.opposite-falsified.ensures c.requires.visiting.within in
-    let done = at_moved c.args.log.now.inputs c.args.log.now.lines c.args.names.now c.args.place c.args.i c.args.assigned.now c.face.new.watches c.watcher-clause.result at c.rewatch.new.self c.in-Some.j c.watching-in-Some.ensures found (get_or c.clause-in-Some.result.now c.in-Some.j blank) (ap (λ r. get_or r c.in-Some.j blank) row_3) c.opposite-falsified.result f_is
+    let done = at_moved c.args.log.now.inputs c.args.log.now.lines c.args.names.now c.args.place c.args.i c.args.assigned.now c.face.new.watches c.watcher-clause.result at c.rewatch.new.self c.in-Some.j found (get_or c.clause-in-Some.result.now c.in-Some.j blank) (ap (λ r. get_or r c.in-Some.j blank) row_3) c.opposite-falsified.result f_is
     c.in_ok-rewatch-in-Some.ensures.clauses c.in_ok-rewatch-in-Some.ensures.lists in
     visit_all c.args.log.now.inputs c.args.log.now.lines c.args.names.now c.args.place c.args.i c.args.assigned.now c.rewatch.new.self done
 
 pub returns-in-Some-clause-found : goal.returns-in-Some-clause-found
 returns-in-Some-clause-found c =
     let at = at_from c.args.log.now.inputs c.args.log.now.lines c.args.names.now c.args.place c.args.i c.args.assigned.now c.args.watches.now c.entry.result c.opposite-falsified.result c.watcher-clause.result c.face.new.watches
-    c.entry.ensures c.opposite-falsified.ensures c.watcher-clause.ensures c.told.ensures c.watching.ensures c.watching-2.ensures c.requires.there c.requires.visiting c.face.ensures in
+    c.entry.ensures c.opposite-falsified.ensures c.watcher-clause.ensures c.watching.ensures c.watching-2.ensures c.requires.there c.requires.visiting c.face.ensures in
     let row = c.clause-2.ensures in
     let row_3 = c.clause-in-Some.ensures in
     let found : IsReplacement c.args.assigned.now.trail (clause_of c.face.new.watches.clauses c.watcher-clause.result) c.in-Some.j = subst (λ r. IsReplacement c.args.assigned.now.trail r c.in-Some.j) row c.in-Some.ensures in
     let f_is = false_is c.args.log.now.inputs c.args.log.now.lines c.args.names.now c.args.place c.args.i c.args.assigned.now c.args.watches.now c.entry.result c.opposite-falsified.result c.watcher-clause.result c.entry.ensures c.opposite-falsified.ensures c.requires.visiting.within in
-    let done = at_moved c.args.log.now.inputs c.args.log.now.lines c.args.names.now c.args.place c.args.i c.args.assigned.now c.face.new.watches c.watcher-clause.result at c.rewatch.new.self c.in-Some.j c.watching-in-Some.ensures found (get_or c.clause-in-Some.result.now c.in-Some.j blank) (ap (λ r. get_or r c.in-Some.j blank) row_3) c.opposite-falsified.result f_is
+    let done = at_moved c.args.log.now.inputs c.args.log.now.lines c.args.names.now c.args.place c.args.i c.args.assigned.now c.face.new.watches c.watcher-clause.result at c.rewatch.new.self c.in-Some.j found (get_or c.clause-in-Some.result.now c.in-Some.j blank) (ap (λ r. get_or r c.in-Some.j blank) row_3) c.opposite-falsified.result f_is
     c.in_ok-rewatch-in-Some.ensures.clauses c.in_ok-rewatch-in-Some.ensures.lists in
     done
 
 pub returns-then-holds-2-clause-kept : goal.returns-then-holds-2-clause-kept
 returns-then-holds-2-clause-kept c =
     let at = at_from c.args.log.now.inputs c.args.log.now.lines c.args.names.now c.args.place c.args.i c.args.assigned.now c.args.watches.now c.entry.result c.opposite-falsified.result c.watcher-clause.result c.face.new.watches
-    c.entry.ensures c.opposite-falsified.ensures c.watcher-clause.ensures c.told.ensures c.watching.ensures c.watching-2.ensures c.requires.there c.requires.visiting c.face.ensures in
+    c.entry.ensures c.opposite-falsified.ensures c.watcher-clause.ensures c.watching.ensures c.watching-2.ensures c.requires.there c.requires.visiting c.face.ensures in
     visit_all c.args.log.now.inputs c.args.log.now.lines c.args.names.now c.args.place (c.args.i + 1) c.args.assigned.now c.face.new.watches at.visiting
 
 pub returns-then-holds-2-clause-found : goal.returns-then-holds-2-clause-found
 returns-then-holds-2-clause-found c =
     let at = at_from c.args.log.now.inputs c.args.log.now.lines c.args.names.now c.args.place c.args.i c.args.assigned.now c.args.watches.now c.entry.result c.opposite-falsified.result c.watcher-clause.result c.face.new.watches
-    c.entry.ensures c.opposite-falsified.ensures c.watcher-clause.ensures c.told.ensures c.watching.ensures c.watching-2.ensures c.requires.there c.requires.visiting c.face.ensures in
+    c.entry.ensures c.opposite-falsified.ensures c.watcher-clause.ensures c.watching.ensures c.watching-2.ensures c.requires.there c.requires.visiting c.face.ensures in
     let first : get_or c.clause.result.now 0 blank ≡ get_or (clause_of c.face.new.watches.clauses c.watcher-clause.result) 0 blank = ap (λ r. get_or r 0 blank) c.clause.ensures in
     let rest : AreFalseFrom c.args.assigned.now.trail (clause_of c.face.new.watches.clauses c.watcher-clause.result) 2 (length (clause_of c.face.new.watches.clauses c.watcher-clause.result)) =
     subst (λ r. AreFalseFrom c.args.assigned.now.trail r 2 (length r)) c.clause-2.ensures c.in-None.ensures in
@@ -96,7 +104,7 @@ returns-then-holds-2-clause-found c =
 pub assign-requires-clause-known : goal.assign-requires-clause-known
 assign-requires-clause-known c =
     let at = at_from c.args.log.now.inputs c.args.log.now.lines c.args.names.now c.args.place c.args.i c.args.assigned.now c.args.watches.now c.entry.result c.opposite-falsified.result c.watcher-clause.result c.face.new.watches
-    c.entry.ensures c.opposite-falsified.ensures c.watcher-clause.ensures c.told.ensures c.watching.ensures c.watching-2.ensures c.requires.there c.requires.visiting c.face.ensures in
+    c.entry.ensures c.opposite-falsified.ensures c.watcher-clause.ensures c.watching.ensures c.watching-2.ensures c.requires.there c.requires.visiting c.face.ensures in
     let first : get_or c.clause.result.now 0 blank ≡ get_or (clause_of c.face.new.watches.clauses c.watcher-clause.result) 0 blank = ap (λ r. get_or r 0 blank) c.clause.ensures in
     subst (λ (l : Literal). l.letter.0 < length c.args.assigned.now.values) (sym first)
     (at_letters c.args.log.now.inputs c.args.log.now.lines c.args.names.now c.args.place c.args.i c.args.assigned.now c.face.new.watches c.watcher-clause.result at 0 blank (omega (arith, at.long)))
@@ -108,14 +116,14 @@ returns-in_err-assign-clause-grown c =
 pub returns-in_err-assign-clause-kept : goal.returns-in_err-assign-clause-kept
 returns-in_err-assign-clause-kept c =
     let at = at_from c.args.log.now.inputs c.args.log.now.lines c.args.names.now c.args.place c.args.i c.args.assigned.now c.args.watches.now c.entry.result c.opposite-falsified.result c.watcher-clause.result c.face.new.watches
-    c.entry.ensures c.opposite-falsified.ensures c.watcher-clause.ensures c.told.ensures c.watching.ensures c.watching-2.ensures c.requires.there c.requires.visiting c.face.ensures in
+    c.entry.ensures c.opposite-falsified.ensures c.watcher-clause.ensures c.watching.ensures c.watching-2.ensures c.requires.there c.requires.visiting c.face.ensures in
     visit_all c.args.log.now.inputs c.args.log.now.lines c.args.names.now c.args.place (c.args.i + 1) c.assign.new.self c.face.new.watches
     (visit_same c.args.log.now.inputs c.args.log.now.lines c.args.names.now c.args.place (c.args.i + 1) c.args.assigned.now c.assign.new.self c.face.new.watches c.in_err-assign.ensures.trail c.in_err-assign.ensures.letters at.visiting)
 
 pub returns-clause-kept : goal.returns-clause-kept
 returns-clause-kept c =
     let at = at_from c.args.log.now.inputs c.args.log.now.lines c.args.names.now c.args.place c.args.i c.args.assigned.now c.args.watches.now c.entry.result c.opposite-falsified.result c.watcher-clause.result c.face.new.watches
-    c.entry.ensures c.opposite-falsified.ensures c.watcher-clause.ensures c.told.ensures c.watching.ensures c.watching-2.ensures c.requires.there c.requires.visiting c.face.ensures in
+    c.entry.ensures c.opposite-falsified.ensures c.watcher-clause.ensures c.watching.ensures c.watching-2.ensures c.requires.there c.requires.visiting c.face.ensures in
     let first : get_or c.clause.result.now 0 blank ≡ get_or (clause_of c.face.new.watches.clauses c.watcher-clause.result) 0 blank = ap (λ r. get_or r 0 blank) c.clause.ensures in
     let rest : AreFalseFrom c.args.assigned.now.trail (clause_of c.face.new.watches.clauses c.watcher-clause.result) 2 (length (clause_of c.face.new.watches.clauses c.watcher-clause.result)) =
     subst (λ r. AreFalseFrom c.args.assigned.now.trail r 2 (length r)) c.clause-2.ensures c.in-None.ensures in
@@ -132,7 +140,7 @@ returns-clause-kept c =
 pub returns-clause-found : goal.returns-clause-found
 returns-clause-found c =
     let at = at_from c.args.log.now.inputs c.args.log.now.lines c.args.names.now c.args.place c.args.i c.args.assigned.now c.args.watches.now c.entry.result c.opposite-falsified.result c.watcher-clause.result c.face.new.watches
-    c.entry.ensures c.opposite-falsified.ensures c.watcher-clause.ensures c.told.ensures c.watching.ensures c.watching-2.ensures c.requires.there c.requires.visiting c.face.ensures in
+    c.entry.ensures c.opposite-falsified.ensures c.watcher-clause.ensures c.watching.ensures c.watching-2.ensures c.requires.there c.requires.visiting c.face.ensures in
     let first : get_or c.clause.result.now 0 blank ≡ get_or (clause_of c.face.new.watches.clauses c.watcher-clause.result) 0 blank = ap (λ r. get_or r 0 blank) c.clause.ensures in
     let rest : AreFalseFrom c.args.assigned.now.trail (clause_of c.face.new.watches.clauses c.watcher-clause.result) 2 (length (clause_of c.face.new.watches.clauses c.watcher-clause.result)) =
     subst (λ r. AreFalseFrom c.args.assigned.now.trail r 2 (length r)) c.clause-2.ensures c.in-None.ensures in
@@ -148,7 +156,8 @@ returns-clause-found c =
 
 pub returns-then-holds-clause-sure : goal.returns-then-holds-clause-sure
 returns-then-holds-clause-sure c =
-    λ n low sure. sure_faced c.args.watches.now c.face.new.watches c.args.assigned.now.trail n c.watcher-clause.result c.opposite-falsified.result (watch_from c.args.log.now.inputs c.args.log.now.lines c.args.names.now c.args.place c.args.i c.args.assigned.now c.args.watches.now c.entry.result c.opposite-falsified.result c.watcher-clause.result c.entry.ensures c.opposite-falsified.ensures c.watcher-clause.ensures c.watching.ensures c.requires.there c.requires.visiting.within).0 c.face.ensures sure
+    λ n low sure. subst (λ (u : WatchValue). IsSure u.clauses c.args.assigned.now.trail n) (sym c.refresh.ensures)
+    (sure_faced c.args.watches.now c.face.new.watches c.args.assigned.now.trail n c.watcher-clause.result c.opposite-falsified.result (watch_from c.args.log.now.inputs c.args.log.now.lines c.args.names.now c.args.place c.args.i c.args.assigned.now c.args.watches.now c.entry.result c.opposite-falsified.result c.watcher-clause.result c.entry.ensures c.opposite-falsified.ensures c.watcher-clause.ensures c.watching.ensures c.requires.there c.requires.visiting.within).0 c.face.ensures sure)
 
 pub returns-then-holds-2-clause-sure : goal.returns-then-holds-2-clause-sure
 returns-then-holds-2-clause-sure c =
@@ -170,9 +179,9 @@ returns-clause-sure c =
 pub returns-in-Some-clause-sure : goal.returns-in-Some-clause-sure
 returns-in-Some-clause-sure c =
     let at = at_from c.args.log.now.inputs c.args.log.now.lines c.args.names.now c.args.place c.args.i c.args.assigned.now c.args.watches.now c.entry.result c.opposite-falsified.result c.watcher-clause.result c.face.new.watches
-    c.entry.ensures c.opposite-falsified.ensures c.watcher-clause.ensures c.told.ensures c.watching.ensures c.watching-2.ensures c.requires.there c.requires.visiting c.face.ensures in
+    c.entry.ensures c.opposite-falsified.ensures c.watcher-clause.ensures c.watching.ensures c.watching-2.ensures c.requires.there c.requires.visiting c.face.ensures in
     let row = c.clause-2.ensures in
     let found : IsReplacement c.args.assigned.now.trail (clause_of c.face.new.watches.clauses c.watcher-clause.result) c.in-Some.j = subst (λ r. IsReplacement c.args.assigned.now.trail r c.in-Some.j) row c.in-Some.ensures in
     λ n low sure. subst (λ cs. IsSure cs c.args.assigned.now.trail n) (sym c.in_ok-rewatch-in-Some.ensures.clauses)
-    (sure_moved c.face.new.watches.clauses c.args.assigned.now.trail n c.watcher-clause.result at.known (sure_faced c.args.watches.now c.face.new.watches c.args.assigned.now.trail n c.watcher-clause.result c.opposite-falsified.result (watch_from c.args.log.now.inputs c.args.log.now.lines c.args.names.now c.args.place c.args.i c.args.assigned.now c.args.watches.now c.entry.result c.opposite-falsified.result c.watcher-clause.result c.entry.ensures c.opposite-falsified.ensures c.watcher-clause.ensures c.watching.ensures c.requires.there c.requires.visiting.within).0 c.face.ensures sure) c.args.assigned.now.values c.in-Some.j (false_at c.args.assigned.now.trail c.args.place)
-    (get_or (clause_of c.face.new.watches.clauses c.watcher-clause.result) c.in-Some.j blank) c.told.ensures found.behind found.within at.second refl (at_second_false c.args.log.now.inputs c.args.log.now.lines c.args.names.now c.args.place c.args.i c.args.assigned.now c.face.new.watches c.watcher-clause.result at) found.not_false (omega (arith, low, c.requires.visiting.within)))
+    (sure_moved c.face.new.watches.clauses c.args.assigned.now.trail n c.watcher-clause.result at.known (sure_faced c.args.watches.now c.face.new.watches c.args.assigned.now.trail n c.watcher-clause.result c.opposite-falsified.result (watch_from c.args.log.now.inputs c.args.log.now.lines c.args.names.now c.args.place c.args.i c.args.assigned.now c.args.watches.now c.entry.result c.opposite-falsified.result c.watcher-clause.result c.entry.ensures c.opposite-falsified.ensures c.watcher-clause.ensures c.watching.ensures c.requires.there c.requires.visiting.within).0 c.face.ensures sure) c.in-Some.j (false_at c.args.assigned.now.trail c.args.place)
+    (get_or (clause_of c.face.new.watches.clauses c.watcher-clause.result) c.in-Some.j blank) found.behind found.within at.second refl found.not_false (omega (arith, low, c.requires.visiting.within)))

@@ -8,7 +8,7 @@ invariant-more l = record {
   sized : length l.watches.lists ≡ 2 * length l.assigned.values;
   more : length l.fn.assigned.values ≤ length l.assigned.values;
   few : length l.assigned.values ≤ 2 ^ 32;
-  marks : length l.assigned.values ≤ length l.marked.items;
+  marks : length l.assigned.values ≤ length l.marks.stamps;
 }
 
 abbrev pub decreases-more : goal.decreases-more

@@ -14,7 +14,7 @@ returns-in-Some c =
     let within : x < length values = omega (arith, c.requires, ap (λ (v : AssignedValue). length v.values) c.self.view_is) in
     let is : value_at values x ≡ Some c.in-Some.value = get_or_default values x None _ within ∙ sym c.index.ensures ∙ c.in-Some.is in
     subst (λ (v : AssignedValue). (not (beq c.in-Some.value c.args.literal.negated) ≡ true) ↔ Contains (literals_of v.trail) c.args.literal) c.self.view_is
-    (told_true values c.self.inside.trail.items c.self.invariant c.args.literal c.in-Some.value is)
+    (told_true values c.self.inside.trail.items c.self.invariant.0 c.args.literal c.in-Some.value is)
 
 pub returns-in-None : goal.returns-in-None
 returns-in-None c =
@@ -23,4 +23,4 @@ returns-in-None c =
     let within : x < length values = omega (arith, c.requires, ap (λ (v : AssignedValue). length v.values) c.self.view_is) in
     let is : value_at values x ≡ None = get_or_default values x None _ within ∙ sym c.index.ensures ∙ c.in-None.is in
     subst (λ (v : AssignedValue). (false ≡ true) ↔ Contains (literals_of v.trail) c.args.literal) c.self.view_is
-    (told_none values c.self.inside.trail.items c.self.invariant c.args.literal is)
+    (told_none values c.self.inside.trail.items c.self.invariant.0 c.args.literal is)

@@ -3,7 +3,7 @@ use Rattle.std.proofs.lemmas.List.{take_at}
 use Rattle.cnf_base.specs.declared.literal.Hint.TheVariants.{Clause}
 use Rattle.clause_log.specs.LogValue.{LogValue, with_input}
 use Rattle.cdcl_state.specs.Trail.{StateValue, IsKnown}
-use Rattle.cdcl_state.specs.Watching.{IsAdded}
+use Rattle.cdcl_watches.specs.Watching.{IsAdded}
 use Rattle.cdcl_state.proofs.Attach.{input_more, state_long, known_more, stored_below, stored_fits}
 use Rattle.cdcl_state.proofs.state.State.add_long.Goals as goal
 
@@ -26,7 +26,7 @@ invariant_of-self-in-Ok c =
     let known : All (IsKnown letters) clause = subst (λ (s : StateValue). All (IsKnown s.letters) clause) (sym c.self.view_is) c.requires.known in
     let count : number ≡ length log.inputs + 1 = c.in_ok-number.ensures ∙ ap (λ n. n + 1) (c.inputs.ensures ∙ ap (λ (l : LogValue). length l.inputs) c.view.ensures.same) in
     rw (c.in_ok-store.ensures.watches, c.in_ok-store.ensures.names, c.in-Ok.ensures.added.0)
-    (state_long letters c.self.inside.assigned c.self.inside.watches c.self.inside.names.items c.self.inside.units.items log (with_input log clause) c.self.inside.head c.self.inside.sure c.self.inside.done c.self.inside.firm (length c.self.inside.marked.items)
+    (state_long letters c.self.inside.assigned c.self.inside.watches c.self.inside.names.items c.self.inside.units.items log (with_input log clause) c.self.inside.head c.self.inside.sure c.self.inside.done c.self.inside.firm (length c.self.inside.marks.stamps)
     (Clause number) clause c.self.invariant (input_more log clause number count) (known_more letters log.inputs clause c.self.invariant.known_inputs known) c.self.invariant.known_lines
     c.args.stored.now c.rewind.new.head c.rewind.new.sure c.requires.same c.requires.long c.requires.apart c.rewind.ensures)
 

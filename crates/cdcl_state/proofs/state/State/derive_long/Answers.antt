@@ -3,7 +3,7 @@ use Rattle.std.proofs.lemmas.List.{take_at}
 use Rattle.cnf_base.specs.declared.literal.Hint.TheVariants.{Line}
 use Rattle.clause_log.specs.LogValue.{LogValue, with_line}
 use Rattle.cdcl_state.specs.Trail.{StateValue, IsKnown}
-use Rattle.cdcl_state.specs.Watching.{IsAdded}
+use Rattle.cdcl_watches.specs.Watching.{IsAdded}
 use Rattle.cdcl_state.proofs.Attach.{line_more, state_long, known_more, stored_below, stored_fits}
 use Rattle.cdcl_state.proofs.state.State.derive_long.Goals as goal
 
@@ -26,7 +26,7 @@ invariant_of-self-in-Ok c =
     let known : All (IsKnown letters) clause = subst (λ (s : StateValue). All (IsKnown s.letters) clause) (sym c.self.view_is) c.requires.known in
     let count : number ≡ length log.lines + 1 = c.in_ok-number.ensures ∙ ap (λ n. n + 1) (c.lines.ensures ∙ ap (λ (l : LogValue). length l.lines) c.view.ensures.same) in
     rw (c.in_ok-store.ensures.watches, c.in_ok-store.ensures.names, c.in-Ok.ensures.added.0)
-    (state_long letters c.self.inside.assigned c.self.inside.watches c.self.inside.names.items c.self.inside.units.items log (with_line log clause c.args.hints.now) c.self.inside.head c.self.inside.sure c.self.inside.done c.self.inside.firm (length c.self.inside.marked.items)
+    (state_long letters c.self.inside.assigned c.self.inside.watches c.self.inside.names.items c.self.inside.units.items log (with_line log clause c.args.hints.now) c.self.inside.head c.self.inside.sure c.self.inside.done c.self.inside.firm (length c.self.inside.marks.stamps)
     (Line number) clause c.self.invariant (line_more log clause c.args.hints.now number count) c.self.invariant.known_inputs (known_more letters log.lines clause c.self.invariant.known_lines known)
     c.args.stored.now c.rewind.new.head c.rewind.new.sure c.requires.same c.requires.long c.requires.apart c.rewind.ensures)
 

@@ -19,22 +19,22 @@ visit_units-requires-clause-firm c =
 
 pub invariant_of-self : goal.invariant_of-self
 invariant_of-self c =
-    state_visited c.self.inside.letters c.self.inside.assigned c.visit_units.new.assigned c.self.inside.watches c.self.inside.names.items c.self.inside.units.items c.self.inside.log c.self.inside.head c.self.inside.sure c.self.inside.done c.self.inside.firm (length c.self.inside.marked.items)
+    state_visited c.self.inside.letters c.self.inside.assigned c.visit_units.new.assigned c.self.inside.watches c.self.inside.names.items c.self.inside.units.items c.self.inside.log c.self.inside.head c.self.inside.sure c.self.inside.done c.self.inside.firm (length c.self.inside.marks.stamps)
     c.self.invariant c.in_err-hint.ensures.grown c.in_err-hint.ensures.is_trail c.in_err-hint.ensures.letters
 
 pub invariant_of-self-in-Some : goal.invariant_of-self-in-Some
 invariant_of-self-in-Some c =
-    state_visited c.self.inside.letters c.self.inside.assigned c.visit_units.new.assigned c.self.inside.watches c.self.inside.names.items c.self.inside.units.items c.self.inside.log c.self.inside.head c.self.inside.sure c.self.inside.done c.self.inside.firm (length c.self.inside.marked.items)
+    state_visited c.self.inside.letters c.self.inside.assigned c.visit_units.new.assigned c.self.inside.watches c.self.inside.names.items c.self.inside.units.items c.self.inside.log c.self.inside.head c.self.inside.sure c.self.inside.done c.self.inside.firm (length c.self.inside.marks.stamps)
     c.self.invariant c.in_ok-hint.ensures.grown c.in_ok-hint.ensures.is_trail c.in_ok-hint.ensures.letters
 
 pub propagate-requires-clause-sure : goal.propagate-requires-clause-sure
 propagate-requires-clause-sure c =
-    (state_visited c.self.inside.letters c.self.inside.assigned c.visit_units.new.assigned c.self.inside.watches c.self.inside.names.items c.self.inside.units.items c.self.inside.log c.self.inside.head c.self.inside.sure c.self.inside.done c.self.inside.firm (length c.self.inside.marked.items)
+    (state_visited c.self.inside.letters c.self.inside.assigned c.visit_units.new.assigned c.self.inside.watches c.self.inside.names.items c.self.inside.units.items c.self.inside.log c.self.inside.head c.self.inside.sure c.self.inside.done c.self.inside.firm (length c.self.inside.marks.stamps)
     c.self.invariant c.in_ok-hint.ensures.grown c.in_ok-hint.ensures.is_trail c.in_ok-hint.ensures.letters).is_sure
 
 pub propagate-requires-clause-ready : goal.propagate-requires-clause-ready
 propagate-requires-clause-ready c =
-    let state = state_visited c.self.inside.letters c.self.inside.assigned c.visit_units.new.assigned c.self.inside.watches c.self.inside.names.items c.self.inside.units.items c.self.inside.log c.self.inside.head c.self.inside.sure c.self.inside.done c.self.inside.firm (length c.self.inside.marked.items)
+    let state = state_visited c.self.inside.letters c.self.inside.assigned c.visit_units.new.assigned c.self.inside.watches c.self.inside.names.items c.self.inside.units.items c.self.inside.log c.self.inside.head c.self.inside.sure c.self.inside.done c.self.inside.firm (length c.self.inside.marks.stamps)
     c.self.invariant c.in_ok-hint.ensures.grown c.in_ok-hint.ensures.is_trail c.in_ok-hint.ensures.letters in
     subst (λ ns. IsReady c.self.inside.log.inputs c.self.inside.log.lines ns c.self.inside.head c.visit_units.new.assigned c.self.inside.watches) (sym c.deref-2.ensures.value) state.ready
 
@@ -51,7 +51,7 @@ invariant_of-self-in_err-found c =
     let b = c.visit_units.new.assigned in
     let done = c.self.inside.done in
     let solid = c.self.inside.firm in
-    let marked = length c.self.inside.marked.items in
+    let marked = length c.self.inside.marks.stamps in
     let state = state_visited letters c.self.inside.assigned b w names units log c.self.inside.head c.self.inside.sure done solid marked
     c.self.invariant c.in_ok-hint.ensures.grown c.in_ok-hint.ensures.is_trail c.in_ok-hint.ensures.letters in
     let true_units = subst (λ us. AreFirm log.inputs log.lines us (length us) (literals_of b.trail)) c.deref.ensures.value (none_case _ c.in_ok-hint.field-0 c.in-None.is c.in_ok-hint.ensures.found) in
@@ -83,7 +83,7 @@ invariant_of-self-2 c =
     let b = c.visit_units.new.assigned in
     let done = c.self.inside.done in
     let solid = c.self.inside.firm in
-    let marked = length c.self.inside.marked.items in
+    let marked = length c.self.inside.marks.stamps in
     let state = state_visited letters c.self.inside.assigned b w names units log c.self.inside.head c.self.inside.sure done solid marked
     c.self.invariant c.in_ok-hint.ensures.grown c.in_ok-hint.ensures.is_trail c.in_ok-hint.ensures.letters in
     let true_units = subst (λ us. AreFirm log.inputs log.lines us (length us) (literals_of b.trail)) c.deref.ensures.value (none_case _ c.in_ok-hint.field-0 c.in-None.is c.in_ok-hint.ensures.found) in
@@ -119,7 +119,7 @@ returns-clause-found c =
     let b = c.visit_units.new.assigned in
     let done = c.self.inside.done in
     let solid = c.self.inside.firm in
-    let marked = length c.self.inside.marked.items in
+    let marked = length c.self.inside.marks.stamps in
     let state = state_visited letters c.self.inside.assigned b w names units log c.self.inside.head c.self.inside.sure done solid marked
     c.self.invariant c.in_ok-hint.ensures.grown c.in_ok-hint.ensures.is_trail c.in_ok-hint.ensures.letters in
     let true_units = subst (λ us. AreFirm log.inputs log.lines us (length us) (literals_of b.trail)) c.deref.ensures.value (none_case _ c.in_ok-hint.field-0 c.in-None.is c.in_ok-hint.ensures.found) in

@@ -1,0 +1,11 @@
+pub mod Removed
+pub mod Moves
+pub mod ListEdits
+pub mod Pieces
+pub mod Adds
+pub mod Added
+pub mod Numbers
+pub mod Blockers
+pub mod Kept
+pub mod Rewatched
+pub mod AddedWatchers

@@ -1,0 +1,44 @@
+-- A literal is watched in place of another: lists of watchers before and after.
+use Rattle.std.proofs.Common.{◌≡◌, ◌≢◌, ℕ, ◌<◌, ◌≤◌, List, [], ◌∷◌, ◌++◌, set, length, get_or, sym, ap, ap₂, ◌∙◌, subst, arith}
+use Rattle.std.specs.List.{swap, swap_remove}
+use Rattle.std.proofs.lemmas.List.{get_or_default}
+use Rattle.cnf_base.specs.declared.literal.Literal.{Literal}
+use Rattle.cdcl_watches.specs.declared.watch_lists.Watcher.{Watcher}
+use Rattle.cdcl_watches.specs.Watching.{code, list_of, clause_of, IsWatching}
+use Rattle.cdcl_watches.specs.Watchers.{nobody, numbers, IsBlocking, AreBlockers, AreWatchers}
+use Rattle.cdcl_watches.proofs.Moves.{rewatch_watching, list_other}
+use Rattle.cdcl_watches.proofs.Numbers.{length_at, numbers_push, numbers_swap_remove}
+use Rattle.cdcl_watches.proofs.Blockers.{blockers_push, blockers_swap_remove, blockers_swapped}
+
+module _ (clauses : List (List Literal)) (lists mid new : List (List Watcher)) (c : ℕ) (second other : Literal) (i j : ℕ) (w : Watcher) (are : AreWatchers clauses lists)
+    (known : c < length clauses) (high : 2 ≤ j) (within : j < length (clause_of clauses c))
+    (second_is : second ≡ get_or (clause_of clauses c) 1 second) (other_is : other ≡ get_or (clause_of clauses c) j other)
+    (low : i < length (list_of (numbers lists) second)) (names : w.clause ≡ c)
+    (pushed : mid ≡ set lists (code other) (get_or lists (code other) [] ++ w ∷ [])) where
+  other_at : other ≡ get_or (clause_of clauses c) j second
+  other_at = other_is ∙ get_or_default (clause_of clauses c) j other second within
+
+  differ : second ≢ other
+  differ e = are.watching.apart c known 1 j second (omega arith) within (sym second_is ∙ e ∙ other_at)
+
+  mid_is : numbers mid ≡ set (numbers lists) (code other) (list_of (numbers lists) other ++ c ∷ [])
+  mid_is = ap numbers pushed ∙ numbers_push lists (code other) w ∙ ap (λ n. set (numbers lists) (code other) (list_of (numbers lists) other ++ n ∷ [])) names
+
+  mid_second : list_of (numbers mid) second ≡ list_of (numbers lists) second
+  mid_second = ap (λ ns. list_of ns second) mid_is ∙ list_other (numbers lists) other second (list_of (numbers lists) other ++ c ∷ []) differ
+
+  -- the place is still one of the list's
+  pub place_mid : i < length (get_or mid (code second) [])
+  place_mid = omega (arith, length_at mid (code second), ap length mid_second)
+
+  module _ (removed : new ≡ set mid (code second) (swap_remove (get_or mid (code second) []) i nobody)) where
+    pub moved_is : numbers new ≡ set (set (numbers lists) (code other) (list_of (numbers lists) other ++ c ∷ [])) (code second) (swap_remove (list_of (numbers lists) second) i 0)
+    moved_is = ap numbers removed ∙ numbers_swap_remove mid (code second) i ∙ ap₂ (λ ns xs. set ns (code second) (swap_remove xs i 0)) mid_is mid_second
+
+    pub moved_watchers : get_or (list_of (numbers lists) second) i 0 ≡ c → IsBlocking clauses w → AreWatchers (set clauses c (swap (clause_of clauses c) 1 j)) new
+    moved_watchers there blocking = record {
+      watching = subst (IsWatching (set clauses c (swap (clause_of clauses c) 1 j))) (sym moved_is)
+          (rewatch_watching clauses (numbers lists) c are.watching known second second other i j high within second_is other_at low there);
+      blockers = blockers_swapped clauses new c 1 j known (omega arith) within
+          (subst (AreBlockers clauses) (sym removed) (blockers_swap_remove clauses mid (code second) (subst (AreBlockers clauses) (sym pushed) (blockers_push clauses lists (code other) are.blockers w blocking)) i place_mid));
+    }

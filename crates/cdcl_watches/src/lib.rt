@@ -1,0 +1,7 @@
+//! Clauses that are watched by two of their literals: the literals in one buffer, and for each literal the list of the
+//! clauses that watch it.
+#![tactic(auto)]
+
+pub mod arena;
+pub mod watch_lists;
+pub mod watches;
