@@ -2,20 +2,15 @@
 # Times the tableau over infinite traces on formulas that grow: token rings, counters, response patterns, past patterns and
 # requirements that conflict.
 #
-# It copies the repository into a temporary folder, adds a small program that reads a formula and decides it, lets `rt`
-# prove and build it, and prints a table: the answer with its depth, the clauses through that depth, the lines that the
-# solver learnt (handed out with UNSAT alone), seconds for the whole run and the most memory that it held. With KEEP set to
-# a folder the copy stays there, so that a second run builds nothing.
-set -eu
-top=$(cd "$(dirname "${BASH_SOURCE[0]}")/.." && pwd)
-work=${KEEP:-$(mktemp -d)}
-[ -n "${KEEP:-}" ] || trap 'rm -rf "$work"' EXIT
-mkdir -p "$work"
-program=$work/crates/solve_bench/out/solve_bench
-if ! [ -x "$program" ]; then
-    (cd "$top" && tar -c --exclude=out crates crates.txt HANDLES) | tar -x -C "$work"
-    git -C "$work" init -q
-    echo "solve_bench: ltl_io ltl_syntax ltl_lexer ltl_parser ltl_closure cnf_base clause_log enc_layout step_encode loop_encode prune_encode unravel" >> "$work/crates.txt"
+# It prints a table: the answer with its depth, the clauses through that depth, the lines that the solver learnt (handed out
+# with UNSAT alone), seconds for the whole run and the most memory that it held.
+. "$(dirname "${BASH_SOURCE[0]}")/common.sh"
+. "$top/bench/clauses.sh"
+copy_crates
+formula_reader
+clause_lists
+if ! [ -x "$(program solve_bench)" ]; then
+    echo "solve_bench: ltl_io ltl_syntax ltl_closure formula_input cnf_base clause_log enc_layout clause_lists unravel" >> "$work/crates.txt"
     mkdir -p "$work/crates/solve_bench/src"
     cat > "$work/crates/solve_bench/src/main.rt" <<'RT'
 //! Reads a formula and prints what the tableau says of it, the depth, the clauses through it and the lines that were learnt.
@@ -24,12 +19,12 @@ ghost use Rattle.std.specs.Prelude.{◌≡◌, ◌≤◌, IfOk};
 ghost use Rattle.enc_layout.specs.Letters.{Fits};
 ghost use Rattle.enc_layout.specs.Clauses.{layout_of};
 
+use clause_lists::append_step;
 use cnf_base::{ClauseList, Clauses};
 use enc_layout::Layout;
+use formula_input::read_formula;
 use ltl_closure::Closure;
-use ltl_io::{StdSource, read_whole};
-use ltl_lexer::tokens;
-use ltl_parser::parse;
+use ltl_io::StdSource;
 use ltl_syntax::Kind;
 use std::alloc::{AllocError, Global};
 use std::process::ExitCode;
@@ -48,9 +43,7 @@ fn step_clauses(alloc: Global, closure: &Closure<'_>, layout: &Layout, step: u32
     requires fits { Fits layout.now step }
 {
     let mut list = ClauseList::new(alloc);
-    step_encode::append(closure, layout, step, &mut list)?;
-    loop_encode::append(closure, layout, step, &mut list)?;
-    prune_encode::append(closure, layout, step, &mut list)?;
+    append_step(closure, layout, step, &mut list)?;
     Ok(list.count())
 }
 
@@ -77,17 +70,9 @@ fn decided(alloc: Global, closure: &Closure<'_>) -> Result<Found, AllocError> {
 fn main(rt: HostRuntime) -> ExitCode {
     let alloc = rt.alloc();
     let mut source = StdSource::new(rt.stdin());
-    let Ok(text) = read_whole(alloc, &mut source, 1_048_576) else {
-        return ExitCode::from(5);
-    };
-    if text.len() > 1_048_576 {
-        return ExitCode::from(4);
-    }
-    let Ok(found) = tokens(alloc, &text) else {
-        return ExitCode::from(3);
-    };
-    let Ok((table, root)) = parse(alloc, &text, &found) else {
-        return ExitCode::from(3);
+    let (table, root) = match read_formula(alloc, &mut source) {
+        Ok(found) => found,
+        Err(status) => return ExitCode::from(status),
     };
     let Ok(closure) = Closure::of(alloc, &table, root, Kind::Infinite) else {
         return ExitCode::from(7);
@@ -104,11 +89,10 @@ fn main(rt: HostRuntime) -> ExitCode {
     }
 }
 RT
-    (cd "$work/crates/solve_bench" && rt run < /dev/null > "$work/build.log" 2>&1) || true
+    build solve_bench
 fi
-[ -x "$program" ] || { tail -n 20 "$work/build.log" >&2; echo "there is no build" >&2; exit 1; }
 
-python3 - "$program" <<'PY'
+python3 - "$(program solve_bench)" <<'PY'
 import os, subprocess, sys, time
 
 def conj(parts):

@@ -1,24 +1,18 @@
 #!/usr/bin/env bash
 # Times the solver on clauses: random ones of three literals, 4.2 a letter, near where half of such lists can be
 # satisfied, with a question at the end; the same lists handed over in ten parts with three questions behind each, as
-# unraveling asks; and a chain of 100,000 letters, each of which forces the next.
+# unraveling asks; a chain of 100,000 letters, each of which forces the next; and the clause list of a token ring of 16
+# letters with the question whether a run of 16 states is accepted (none is), and one of 17 (it is).
 #
-# It copies the repository into a temporary folder, adds a small program that reads clauses and questions, lets `rt`
-# prove and build it, and prints a table: answers, lines learnt, and seconds for the whole run. Where `minisat` is
-# installed, its seconds on the same clauses stand beside. With KEEP set to a folder the copy stays there, so that a
-# second run builds nothing.
-set -eu
-top=$(cd "$(dirname "${BASH_SOURCE[0]}")/.." && pwd)
-work=${KEEP:-$(mktemp -d)}
-[ -n "${KEEP:-}" ] || trap 'rm -rf "$work"' EXIT
-mkdir -p "$work"
-program=$work/crates/solver_bench/out/solver_bench
-if ! [ -x "$program" ]; then
+# It prints a table: answers, lines learnt, and seconds for the whole run. Where `minisat` is installed, its seconds on
+# the same clauses stand beside.
+. "$(dirname "${BASH_SOURCE[0]}")/common.sh"
+. "$top/bench/clauses.sh"
+copy_crates
+clause_printer
+[ -x "$(program clause_text)" ] || build clause_text
+if ! [ -x "$(program solver_bench)" ]; then
     mkdir -p "$work/crates/solver_bench/src" "$work/crates/solver_bench/proofs"
-    (cd "$top/crates" && tar -c --exclude=out cnf_base clause_log cdcl_state cdcl ltl_io) | tar -x -C "$work/crates"
-    cp "$top/HANDLES" "$work/"
-    git -C "$work" init -q
-    grep -E '^(cnf_base|clause_log|cdcl_state|cdcl|ltl_io):' "$top/crates.txt" > "$work/crates.txt"
     echo 'solver_bench: ltl_io cnf_base clause_log cdcl_state cdcl' >> "$work/crates.txt"
     cat > "$work/crates/solver_bench/src/main.rt" <<'RT'
 //! Reads the number of letters and then lists of numbers, each with a 0 behind it: clauses, and behind a `?` the
@@ -244,11 +238,10 @@ use Rattle.solver_bench.proofs.read.Given as goal
 abbrev pub invariant-bytes : goal.invariant-bytes
 invariant-bytes l = l.solver.letters ≡ l.letters
 ANTT
-    (cd "$work/crates/solver_bench" && rt run < /dev/null > "$work/build.log" 2>&1) || true
+    build solver_bench
 fi
-[ -x "$program" ] || { echo "there is no build: $work/build.log" >&2; exit 1; }
 
-# random LETTERS SEED: a DIMACS text
+# random LETTERS SEED: a DIMACS text, as the functions below give one
 random() {
     python3 - "$1" "$2" <<'PY'
 import random, sys
@@ -265,6 +258,13 @@ n = 100000
 print('p cnf %d %d' % (n, n))
 print('\n'.join('-%d %d 0' % (i, i + 1) for i in range(1, n)))
 print('1 0')"; }
+# accepted SIZE DEPTH: the clauses of a token ring through a depth, and two more that ask for an accepted run up to there
+accepted() {
+    ring "$1" | "$(program clause_text)" "$2" | awk '
+        NR == 1 { print "p cnf", $1, $2 + 2; here = $3; accepted = $4; next }
+        { print }
+        END { print here, 0; print accepted, 0 }'
+}
 # one question at the end
 whole() { sed -e 's/^p cnf \([0-9]*\) .*/\1/' -e '$a? 0'; }
 # ten parts, and behind each three questions: of none, one and two assumptions
@@ -279,19 +279,12 @@ for i, row in enumerate(rows):
     if (i + 1) % max(1, len(rows) // 10) == 0 or i + 1 == len(rows):
         print('? 0\n? 1 0\n? 1 -2 0')"
 }
-seconds() {
-    local start end
-    start=$(date +%s.%N)
-    "$@" || true
-    end=$(date +%s.%N)
-    echo "$end - $start" | bc > "$work/seconds"
-}
 row() {
     local name=$1 form=$2 found
     shift 2
     "$@" > "$work/clauses"
-    $form < "$work/clauses" > "$work/questions"
-    seconds "$program" < "$work/questions" > "$work/answers"
+    "$form" < "$work/clauses" > "$work/questions"
+    seconds "$(program solver_bench)" < "$work/questions" > "$work/answers"
     found=$(cat "$work/answers")
     printf '%-30s %-34s %8.3f s' "$name" "$found" "$(cat "$work/seconds")"
     if [ "$form" = whole ] && command -v minisat > /dev/null; then
@@ -307,3 +300,5 @@ for letters in 100 150 200; do
     row "random $letters, seed 1, in parts" parts random "$letters" 1
 done
 row 'chain of 100,000' whole chain
+row 'ring of 16, through depth 15' whole accepted 16 15
+row 'ring of 16, through depth 16' whole accepted 16 16
