@@ -3,7 +3,7 @@
 # clause_lists: a library that writes clause lists over infinite traces
 clause_lists() {
     [ -d "$work/crates/clause_lists" ] && return
-    echo 'clause_lists: ltl_syntax ltl_closure cnf_base enc_layout step_encode loop_encode prune_encode' >> "$work/crates.txt"
+    list clause_lists 'ltl_syntax ltl_closure cnf_base enc_layout step_encode loop_encode prune_encode'
     mkdir -p "$work/crates/clause_lists/src"
     cat > "$work/crates/clause_lists/src/lib.rt" <<'RT'
 //! The clauses of a closure's formula.
@@ -56,7 +56,7 @@ clause_printer() {
     [ -d "$work/crates/clause_text" ] && return
     formula_reader
     clause_lists
-    echo 'clause_text: ltl_io ltl_syntax ltl_closure cnf_base enc_layout clause_lists formula_input' >> "$work/crates.txt"
+    list clause_text 'ltl_io ltl_syntax ltl_closure cnf_base enc_layout clause_lists formula_input'
     mkdir -p "$work/crates/clause_text/src"
     cat > "$work/crates/clause_text/src/main.rt" <<'RT'
 //! Reads a formula and prints its clause list through a depth.

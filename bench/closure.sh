@@ -6,7 +6,7 @@
 copy_crates
 formula_reader
 if ! [ -x "$(program closure_bench)" ]; then
-    echo 'closure_bench: ltl_io ltl_syntax ltl_closure formula_input' >> "$work/crates.txt"
+    list closure_bench 'ltl_io ltl_syntax ltl_closure formula_input'
     mkdir -p "$work/crates/closure_bench/src"
     cat > "$work/crates/closure_bench/src/main.rt" <<'RT'
 //! Reads a formula and prints the number of entries of its closure.

@@ -14,6 +14,9 @@ copy_crates() {
     git -C "$work" init -q
 }
 
+# list NAME DEPENDENCIES: puts a crate into the copy's list, once
+list() { grep -q "^$1:" "$work/crates.txt" || echo "$1: $2" >> "$work/crates.txt"; }
+
 # program NAME: the path of a program that is built in the copy
 program() { echo "$work/crates/$1/out/$1"; }
 
@@ -26,7 +29,7 @@ build() {
 # formula_reader: a library that reads a formula from a source
 formula_reader() {
     [ -d "$work/crates/formula_input" ] && return
-    echo 'formula_input: ltl_io ltl_syntax ltl_lexer ltl_parser' >> "$work/crates.txt"
+    list formula_input 'ltl_io ltl_syntax ltl_lexer ltl_parser'
     mkdir -p "$work/crates/formula_input/src"
     cat > "$work/crates/formula_input/src/lib.rt" <<'RT'
 //! A formula from a source, or the status with which a program ends where there is none.

@@ -8,7 +8,7 @@ copy_crates
 formula_reader
 clause_lists
 if ! [ -x "$(program encoder_bench)" ]; then
-    echo 'encoder_bench: ltl_io ltl_syntax ltl_closure cnf_base enc_layout clause_lists formula_input' >> "$work/crates.txt"
+    list encoder_bench 'ltl_io ltl_syntax ltl_closure cnf_base enc_layout clause_lists formula_input'
     mkdir -p "$work/crates/encoder_bench/src"
     cat > "$work/crates/encoder_bench/src/main.rt" <<'RT'
 //! Reads a formula and prints how many clauses its clause list has through depth 64.

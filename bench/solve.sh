@@ -10,7 +10,7 @@ copy_crates
 formula_reader
 clause_lists
 if ! [ -x "$(program solve_bench)" ]; then
-    echo "solve_bench: ltl_io ltl_syntax ltl_closure formula_input cnf_base clause_log enc_layout clause_lists unravel" >> "$work/crates.txt"
+    list solve_bench 'ltl_io ltl_syntax ltl_closure formula_input cnf_base clause_log enc_layout clause_lists unravel'
     mkdir -p "$work/crates/solve_bench/src"
     cat > "$work/crates/solve_bench/src/main.rt" <<'RT'
 //! Reads a formula and prints what the tableau says of it, the depth, the clauses through it and the lines that were learnt.

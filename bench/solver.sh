@@ -13,7 +13,7 @@ clause_printer
 [ -x "$(program clause_text)" ] || build clause_text
 if ! [ -x "$(program solver_bench)" ]; then
     mkdir -p "$work/crates/solver_bench/src" "$work/crates/solver_bench/proofs"
-    echo 'solver_bench: ltl_io cnf_base clause_log cdcl_state cdcl' >> "$work/crates.txt"
+    list solver_bench 'ltl_io cnf_base clause_log cdcl_state cdcl'
     cat > "$work/crates/solver_bench/src/main.rt" <<'RT'
 //! Reads the number of letters and then lists of numbers, each with a 0 behind it: clauses, and behind a `?` the
 //! assumptions of a question. Prints how many questions were answered each way, and how many lines were learnt.
