@@ -2,7 +2,7 @@
 #![tactic(auto)]
 
 pub mod choice;
-pub mod pace;
+pub mod restart;
 pub mod solve;
 pub mod solver;
 #[cfg(test)]

@@ -10,7 +10,7 @@ ghost use Rattle.cdcl_state.specs.Trail.{IsBack, IsKnown};
 ghost use Rattle.cdcl.specs.Solving.{IsAfter, IsFound, IsLast, IsNegated, IsConsistent};
 
 use crate::choice::{Choice, choose, is_assumed};
-use crate::pace::Pace;
+use crate::restart::Pace;
 use cdcl_state::analyze::{Cut, Learnt};
 use cdcl_state::state::State;
 use cnf_base::Literal;

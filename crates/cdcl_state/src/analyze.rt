@@ -124,7 +124,8 @@ fn resolves(
         }
         Cut::FirstUnique(level) => {
             if entry.level != level {
-                return entry.level == 0 || is_covered(assigned, view, hint, marks);
+                return entry.level == 0
+                    || is_covered(assigned, view, entry.literal.letter.0 as usize, hint, marks);
             }
             if *open <= 1 {
                 return false;

@@ -129,6 +129,14 @@ impl Assigned {
         self.places[letter]
     }
 
+    /// Why the letter has its value, if it stands on the trail and was forced; nothing is promised.
+    pub fn reason_of(&self, letter: usize) -> Option<Hint> {
+        match self.trail.get(*self.places.get(letter)?) {
+            None => None,
+            Some(entry) => entry.reason,
+        }
+    }
+
     /// The level of the letter, if it stands on the trail; nothing is promised.
     pub fn level_of(&self, letter: usize) -> usize {
         match self.places.get(letter) {

@@ -15,7 +15,7 @@ use cnf_base::{Hint, Literal};
 use std::alloc::AllocError;
 
 impl State {
-    fn learn_long(&mut self, learnt: &Learnt, level: usize) -> Result<u64, AllocError>
+    fn learn_long(&mut self, learnt: &Learnt, level: usize) -> Result<(), AllocError>
         requires learnt { IsLearnt self.old.log self.old.trail learnt.now }
         requires known { All (IsKnown self.old.letters) learnt.now.clause.items }
         requires asserting { IsAsserting self.old.trail learnt.now.places.items }
@@ -56,7 +56,7 @@ impl State {
         self.assigned.told();
         self.head = sure;
         self.sure = sure;
-        Ok(line)
+        Ok(())
     }
 
     /// Puts the literal behind the trail on level 0, since the line forces it.
@@ -73,7 +73,7 @@ impl State {
         })
     }
 
-    fn learn_short(&mut self, learnt: &Learnt) -> Result<u64, AllocError>
+    fn learn_short(&mut self, learnt: &Learnt) -> Result<(), AllocError>
         requires learnt { IsLearnt self.old.log self.old.trail learnt.now }
         requires known { All (IsKnown self.old.letters) learnt.now.clause.items }
         requires asserting { IsAsserting self.old.trail learnt.now.places.items }
@@ -85,11 +85,11 @@ impl State {
         let line = self.derive_short(&learnt.clause, &learnt.hints, &learnt.clause)?;
         self.backjump(0);
         self.force(learnt.clause[0], line)?;
-        Ok(line)
+        Ok(())
     }
 
     /// Puts the learnt clause behind the lines, goes back to where its first literal is forced, and assigns it.
-    pub fn learn(&mut self, learnt: &Learnt) -> Result<u64, AllocError>
+    pub fn learn(&mut self, learnt: &Learnt) -> Result<(), AllocError>
         requires learnt { IsLearnt self.old.log self.old.trail learnt.now }
         requires known { All (IsKnown self.old.letters) learnt.now.clause.items }
         requires asserting { IsAsserting self.old.trail learnt.now.places.items }
