@@ -3,7 +3,9 @@ mod Sweeping
 mod Truths
 mod Spanning
 mod Turning
+mod Windowing
 mod Telling
+mod Ranging
 mod Results
 mod Nodes
 mod Depths

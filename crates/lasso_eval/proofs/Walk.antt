@@ -11,7 +11,7 @@ use Rattle.ltl_syntax.specs.Table.{Table, tree_at, trees_of, made, has_child, Is
 use Rattle.ltl_syntax.specs.Formula.{Formula, Unary, Binary, nodes_in}
 use Rattle.ltl_syntax.specs.declared.node.UnaryOp.{UnaryOp}
 use Rattle.ltl_syntax.specs.declared.node.BinaryOp.{BinaryOp}
-use Rattle.ltl_syntax.specs.declared.node.UnaryOp.TheVariants.{Always, Eventually, Historically, Next, Not, Once, WeakNext, WeakYesterday, Yesterday}
+use Rattle.ltl_syntax.specs.declared.node.UnaryOp.TheVariants.{Always, AlwaysIn, Eventually, EventuallyIn, Historically, HistoricallyIn, Next, NextTimes, Not, Once, OnceIn, WeakNext, WeakYesterday, Yesterday, YesterdayTimes}
 use Rattle.ltl_syntax.specs.declared.node.BinaryOp.TheVariants.{And, Iff, Implies, Or, Release, Since, StrongRelease, Trigger, Until, WeakUntil}
 use Rattle.ltl_word.specs.Depth.{past_depth}
 use Rattle.lasso_eval.specs.Rows.{cell}
@@ -149,6 +149,12 @@ deeper_one Yesterday f = omega arith
 deeper_one WeakYesterday f = omega arith
 deeper_one Once f = omega arith
 deeper_one Historically f = omega arith
+deeper_one (NextTimes n) f = omega arith
+deeper_one (YesterdayTimes n) f = omega arith
+deeper_one (EventuallyIn m n) f = omega arith
+deeper_one (AlwaysIn m n) f = omega arith
+deeper_one (OnceIn m n) f = omega arith
+deeper_one (HistoricallyIn m n) f = omega arith
 
 deeper_two : (op : BinaryOp) (f g : Formula) → max (past_depth f) (past_depth g) ≤ past_depth (Binary op f g)
 deeper_two And f g = omega arith

@@ -6,3 +6,4 @@ pub mod Truth
 pub mod Neighbours
 pub mod Following
 pub mod Extent
+pub mod Windows

@@ -1,5 +1,5 @@
 // How deep past operators are nested, and how many positions that takes.
-ghost use Rattle.std.specs.Prelude.{◌≡◌, ◌+◌, ◌^◌, ◌<◌, ◌≤◌, ℕ, length, max, IfOk};
+ghost use Rattle.std.specs.Prelude.{◌≡◌, ◌+◌, ◌*◌, ◌^◌, ◌<◌, ◌≤◌, ℕ, length, max, IfOk};
 ghost use Rattle.ltl_syntax.specs.Formula.{Formula, Unary, Binary};
 ghost use Rattle.ltl_syntax.specs.Table.{tree_at};
 ghost use Rattle.ltl_word.specs.Depth.{past_depth};
@@ -10,11 +10,11 @@ use ltl_syntax::{BinaryOp, FormulaTable, Node, UnaryOp};
 use ltl_word::Trace;
 use std::alloc::{AllocError, Global};
 
-/// The greatest number of past operators on a path from the root to a leaf.
+/// How deep past operators are nested under the root, a bounded one as often as it looks back.
 pub fn depth_under(alloc: Global, table: &FormulaTable, root: u32) -> Result<u32, AllocError>
     requires { root < length table.now.nodes }
     ensures depth { IfOk result (λ depth. depth ≡ past_depth (tree_at table.now root)) }
-    ensures small { IfOk result (λ depth. depth ≤ root) }
+    ensures small { IfOk result (λ depth. depth ≤ 255 * root) }
 {
     let mut depths = Vec::with_capacity(alloc, root as usize)?;
     for number in 0..root {
@@ -30,8 +30,9 @@ fn depth_of(table: &FormulaTable, number: u32, depths: &[u32]) -> u32
     requires place { number ≡ length depths.now }
     requires known { AreDepths table.now depths.now }
     ensures depth { result ≡ past_depth (tree_at table.now number) }
-    ensures small { result ≤ number }
+    ensures small { result ≤ 255 * number }
 {
+    let _nodes = table.len();
     match table.node(number) {
         Node::Const(_) | Node::Letter(_) | Node::Fresh(_) => 0,
         Node::Unary(op, a) => depths[a as usize] + past_of_one(op),
@@ -42,9 +43,11 @@ fn depth_of(table: &FormulaTable, number: u32, depths: &[u32]) -> u32
 // How much deeper an operator makes its operand.
 fn past_of_one(op: UnaryOp) -> u32
     ensures deeper { (f : Formula) → past_depth (Unary op f) ≡ past_depth f + result }
-    ensures small { result ≤ 1 }
+    ensures small { result ≤ 255 }
 {
     match op {
+        UnaryOp::YesterdayTimes(n) => n as u32,
+        UnaryOp::OnceIn(_, last) | UnaryOp::HistoricallyIn(_, last) => last as u32,
         UnaryOp::Yesterday | UnaryOp::WeakYesterday | UnaryOp::Once | UnaryOp::Historically => 1,
         _ => 0,
     }
@@ -62,9 +65,9 @@ fn past_of_two(op: BinaryOp) -> u32
 
 /// The number of positions that tell all about a formula of this depth.
 pub fn columns_of(trace: &Trace, depth: u32) -> u128
-    requires { depth < 16384 }
+    requires { depth ≤ 255 * 16384 }
     ensures count { result ≡ columns trace.now depth }
-    ensures small { result < 2 ^ 80 }
+    ensures small { result < 2 ^ 90 }
 {
     match trace {
         Trace::Infinite { stem, loop_part } => {

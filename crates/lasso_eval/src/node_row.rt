@@ -5,6 +5,7 @@ ghost use Rattle.ltl_syntax.specs.Formula.{Formula, Unary, Binary};
 ghost use Rattle.ltl_syntax.specs.Table.{tree_at, has_child};
 ghost use Rattle.ltl_word.specs.declared.trace.Trace.{Trace as TraceSpec};
 ghost use Rattle.ltl_word.specs.Depth.{past_depth};
+ghost use Rattle.lasso_eval.specs.Cells.{max_cells};
 ghost use Rattle.lasso_eval.specs.Rows.{Tells, row_at};
 ghost use Rattle.lasso_eval.specs.Extent.{IsExtent};
 ghost use Rattle.lasso_eval.specs.Following.{FollowsOne, FollowsTwo};
@@ -14,6 +15,7 @@ use crate::local::{Connective, connective_row, constant_row, letter_row, not_row
 use crate::neighbour::{next_row, yesterday_row};
 use crate::row::Row;
 use crate::span::{Span, future_row, past_row};
+use crate::window::{earlier_row, later_row};
 use ltl_syntax::{BinaryOp, FormulaTable, Node, UnaryOp};
 use ltl_word::Trace;
 use std::alloc::{AllocError, Global};
@@ -52,7 +54,8 @@ pub fn node_row(
 
 // The row of an operator of one operand.
 fn unary_row(alloc: Global, op: UnaryOp, a: &[bool], loop_start: usize) -> Result<Row, AllocError>
-    requires { loop_start ≤ length a.now }
+    requires within { loop_start ≤ length a.now }
+    requires few { length a.now ≤ max_cells }
     ensures { IfOk result (FollowsOne op a.now loop_start) }
 {
     match op {
@@ -65,6 +68,12 @@ fn unary_row(alloc: Global, op: UnaryOp, a: &[bool], loop_start: usize) -> Resul
         UnaryOp::WeakYesterday => yesterday_row(alloc, a, true),
         UnaryOp::Once => past_row(alloc, Span::Eventually, a, a),
         UnaryOp::Historically => past_row(alloc, Span::Always, a, a),
+        UnaryOp::NextTimes(n) => later_row(alloc, true, n, n, a, loop_start),
+        UnaryOp::YesterdayTimes(n) => earlier_row(alloc, true, n, n, a),
+        UnaryOp::EventuallyIn(first, last) => later_row(alloc, true, first, last, a, loop_start),
+        UnaryOp::AlwaysIn(first, last) => later_row(alloc, false, first, last, a, loop_start),
+        UnaryOp::OnceIn(first, last) => earlier_row(alloc, true, first, last, a),
+        UnaryOp::HistoricallyIn(first, last) => earlier_row(alloc, false, first, last, a),
     }
 }
 

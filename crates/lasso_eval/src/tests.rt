@@ -24,7 +24,7 @@ fn push(rt: &impl Abort, table: &mut FormulaTable, node: Node) -> Result<u32, Fa
     match node {
         Node::Const(_) | Node::Fresh(_) => {}
         Node::Letter(letter) => assert!(rt; letter < table.letters()),
-        Node::Unary(_, a) => assert!(rt; table.is_root(a)),
+        Node::Unary(op, a) => assert!(rt; table.is_root(a) && op.is_in_order()),
         Node::Binary(_, a, b) => assert!(rt; table.is_root(a) && table.is_root(b) && a != b),
     }
     Ok(table.push(node)?)
@@ -41,6 +41,41 @@ fn unary_of(word: &str) -> Option<UnaryOp> {
         "Z" => Some(UnaryOp::WeakYesterday),
         "O" => Some(UnaryOp::Once),
         "H" => Some(UnaryOp::Historically),
+        _ => bounded_of(word),
+    }
+}
+
+// The numbers that the rows below use.
+fn bounded_of(word: &str) -> Option<UnaryOp> {
+    match word {
+        "X[0]" => Some(UnaryOp::NextTimes(0)),
+        "X[1]" => Some(UnaryOp::NextTimes(1)),
+        "X[2]" => Some(UnaryOp::NextTimes(2)),
+        "X[4]" => Some(UnaryOp::NextTimes(4)),
+        "X[5]" => Some(UnaryOp::NextTimes(5)),
+        "X[7]" => Some(UnaryOp::NextTimes(7)),
+        "X[255]" => Some(UnaryOp::NextTimes(255)),
+        "Y[0]" => Some(UnaryOp::YesterdayTimes(0)),
+        "Y[2]" => Some(UnaryOp::YesterdayTimes(2)),
+        "Y[4]" => Some(UnaryOp::YesterdayTimes(4)),
+        "F[0,2]" => Some(UnaryOp::EventuallyIn(0, 2)),
+        "F[0,3]" => Some(UnaryOp::EventuallyIn(0, 3)),
+        "F[2,9]" => Some(UnaryOp::EventuallyIn(2, 9)),
+        "F[4,6]" => Some(UnaryOp::EventuallyIn(4, 6)),
+        "F[4,7]" => Some(UnaryOp::EventuallyIn(4, 7)),
+        "F[7,255]" => Some(UnaryOp::EventuallyIn(7, 255)),
+        "G[0,2]" => Some(UnaryOp::AlwaysIn(0, 2)),
+        "G[0,3]" => Some(UnaryOp::AlwaysIn(0, 3)),
+        "G[1,9]" => Some(UnaryOp::AlwaysIn(1, 9)),
+        "G[4,6]" => Some(UnaryOp::AlwaysIn(4, 6)),
+        "O[0,2]" => Some(UnaryOp::OnceIn(0, 2)),
+        "O[0,3]" => Some(UnaryOp::OnceIn(0, 3)),
+        "O[2,2]" => Some(UnaryOp::OnceIn(2, 2)),
+        "O[2,3]" => Some(UnaryOp::OnceIn(2, 3)),
+        "O[4,9]" => Some(UnaryOp::OnceIn(4, 9)),
+        "H[0,3]" => Some(UnaryOp::HistoricallyIn(0, 3)),
+        "H[1,3]" => Some(UnaryOp::HistoricallyIn(1, 3)),
+        "H[4,9]" => Some(UnaryOp::HistoricallyIn(4, 9)),
         _ => None,
     }
 }
@@ -128,6 +163,36 @@ fn holds_on_infinite_traces(rt: HostRuntime) -> Result<(), Fail> {
         ("p q S G", Some("q"), "p", true),
         ("p q <-> X", None, "p|", true),
         ("p q -> q | !", None, "p|q", true),
+        ("p F[0,2]", None, "|||p", false),
+        ("p F[0,3]", None, "|||p", true),
+        ("p F[4,6]", None, "|||p", false),
+        ("p F[4,7]", None, "|||p", true),
+        ("p F[2,9]", Some("p"), "|p", true),
+        ("p F[7,255]", Some("p"), "", false),
+        ("p G[0,2]", None, "p|p|p|", true),
+        ("p G[0,3]", None, "p|p|p|", false),
+        ("p G[4,6]", None, "p|p|p|", true),
+        ("p G[1,9]", Some(""), "p|p", true),
+        ("p G[1,9]", None, "p|p|", false),
+        ("p X[0]", None, "|p|", false),
+        ("p X[5]", None, "|p|", false),
+        ("p X[7]", None, "|p|", true),
+        ("p X[255]", Some(""), "p", true),
+        ("true Y[0]", None, "p", true),
+        ("true Y[2]", None, "p", false),
+        ("true Y[2] X", None, "p", false),
+        ("true Y[2] X[2]", None, "p", true),
+        ("p Y[2] X[4]", Some("q|q|p"), "", true),
+        ("p p Y[4] & F", None, "p|", true),
+        ("p O[2,2] X[4]", Some("q|p"), "", false),
+        ("p O[2,3] X[4]", Some("q|p"), "", true),
+        ("p O[4,9] X[4]", Some("q|p"), "", false),
+        ("p O[0,3] G X[2]", None, "||p|", true),
+        ("p O[0,2] G X[2]", None, "||p|", false),
+        ("false H[1,3]", None, "p", true),
+        ("p H[1,3] X[2]", Some("p|p"), "", true),
+        ("p H[0,3] X[2]", Some("p|p"), "", false),
+        ("p H[4,9] X[5]", Some("p|p"), "", true),
     ];
     for (text, stem, loop_part, want) in rows {
         let trace = Trace::Infinite {
@@ -153,6 +218,15 @@ fn holds_on_finite_traces(rt: HostRuntime) -> Result<(), Fail> {
         ("q p S", "q|p", false),
         ("p G", "p|p", true),
         ("q p U", "q|q", false),
+        ("true X[1]", "q|p", true),
+        ("true X[2]", "q|p", false),
+        ("p F[2,9]", "q|p", false),
+        ("p F[0,3]", "q|p", true),
+        ("p G[1,9]", "q|p", true),
+        ("p G[1,9]", "q|p|", false),
+        ("false G[4,6]", "q|p", true),
+        ("p H[1,3] X", "p|q", true),
+        ("q O[2,3] X[1]", "q|q", false),
     ];
     for (text, states_text, want) in rows {
         let trace = Trace::Finite {
@@ -167,9 +241,23 @@ fn holds_on_finite_traces(rt: HostRuntime) -> Result<(), Fail> {
     Ok(())
 }
 
-// 101 nodes on the columns of 101 loops.
+// 101 nodes on the columns of 101 loops, and 18 nodes on those of 17 * 255 + 1.
 #[test]
 fn counts_the_cells(rt: HostRuntime) -> Result<(), Fail> {
+    let rows = [
+        (UnaryOp::Yesterday, 100, Err(EvalRefused::Cells(81_608_000))),
+        (
+            UnaryOp::YesterdayTimes(255),
+            17,
+            Err(EvalRefused::Cells(624_384_000)),
+        ),
+        (
+            UnaryOp::HistoricallyIn(7, 255),
+            17,
+            Err(EvalRefused::Cells(624_384_000)),
+        ),
+        (UnaryOp::EventuallyIn(7, 255), 17, Ok(true)),
+    ];
     let mut empty = Vec::new(rt.alloc());
     for _ in 0..8_000 {
         empty.push(StateSet::from_names(Vec::new(rt.alloc()))?)?;
@@ -178,17 +266,18 @@ fn counts_the_cells(rt: HostRuntime) -> Result<(), Fail> {
         stem: states(rt.alloc(), None)?,
         loop_part: States::new(empty),
     };
-    let mut table = FormulaTable::new(rt.alloc());
-    let mut root = formula(&rt, &mut table, rt.alloc(), "true")?;
-    for _ in 0..100 {
-        root = push(&rt, &mut table, Node::Unary(UnaryOp::Yesterday, root))?;
+    for (op, times, want) in rows {
+        let mut table = FormulaTable::new(rt.alloc());
+        let mut root = formula(&rt, &mut table, rt.alloc(), "true")?;
+        for _ in 0..times {
+            root = push(&rt, &mut table, Node::Unary(op, root))?;
+        }
+        assert!(rt; root < table.len());
+        match &trace {
+            Trace::Infinite { stem: _, loop_part } => assert!(rt; loop_part.as_slice().len() > 0),
+            Trace::Finite { states } => assert!(rt; states.as_slice().len() > 0),
+        }
+        assert_eq!(rt; holds(rt.alloc(), &table, root, &trace), want);
     }
-    assert!(rt; root < table.len());
-    match &trace {
-        Trace::Infinite { stem: _, loop_part } => assert!(rt; loop_part.as_slice().len() > 0),
-        Trace::Finite { states } => assert!(rt; states.as_slice().len() > 0),
-    }
-    let refused = holds(rt.alloc(), &table, root, &trace);
-    assert_eq!(rt; refused, Err(EvalRefused::Cells(81_608_000)));
     Ok(())
 }

@@ -1,5 +1,6 @@
--- What the nodes of a table bring to a closure: at most three entries for each of two signs, beside the constants.
-use Rattle.std.proofs.Common.{◌≡◌, ℕ, ◌+◌, ◌*◌, ◌≤◌, ◌⊎◌, inl, inr, Bool, true, false, not, refl, sym, subst, arith, List, [], ◌∷◌, ◌++◌, length, length-append, Contains}
+-- What the nodes of a table bring to a closure: at most three entries for each of two signs and each unit of their size, beside the constants.
+-- A bounded operator brings at most two for a sign and a unit.
+use Rattle.std.proofs.Common.{◌≡◌, ℕ, zero, suc, ◌+◌, ◌*◌, ◌≤◌, ◌⊎◌, inl, inr, Bool, true, false, not, refl, sym, subst, arith, List, [], ◌∷◌, ◌++◌, length, length-append, Contains}
 use Rattle.std.proofs.Math.ListN.{get_or-eq_default}
 use Rattle.std.proofs.lemmas.Bool.{cases_lt}
 use Rattle.std.proofs.lemmas.List.Elements.{Contains-get_or, Contains-append_left, Contains-append_right, Contains-append_cases, Contains-push_cases}
@@ -10,8 +11,9 @@ use Rattle.ltl_syntax.specs.declared.node.UnaryOp.TheVariants as one
 use Rattle.ltl_syntax.specs.declared.node.BinaryOp.{BinaryOp}
 use Rattle.ltl_syntax.specs.declared.node.BinaryOp.TheVariants as two
 use Rattle.ltl_syntax.specs.Formula.{Atom, Formula, Const, Letter, Unary, Binary}
+use Rattle.ltl_syntax.specs.Size.{operator_size, node_size, sizes}
 use Rattle.ltl_syntax.specs.Table.{Table, tree_among, made, trees_after, trees_of, tree_at}
-use Rattle.ltl_closure.specs.Norm.{Norm, NConst, NLetter, NNotLetter, NAnd, NOr, NNext, NWeakNext, NYesterday, NWeakYesterday, NUntil, NRelease, NSince, NTrigger, pos_of, neg_of}
+use Rattle.ltl_closure.specs.Norm.{Norm, NConst, NLetter, NNotLetter, NAnd, NOr, NNext, NWeakNext, NYesterday, NWeakYesterday, NUntil, NRelease, NSince, NTrigger, times, window, pos_of, neg_of}
 use Rattle.ltl_closure.specs.Closure.{walk}
 use Rattle.ltl_closure.specs.Keys.{operands}
 use Rattle.ltl_closure.proofs.Lists.{Contains-nil, Contains-cons_cases, Contains-here, Contains-there}
@@ -48,31 +50,144 @@ three_few (NRelease a b) = omega arith
 three_few (NSince a b) = omega arith
 three_few (NTrigger a b) = omega arith
 
+-- what a request several times over brings, and what a range does
+abbrev times_brings : (Norm → Norm) → ℕ → Norm → List Norm
+times_brings N zero c = []
+times_brings N (suc n) c = N (times N n c) ∷ times_brings N n c
+
+abbrev window_brings : (Norm → Norm → Norm) → Norm → (Norm → Norm) → ℕ → ℕ → Norm → List Norm
+window_brings J z N zero zero c = []
+window_brings J z N zero (suc b) c = J c (N (window J z N zero b c)) ∷ N (window J z N zero b c) ∷ window_brings J z N zero b c
+window_brings J z N (suc a) (suc b) c = N (window J z N a b c) ∷ window_brings J z N a b c
+window_brings J z N (suc a) zero c = []
+
+times_few : (N : Norm → Norm) (n : ℕ) (c : Norm) → length (times_brings N n c) ≤ n
+times_few N zero c = omega arith
+times_few N (suc n) c = let r = times_few N n c in omega arith
+
+window_few : (J : Norm → Norm → Norm) (z : Norm) (N : Norm → Norm) (a b : ℕ) (c : Norm) → length (window_brings J z N a b c) ≤ 2 * b
+window_few J z N zero zero c = omega arith
+window_few J z N zero (suc b) c = let r = window_few J z N zero b c in omega arith
+window_few J z N (suc a) (suc b) c = let r = window_few J z N a b c in omega arith
+window_few J z N (suc a) zero c = omega arith
+
+-- what a tree's topmost operator brings
+abbrev brings_pos : Formula → List Norm
+brings_pos (Const b) = three (pos_of (Const b))
+brings_pos (Letter p) = three (pos_of (Letter p))
+brings_pos (Unary (one.NextTimes n) a) = times_brings NNext n (pos_of a)
+brings_pos (Unary (one.YesterdayTimes n) a) = times_brings NYesterday n (pos_of a)
+brings_pos (Unary (one.EventuallyIn m n) a) = window_brings NOr (NConst false) NNext m n (pos_of a)
+brings_pos (Unary (one.AlwaysIn m n) a) = window_brings NAnd (NConst true) NWeakNext m n (pos_of a)
+brings_pos (Unary (one.OnceIn m n) a) = window_brings NOr (NConst false) NYesterday m n (pos_of a)
+brings_pos (Unary (one.HistoricallyIn m n) a) = window_brings NAnd (NConst true) NWeakYesterday m n (pos_of a)
+brings_pos (Unary one.Not a) = three (pos_of (Unary one.Not a))
+brings_pos (Unary one.Next a) = three (pos_of (Unary one.Next a))
+brings_pos (Unary one.WeakNext a) = three (pos_of (Unary one.WeakNext a))
+brings_pos (Unary one.Eventually a) = three (pos_of (Unary one.Eventually a))
+brings_pos (Unary one.Always a) = three (pos_of (Unary one.Always a))
+brings_pos (Unary one.Yesterday a) = three (pos_of (Unary one.Yesterday a))
+brings_pos (Unary one.WeakYesterday a) = three (pos_of (Unary one.WeakYesterday a))
+brings_pos (Unary one.Once a) = three (pos_of (Unary one.Once a))
+brings_pos (Unary one.Historically a) = three (pos_of (Unary one.Historically a))
+brings_pos (Binary op a b) = three (pos_of (Binary op a b))
+
+abbrev brings_neg : Formula → List Norm
+brings_neg (Const b) = three (neg_of (Const b))
+brings_neg (Letter p) = three (neg_of (Letter p))
+brings_neg (Unary (one.NextTimes n) a) = times_brings NWeakNext n (neg_of a)
+brings_neg (Unary (one.YesterdayTimes n) a) = times_brings NWeakYesterday n (neg_of a)
+brings_neg (Unary (one.EventuallyIn m n) a) = window_brings NAnd (NConst true) NWeakNext m n (neg_of a)
+brings_neg (Unary (one.AlwaysIn m n) a) = window_brings NOr (NConst false) NNext m n (neg_of a)
+brings_neg (Unary (one.OnceIn m n) a) = window_brings NAnd (NConst true) NWeakYesterday m n (neg_of a)
+brings_neg (Unary (one.HistoricallyIn m n) a) = window_brings NOr (NConst false) NYesterday m n (neg_of a)
+brings_neg (Unary one.Not a) = three (neg_of (Unary one.Not a))
+brings_neg (Unary one.Next a) = three (neg_of (Unary one.Next a))
+brings_neg (Unary one.WeakNext a) = three (neg_of (Unary one.WeakNext a))
+brings_neg (Unary one.Eventually a) = three (neg_of (Unary one.Eventually a))
+brings_neg (Unary one.Always a) = three (neg_of (Unary one.Always a))
+brings_neg (Unary one.Yesterday a) = three (neg_of (Unary one.Yesterday a))
+brings_neg (Unary one.WeakYesterday a) = three (neg_of (Unary one.WeakYesterday a))
+brings_neg (Unary one.Once a) = three (neg_of (Unary one.Once a))
+brings_neg (Unary one.Historically a) = three (neg_of (Unary one.Historically a))
+brings_neg (Binary op a b) = three (neg_of (Binary op a b))
+
+-- its size
+abbrev top_size : Formula → ℕ
+top_size (Const b) = 1
+top_size (Letter p) = 1
+top_size (Unary op a) = operator_size op
+top_size (Binary op a b) = 1
+
+brings_pos_few : (f : Formula) → length (brings_pos f) ≤ 3 * top_size f
+brings_pos_few (Const b) = three_few (pos_of (Const b))
+brings_pos_few (Letter p) = three_few (pos_of (Letter p))
+brings_pos_few (Unary (one.NextTimes n) a) = let c = times_few NNext n (pos_of a) in omega arith
+brings_pos_few (Unary (one.YesterdayTimes n) a) = let c = times_few NYesterday n (pos_of a) in omega arith
+brings_pos_few (Unary (one.EventuallyIn m n) a) = let c = window_few NOr (NConst false) NNext m n (pos_of a) in omega arith
+brings_pos_few (Unary (one.AlwaysIn m n) a) = let c = window_few NAnd (NConst true) NWeakNext m n (pos_of a) in omega arith
+brings_pos_few (Unary (one.OnceIn m n) a) = let c = window_few NOr (NConst false) NYesterday m n (pos_of a) in omega arith
+brings_pos_few (Unary (one.HistoricallyIn m n) a) = let c = window_few NAnd (NConst true) NWeakYesterday m n (pos_of a) in omega arith
+brings_pos_few (Unary one.Not a) = three_few (pos_of (Unary one.Not a))
+brings_pos_few (Unary one.Next a) = three_few (pos_of (Unary one.Next a))
+brings_pos_few (Unary one.WeakNext a) = three_few (pos_of (Unary one.WeakNext a))
+brings_pos_few (Unary one.Eventually a) = three_few (pos_of (Unary one.Eventually a))
+brings_pos_few (Unary one.Always a) = three_few (pos_of (Unary one.Always a))
+brings_pos_few (Unary one.Yesterday a) = three_few (pos_of (Unary one.Yesterday a))
+brings_pos_few (Unary one.WeakYesterday a) = three_few (pos_of (Unary one.WeakYesterday a))
+brings_pos_few (Unary one.Once a) = three_few (pos_of (Unary one.Once a))
+brings_pos_few (Unary one.Historically a) = three_few (pos_of (Unary one.Historically a))
+brings_pos_few (Binary op a b) = three_few (pos_of (Binary op a b))
+
+brings_neg_few : (f : Formula) → length (brings_neg f) ≤ 3 * top_size f
+brings_neg_few (Const b) = three_few (neg_of (Const b))
+brings_neg_few (Letter p) = three_few (neg_of (Letter p))
+brings_neg_few (Unary (one.NextTimes n) a) = let c = times_few NWeakNext n (neg_of a) in omega arith
+brings_neg_few (Unary (one.YesterdayTimes n) a) = let c = times_few NWeakYesterday n (neg_of a) in omega arith
+brings_neg_few (Unary (one.EventuallyIn m n) a) = let c = window_few NAnd (NConst true) NWeakNext m n (neg_of a) in omega arith
+brings_neg_few (Unary (one.AlwaysIn m n) a) = let c = window_few NOr (NConst false) NNext m n (neg_of a) in omega arith
+brings_neg_few (Unary (one.OnceIn m n) a) = let c = window_few NAnd (NConst true) NWeakYesterday m n (neg_of a) in omega arith
+brings_neg_few (Unary (one.HistoricallyIn m n) a) = let c = window_few NOr (NConst false) NYesterday m n (neg_of a) in omega arith
+brings_neg_few (Unary one.Not a) = three_few (neg_of (Unary one.Not a))
+brings_neg_few (Unary one.Next a) = three_few (neg_of (Unary one.Next a))
+brings_neg_few (Unary one.WeakNext a) = three_few (neg_of (Unary one.WeakNext a))
+brings_neg_few (Unary one.Eventually a) = three_few (neg_of (Unary one.Eventually a))
+brings_neg_few (Unary one.Always a) = three_few (neg_of (Unary one.Always a))
+brings_neg_few (Unary one.Yesterday a) = three_few (neg_of (Unary one.Yesterday a))
+brings_neg_few (Unary one.WeakYesterday a) = three_few (neg_of (Unary one.WeakYesterday a))
+brings_neg_few (Unary one.Once a) = three_few (neg_of (Unary one.Once a))
+brings_neg_few (Unary one.Historically a) = three_few (neg_of (Unary one.Historically a))
+brings_neg_few (Binary op a b) = three_few (neg_of (Binary op a b))
+
 -- what trees bring
 abbrev all_of : List Formula → List Norm
 all_of [] = []
-all_of (f ∷ fs) = three (pos_of f) ++ (three (neg_of f) ++ all_of fs)
+all_of (f ∷ fs) = brings_pos f ++ (brings_neg f ++ all_of fs)
 
-all_few : (fs : List Formula) → length (all_of fs) ≤ 6 * length fs
+abbrev top_sizes : List Formula → ℕ
+top_sizes [] = 0
+top_sizes (f ∷ fs) = top_size f + top_sizes fs
+
+all_few : (fs : List Formula) → length (all_of fs) ≤ 6 * top_sizes fs
 all_few [] = omega arith
 all_few (f ∷ fs) =
     let rest = all_few fs in
-    let p = three_few (pos_of f) in
-    let n = three_few (neg_of f) in
-    omega (arith, length-append (three (pos_of f)) (three (neg_of f) ++ all_of fs), length-append (three (neg_of f)) (all_of fs))
+    let p = brings_pos_few f in
+    let n = brings_neg_few f in
+    omega (arith, length-append (brings_pos f) (brings_neg f ++ all_of fs), length-append (brings_neg f) (all_of fs))
 
-positive_in : (fs : List Formula) (f : Formula) → Contains fs f → (e : Norm) → Contains (three (pos_of f)) e → Contains (all_of fs) e
+positive_in : (fs : List Formula) (f : Formula) → Contains fs f → (e : Norm) → Contains (brings_pos f) e → Contains (all_of fs) e
 positive_in [] f h e c = absurd (Contains-nil f h)
 positive_in (g ∷ fs) f h e c = elim (Contains-cons_cases g fs f h) [
-  | inl i ↦ Contains-append_left (three (pos_of g)) (three (neg_of g) ++ all_of fs) e (subst (λ z. Contains (three (pos_of z)) e) (sym i) c)
-  | inr r ↦ Contains-append_right (three (pos_of g)) (three (neg_of g) ++ all_of fs) e (Contains-append_right (three (neg_of g)) (all_of fs) e (positive_in fs f r e c))
+  | inl i ↦ Contains-append_left (brings_pos g) (brings_neg g ++ all_of fs) e (subst (λ z. Contains (brings_pos z) e) (sym i) c)
+  | inr r ↦ Contains-append_right (brings_pos g) (brings_neg g ++ all_of fs) e (Contains-append_right (brings_neg g) (all_of fs) e (positive_in fs f r e c))
 ]
 
-negative_in : (fs : List Formula) (f : Formula) → Contains fs f → (e : Norm) → Contains (three (neg_of f)) e → Contains (all_of fs) e
+negative_in : (fs : List Formula) (f : Formula) → Contains fs f → (e : Norm) → Contains (brings_neg f) e → Contains (all_of fs) e
 negative_in [] f h e c = absurd (Contains-nil f h)
 negative_in (g ∷ fs) f h e c = elim (Contains-cons_cases g fs f h) [
-  | inl i ↦ Contains-append_right (three (pos_of g)) (three (neg_of g) ++ all_of fs) e (Contains-append_left (three (neg_of g)) (all_of fs) e (subst (λ z. Contains (three (neg_of z)) e) (sym i) c))
-  | inr r ↦ Contains-append_right (three (pos_of g)) (three (neg_of g) ++ all_of fs) e (Contains-append_right (three (neg_of g)) (all_of fs) e (negative_in fs f r e c))
+  | inl i ↦ Contains-append_right (brings_pos g) (brings_neg g ++ all_of fs) e (Contains-append_left (brings_neg g) (all_of fs) e (subst (λ z. Contains (brings_neg z) e) (sym i) c))
+  | inr r ↦ Contains-append_right (brings_pos g) (brings_neg g ++ all_of fs) e (Contains-append_right (brings_neg g) (all_of fs) e (negative_in fs f r e c))
 ]
 
 -- trees with their subtrees: a missing child counts as `false`
@@ -116,17 +231,31 @@ trees_made names trees (n ∷ ns) h =
       | inr here ↦ among_more trees t g (made_children names trees n g (subst (λ z. Contains (children z) g) (sym here) k))
     ])
 
-length-trees : (names : List (List ℕ)) (trees : List Formula) (ns : List Node) → length (trees_after names trees ns) ≡ length trees + length ns
-length-trees names trees [] = omega arith
-length-trees names trees (n ∷ ns) = let e = length-trees names (trees ++ made names trees n ∷ []) ns in omega (arith, length-append trees (made names trees n ∷ []))
+top_sizes-push : (fs : List Formula) (f : Formula) → top_sizes (fs ++ f ∷ []) ≡ top_sizes fs + top_size f
+top_sizes-push [] f = omega arith
+top_sizes-push (g ∷ fs) f = omega (arith, top_sizes-push fs f)
+
+made_size : (names : List (List ℕ)) (trees : List Formula) (n : Node) → top_size (made names trees n) ≡ node_size n
+made_size names trees (nodes.Const b) = refl
+made_size names trees (nodes.Letter n) = refl
+made_size names trees (nodes.Fresh n) = refl
+made_size names trees (nodes.Unary op a) = refl
+made_size names trees (nodes.Binary op a b) = refl
+
+sizes-trees : (names : List (List ℕ)) (trees : List Formula) (ns : List Node) → top_sizes (trees_after names trees ns) ≡ top_sizes trees + sizes ns
+sizes-trees names trees [] = omega arith
+sizes-trees names trees (n ∷ ns) =
+    let e = sizes-trees names (trees ++ made names trees n ∷ []) ns in
+    let m = made_size names trees n in
+    omega (arith, top_sizes-push trees (made names trees n))
 
 -- the constants, and what the trees bring
 abbrev pub brought : Table → List Norm
 brought t = NConst true ∷ NConst false ∷ all_of (trees_of t)
 
-pub brought_few : (t : Table) → length (brought t) ≤ 2 + 6 * length t.nodes
+pub brought_few : (t : Table) → length (brought t) ≤ 2 + 6 * sizes t.nodes
 unfolding trees_of
-brought_few t = let n = length-trees t.names [] t.nodes in let all = all_few (trees_of t) in omega arith
+brought_few t = let n = sizes-trees t.names [] t.nodes in let all = all_few (trees_of t) in omega arith
 
 here : (x y z : Norm) → Contains (x ∷ y ∷ z ∷ []) x
 here x y z = Contains-here x (y ∷ z ∷ [])
@@ -193,7 +322,37 @@ module _ (es : List Norm) (consts : (b : Bool) → Contains es (NConst b)) where
   AreIn f = IsIn (pos_of f) × IsIn (neg_of f)
 
   abbrev Brings : Formula → Type 0
-  Brings f = ((e : Norm) → Contains (three (pos_of f)) e → Contains es e) × ((e : Norm) → Contains (three (neg_of f)) e → Contains es e)
+  Brings f = ((e : Norm) → Contains (brings_pos f) e → Contains es e) × ((e : Norm) → Contains (brings_neg f) e → Contains es e)
+
+  -- a request over a walk that is among them, and a range
+  module _ (N : Norm → Norm) (asks : (a : Norm) → walk (N a) ≡ walk a ++ N a ∷ []) where
+    asked_in : (a : Norm) → IsIn a → Contains es (N a) → IsIn (N a)
+    asked_in a ia h e c = unary_in a (N a) ia h e (subst (λ l. Contains l e) (asks a) c)
+
+    times_in : (n : ℕ) (c : Norm) → ((e : Norm) → Contains (times_brings N n c) e → Contains es e) → IsIn c → IsIn (times N n c)
+    times_in zero c h ic = ic
+    times_in (suc n) c h ic =
+        asked_in (times N n c) (times_in n c (λ e k. h e (Contains-there (N (times N n c)) (times_brings N n c) e k)) ic) (h (N (times N n c)) (Contains-here (N (times N n c)) (times_brings N n c)))
+
+    module _ (J : Norm → Norm → Norm) (joins : (a b : Norm) → walk (J a b) ≡ walk a ++ (walk b ++ J a b ∷ [])) (z : Norm) (iz : IsIn z) where
+      window_in : (a b : ℕ) (c : Norm) → ((e : Norm) → Contains (window_brings J z N a b c) e → Contains es e) → IsIn c → IsIn (window J z N a b c)
+      window_in zero zero c h ic = ic
+      window_in zero (suc b) c h ic =
+          let w = window J z N zero b c in
+          let rest : (e : Norm) → Contains (N (window J z N zero b c) ∷ window_brings J z N zero b c) e → Contains es e = λ e k. h e (Contains-there (J c (N (window J z N zero b c))) (N (window J z N zero b c) ∷ window_brings J z N zero b c) e k) in
+          let inner : IsIn (window J z N zero b c) = window_in zero b c (λ e k. rest e (Contains-there (N (window J z N zero b c)) (window_brings J z N zero b c) e k)) ic in
+          let asked : IsIn (N (window J z N zero b c)) = asked_in w inner (rest (N w) (Contains-here (N w) (window_brings J z N zero b c))) in
+          λ e k. binary_in c (N w) (J c (N w)) ic asked (h (J c (N w)) (Contains-here (J c (N w)) (N w ∷ window_brings J z N zero b c))) e (subst (λ l. Contains l e) (joins c (N w)) k)
+      window_in (suc a) (suc b) c h ic =
+          let w = window J z N a b c in
+          asked_in w (window_in a b c (λ e k. h e (Contains-there (N w) (window_brings J z N a b c) e k)) ic) (h (N w) (Contains-here (N w) (window_brings J z N a b c)))
+      window_in (suc a) zero c h ic = iz
+
+    some_are : (a b : ℕ) (c : Norm) → ((e : Norm) → Contains (window_brings NOr (NConst false) N a b c) e → Contains es e) → IsIn c → IsIn (window NOr (NConst false) N a b c)
+    some_are a b c h ic = window_in NOr (λ x y. refl) (NConst false) (const_in false) a b c h ic
+
+    every_are : (a b : ℕ) (c : Norm) → ((e : Norm) → Contains (window_brings NAnd (NConst true) N a b c) e → Contains es e) → IsIn c → IsIn (window NAnd (NConst true) N a b c)
+    every_are a b c h ic = window_in NAnd (λ x y. refl) (NConst true) (const_in true) a b c h ic
 
   unary_are : (op : UnaryOp) (a : Formula) → Brings (Unary op a) → AreIn a → AreIn (Unary op a)
   unary_are one.Not a h i = (i.1, i.0)
@@ -217,6 +376,12 @@ module _ (es : List Norm) (consts : (b : Bool) → Contains es (NConst b)) where
     norm_in (NTrigger (NConst false) (pos_of a)) h.0 (two_in (NConst false) (pos_of a) (const_in false) i.0),
     norm_in (NSince (NConst true) (neg_of a)) h.1 (two_in (NConst true) (neg_of a) (const_in true) i.1),
   )
+  unary_are (one.NextTimes n) a h i = (times_in NNext (λ x. refl) n (pos_of a) h.0 i.0, times_in NWeakNext (λ x. refl) n (neg_of a) h.1 i.1)
+  unary_are (one.YesterdayTimes n) a h i = (times_in NYesterday (λ x. refl) n (pos_of a) h.0 i.0, times_in NWeakYesterday (λ x. refl) n (neg_of a) h.1 i.1)
+  unary_are (one.EventuallyIn m n) a h i = (some_are NNext (λ x. refl) m n (pos_of a) h.0 i.0, every_are NWeakNext (λ x. refl) m n (neg_of a) h.1 i.1)
+  unary_are (one.AlwaysIn m n) a h i = (every_are NWeakNext (λ x. refl) m n (pos_of a) h.0 i.0, some_are NNext (λ x. refl) m n (neg_of a) h.1 i.1)
+  unary_are (one.OnceIn m n) a h i = (some_are NYesterday (λ x. refl) m n (pos_of a) h.0 i.0, every_are NWeakYesterday (λ x. refl) m n (neg_of a) h.1 i.1)
+  unary_are (one.HistoricallyIn m n) a h i = (every_are NWeakYesterday (λ x. refl) m n (pos_of a) h.0 i.0, some_are NYesterday (λ x. refl) m n (neg_of a) h.1 i.1)
 
   -- the connective over these two
   joined_are : (a b g : Norm) → operands g ≡ a ∷ b ∷ [] → ((e : Norm) → Contains (three g) e → Contains es e) → IsIn a → IsIn b → IsIn g

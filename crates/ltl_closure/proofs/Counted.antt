@@ -1,8 +1,9 @@
--- A closure has at most as many entries as its nodes bring, and a walk has no more on its way.
+-- A closure has at most as many entries as its nodes bring by their sizes, and a walk has no more on its way.
 use Rattle.std.proofs.Common.{◌≡◌, ℕ, ◌+◌, ◌≤◌, inl, inr, Bool, true, false, IsTrue, refl, ◌∙◌, ap, subst, arith, List, [], ◌∷◌, ◌++◌, length, length-append, Contains, if◌then◌else◌}
 use Rattle.std.proofs.lemmas.List.{length-map}
 use Rattle.std.proofs.lemmas.List.Elements.{Contains-append_left, Contains-push}
 use Rattle.ltl_syntax.specs.Table.{Table, tree_at}
+use Rattle.ltl_syntax.specs.Size.{sizes}
 use Rattle.ltl_closure.specs.Norm.{Norm, NConst, pos_of}
 use Rattle.ltl_closure.specs.Closure.{closure, walk, with_new, added, holds_entry}
 use Rattle.ltl_closure.specs.Keys.{asking, joined, own, key_of}
@@ -75,7 +76,7 @@ missing_all : (es : List Norm) → missing [] es ≤ length es
 missing_all [] = omega arith
 missing_all (e ∷ es) = let rest = missing_all es in omega arith
 
-pub closure_few : (t : Table) (n : ℕ) → length t.nodes ≤ 16384 → length (closure (tree_at t n)) ≤ 98306
+pub closure_few : (t : Table) (n : ℕ) → sizes t.nodes ≤ 16384 → length (closure (tree_at t n)) ≤ 98306
 closure_few t n few =
     let all = with_new_few [] (walk (pos_of (tree_at t n))) (brought t) (walk_brought t n) in
     let none = missing_all (brought t) in

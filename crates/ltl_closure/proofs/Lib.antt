@@ -9,7 +9,9 @@ pub mod Counted
 pub mod SameKey
 pub mod Entering
 pub mod Plans
+mod Laying
 pub mod Walks
 pub mod Steps
 pub mod Grouping
 pub mod Bounds
+pub mod Ranges

@@ -1,15 +1,15 @@
 -- The plan of a node makes its normal form, and is less work than the node.
-use Rattle.std.proofs.Common.{◌≡◌, ℕ, ◌+◌, ◌<◌, Bool, true, false, not, refl, sym, ◌∙◌, ap, arith, List, [], ◌∷◌, ◌++◌, length}
+use Rattle.std.proofs.Common.{◌≡◌, ℕ, zero, suc, ◌+◌, ◌<◌, Bool, true, false, not, refl, sym, ◌∙◌, ap, arith, List, [], ◌∷◌, ◌++◌, length}
 use Rattle.ltl_syntax.specs.declared.node.UnaryOp.{UnaryOp}
 use Rattle.ltl_syntax.specs.declared.node.BinaryOp.{BinaryOp}
 use Rattle.ltl_syntax.specs.declared.node.UnaryOp.TheVariants as one
 use Rattle.ltl_syntax.specs.declared.node.BinaryOp.TheVariants as two
 use Rattle.ltl_syntax.specs.Formula.{Unary, Binary}
 use Rattle.ltl_syntax.specs.Table.{Table, tree_at}
-use Rattle.ltl_closure.specs.Norm.{Norm, NConst, NAnd, NOr}
+use Rattle.ltl_closure.specs.Norm.{Norm, NConst, NAnd, NOr, times, window}
 use Rattle.ltl_closure.specs.Closure.{walk, with_new}
 use Rattle.ltl_closure.specs.Keys.{asking, joined, own}
-use Rattle.ltl_closure.specs.Plan.{signed, Progress, reached, step, run, AreReady, unary_plan, binary_plan, cost, weights}
+use Rattle.ltl_closure.specs.Plan.{signed, Progress, reached, step, run, AreReady, unary_plan, binary_plan, times_plan, window_plan, cost, window_cost, weights}
 use Rattle.ltl_closure.specs.declared.key.Request.{Request}
 use Rattle.ltl_closure.specs.declared.key.Request.TheVariants as asks
 use Rattle.ltl_closure.specs.declared.key.Connective.{Connective}
@@ -43,6 +43,10 @@ pub ready-append : (t : Table) (ws vs : List Work) (p : Progress) → AreReady t
 ready-append t [] vs p a b = b
 ready-append t (w ∷ ws) vs p a b = (a.0, ready-append t ws vs (step t w p) a.1 b)
 
+pub weights-append : (t : Table) (ws vs : List Work) → weights t (ws ++ vs) ≡ weights t ws + weights t vs
+weights-append t [] vs = omega arith
+weights-append t (w ∷ ws) vs = omega (arith, weights-append t ws vs)
+
 -- the work walks the normal form and leaves its number
 abbrev pub Makes : Table → List Work → Norm → Type 0
 Makes t ws g = (p : Progress) → (run t ws p ≡ reached g p) × AreReady t ws p
@@ -70,6 +74,17 @@ module _ (t : Table) where
         ready-append t ws (vs ++ works.Join c ∷ []) p w.1 (rw w.0 (ready-append t vs (works.Join c ∷ []) (reached a p) v.1 (rw v.0 (tt, tt)))),
       )
 
+  -- a range, with the connective and the request that it is of
+  times_makes : (r : Request) (s : Bool) (a n : ℕ) → a < length t.nodes → Makes t (times_plan r s a n) (times (asking r) n (signed s (tree_at t a)))
+  times_makes r s a zero lt = visit a s lt
+  times_makes r s a (suc n) lt = ask r (times_plan r s a n) _ (times_makes r s a n lt)
+
+  window_makes : (c : Connective) (z : Bool) (r : Request) (s : Bool) (x : ℕ) → x < length t.nodes → (a b : ℕ) → Makes t (window_plan c z r s x a b) (window (joined c) (NConst z) (asking r) a b (signed s (tree_at t x)))
+  window_makes c z r s x lt zero zero = visit x s lt
+  window_makes c z r s x lt zero (suc b) = join c (works.Visit x s ∷ []) (window_plan c z r s x zero b ++ works.Ask r ∷ []) _ _ (visit x s lt) (ask r (window_plan c z r s x zero b) _ (window_makes c z r s x lt zero b))
+  window_makes c z r s x lt (suc a) (suc b) = ask r (window_plan c z r s x a b) _ (window_makes c z r s x lt a b)
+  window_makes c z r s x lt (suc a) zero = constant z
+
   pub unary_makes : (s : Bool) (op : UnaryOp) (a : ℕ) → a < length t.nodes → Makes t (unary_plan s op a) (signed s (Unary op (tree_at t a)))
   unary_makes true one.Not a lt = visit a false lt
   unary_makes false one.Not a lt = visit a true lt
@@ -89,6 +104,18 @@ module _ (t : Table) where
   unary_makes false one.Once a lt = join joins.Trigger (works.Const false ∷ []) (works.Visit a false ∷ []) _ _ (constant false) (visit a false lt)
   unary_makes true one.Historically a lt = join joins.Trigger (works.Const false ∷ []) (works.Visit a true ∷ []) _ _ (constant false) (visit a true lt)
   unary_makes false one.Historically a lt = join joins.Since (works.Const true ∷ []) (works.Visit a false ∷ []) _ _ (constant true) (visit a false lt)
+  unary_makes true (one.NextTimes n) a lt = times_makes asks.Next true a n lt
+  unary_makes false (one.NextTimes n) a lt = times_makes asks.WeakNext false a n lt
+  unary_makes true (one.YesterdayTimes n) a lt = times_makes asks.Yesterday true a n lt
+  unary_makes false (one.YesterdayTimes n) a lt = times_makes asks.WeakYesterday false a n lt
+  unary_makes true (one.EventuallyIn m n) a lt = window_makes joins.Or false asks.Next true a lt m n
+  unary_makes false (one.EventuallyIn m n) a lt = window_makes joins.And true asks.WeakNext false a lt m n
+  unary_makes true (one.AlwaysIn m n) a lt = window_makes joins.And true asks.WeakNext true a lt m n
+  unary_makes false (one.AlwaysIn m n) a lt = window_makes joins.Or false asks.Next false a lt m n
+  unary_makes true (one.OnceIn m n) a lt = window_makes joins.Or false asks.Yesterday true a lt m n
+  unary_makes false (one.OnceIn m n) a lt = window_makes joins.And true asks.WeakYesterday false a lt m n
+  unary_makes true (one.HistoricallyIn m n) a lt = window_makes joins.And true asks.WeakYesterday true a lt m n
+  unary_makes false (one.HistoricallyIn m n) a lt = window_makes joins.Or false asks.Yesterday false a lt m n
 
   module _ (a b : ℕ) (la : a < length t.nodes) (lb : b < length t.nodes) where
     -- two visits and their connective
@@ -124,17 +151,51 @@ module _ (t : Table) where
     binary_makes true two.Trigger = pair joins.Trigger true true
     binary_makes false two.Trigger = pair joins.Since false false
 
+  times_weigh : (r : Request) (s : Bool) (x n : ℕ) → weights t (times_plan r s x n) ≡ cost (tree_at t x) + n
+  times_weigh r s x zero = omega arith
+  times_weigh r s x (suc n) = omega (arith, times_weigh r s x n, weights-append t (times_plan r s x n) (works.Ask r ∷ []))
+
+  window_weigh : (c : Connective) (z : Bool) (r : Request) (s : Bool) (x a b : ℕ) → weights t (window_plan c z r s x a b) ≡ window_cost a b (cost (tree_at t x))
+  window_weigh c z r s x zero zero = omega arith
+  window_weigh c z r s x zero (suc b) =
+      omega (arith, window_weigh c z r s x zero b, weights-append t (window_plan c z r s x zero b) (works.Ask r ∷ []), weights-append t (window_plan c z r s x zero b ++ works.Ask r ∷ []) (works.Join c ∷ []))
+  window_weigh c z r s x (suc a) (suc b) = omega (arith, window_weigh c z r s x a b, weights-append t (window_plan c z r s x a b) (works.Ask r ∷ []))
+  window_weigh c z r s x (suc a) zero = omega arith
+
   -- the plan and the note of its number are less work than the node
   pub unary_less : (s : Bool) (op : UnaryOp) (a : ℕ) → weights t (unary_plan s op a) + 1 < cost (Unary op (tree_at t a))
   unary_less true one.Not a = omega arith
   unary_less false one.Not a = omega arith
-  unary_less s op a = omega arith
+  unary_less true one.Next a = omega arith
+  unary_less false one.Next a = omega arith
+  unary_less true one.WeakNext a = omega arith
+  unary_less false one.WeakNext a = omega arith
+  unary_less true one.Eventually a = omega arith
+  unary_less false one.Eventually a = omega arith
+  unary_less true one.Always a = omega arith
+  unary_less false one.Always a = omega arith
+  unary_less true one.Yesterday a = omega arith
+  unary_less false one.Yesterday a = omega arith
+  unary_less true one.WeakYesterday a = omega arith
+  unary_less false one.WeakYesterday a = omega arith
+  unary_less true one.Once a = omega arith
+  unary_less false one.Once a = omega arith
+  unary_less true one.Historically a = omega arith
+  unary_less false one.Historically a = omega arith
+  unary_less true (one.NextTimes n) a = omega (arith, times_weigh asks.Next true a n)
+  unary_less false (one.NextTimes n) a = omega (arith, times_weigh asks.WeakNext false a n)
+  unary_less true (one.YesterdayTimes n) a = omega (arith, times_weigh asks.Yesterday true a n)
+  unary_less false (one.YesterdayTimes n) a = omega (arith, times_weigh asks.WeakYesterday false a n)
+  unary_less true (one.EventuallyIn m n) a = omega (arith, window_weigh joins.Or false asks.Next true a m n)
+  unary_less false (one.EventuallyIn m n) a = omega (arith, window_weigh joins.And true asks.WeakNext false a m n)
+  unary_less true (one.AlwaysIn m n) a = omega (arith, window_weigh joins.And true asks.WeakNext true a m n)
+  unary_less false (one.AlwaysIn m n) a = omega (arith, window_weigh joins.Or false asks.Next false a m n)
+  unary_less true (one.OnceIn m n) a = omega (arith, window_weigh joins.Or false asks.Yesterday true a m n)
+  unary_less false (one.OnceIn m n) a = omega (arith, window_weigh joins.And true asks.WeakYesterday false a m n)
+  unary_less true (one.HistoricallyIn m n) a = omega (arith, window_weigh joins.And true asks.WeakYesterday true a m n)
+  unary_less false (one.HistoricallyIn m n) a = omega (arith, window_weigh joins.Or false asks.Yesterday false a m n)
 
   pub binary_less : (s : Bool) (op : BinaryOp) (a b : ℕ) → weights t (binary_plan s op a b) + 1 < cost (Binary op (tree_at t a) (tree_at t b))
   binary_less true two.And a b = omega arith
   binary_less false two.And a b = omega arith
   binary_less s op a b = omega arith
-
-pub weights-append : (t : Table) (ws vs : List Work) → weights t (ws ++ vs) ≡ weights t ws + weights t vs
-weights-append t [] vs = omega arith
-weights-append t (w ∷ ws) vs = omega (arith, weights-append t ws vs)

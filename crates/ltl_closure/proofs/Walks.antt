@@ -4,6 +4,7 @@ use Rattle.ltl_syntax.specs.Formula.{Atom, Letter, Unary, Binary}
 use Rattle.ltl_syntax.specs.declared.node.UnaryOp.{UnaryOp}
 use Rattle.ltl_syntax.specs.declared.node.BinaryOp.{BinaryOp}
 use Rattle.ltl_syntax.specs.Table.{Table, tree_at}
+use Rattle.ltl_syntax.specs.Size.{sizes}
 use Rattle.ltl_closure.specs.Norm.{Norm, NConst, NLetter, NNotLetter, pos_of}
 use Rattle.ltl_closure.specs.Closure.{closure, walk, with_new, added, holds_entry}
 use Rattle.ltl_closure.specs.Entries.{place_in, AreEntries}
@@ -87,7 +88,7 @@ joined_operands joins.Trigger a b = refl
 
 module _ (t : Table) (root : ℕ) (ks : List Key) (xs : List Entry) (memo : Memo) (todo : List Work) where
   -- a normal form is put
-  module _ (kept values : List Norm) (g : Norm) (key : Key) (distinct : AreDistinct t.names) (few : length t.nodes ≤ 16384) (shared : AreShared t.names kept ks xs) (there : (v : Norm) → Contains values v → Contains kept v)
+  module _ (kept values : List Norm) (g : Norm) (key : Key) (distinct : AreDistinct t.names) (few : sizes t.nodes ≤ 16384) (shared : AreShared t.names kept ks xs) (there : (v : Norm) → Contains values v → Contains kept v)
       (room : HasRoom memo (length t.nodes)) (known : IsKnown t kept memo) (has : HasOperands kept g) (is : IsKey t.names kept g key) where
     put_at : (ks' : List Key) (xs' : List Entry) (n : ℕ) (ws : List Work) → Enters ks xs key ks' xs' n
         → AreReady t ws (record { kept = with_new kept (own g); values = g ∷ values }) → run t ws (record { kept = with_new kept (own g); values = g ∷ values }) ≡ reached (pos_of (tree_at t root)) (record { kept = []; values = [] })
@@ -256,7 +257,7 @@ module _ (t : Table) (root : ℕ) (ks : List Key) (xs : List Entry) (memo : Memo
       rw w.waiting (put_at w.progress.kept w.progress.values (NLetter p) key w.distinct w.few w.shared w.there w.room w.known (λ d c. absurd (Contains-nil d c)) (fits w.progress.kept) ks' xs' n (works.Negate ∷ todo) enters ((p, refl), rw is at w.ready.1) (rw is at w.ends))
 
 -- where a walk starts
-pub starts : (t : Table) (root : ℕ) (memo : Memo) → AreDistinct t.names → length t.nodes ≤ 16384 → root < length t.nodes → HasRoom memo (length t.nodes) → ((n : ℕ) (s : Bool) → memo_at memo n s ≡ 0) → IsWalking t root [] [] [] memo (works.Visit root true ∷ [])
+pub starts : (t : Table) (root : ℕ) (memo : Memo) → AreDistinct t.names → sizes t.nodes ≤ 16384 → root < length t.nodes → HasRoom memo (length t.nodes) → ((n : ℕ) (s : Bool) → memo_at memo n s ≡ 0) → IsWalking t root [] [] [] memo (works.Visit root true ∷ [])
 starts t root memo distinct few lt room zero = record {
   progress = record { kept = []; values = [] };
   distinct = distinct;

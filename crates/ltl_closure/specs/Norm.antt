@@ -1,7 +1,7 @@
 -- The negation normal form.
-use Rattle.std.specs.Prelude.{Bool, true, false, not}
+use Rattle.std.specs.Prelude.{ℕ, zero, suc, Bool, true, false, not}
 use Rattle.ltl_syntax.specs.Formula.{Atom, Formula, Const, Letter, Unary, Binary}
-use Rattle.ltl_syntax.specs.declared.node.UnaryOp.TheVariants.{Always, Eventually, Historically, Next, Not, Once, WeakNext, WeakYesterday, Yesterday}
+use Rattle.ltl_syntax.specs.declared.node.UnaryOp.TheVariants.{Always, AlwaysIn, Eventually, EventuallyIn, Historically, HistoricallyIn, Next, NextTimes, Not, Once, OnceIn, WeakNext, WeakYesterday, Yesterday, YesterdayTimes}
 use Rattle.ltl_syntax.specs.declared.node.BinaryOp.TheVariants.{And, Iff, Implies, Or, Release, Since, StrongRelease, Trigger, Until, WeakUntil}
 
 -- formulas in normal form
@@ -29,6 +29,31 @@ formula_of (NRelease a b) = Binary Release (formula_of a) (formula_of b)
 formula_of (NSince a b) = Binary Since (formula_of a) (formula_of b)
 formula_of (NTrigger a b) = Binary Trigger (formula_of a) (formula_of b)
 
+-- N n times over
+abbrev pub times : (Norm → Norm) → ℕ → Norm → Norm
+times N zero c = c
+times N (suc n) c = N (times N n c)
+
+-- c at the places that are a to b steps N away, joined by J: a times N, over c, joined with N of c, joined with N of c and so on.
+-- It is z where there is no such place, since a is above b
+abbrev pub window : (Norm → Norm → Norm) → Norm → (Norm → Norm) → ℕ → ℕ → Norm → Norm
+window J z N zero zero c = c
+window J z N zero (suc b) c = J c (N (window J z N zero b c))
+window J z N (suc a) (suc b) c = N (window J z N a b c)
+window J z N (suc a) zero c = z
+
+-- c joined m times over with N of the rest
+abbrev pub chain : (Norm → Norm → Norm) → (Norm → Norm) → ℕ → Norm → Norm
+chain J N zero c = c
+chain J N (suc m) c = J c (N (chain J N m c))
+
+-- somewhere in a range, and everywhere in it
+abbrev pub some_in : (Norm → Norm) → ℕ → ℕ → Norm → Norm
+some_in N a b c = window NOr (NConst false) N a b c
+
+abbrev pub every_in : (Norm → Norm) → ℕ → ℕ → Norm → Norm
+every_in N a b c = window NAnd (NConst true) N a b c
+
 -- the normal form of a formula, and that of its negation
 abbrev mutual
   pub pos_of : Formula → Norm
@@ -51,6 +76,12 @@ abbrev mutual
   pos_of (Unary WeakYesterday a) = NWeakYesterday (pos_of a)
   pos_of (Unary Once a) = NSince (NConst true) (pos_of a)
   pos_of (Unary Historically a) = NTrigger (NConst false) (pos_of a)
+  pos_of (Unary (NextTimes n) a) = times NNext n (pos_of a)
+  pos_of (Unary (YesterdayTimes n) a) = times NYesterday n (pos_of a)
+  pos_of (Unary (EventuallyIn m n) a) = some_in NNext m n (pos_of a)
+  pos_of (Unary (AlwaysIn m n) a) = every_in NWeakNext m n (pos_of a)
+  pos_of (Unary (OnceIn m n) a) = some_in NYesterday m n (pos_of a)
+  pos_of (Unary (HistoricallyIn m n) a) = every_in NWeakYesterday m n (pos_of a)
   pos_of (Binary Since a b) = NSince (pos_of a) (pos_of b)
   pos_of (Binary Trigger a b) = NTrigger (pos_of a) (pos_of b)
 
@@ -74,5 +105,11 @@ abbrev mutual
   neg_of (Unary WeakYesterday a) = NYesterday (neg_of a)
   neg_of (Unary Once a) = NTrigger (NConst false) (neg_of a)
   neg_of (Unary Historically a) = NSince (NConst true) (neg_of a)
+  neg_of (Unary (NextTimes n) a) = times NWeakNext n (neg_of a)
+  neg_of (Unary (YesterdayTimes n) a) = times NWeakYesterday n (neg_of a)
+  neg_of (Unary (EventuallyIn m n) a) = every_in NWeakNext m n (neg_of a)
+  neg_of (Unary (AlwaysIn m n) a) = some_in NNext m n (neg_of a)
+  neg_of (Unary (OnceIn m n) a) = every_in NWeakYesterday m n (neg_of a)
+  neg_of (Unary (HistoricallyIn m n) a) = some_in NYesterday m n (neg_of a)
   neg_of (Binary Since a b) = NTrigger (neg_of a) (neg_of b)
   neg_of (Binary Trigger a b) = NSince (neg_of a) (neg_of b)

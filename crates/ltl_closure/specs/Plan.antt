@@ -1,11 +1,12 @@
 -- The walk over nodes and signs: what each piece of work does to the kept part of the closure, and what a walk has reached.
-use Rattle.std.specs.Prelude.{◌≡◌, ℕ, ◌+◌, ◌*◌, ◌<◌, ◌≤◌, ◌⊎◌, Bool, true, false, not, List, [], ◌∷◌, length, map, slice_index_or, Contains}
+use Rattle.std.specs.Prelude.{◌≡◌, ℕ, zero, suc, ◌+◌, ◌*◌, ◌<◌, ◌≤◌, ◌⊎◌, Bool, true, false, not, List, [], ◌∷◌, ◌++◌, length, map, slice_index_or, Contains}
 use Rattle.ltl_syntax.specs.declared.node.UnaryOp.{UnaryOp}
 use Rattle.ltl_syntax.specs.declared.node.BinaryOp.{BinaryOp}
 use Rattle.ltl_syntax.specs.declared.node.UnaryOp.TheVariants as one
 use Rattle.ltl_syntax.specs.declared.node.BinaryOp.TheVariants as two
 use Rattle.ltl_syntax.specs.Formula.{Atom, Formula, Const, Letter, Unary, Binary}
 use Rattle.ltl_syntax.specs.Table.{Table, tree_at}
+use Rattle.ltl_syntax.specs.Size.{sizes}
 use Rattle.ltl_closure.specs.Norm.{Norm, NConst, NLetter, NNotLetter, pos_of, neg_of}
 use Rattle.ltl_closure.specs.Closure.{walk, with_new}
 use Rattle.ltl_closure.specs.Entries.{place_in}
@@ -95,6 +96,23 @@ abbrev pub AreReady : Table → List Work → Progress → Type 0
 AreReady t [] p = Unit {0}
 AreReady t (w ∷ ws) p = IsReady t w p × AreReady t ws (step t w p)
 
+-- what there is to do for a request several times over, and for a range
+abbrev pub times_plan : Request → Bool → ℕ → ℕ → List Work
+times_plan r s n zero = works.Visit n s ∷ []
+times_plan r s n (suc k) = times_plan r s n k ++ works.Ask r ∷ []
+
+abbrev pub window_plan : Connective → Bool → Request → Bool → ℕ → ℕ → ℕ → List Work
+window_plan c z r s n zero zero = works.Visit n s ∷ []
+window_plan c z r s n zero (suc b) = works.Visit n s ∷ ((window_plan c z r s n zero b ++ works.Ask r ∷ []) ++ works.Join c ∷ [])
+window_plan c z r s n (suc a) (suc b) = window_plan c z r s n a b ++ works.Ask r ∷ []
+window_plan c z r s n (suc a) zero = works.Const z ∷ []
+
+abbrev pub some_plan : Request → Bool → ℕ → ℕ → ℕ → List Work
+some_plan r s n a b = window_plan joins.Or false r s n a b
+
+abbrev pub every_plan : Request → Bool → ℕ → ℕ → ℕ → List Work
+every_plan r s n a b = window_plan joins.And true r s n a b
+
 -- what there is to do for an operator
 abbrev pub unary_plan : Bool → UnaryOp → ℕ → List Work
 unary_plan s one.Not a = works.Visit a (not s) ∷ []
@@ -114,6 +132,18 @@ unary_plan true one.Once a = works.Const true ∷ works.Visit a true ∷ works.J
 unary_plan false one.Once a = works.Const false ∷ works.Visit a false ∷ works.Join joins.Trigger ∷ []
 unary_plan true one.Historically a = works.Const false ∷ works.Visit a true ∷ works.Join joins.Trigger ∷ []
 unary_plan false one.Historically a = works.Const true ∷ works.Visit a false ∷ works.Join joins.Since ∷ []
+unary_plan true (one.NextTimes n) a = times_plan asks.Next true a n
+unary_plan false (one.NextTimes n) a = times_plan asks.WeakNext false a n
+unary_plan true (one.YesterdayTimes n) a = times_plan asks.Yesterday true a n
+unary_plan false (one.YesterdayTimes n) a = times_plan asks.WeakYesterday false a n
+unary_plan true (one.EventuallyIn m n) a = some_plan asks.Next true a m n
+unary_plan false (one.EventuallyIn m n) a = every_plan asks.WeakNext false a m n
+unary_plan true (one.AlwaysIn m n) a = every_plan asks.WeakNext true a m n
+unary_plan false (one.AlwaysIn m n) a = some_plan asks.Next false a m n
+unary_plan true (one.OnceIn m n) a = some_plan asks.Yesterday true a m n
+unary_plan false (one.OnceIn m n) a = every_plan asks.WeakYesterday false a m n
+unary_plan true (one.HistoricallyIn m n) a = every_plan asks.WeakYesterday true a m n
+unary_plan false (one.HistoricallyIn m n) a = some_plan asks.Yesterday false a m n
 
 abbrev pub connective_of : Bool → BinaryOp → Connective
 connective_of true two.And = joins.And
@@ -158,11 +188,35 @@ binary_plan false two.StrongRelease a b = nested_plan false joins.Or two.StrongR
 binary_plan s two.Since a b = plain_plan s two.Since a b
 binary_plan s two.Trigger a b = plain_plan s two.Trigger a b
 
+-- the most steps that a range takes over an operand that takes d, and that an operator takes
+abbrev pub window_cost : ℕ → ℕ → ℕ → ℕ
+window_cost zero zero d = d
+window_cost zero (suc b) d = d + window_cost zero b d + 2
+window_cost (suc a) (suc b) d = window_cost a b d + 1
+window_cost (suc a) zero d = 1
+
+abbrev pub operator_cost : UnaryOp → ℕ → ℕ
+operator_cost one.Not d = d + 4
+operator_cost one.Next d = d + 4
+operator_cost one.WeakNext d = d + 4
+operator_cost one.Eventually d = d + 4
+operator_cost one.Always d = d + 4
+operator_cost one.Yesterday d = d + 4
+operator_cost one.WeakYesterday d = d + 4
+operator_cost one.Once d = d + 4
+operator_cost one.Historically d = d + 4
+operator_cost (one.NextTimes n) d = d + n + 4
+operator_cost (one.YesterdayTimes n) d = d + n + 4
+operator_cost (one.EventuallyIn m n) d = window_cost m n d + 4
+operator_cost (one.AlwaysIn m n) d = window_cost m n d + 4
+operator_cost (one.OnceIn m n) d = window_cost m n d + 4
+operator_cost (one.HistoricallyIn m n) d = window_cost m n d + 4
+
 -- the most steps that a tree takes, were nothing shared
 abbrev pub cost : Formula → ℕ
 cost (Const b) = 1
 cost (Letter p) = 2
-cost (Unary op a) = cost a + 4
+cost (Unary op a) = operator_cost op (cost a)
 cost (Binary op a b) = 2 * cost a + 2 * cost b + 6
 
 abbrev pub weight : Table → Work → ℕ
@@ -199,7 +253,7 @@ pub record IsWalking (t : Table) (root : ℕ) (stored : List Key) (entries : Lis
   pub progress : Progress
   pub distinct : AreDistinct t.names
   pub shared : AreShared t.names progress.kept stored entries
-  pub few : length t.nodes ≤ 16384
+  pub few : sizes t.nodes ≤ 16384
   pub there : (v : Norm) → Contains progress.values v → Contains progress.kept v
   pub waiting : numbers ≡ map (place_in progress.kept) progress.values
   pub room : HasRoom memo (length t.nodes)

@@ -2,9 +2,9 @@
 use Rattle.std.specs.Prelude.{◌≡◌, true, false, List, [], ◌∷◌, refl}
 use Rattle.ltl_syntax.specs.declared.node.Kind.TheVariants as Kinds
 use Rattle.ltl_syntax.specs.Formula.{Atom, Name, Formula, Const, Letter, Unary, Binary}
-use Rattle.ltl_syntax.specs.declared.node.UnaryOp.TheVariants.{Always, Eventually, Not, WeakNext}
+use Rattle.ltl_syntax.specs.declared.node.UnaryOp.TheVariants.{Always, Eventually, EventuallyIn, NextTimes, Not, OnceIn, WeakNext}
 use Rattle.ltl_syntax.specs.declared.node.BinaryOp.TheVariants.{And, Iff}
-use Rattle.ltl_closure.specs.Norm.{Norm, NConst, NLetter, NNotLetter, NAnd, NOr, NNext, NWeakNext, NUntil, NRelease}
+use Rattle.ltl_closure.specs.Norm.{Norm, NConst, NLetter, NNotLetter, NAnd, NOr, NNext, NWeakNext, NYesterday, NUntil, NRelease, pos_of, neg_of}
 use Rattle.ltl_closure.specs.Closure.{closure}
 use Rattle.ltl_closure.specs.Run.{bound}
 
@@ -75,3 +75,21 @@ finite_bound = refl
 
 letter_bound : bound (Letter p) Kinds.Infinite ≡ 1
 letter_bound = refl
+
+-- a bounded operator: `F[1,3] p`, its negation, and `O[2,3] p`
+some_row : pos_of (Unary (EventuallyIn 1 3) (Letter p)) ≡ NNext (NOr (NLetter p) (NNext (NOr (NLetter p) (NNext (NLetter p)))))
+some_row = refl
+
+every_row : neg_of (Unary (EventuallyIn 1 3) (Letter p)) ≡ NWeakNext (NAnd (NNotLetter p) (NWeakNext (NAnd (NNotLetter p) (NWeakNext (NNotLetter p)))))
+every_row = refl
+
+once_row : pos_of (Unary (OnceIn 2 3) (Letter p)) ≡ NYesterday (NYesterday (NOr (NLetter p) (NYesterday (NLetter p))))
+once_row = refl
+
+-- the negation of `X[2] p` looks for no position
+times_row : neg_of (Unary (NextTimes 2) (Letter p)) ≡ NWeakNext (NWeakNext (NNotLetter p))
+times_row = refl
+
+-- the closure of `X[2] false`
+times_entries : closure (Unary (NextTimes 2) (Const false)) ≡ NConst false ∷ NNext (NConst false) ∷ NNext (NNext (NConst false)) ∷ []
+times_entries = refl

@@ -1,6 +1,6 @@
 // What there is to do for a node: its operands from left to right, and then the entry of its own operator.
 ghost use Rattle.std.specs.Prelude.{◌≡◌, ◌++◌, reverse, OnOk};
-ghost use Rattle.ltl_closure.specs.Plan.{unary_plan, connective_of, binary_plan};
+ghost use Rattle.ltl_closure.specs.Plan.{unary_plan, times_plan, window_plan, connective_of, binary_plan};
 
 use crate::key::{Connective, Request};
 use ltl_syntax::{BinaryOp, UnaryOp};
@@ -31,6 +31,65 @@ fn put_plan(work: &mut Vec<Work>, plan: &[Work]) -> Result<(), AllocError>
         work.push(piece)?;
     }
     Ok(())
+}
+
+/// Puts the plan of a request several times over.
+fn plan_times(
+    work: &mut Vec<Work>,
+    request: Request,
+    a: u32,
+    positive: bool,
+    n: u8,
+) -> Result<(), AllocError>
+    ensures { OnOk result (reverse work.new.items ≡ times_plan request positive a n ++ reverse work.old.items) }
+{
+    if n == 0 {
+        work.push(Work::Visit(a, positive))?;
+        return Ok(());
+    }
+    work.push(Work::Ask(request))?;
+    plan_times(work, request, a, positive, n - 1)
+}
+
+/// Puts the plan of a range.
+fn plan_window(
+    work: &mut Vec<Work>,
+    connective: Connective,
+    none: bool,
+    request: Request,
+    a: u32,
+    positive: bool,
+    from: u8,
+    to: u8,
+) -> Result<(), AllocError>
+    ensures { OnOk result (reverse work.new.items ≡ window_plan connective none request positive a from to ++ reverse work.old.items) }
+{
+    if from == 0 && to == 0 {
+        work.push(Work::Visit(a, positive))?;
+        return Ok(());
+    }
+    if to == 0 {
+        work.push(Work::Const(none))?;
+        return Ok(());
+    }
+    if from == 0 {
+        work.push(Work::Join(connective))?;
+        work.push(Work::Ask(request))?;
+        plan_window(work, connective, none, request, a, positive, 0, to - 1)?;
+        work.push(Work::Visit(a, positive))?;
+        return Ok(());
+    }
+    work.push(Work::Ask(request))?;
+    plan_window(
+        work,
+        connective,
+        none,
+        request,
+        a,
+        positive,
+        from - 1,
+        to - 1,
+    )
 }
 
 pub fn plan_unary(
@@ -80,6 +139,64 @@ pub fn plan_unary(
             put_plan(
                 work,
                 &[Work::Const(false), visit, Work::Join(Connective::Trigger)],
+            )
+        }
+        (UnaryOp::NextTimes(n), true) => plan_times(work, Request::Next, a, true, n),
+        (UnaryOp::NextTimes(n), false) => plan_times(work, Request::WeakNext, a, false, n),
+        (UnaryOp::YesterdayTimes(n), true) => plan_times(work, Request::Yesterday, a, true, n),
+        (UnaryOp::YesterdayTimes(n), false) => plan_times(
+            work,
+            Request::WeakYesterday,
+            a,
+            false,
+            n,
+        ),
+        (UnaryOp::EventuallyIn(m, n), true) | (UnaryOp::AlwaysIn(m, n), false) => {
+            plan_window(
+                work,
+                Connective::Or,
+                false,
+                Request::Next,
+                a,
+                positive,
+                m,
+                n,
+            )
+        }
+        (UnaryOp::EventuallyIn(m, n), false) | (UnaryOp::AlwaysIn(m, n), true) => {
+            plan_window(
+                work,
+                Connective::And,
+                true,
+                Request::WeakNext,
+                a,
+                positive,
+                m,
+                n,
+            )
+        }
+        (UnaryOp::OnceIn(m, n), true) | (UnaryOp::HistoricallyIn(m, n), false) => {
+            plan_window(
+                work,
+                Connective::Or,
+                false,
+                Request::Yesterday,
+                a,
+                positive,
+                m,
+                n,
+            )
+        }
+        (UnaryOp::OnceIn(m, n), false) | (UnaryOp::HistoricallyIn(m, n), true) => {
+            plan_window(
+                work,
+                Connective::And,
+                true,
+                Request::WeakYesterday,
+                a,
+                positive,
+                m,
+                n,
             )
         }
     }

@@ -21,7 +21,7 @@ fn may_follow(table: &FormulaTable, node: Node) -> bool
     match node {
         Node::Const(_) | Node::Fresh(_) => true,
         Node::Letter(letter) => letter < table.letters(),
-        Node::Unary(_, a) => table.is_root(a),
+        Node::Unary(op, a) => table.is_root(a) && op.is_in_order(),
         Node::Binary(_, a, b) => table.is_root(a) && table.is_root(b) && a != b,
     }
 }

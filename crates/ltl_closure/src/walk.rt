@@ -58,6 +58,7 @@ impl Walk {
     {
         // No two names are the same: so a letter has one key.
         let _letters = table.letters();
+        let _size = table.size();
         let mut work = Vec::new(alloc);
         work.push(Work::Visit(root, true))?;
         Ok(Walk {

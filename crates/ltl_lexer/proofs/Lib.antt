@@ -2,6 +2,8 @@ pub mod Cuts
 pub mod Words
 pub mod OneList
 pub mod Places
+mod Numbers
+pub mod Bounded
 mod Fronts
 mod Signs
 mod Cursors

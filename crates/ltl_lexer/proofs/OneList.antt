@@ -6,24 +6,21 @@ use Rattle.std.proofs.lemmas.Bool.{and_parts, or_cases}
 use Rattle.std.proofs.lemmas.List.{append-nil}
 use borrow.Author.Tests.{eqb-true}
 use Rattle.ltl_lexer.specs.declared.token.TokenKind.{TokenKind}
+use Rattle.ltl_lexer.specs.declared.token.TokenKind.TheVariants as kinds
 use Rattle.ltl_lexer.specs.declared.token.Token.{Token}
 use Rattle.ltl_lexer.specs.Tokens.{is_white, AreWhite, sign, Spells, IsLongest, BeginsNoWhite, IsNext, IsLexFault, Ends, AreTokens}
-use Rattle.ltl_lexer.proofs.Words.{is_word_byte, word_front, word_ascii, sign_none}
+use Rattle.ltl_lexer.proofs.Bounded.{bounded_read, found_same}
+use Rattle.ltl_lexer.proofs.Words.{is_word_byte, bounded_no_word, like_front, like_no_sign}
 
 -- a spelling has one kind
 pub one_kind : (bytes : List ℕ) (k m : TokenKind) → Spells bytes k → Spells bytes m → k ≡ m
 one_kind bytes k m (inl p) (inl q) = cc
-one_kind bytes k m (inl p) (inr q) =
-    let f = word_front bytes q.0 in
-    let n = sign_none f.0 f.1 f.3 in
-    let e = ap sign f.2 in
-    absurd (cc)
-one_kind bytes k m (inr p) (inl q) =
-    let f = word_front bytes p.0 in
-    let n = sign_none f.0 f.1 f.3 in
-    let e = ap sign f.2 in
-    absurd (cc)
-one_kind bytes k m (inr p) (inr q) = sym p.1 ∙ q.1
+one_kind bytes k m (inl p) (inr q) = let e = like_no_sign bytes m q in absurd (cc)
+one_kind bytes k m (inr p) (inl q) = let e = like_no_sign bytes k p in absurd (cc)
+one_kind bytes k m (inr (inl p)) (inr (inl q)) = sym p.1 ∙ q.1
+one_kind bytes k m (inr (inl p)) (inr (inr q)) = absurd (bounded_no_word bytes q.0 q.2 p.0)
+one_kind bytes k m (inr (inr p)) (inr (inl q)) = absurd (bounded_no_word bytes p.0 p.2 q.0)
+one_kind bytes k m (inr (inr p)) (inr (inr q)) = p.1 ∙ ap kinds.Unary (found_same p.0 q.0 (length bytes) (length bytes) (sym (bounded_read p.0 bytes [] p.2) ∙ bounded_read q.0 bytes [] q.2)).0 ∙ sym q.1
 
 -- of two ways to cut a list one goes further
 prefix : {A : Type 0} (a b x y : List A) → a ++ x ≡ b ++ y → ((c : List A) × (a ≡ b ++ c) × (y ≡ c ++ x)) ⊎ ((c : List A) × (b ≡ a ++ c) × (x ≡ c ++ y))
@@ -96,14 +93,22 @@ no_white_word b h = white_cases (λ z. (z < 128) × (is_word_byte z ≡ false)) 
 -- a spelling begins with no white space
 pub solid : (bytes rest : List ℕ) (kind : TokenKind) → Spells bytes kind → BeginsNoWhite (bytes ++ rest)
 solid [] rest kind (inl s) = absurd (cc)
-solid [] rest kind (inr w) = let f = (word_front [] w.0).2 in absurd (cc)
+solid [] rest kind (inr w) = let f = (like_front [] kind w).2 in absurd (cc)
 solid (b ∷ bs) rest kind s = go (is_white b) refl
   where
     go : (t : Bool) → is_white b ≡ t → is_white b ≡ false
     go false e = e
     go true e = elim s [
       | inl q ↦ let n = no_white_sign b bs e in absurd (cc)
-      | inr w ↦ let n = no_white_word b e in let m = word_ascii (b ∷ bs) w.0 [] b bs refl n.0 in let o = n.1 in absurd (cc)
+      | inr w ↦
+          let n = no_white_word b e in
+          let f = like_front (b ∷ bs) kind w in
+          let h = f.2 in
+          let same : f.0 ≡ b = cc in
+          elim f.3 [
+            | inl y ↦ let u = ap is_word_byte same in let o = n.1 in absurd (cc)
+            | inr y ↦ let o = n.0 in absurd (omega arith)
+          ]
     ]
 
 not_white : (a x : List ℕ) → BeginsNoWhite x → AreWhite (a ++ x) → ⊥

@@ -2,14 +2,16 @@
 use Rattle.std.proofs.Common.{◌≡◌, ℕ, zero, suc, ◌<◌, ◌≤◌, ◌⊎◌, inl, inr, Bool, true, false, ◌&&◌, ◌||◌, ◌==◌, List, [], ◌∷◌, ◌++◌, length, take, drop, arith, refl, sym, ap, ◌∙◌, subst, append_assoc, length-append}
 use Rattle.std.specs.Prelude.{Option, Some, None, if◌then◌else◌, codes, bytes_eq}
 use Rattle.std.proofs.lemmas.Bool.{and_parts, or_cases}
-use Rattle.std.proofs.lemmas.List.{take-append-drop, length-take-le}
+use Rattle.std.proofs.lemmas.List.{take-append-drop, length-take-le, take_at, drop_at}
 use Rattle.std.proofs.lemmas.Slice.Eq.{bytes_eq-Decides}
 use borrow.Author.Tests.{eqb-true}
 use Rattle.ltl_lexer.specs.declared.token.TokenKind.{TokenKind}
 use Rattle.ltl_lexer.specs.declared.token.TokenKind.TheVariants as kinds
+use Rattle.ltl_lexer.specs.declared.token.UnaryWord.{UnaryWord}
 use Rattle.ltl_lexer.specs.Tokens.{sign, word_kind, Spells, IsLongest, BeginsNone}
-use Rattle.ltl_lexer.specs.Scanning.{begins, begins_second, front_sign, FrontWord}
-use Rattle.ltl_lexer.proofs.Words.{is_word_byte, word_front, sign_none}
+use Rattle.ltl_lexer.specs.Scanning.{begins, begins_second, front_sign, FrontWord, front_bounded}
+use Rattle.ltl_lexer.proofs.Bounded.{bounded_found, bounded_read, found}
+use Rattle.ltl_lexer.proofs.Words.{is_word_byte, word_front, sign_none, like_front, bounded_longest}
 use Rattle.ltl_lexer.proofs.Fronts.{no_word}
 
 pick : (Q A : Type 0) (t : Bool) (x r z : A) → (t ≡ true → x ≡ z → Q) → (r ≡ z → Q) → (if t then x else r) ≡ z → Q
@@ -51,8 +53,8 @@ sign_cases P a b c d e f g h i j k l bytes kind =
 abbrev IsFound : List ℕ → TokenKind → Type 0
 IsFound bytes kind = (rest : List ℕ) → front_sign (bytes ++ rest) ≡ None → ⊥
 
-found : (bytes : List ℕ) (kind : TokenKind) → sign bytes ≡ Some kind → IsFound bytes kind
-found = sign_cases IsFound (λ r e. cc) (λ r e. cc) (λ r e. cc) (λ r e. cc) (λ r e. cc) (λ r e. cc) (λ r e. cc) (λ r e. cc) (λ r e. cc) (λ r e. cc) (λ r e. cc) (λ r e. cc)
+found_sign : (bytes : List ℕ) (kind : TokenKind) → sign bytes ≡ Some kind → IsFound bytes kind
+found_sign = sign_cases IsFound (λ r e. cc) (λ r e. cc) (λ r e. cc) (λ r e. cc) (λ r e. cc) (λ r e. cc) (λ r e. cc) (λ r e. cc) (λ r e. cc) (λ r e. cc) (λ r e. cc) (λ r e. cc)
 
 abbrev some_pair : TokenKind → ℕ → Option (TokenKind × ℕ)
 some_pair a m = Some (a, m)
@@ -153,15 +155,24 @@ sign_token text k n e =
     go more after other d pos (inr w) =
         let g = sign_found text k n e in
         let h = head_of n text g.1 g.0 in
-        let f = word_front (take n text ++ more) w.0 in
+        let f = like_front (take n text ++ more) other w in
         let same : h.0 ∷ (h.1 ++ more) ≡ f.0 ∷ f.1 = sym (ap (λ z. z ++ more) h.2) ∙ f.2 in
         let b : f.0 ≡ h.0 = cc in
         let no : sign (h.0 ∷ h.1) ≡ None = sign_none h.0 h.1 (subst (λ z. (is_word_byte z ≡ true) ⊎ (128 ≤ z)) b f.3) in
         let yes : sign (h.0 ∷ h.1) ≡ Some k = ap sign (sym h.2) ∙ g.2 in
         cc
 
-pub word_token : (text : List ℕ) (n : ℕ) → FrontWord text n → 0 < n → IsLongest (word_kind (take n text)) (take n text) (drop n text)
-word_token text n f pos = record { spells = inr ((f.word pos).0, refl); longest = go }
+pub bounded_token : (text : List ℕ) (word : UnaryWord) (n : ℕ) → front_bounded text ≡ found word n → (n ≤ length text) × IsLongest (kinds.Unary word) (take n text) (drop n text)
+bounded_token text word n e =
+    let f = bounded_found text word n e in
+    let t : take n text ≡ f.bytes = ap (take n) f.whole ∙ take_at f.bytes f.rest n (sym f.long) in
+    let d : drop n text ≡ f.rest = ap (drop n) f.whole ∙ drop_at f.bytes f.rest n (sym f.long) in
+    let l = ap length f.whole ∙ length-append f.bytes f.rest in
+    let m = f.long in
+    (omega arith, subst (λ z. IsLongest (kinds.Unary word) z (drop n text)) (sym t) (subst (λ z. IsLongest (kinds.Unary word) f.bytes z) (sym d) (bounded_longest word f.bytes f.rest f.bounded)))
+
+pub word_token : (text : List ℕ) (n : ℕ) → front_bounded text ≡ None → FrontWord text n → 0 < n → IsLongest (word_kind (take n text)) (take n text) (drop n text)
+word_token text n none f pos = record { spells = inr (inl ((f.word pos).0, refl)); longest = go }
   where
     go : (more after : List ℕ) (other : TokenKind) → drop n text ≡ more ++ after → 0 < length more → Spells (take n text ++ more) other → ⊥
     go more after other d p (inl s) =
@@ -169,9 +180,16 @@ word_token text n f pos = record { spells = inr ((f.word pos).0, refl); longest 
         let no = sign_none w.0 (w.1 ++ more) w.3 in
         let yes : sign (w.0 ∷ (w.1 ++ more)) ≡ Some other = ap sign (sym (ap (λ z. z ++ more) w.2)) ∙ s in
         cc
-    go more after other d p (inr w) = (f.word pos).1 more after d p w.0
+    go more after other d p (inr (inl w)) = (f.word pos).1 more after d p w.0
+    go more after other d p (inr (inr w)) =
+        let whole : (take n text ++ more) ++ after ≡ text = append_assoc (take n text) more after ∙ ap (λ z. take n text ++ z) (sym d) ∙ take-append-drop n text in
+        let yes = sym (bounded_read w.0 (take n text ++ more) after w.2) ∙ ap front_bounded whole ∙ none in
+        cc
 
-pub none_token : (text : List ℕ) → front_sign text ≡ None → FrontWord text 0 → BeginsNone text
-none_token text e f bytes rest kind d (inl s) = found bytes kind s rest (sym (ap front_sign d) ∙ e)
-none_token text e f [] rest kind d (inr w) = no_word w.0
-none_token text e f (b ∷ bs) rest kind d (inr w) = f.none refl (b ∷ bs) rest d (omega arith) w.0
+pub none_token : (text : List ℕ) → front_sign text ≡ None → front_bounded text ≡ None → FrontWord text 0 → BeginsNone text
+none_token text e g f bytes rest kind d (inl s) = found_sign bytes kind s rest (sym (ap front_sign d) ∙ e)
+none_token text e g f [] rest kind d (inr (inl w)) = no_word w.0
+none_token text e g f (b ∷ bs) rest kind d (inr (inl w)) = f.none refl (b ∷ bs) rest d (omega arith) w.0
+none_token text e g f bytes rest kind d (inr (inr w)) =
+    let yes = sym (bounded_read w.0 bytes rest w.2) ∙ ap front_bounded (sym d) ∙ g in
+    cc

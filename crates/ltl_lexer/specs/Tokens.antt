@@ -1,10 +1,12 @@
 -- The tokens of a text: at each place behind white space the longest spelling, up to the first byte that begins none.
 use Rattle.std.specs.Prelude.{◌≡◌, ℕ, ◌+◌, ◌<◌, ◌≤◌, Bool, false, ◌||◌, ◌==◌, IsTrue, List, [], ◌∷◌, ◌++◌, length, slice_range, ◌⊎◌, Option, Some, None, Result, Ok, Err, if◌then◌else◌, codes, bytes_eq, encode_utf8_all}
 use Rattle.std.specs.Str.{all_scalars}
+use Rattle.std.specs.Fmt.{decimal}
 use Rattle.std.specs.List.{list_all}
 use Rattle.unicode_ident.specs.Ident.{is_xid_start, is_xid_continue}
 use Rattle.ltl_lexer.specs.declared.token.TokenKind.{TokenKind}
 use Rattle.ltl_lexer.specs.declared.token.TokenKind.TheVariants as kinds
+use Rattle.ltl_lexer.specs.declared.token.UnaryWord.{UnaryWord}
 use Rattle.ltl_lexer.specs.declared.token.UnaryWord.TheVariants as unary
 use Rattle.ltl_lexer.specs.declared.token.BinaryWord.TheVariants as binary
 use Rattle.ltl_lexer.specs.declared.token.Token.{Token}
@@ -62,9 +64,51 @@ word_kind bytes =
     else (if bytes_eq bytes (codes "T") then kinds.Binary binary.T
     else kinds.Identifier)))))))))))))))
 
--- the bytes, all of them, are a spelling of this kind of token
+-- a word, and right behind it a number from 0 to 255 between brackets, without leading zeros
+abbrev pub HasTimes : List ℕ → ℕ → List ℕ → Type 0
+HasTimes word n bytes = (n ≤ 255) × (bytes ≡ word ++ codes "[" ++ decimal n ++ codes "]")
+
+-- a word, and right behind it two numbers between brackets, of which the first is not above the second
+abbrev pub HasRange : List ℕ → ℕ → ℕ → List ℕ → Type 0
+HasRange word a b bytes = (a ≤ b) × (b ≤ 255) × (bytes ≡ word ++ codes "[" ++ decimal a ++ codes "," ++ decimal b ++ codes "]")
+
+-- the bytes are a bounded operator
+abbrev pub IsBounded : List ℕ → UnaryWord → Type 0
+IsBounded bytes unary.X = ⊥
+IsBounded bytes unary.WX = ⊥
+IsBounded bytes unary.F = ⊥
+IsBounded bytes unary.G = ⊥
+IsBounded bytes unary.Y = ⊥
+IsBounded bytes unary.Z = ⊥
+IsBounded bytes unary.O = ⊥
+IsBounded bytes unary.H = ⊥
+IsBounded bytes (unary.XTimes n) = HasTimes (codes "X") n bytes
+IsBounded bytes (unary.YTimes n) = HasTimes (codes "Y") n bytes
+IsBounded bytes (unary.FIn a b) = HasRange (codes "F") a b bytes
+IsBounded bytes (unary.GIn a b) = HasRange (codes "G") a b bytes
+IsBounded bytes (unary.OIn a b) = HasRange (codes "O") a b bytes
+IsBounded bytes (unary.HIn a b) = HasRange (codes "H") a b bytes
+
+-- the bytes, all of them, are a spelling of this kind of token: a sign, a word, or a bounded operator
 abbrev pub Spells : List ℕ → TokenKind → Type 0
-Spells bytes kind = (sign bytes ≡ Some kind) ⊎ (IsWord bytes × (word_kind bytes ≡ kind))
+Spells bytes kind = (sign bytes ≡ Some kind) ⊎ ((IsWord bytes × (word_kind bytes ≡ kind)) ⊎ ((word : UnaryWord) × (kind ≡ kinds.Unary word) × IsBounded bytes word))
+
+-- the numbers of a bounded operator are at most 255, and in order
+abbrev pub HasNumbers : UnaryWord → Type 0
+HasNumbers unary.X = Unit {0}
+HasNumbers unary.WX = Unit {0}
+HasNumbers unary.F = Unit {0}
+HasNumbers unary.G = Unit {0}
+HasNumbers unary.Y = Unit {0}
+HasNumbers unary.Z = Unit {0}
+HasNumbers unary.O = Unit {0}
+HasNumbers unary.H = Unit {0}
+HasNumbers (unary.XTimes n) = n ≤ 255
+HasNumbers (unary.YTimes n) = n ≤ 255
+HasNumbers (unary.FIn a b) = (a ≤ b) × (b ≤ 255)
+HasNumbers (unary.GIn a b) = (a ≤ b) × (b ≤ 255)
+HasNumbers (unary.OIn a b) = (a ≤ b) × (b ≤ 255)
+HasNumbers (unary.HIn a b) = (a ≤ b) × (b ≤ 255)
 
 -- of the text bytes ++ rest, bytes are the longest spelling at its front
 pub record IsLongest (kind : TokenKind) (bytes rest : List ℕ) : Type 0 where

@@ -2,7 +2,9 @@
 ghost use Rattle.std.specs.Prelude.{◌≡◌, ◌∷◌, List, ℕ, Option, IsUtf8};
 ghost use Rattle.std.specs.List.{All};
 ghost use Rattle.ltl_lexer.specs.declared.token.Token.{Token};
-ghost use Rattle.ltl_lexer.specs.Tokens.{AreTokens, IsPartOf, IsWord};
+ghost use Rattle.ltl_lexer.specs.declared.token.TokenKind.TheVariants as kinds;
+ghost use Rattle.ltl_lexer.specs.declared.token.UnaryWord.{UnaryWord};
+ghost use Rattle.ltl_lexer.specs.Tokens.{AreTokens, HasNumbers, IsPartOf, IsWord, Spells};
 
 /// A text has one list of tokens, and one fault at most.
 pub fn one_list()
@@ -18,4 +20,9 @@ pub fn parts_of_text()
 pub fn words()
     ensures text { (bytes : List ℕ) → IsWord bytes → IsUtf8 bytes }
     ensures no_brace { (rest : List ℕ) → IsWord (123 ∷ rest) → ⊥ }
+{}
+
+/// The numbers of a bounded operator are at most 255, and of two the first is not above the second.
+pub fn numbers_of_operators()
+    ensures { (bytes : List ℕ) (word : UnaryWord) → Spells bytes (kinds.Unary word) → HasNumbers word }
 {}

@@ -76,6 +76,57 @@ fn kinds(rt: HostRuntime) {
 }
 
 #[test]
+fn bounded_operators(rt: HostRuntime) {
+    use TokenKind::*;
+    let alloc = rt.alloc();
+    spells(
+        &rt,
+        alloc,
+        b"X[2]p Y[0] F[0,5]G[10,99] O[100,100]H[9,255]",
+        &[
+            Unary(UnaryWord::XTimes(2)),
+            Identifier,
+            Unary(UnaryWord::YTimes(0)),
+            Unary(UnaryWord::FIn(0, 5)),
+            Unary(UnaryWord::GIn(10, 99)),
+            Unary(UnaryWord::OIn(100, 100)),
+            Unary(UnaryWord::HIn(9, 255)),
+        ],
+    );
+}
+
+#[test]
+fn no_bounded_operators(rt: HostRuntime) {
+    let texts: [(&[u8], u32); 18] = [
+        (b"X[256] p", 1),
+        (b"F[3,2] p", 1),
+        (b"X [2] p", 2),
+        (b"X[02]p", 1),
+        (b"X[00]p", 1),
+        (b"X[1000]p", 1),
+        (b"X[]p", 1),
+        (b"X[2p", 1),
+        (b"X[2", 1),
+        (b"X[", 1),
+        (b"X[ 2]p", 1),
+        (b"X[1,2]p", 1),
+        (b"F[2]p", 1),
+        (b"F[1, 2]p", 1),
+        (b"F[1,2)p", 1),
+        (b"F[0,256]p", 1),
+        (b"wX[2]p", 2),
+        (b"X[2][3]p", 4),
+    ];
+    for (text, byte) in texts {
+        assert!(rt; text.len() < 100);
+        match tokens(rt.alloc(), text) {
+            Err(refused) => assert_eq!(rt; refused, LexRefused::Lexical(byte)),
+            Ok(_) => assert_eq!(rt; None, Some(byte)),
+        }
+    }
+}
+
+#[test]
 fn first_faults(rt: HostRuntime) {
     let texts: [(&[u8], u32); 10] = [
         (b"p $ q", 2),

@@ -1,6 +1,6 @@
 // A token: what kind it is, and where it stands in its text.
 
-/// The reserved words that stand before one operand.
+/// The words that stand before one operand, and those that take numbers: `XTimes(n)` is `X[n]`, and `FIn(a, b)` is `F[a,b]`.
 #[derive(Clone, Copy, PartialEq, Eq, Debug, Drop)]
 pub enum UnaryWord {
     X,
@@ -11,6 +11,12 @@ pub enum UnaryWord {
     Z,
     O,
     H,
+    XTimes(u8),
+    YTimes(u8),
+    FIn(u8, u8),
+    GIn(u8, u8),
+    OIn(u8, u8),
+    HIn(u8, u8),
 }
 
 /// The reserved words that stand between two operands.

@@ -8,16 +8,18 @@ use Rattle.ltl_syntax.specs.declared.node.Node.{Node}
 use Rattle.ltl_syntax.specs.declared.node.Node.TheVariants as nodes
 use Rattle.ltl_syntax.specs.Formula.{Unary, Binary}
 use Rattle.ltl_syntax.specs.Table.{Table, tree_at, trees_of, made, has_child, IsRoot, MayFollow, Pushes}
+use Rattle.ltl_syntax.specs.Size.{node_size, sizes}
+use Rattle.ltl_syntax.proofs.Sizes.{sizes-push}
 use Rattle.ltl_parser.specs.declared.stack.Waiting.{Waiting}
 use Rattle.ltl_parser.specs.declared.stack.Waiting.TheVariants as waits
 use Rattle.ltl_parser.specs.Grammar.{strength}
-use Rattle.ltl_parser.specs.Standing.{Paren, Pre, Half, parens, IsHeld, IsStopped, frames, to_make, AreRoots, ArePending, applied, Becomes}
+use Rattle.ltl_parser.specs.Standing.{Paren, Pre, Half, parens, IsHeld, IsStopped, frames, to_make, to_weigh, AreRoots, ArePending, applied, Becomes}
 use Rattle.ltl_parser.proofs.Holding.{apply_prefix, apply_infix}
 
 pub frames_kept : (t u : Table) (ws : List Waiting) (high : ℕ) → AreRoots t ws high → ((k : ℕ) → k < length t.nodes → tree_at u k ≡ tree_at t k) → frames u ws ≡ frames t ws
 frames_kept t u [] high r e = refl
 frames_kept t u (waits.Paren ∷ ws) high r e = ap (λ z. Paren ∷ z) (frames_kept t u ws high r e)
-frames_kept t u (waits.Prefix op ∷ ws) high r e = ap (λ z. Pre op ∷ z) (frames_kept t u ws high r e)
+frames_kept t u (waits.Prefix op ∷ ws) high r e = ap (λ z. Pre op ∷ z) (frames_kept t u ws high r.1 e)
 frames_kept t u (waits.Infix left op ∷ ws) high r e = ap₂ (λ y z. Half y op ∷ z) (e left r.1.0) (frames_kept t u ws left r.2 e)
 
 pub root_kept : (t u : Table) (node : Node) (k : ℕ) → u.nodes ≡ t.nodes ++ node ∷ [] → IsRoot t k → has_child k node ≡ false → IsRoot u k
@@ -29,13 +31,13 @@ root_kept t u node k e r h = (
 pub roots_kept : (t u : Table) (node : Node) (ws : List Waiting) (high : ℕ) → u.nodes ≡ t.nodes ++ node ∷ [] → AreRoots t ws high → ((k : ℕ) → k < high → has_child k node ≡ false) → AreRoots u ws high
 roots_kept t u node [] high e r h = tt
 roots_kept t u node (waits.Paren ∷ ws) high e r h = roots_kept t u node ws high e r h
-roots_kept t u node (waits.Prefix op ∷ ws) high e r h = roots_kept t u node ws high e r h
+roots_kept t u node (waits.Prefix op ∷ ws) high e r h = (r.0, roots_kept t u node ws high e r.1 h)
 roots_kept t u node (waits.Infix left op ∷ ws) high e r h = (r.0, root_kept t u node left e r.1 (h left r.0), roots_kept t u node ws left e r.2 (λ k lt. h k (let l = r.0 in omega arith)))
 
 pub roots_higher : (t : Table) (ws : List Waiting) (low high : ℕ) → low ≤ high → AreRoots t ws low → AreRoots t ws high
 roots_higher t [] low high le r = tt
 roots_higher t (waits.Paren ∷ ws) low high le r = roots_higher t ws low high le r
-roots_higher t (waits.Prefix op ∷ ws) low high le r = roots_higher t ws low high le r
+roots_higher t (waits.Prefix op ∷ ws) low high le r = (r.0, roots_higher t ws low high le r.1)
 roots_higher t (waits.Infix left op ∷ ws) low high le r = (let l = r.0 in omega arith, r.1, r.2)
 
 above : (a k : ℕ) → k < a → (a == k) ≡ false
@@ -58,7 +60,7 @@ level_lt m n e = grind (arith, nat_tests)
 pub may_follow : (m : ℕ) (t : Table) (ws : List Waiting) (a : ℕ) (node : Node) → applied m ws a ≡ Some node → ArePending t ws a → MayFollow t node
 may_follow m t [] a node e p = absurd (cc)
 may_follow m t (waits.Paren ∷ ws) a node e p = absurd (cc)
-may_follow m t (waits.Prefix op ∷ ws) a node e p = let n : nodes.Unary op a ≡ node = cc in subst (MayFollow t) n p.root
+may_follow m t (waits.Prefix op ∷ ws) a node e p = let n : nodes.Unary op a ≡ node = cc in subst (MayFollow t) n (p.root, p.roots.0)
 may_follow m t (waits.Infix left op ∷ ws) a node e p =
     let n = chosen (nat_le m (strength op)) (nodes.Binary op left a) node e in
     let l = p.roots.0 in
@@ -76,8 +78,14 @@ some_to_make m (waits.Paren ∷ ws) a node e = absurd (cc)
 some_to_make m (waits.Prefix op ∷ ws) a node e = omega arith
 some_to_make m (waits.Infix left op ∷ ws) a node e = omega arith
 
+pub enough_to_weigh : (m : ℕ) (ws : List Waiting) (a : ℕ) (node : Node) → applied m ws a ≡ Some node → node_size node ≤ to_weigh ws
+enough_to_weigh m [] a node e = absurd (cc)
+enough_to_weigh m (waits.Paren ∷ ws) a node e = absurd (cc)
+enough_to_weigh m (waits.Prefix op ∷ ws) a node e = let n : nodes.Unary op a ≡ node = cc in omega (arith, ap node_size n)
+enough_to_weigh m (waits.Infix left op ∷ ws) a node e = let n = chosen (nat_le m (strength op)) (nodes.Binary op left a) node e in omega (arith, ap node_size n.1)
+
 pub becomes_itself : (m : ℕ) (t : Table) (ws : List Waiting) (a : ℕ) → ArePending t ws a → Becomes m t ws a t ws a
-becomes_itself m t ws a p = record { held = λ ts h. h; depth = refl; pending = p; room = refl; more = omega arith; names = refl }
+becomes_itself m t ws a p = record { held = λ ts h. h; depth = refl; pending = p; room = refl; size = refl; more = omega arith; names = refl }
 
 pub becomes_more : (m : ℕ) (t u v : Table) (ws xs ys : List Waiting) (a b c : ℕ) → Becomes m t ws a u xs b → Becomes m u xs b v ys c → Becomes m t ws a v ys c
 becomes_more m t u v ws xs ys a b c p q = record {
@@ -85,6 +93,7 @@ becomes_more m t u v ws xs ys a b c p q = record {
   depth = q.depth ∙ p.depth;
   pending = q.pending;
   room = q.room ∙ p.room;
+  size = q.size ∙ p.size;
   more = let x = p.more in let y = q.more in omega arith;
   names = q.names ∙ p.names;
 }
@@ -95,7 +104,7 @@ becomes_pushed m t u waits.Paren ws a node e p g r = absurd (cc)
 becomes_pushed m t u (waits.Prefix op) ws a node e p g r =
     let n : nodes.Unary op a ≡ node = cc in
     let tree : tree_at u (length t.nodes) ≡ Unary op (tree_at t a) = g.tree ∙ ap (made t.names (trees_of t)) (sym n) in
-    let same = frames_kept t u ws a p.roots g.others in
+    let same = frames_kept t u ws a p.roots.1 g.others in
     let low : a < length t.nodes = p.root.0 in
     record {
       held = λ ts h. subst (λ z. IsHeld m z ts (tree_at u (length t.nodes))) (sym same) (subst (λ z. IsHeld m (frames t ws) ts z) (sym tree) (apply_prefix m op (frames t ws) ts (tree_at t a) h));
@@ -103,9 +112,10 @@ becomes_pushed m t u (waits.Prefix op) ws a node e p g r =
       pending = record {
         last = omega (arith, ap length g.nodes ∙ length-append t.nodes (node ∷ []));
         root = r;
-        roots = roots_higher u ws a (length t.nodes) (omega arith) (roots_kept t u node ws a g.nodes p.roots (λ k lt. ap (has_child k) (sym n) ∙ above a k lt));
+        roots = roots_higher u ws a (length t.nodes) (omega arith) (roots_kept t u node ws a g.nodes p.roots.1 (λ k lt. ap (has_child k) (sym n) ∙ above a k lt));
       };
       room = omega (arith, ap length g.nodes ∙ length-append t.nodes (node ∷ []));
+      size = omega (arith, ap sizes g.nodes ∙ sizes-push t.nodes node, ap node_size n);
       more = omega (arith, ap length g.nodes ∙ length-append t.nodes (node ∷ []));
       names = g.names;
     }
@@ -124,6 +134,7 @@ becomes_pushed m t u (waits.Infix left op) ws a node e p g r =
         roots = roots_higher u ws left (length t.nodes) (omega arith) (roots_kept t u node ws left g.nodes p.roots.2 (λ k lt. ap (has_child k) (sym c.1) ∙ ap₂ (λ p q. p || q) (above left k lt) (above a k (omega arith))));
       };
       room = omega (arith, ap length g.nodes ∙ length-append t.nodes (node ∷ []));
+      size = omega (arith, ap sizes g.nodes ∙ sizes-push t.nodes node, ap node_size c.1);
       more = omega (arith, ap length g.nodes ∙ length-append t.nodes (node ∷ []));
       names = g.names;
     }

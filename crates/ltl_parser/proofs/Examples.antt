@@ -94,3 +94,13 @@ nodes_clean = refl
 
 names_clean : names_of clean ≡ (98 ∷ []) ∷ (97 ∷ []) ∷ []
 names_clean = refl
+
+-- X[3] F[0,0] a has no fault, and 3 + 1 + 1 for its size
+abbrev bounded : List Symbol
+bounded = Prefix (one.NextTimes 3) ∷ Prefix (one.EventuallyIn 0 0) ∷ Leaf a ∷ []
+
+fault_bounded : fault bounded ≡ None
+fault_bounded = refl
+
+nodes_bounded : node_count bounded ≡ 5
+nodes_bounded = refl

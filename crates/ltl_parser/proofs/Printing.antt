@@ -1,6 +1,7 @@
 -- A printed text reads as the formula.
 use Rattle.std.proofs.Common.{◌≡◌, ℕ, ◌+◌, ◌<◌, true, false, List, [], ◌∷◌, ◌++◌, length, arith, refl, sym, ap, ap₂, ◌∙◌, subst, append_assoc, length-append}
 use Rattle.std.specs.Prelude.{Some, None, codes}
+use Rattle.std.specs.Fmt.{decimal}
 use Rattle.std.proofs.lemmas.List.{append-nil}
 use Rattle.ltl_syntax.specs.declared.node.UnaryOp.{UnaryOp}
 use Rattle.ltl_syntax.specs.declared.node.BinaryOp.{BinaryOp}
@@ -10,14 +11,15 @@ use Rattle.ltl_syntax.specs.Formula.{Formula, Const, Name, Letter, Unary, Binary
 use Rattle.ltl_syntax.specs.Print.{text_of, unary_text, binary_text}
 use Rattle.ltl_lexer.specs.declared.token.TokenKind.{TokenKind}
 use Rattle.ltl_lexer.specs.declared.token.TokenKind.TheVariants as kinds
+use Rattle.ltl_lexer.specs.declared.token.UnaryWord.{UnaryWord}
 use Rattle.ltl_lexer.specs.declared.token.UnaryWord.TheVariants as uword
 use Rattle.ltl_lexer.specs.declared.token.BinaryWord.TheVariants as bword
 use Rattle.ltl_lexer.specs.declared.token.Token.{Token}
-use Rattle.ltl_lexer.specs.Tokens.{AreTokens, IsNext, IsLongest, IsWord, word_kind, sign}
-use Rattle.ltl_lexer.proofs.Words.{Breaks, is_word_byte, word_longest, sign_longest, ascii_word}
+use Rattle.ltl_lexer.specs.Tokens.{AreTokens, IsNext, IsLongest, IsWord, IsBounded, word_kind, sign}
+use Rattle.ltl_lexer.proofs.Words.{Breaks, is_word_byte, word_longest, bounded_longest, sign_longest, ascii_word}
 use Rattle.ltl_lexer.proofs.Places.{between}
 use Rattle.ltl_parser.specs.Grammar.{Symbol, Leaf, Prefix, Infix, Open, Close, Reads}
-use Rattle.ltl_parser.specs.Text.{symbol, symbols, ReadsText, IsPrintable}
+use Rattle.ltl_parser.specs.Text.{symbol, symbols, unary_op, ReadsText, IsWithin, IsPrintable}
 use Rattle.ltl_parser.specs.Standing.{IsPart}
 use Rattle.ltl_parser.proofs.Parts.{leaf_part, prefix_part, enclosed_part, join_part}
 
@@ -107,38 +109,51 @@ spaced_infix two.And text ss h = says_space (codes "&" ++ 32 ∷ text) (Infix tw
 spaced_infix two.Or text ss h = says_space (codes "|" ++ 32 ∷ text) (Infix two.Or ∷ ss) (says_sign 124 [] (32 ∷ text) kinds.Or ss refl (omega arith) refl (λ x m after e. let d : x ≡ 32 = cc in ap (λ z. sign (124 ∷ z ∷ m)) d) (says_space text ss h))
 spaced_infix two.Implies text ss h = says_space (codes "->" ++ 32 ∷ text) (Infix two.Implies ∷ ss) (says_sign 45 (62 ∷ []) (32 ∷ text) kinds.Implies ss refl (omega arith) refl (λ x m after e. refl) (says_space text ss h))
 spaced_infix two.Iff text ss h = says_space (codes "<->" ++ 32 ∷ text) (Infix two.Iff ∷ ss) (says_sign 60 (45 ∷ 62 ∷ []) (32 ∷ text) kinds.Iff ss refl (omega arith) refl (λ x m after e. refl) (says_space text ss h))
-spaced_infix two.Until text ss h = says_space (codes "U" ++ 32 ∷ text) (Infix two.Until ∷ ss) (says_word (codes "U") (32 ∷ text) (kinds.Binary bword.U) ss (ascii_word 85 [] refl refl) refl (omega arith, refl) (says_space text ss h))
-spaced_infix two.Release text ss h = says_space (codes "R" ++ 32 ∷ text) (Infix two.Release ∷ ss) (says_word (codes "R") (32 ∷ text) (kinds.Binary bword.R) ss (ascii_word 82 [] refl refl) refl (omega arith, refl) (says_space text ss h))
-spaced_infix two.WeakUntil text ss h = says_space (codes "W" ++ 32 ∷ text) (Infix two.WeakUntil ∷ ss) (says_word (codes "W") (32 ∷ text) (kinds.Binary bword.W) ss (ascii_word 87 [] refl refl) refl (omega arith, refl) (says_space text ss h))
-spaced_infix two.StrongRelease text ss h = says_space (codes "M" ++ 32 ∷ text) (Infix two.StrongRelease ∷ ss) (says_word (codes "M") (32 ∷ text) (kinds.Binary bword.M) ss (ascii_word 77 [] refl refl) refl (omega arith, refl) (says_space text ss h))
-spaced_infix two.Since text ss h = says_space (codes "S" ++ 32 ∷ text) (Infix two.Since ∷ ss) (says_word (codes "S") (32 ∷ text) (kinds.Binary bword.S) ss (ascii_word 83 [] refl refl) refl (omega arith, refl) (says_space text ss h))
-spaced_infix two.Trigger text ss h = says_space (codes "T" ++ 32 ∷ text) (Infix two.Trigger ∷ ss) (says_word (codes "T") (32 ∷ text) (kinds.Binary bword.T) ss (ascii_word 84 [] refl refl) refl (omega arith, refl) (says_space text ss h))
+spaced_infix two.Until text ss h = says_space (codes "U" ++ 32 ∷ text) (Infix two.Until ∷ ss) (says_word (codes "U") (32 ∷ text) (kinds.Binary bword.U) ss (ascii_word 85 [] refl refl) refl (omega arith, refl, refl) (says_space text ss h))
+spaced_infix two.Release text ss h = says_space (codes "R" ++ 32 ∷ text) (Infix two.Release ∷ ss) (says_word (codes "R") (32 ∷ text) (kinds.Binary bword.R) ss (ascii_word 82 [] refl refl) refl (omega arith, refl, refl) (says_space text ss h))
+spaced_infix two.WeakUntil text ss h = says_space (codes "W" ++ 32 ∷ text) (Infix two.WeakUntil ∷ ss) (says_word (codes "W") (32 ∷ text) (kinds.Binary bword.W) ss (ascii_word 87 [] refl refl) refl (omega arith, refl, refl) (says_space text ss h))
+spaced_infix two.StrongRelease text ss h = says_space (codes "M" ++ 32 ∷ text) (Infix two.StrongRelease ∷ ss) (says_word (codes "M") (32 ∷ text) (kinds.Binary bword.M) ss (ascii_word 77 [] refl refl) refl (omega arith, refl, refl) (says_space text ss h))
+spaced_infix two.Since text ss h = says_space (codes "S" ++ 32 ∷ text) (Infix two.Since ∷ ss) (says_word (codes "S") (32 ∷ text) (kinds.Binary bword.S) ss (ascii_word 83 [] refl refl) refl (omega arith, refl, refl) (says_space text ss h))
+spaced_infix two.Trigger text ss h = says_space (codes "T" ++ 32 ∷ text) (Infix two.Trigger ∷ ss) (says_word (codes "T") (32 ∷ text) (kinds.Binary bword.T) ss (ascii_word 84 [] refl refl) refl (omega arith, refl, refl) (says_space text ss h))
 
 spaced_breaks : (op : BinaryOp) (text : List ℕ) → Breaks (binary_text op ++ text)
-spaced_breaks two.And text = (omega arith, refl)
-spaced_breaks two.Or text = (omega arith, refl)
-spaced_breaks two.Implies text = (omega arith, refl)
-spaced_breaks two.Iff text = (omega arith, refl)
-spaced_breaks two.Until text = (omega arith, refl)
-spaced_breaks two.Release text = (omega arith, refl)
-spaced_breaks two.WeakUntil text = (omega arith, refl)
-spaced_breaks two.StrongRelease text = (omega arith, refl)
-spaced_breaks two.Since text = (omega arith, refl)
-spaced_breaks two.Trigger text = (omega arith, refl)
+spaced_breaks two.And text = (omega arith, refl, refl)
+spaced_breaks two.Or text = (omega arith, refl, refl)
+spaced_breaks two.Implies text = (omega arith, refl, refl)
+spaced_breaks two.Iff text = (omega arith, refl, refl)
+spaced_breaks two.Until text = (omega arith, refl, refl)
+spaced_breaks two.Release text = (omega arith, refl, refl)
+spaced_breaks two.WeakUntil text = (omega arith, refl, refl)
+spaced_breaks two.StrongRelease text = (omega arith, refl, refl)
+spaced_breaks two.Since text = (omega arith, refl, refl)
+spaced_breaks two.Trigger text = (omega arith, refl, refl)
 
 unary_word : (b : ℕ) (bs text : List ℕ) (kind : TokenKind) (op : UnaryOp) (ss : List Symbol) → IsWord (b ∷ bs) → word_kind (b ∷ bs) ≡ kind → symbol kind (b ∷ bs) ≡ Prefix op → Says text ss → Says (b ∷ (bs ++ 32 ∷ text)) (Prefix op ∷ ss)
-unary_word b bs text kind op ss w k e h = subst (λ s. Says (b ∷ (bs ++ 32 ∷ text)) (s ∷ ss)) e (says_word (b ∷ bs) (32 ∷ text) kind ss w k (omega arith, refl) (says_space text ss h))
+unary_word b bs text kind op ss w k e h = subst (λ s. Says (b ∷ (bs ++ 32 ∷ text)) (s ∷ ss)) e (says_word (b ∷ bs) (32 ∷ text) kind ss w k (omega arith, refl, refl) (says_space text ss h))
 
-unary_front : (op : UnaryOp) (text : List ℕ) (ss : List Symbol) → Says text ss → Says (unary_text op ++ text) (Prefix op ∷ ss)
-unary_front one.Not text ss h = says_sign 33 [] text kinds.Not ss refl (omega arith) refl (λ x m after e. refl) h
-unary_front one.Next text ss h = unary_word 88 [] text (kinds.Unary uword.X) one.Next ss (ascii_word 88 [] refl refl) refl refl h
-unary_front one.WeakNext text ss h = unary_word 119 (88 ∷ []) text (kinds.Unary uword.WX) one.WeakNext ss (ascii_word 119 (88 ∷ []) refl refl) refl refl h
-unary_front one.Eventually text ss h = unary_word 70 [] text (kinds.Unary uword.F) one.Eventually ss (ascii_word 70 [] refl refl) refl refl h
-unary_front one.Always text ss h = unary_word 71 [] text (kinds.Unary uword.G) one.Always ss (ascii_word 71 [] refl refl) refl refl h
-unary_front one.Yesterday text ss h = unary_word 89 [] text (kinds.Unary uword.Y) one.Yesterday ss (ascii_word 89 [] refl refl) refl refl h
-unary_front one.WeakYesterday text ss h = unary_word 90 [] text (kinds.Unary uword.Z) one.WeakYesterday ss (ascii_word 90 [] refl refl) refl refl h
-unary_front one.Once text ss h = unary_word 79 [] text (kinds.Unary uword.O) one.Once ss (ascii_word 79 [] refl refl) refl refl h
-unary_front one.Historically text ss h = unary_word 72 [] text (kinds.Unary uword.H) one.Historically ss (ascii_word 72 [] refl refl) refl refl h
+-- a bounded operator, whose closing bracket stands before a space
+says_bounded : (word : UnaryWord) (front text : List ℕ) (ss : List Symbol) → IsBounded (front ++ 93 ∷ []) word → Says text ss → Says ((front ++ 93 ∷ 32 ∷ []) ++ text) (Prefix (unary_op word) ∷ ss)
+says_bounded word front text ss g h =
+    let e : (front ++ 93 ∷ []) ++ 32 ∷ text ≡ (front ++ 93 ∷ 32 ∷ []) ++ text = append_assoc front (93 ∷ []) (32 ∷ text) ∙ sym (append_assoc front (93 ∷ 32 ∷ []) text) in
+    subst (λ z. Says z (Prefix (unary_op word) ∷ ss)) e
+    (λ before. more before (front ++ 93 ∷ []) (32 ∷ text) (kinds.Unary word) (Prefix (unary_op word)) ss (bounded_longest word (front ++ 93 ∷ []) (32 ∷ text) g) refl (says_space text ss h (before ++ (front ++ 93 ∷ []))))
+
+unary_front : (op : UnaryOp) → IsWithin op → (text : List ℕ) (ss : List Symbol) → Says text ss → Says (unary_text op ++ text) (Prefix op ∷ ss)
+unary_front one.Not w text ss h = says_sign 33 [] text kinds.Not ss refl (omega arith) refl (λ x m after e. refl) h
+unary_front one.Next w text ss h = unary_word 88 [] text (kinds.Unary uword.X) one.Next ss (ascii_word 88 [] refl refl) refl refl h
+unary_front one.WeakNext w text ss h = unary_word 119 (88 ∷ []) text (kinds.Unary uword.WX) one.WeakNext ss (ascii_word 119 (88 ∷ []) refl refl) refl refl h
+unary_front one.Eventually w text ss h = unary_word 70 [] text (kinds.Unary uword.F) one.Eventually ss (ascii_word 70 [] refl refl) refl refl h
+unary_front one.Always w text ss h = unary_word 71 [] text (kinds.Unary uword.G) one.Always ss (ascii_word 71 [] refl refl) refl refl h
+unary_front one.Yesterday w text ss h = unary_word 89 [] text (kinds.Unary uword.Y) one.Yesterday ss (ascii_word 89 [] refl refl) refl refl h
+unary_front one.WeakYesterday w text ss h = unary_word 90 [] text (kinds.Unary uword.Z) one.WeakYesterday ss (ascii_word 90 [] refl refl) refl refl h
+unary_front one.Once w text ss h = unary_word 79 [] text (kinds.Unary uword.O) one.Once ss (ascii_word 79 [] refl refl) refl refl h
+unary_front one.Historically w text ss h = unary_word 72 [] text (kinds.Unary uword.H) one.Historically ss (ascii_word 72 [] refl refl) refl refl h
+unary_front (one.NextTimes n) w text ss h = says_bounded (uword.XTimes n) (88 ∷ 91 ∷ decimal n) text ss (w, refl) h
+unary_front (one.YesterdayTimes n) w text ss h = says_bounded (uword.YTimes n) (89 ∷ 91 ∷ decimal n) text ss (w, refl) h
+unary_front (one.EventuallyIn a b) w text ss h = says_bounded (uword.FIn a b) (70 ∷ 91 ∷ ((decimal a ++ 44 ∷ []) ++ decimal b)) text ss (w.0, w.1, refl) h
+unary_front (one.AlwaysIn a b) w text ss h = says_bounded (uword.GIn a b) (71 ∷ 91 ∷ ((decimal a ++ 44 ∷ []) ++ decimal b)) text ss (w.0, w.1, refl) h
+unary_front (one.OnceIn a b) w text ss h = says_bounded (uword.OIn a b) (79 ∷ 91 ∷ ((decimal a ++ 44 ∷ []) ++ decimal b)) text ss (w.0, w.1, refl) h
+unary_front (one.HistoricallyIn a b) w text ss h = says_bounded (uword.HIn a b) (72 ∷ 91 ∷ ((decimal a ++ 44 ∷ []) ++ decimal b)) text ss (w.0, w.1, refl) h
 
 open_front : (text : List ℕ) (ss : List Symbol) → Says text ss → Says (40 ∷ text) (Open ∷ ss)
 open_front text ss h = says_sign 40 [] text kinds.OpenParen ss refl (omega arith) refl (λ x m after e. refl) h
@@ -152,9 +167,9 @@ printed_says (Const true) p text ss b h = says_word (codes "true") text kinds.Tr
 printed_says (Const false) p text ss b h = says_word (codes "false") text kinds.False ss (ascii_word 102 (codes "alse") refl refl) refl b h
 printed_says (Letter (Name name)) p text ss b h = says_word name text kinds.Identifier ss p.0 p.1 b h
 printed_says (Letter (Fresh n)) p text ss b h = absurd p
-printed_says (Unary op a) p text ss b h = subst (λ z. Says z (Prefix op ∷ (printed a ++ ss))) (sym (append_assoc (unary_text op) (text_of a) text)) (unary_front op (text_of a ++ text) (printed a ++ ss) (printed_says a p text ss b h))
+printed_says (Unary op a) p text ss b h = subst (λ z. Says z (Prefix op ∷ (printed a ++ ss))) (sym (append_assoc (unary_text op) (text_of a) text)) (unary_front op p.0 (text_of a ++ text) (printed a ++ ss) (printed_says a p.1 text ss b h))
 printed_says (Binary op x y) p text ss b h =
-    let right = printed_says y p.1 (41 ∷ text) (Close ∷ ss) (omega arith, refl) (close_front text ss h) in
+    let right = printed_says y p.1 (41 ∷ text) (Close ∷ ss) (omega arith, refl, refl) (close_front text ss h) in
     let inner = spaced_infix op (text_of y ++ 41 ∷ text) (printed y ++ Close ∷ ss) right in
     let left = printed_says x p.0 (binary_text op ++ (text_of y ++ 41 ∷ text)) (Infix op ∷ (printed y ++ Close ∷ ss)) (spaced_breaks op (text_of y ++ 41 ∷ text)) inner in
     let all = open_front (text_of x ++ (binary_text op ++ (text_of y ++ 41 ∷ text))) (printed x ++ Infix op ∷ (printed y ++ Close ∷ ss)) left in

@@ -1,25 +1,31 @@
--- What a text has: one lexical fault, one grammar fault or one formula, and the nodes of this formula as its count.
+-- What a text has: one lexical fault, one grammar fault or one formula, and the size of this formula as its count.
 use Rattle.std.proofs.Common.{◌≡◌, ℕ, ◌+◌, ◌⊎◌, inl, inr, List, [], ◌∷◌, ◌++◌, arith, refl, sym, ap, ◌∙◌, subst}
-use Rattle.std.specs.Prelude.{Option, Some, None}
+use Rattle.std.specs.Prelude.{Option, Some, None, slice_range}
 use Rattle.std.specs.List.{All}
 use Rattle.std.proofs.lemmas.List.Elements.{All-head, All-tail}
+use Rattle.ltl_syntax.specs.declared.node.UnaryOp.{UnaryOp}
+use Rattle.ltl_syntax.specs.declared.node.UnaryOp.TheVariants as one
 use Rattle.ltl_syntax.specs.Formula.{Formula, nodes_in}
+use Rattle.ltl_syntax.specs.Size.{formula_size, IsInOrder}
+use Rattle.ltl_lexer.specs.declared.token.UnaryWord.{UnaryWord}
+use Rattle.ltl_lexer.specs.declared.token.UnaryWord.TheVariants as uword
 use Rattle.ltl_lexer.specs.declared.token.TokenKind.{TokenKind}
 use Rattle.ltl_lexer.specs.declared.token.TokenKind.TheVariants as kinds
 use Rattle.ltl_lexer.specs.declared.token.Token.{Token}
-use Rattle.ltl_lexer.specs.Tokens.{Spells, AreTokens, IsLexicalFault, IsPartOf}
-use Rattle.ltl_lexer.proofs.Words.{identifier_is_word}
+use Rattle.ltl_lexer.specs.Tokens.{HasNumbers, Spells, AreTokens, IsLexicalFault, IsPartOf}
+use Rattle.ltl_lexer.proofs.Words.{identifier_is_word, numbers_fit}
 use Rattle.ltl_lexer.proofs.OneList.{one_list}
 use Rattle.ltl_lexer.proofs.Places.{parts_of_text}
 use Rattle.ltl_parser.specs.Grammar.{Symbol, Leaf, Prefix, Infix, Open, Close, Reads, Apart, Applied, Enclosed, Alone, fault, node_count}
-use Rattle.ltl_parser.specs.Text.{symbol, symbols, ReadsText, grammar_fault, byte_at, IsGrammarFault, NodesOf, IsPrintable}
+use Rattle.ltl_parser.specs.Text.{symbol, symbol_of, symbols, unary_op, IsWithin, ReadsText, grammar_fault, byte_at, IsGrammarFault, NodesOf, IsPrintable}
+use Rattle.ltl_parser.specs.Standing.{units}
 use Rattle.ltl_parser.proofs.Unique.{one_reading}
 use Rattle.ltl_parser.proofs.Exists.{reading_of, no_fault}
 
--- a leaf is one node, and a name that can be printed
+-- a leaf is one node of size 1 and a name that can be printed, and the numbers of an operator are within their bounds
 abbrev IsSimple : Symbol → Type 0
-IsSimple (Leaf f) = (nodes_in f ≡ 1) × IsPrintable f
-IsSimple (Prefix op) = Unit {0}
+IsSimple (Leaf f) = (nodes_in f ≡ 1) × (formula_size f ≡ 1) × IsPrintable f
+IsSimple (Prefix op) = IsWithin op
 IsSimple (Infix op) = Unit {0}
 IsSimple Open = Unit {0}
 IsSimple Close = Unit {0}
@@ -28,9 +34,42 @@ abbrev AreSimple : List Symbol → Type 0
 AreSimple [] = Unit {0}
 AreSimple (s ∷ ss) = IsSimple s × AreSimple ss
 
+within : (word : UnaryWord) → HasNumbers word → IsWithin (unary_op word)
+within uword.X h = tt
+within uword.WX h = tt
+within uword.F h = tt
+within uword.G h = tt
+within uword.Y h = tt
+within uword.Z h = tt
+within uword.O h = tt
+within uword.H h = tt
+within (uword.XTimes n) h = h
+within (uword.YTimes n) h = h
+within (uword.FIn a b) h = h
+within (uword.GIn a b) h = h
+within (uword.OIn a b) h = h
+within (uword.HIn a b) h = h
+
+in_order : (op : UnaryOp) → IsWithin op → IsInOrder op
+in_order one.Not h = tt
+in_order one.Next h = tt
+in_order one.WeakNext h = tt
+in_order one.Eventually h = tt
+in_order one.Always h = tt
+in_order one.Yesterday h = tt
+in_order one.WeakYesterday h = tt
+in_order one.Once h = tt
+in_order one.Historically h = tt
+in_order (one.NextTimes n) h = tt
+in_order (one.YesterdayTimes n) h = tt
+in_order (one.EventuallyIn a b) h = h.0
+in_order (one.AlwaysIn a b) h = h.0
+in_order (one.OnceIn a b) h = h.0
+in_order (one.HistoricallyIn a b) h = h.0
+
 simple_symbol : (kind : TokenKind) (bytes : List ℕ) → Spells bytes kind → IsSimple (symbol kind bytes)
-simple_symbol kinds.True bytes s = (refl, tt)
-simple_symbol kinds.False bytes s = (refl, tt)
+simple_symbol kinds.True bytes s = (refl, refl, tt)
+simple_symbol kinds.False bytes s = (refl, refl, tt)
 simple_symbol kinds.Not bytes s = tt
 simple_symbol kinds.And bytes s = tt
 simple_symbol kinds.Or bytes s = tt
@@ -38,9 +77,13 @@ simple_symbol kinds.Implies bytes s = tt
 simple_symbol kinds.Iff bytes s = tt
 simple_symbol kinds.OpenParen bytes s = tt
 simple_symbol kinds.CloseParen bytes s = tt
-simple_symbol (kinds.Unary word) bytes s = tt
+simple_symbol (kinds.Unary word) bytes s = within word (numbers_fit bytes (kinds.Unary word) word s refl)
 simple_symbol (kinds.Binary word) bytes s = tt
-simple_symbol kinds.Identifier bytes s = (refl, identifier_is_word bytes s)
+simple_symbol kinds.Identifier bytes s = (refl, refl, identifier_is_word bytes s)
+
+-- the numbers of an operator that a token of a text names are in order
+pub prefix_ordered : (text : List ℕ) (t : Token) (op : UnaryOp) → IsPartOf text t → symbol_of text t ≡ Prefix op → IsInOrder op
+prefix_ordered text t op p e = in_order op (subst IsSimple e (simple_symbol t.kind (slice_range text t.start t.end) p.spells))
 
 simple_from : (text : List ℕ) (ts : List Token) → All (IsPartOf text) ts → AreSimple (symbols text ts)
 simple_from text [] h = tt
@@ -57,49 +100,81 @@ node_count-append : (a b : List Symbol) → node_count (a ++ b) ≡ node_count a
 node_count-append [] b = omega arith
 node_count-append (x ∷ a) b = omega (arith, node_count-append a b)
 
--- the tokens other than parentheses are the nodes of the reading
-counted : (ts : List Symbol) (f : Formula) → Reads ts f → AreSimple ts → node_count ts ≡ nodes_in f
-counted ts f (Apart t b a op x y m p q) s =
+-- the sizes of the tokens other than parentheses add up to that of the reading
+sized : (ts : List Symbol) (f : Formula) → Reads ts f → AreSimple ts → node_count ts ≡ formula_size f
+sized ts f (Apart t b a op x y m p q) s =
     let w = simple_parts b (Infix op ∷ a) (subst AreSimple m.outer.whole s) in
-    let l = counted b x p w.0 in
-    let r = counted a y q w.1.1 in
+    let l = sized b x p w.0 in
+    let r = sized a y q w.1.1 in
     let e = ap node_count m.outer.whole ∙ node_count-append b (Infix op ∷ a) in
     omega arith
-counted ts f (Applied t r op x m e p) s =
+sized ts f (Applied t r op x m e p) s =
     let w = subst AreSimple e s in
-    let l = counted r x p w.1 in
+    let l = sized r x p w.1 in
     let n = ap node_count e in
     omega arith
-counted ts f (Enclosed t i x m e p) s =
+sized ts f (Enclosed t i x m e p) s =
     let w = simple_parts i (Close ∷ []) (subst AreSimple e s).1 in
-    let l = counted i x p w.0 in
+    let l = sized i x p w.0 in
     let n = ap node_count e in
     let k = node_count-append i (Close ∷ []) in
     omega arith
-counted ts f (Alone t x e) s =
+sized ts f (Alone t x e) s =
+    let w = subst AreSimple e s in
+    let l = w.0.1 in
+    let n = ap node_count e in
+    omega arith
+
+units-append : (a b : List Symbol) → units (a ++ b) ≡ units a + units b
+units-append [] b = omega arith
+units-append (x ∷ a) b = omega (arith, units-append a b)
+
+-- the tokens other than parentheses are the nodes of the reading
+united : (ts : List Symbol) (f : Formula) → Reads ts f → AreSimple ts → units ts ≡ nodes_in f
+united ts f (Apart t b a op x y m p q) s =
+    let w = simple_parts b (Infix op ∷ a) (subst AreSimple m.outer.whole s) in
+    let l = united b x p w.0 in
+    let r = united a y q w.1.1 in
+    let e = ap units m.outer.whole ∙ units-append b (Infix op ∷ a) in
+    omega arith
+united ts f (Applied t r op x m e p) s =
+    let w = subst AreSimple e s in
+    let l = united r x p w.1 in
+    let n = ap units e in
+    omega arith
+united ts f (Enclosed t i x m e p) s =
+    let w = simple_parts i (Close ∷ []) (subst AreSimple e s).1 in
+    let l = united i x p w.0 in
+    let n = ap units e in
+    let k = units-append i (Close ∷ []) in
+    omega arith
+united ts f (Alone t x e) s =
     let w = subst AreSimple e s in
     let l = w.0.0 in
-    let n = ap node_count e in
+    let n = ap units e in
     omega arith
 
 printable : (ts : List Symbol) (f : Formula) → Reads ts f → AreSimple ts → IsPrintable f
 printable ts f (Apart t b a op x y m p q) s =
     let w = simple_parts b (Infix op ∷ a) (subst AreSimple m.outer.whole s) in
     (printable b x p w.0, printable a y q w.1.1)
-printable ts f (Applied t r op x m e p) s = printable r x p (subst AreSimple e s).1
+printable ts f (Applied t r op x m e p) s = let w = subst AreSimple e s in (w.0, printable r x p w.1)
 printable ts f (Enclosed t i x m e p) s = printable i x p (simple_parts i (Close ∷ []) (subst AreSimple e s).1).0
-printable ts f (Alone t x e) s = (subst AreSimple e s).0.1
+printable ts f (Alone t x e) s = (subst AreSimple e s).0.2
 
 -- the names of what was read are identifiers that are not reserved
 pub read_is_printable : (text : List ℕ) (f : Formula) → ReadsText text f → IsPrintable f
 read_is_printable text f r = printable (symbols text r.tokens) f r.reads (simple_symbols text r.tokens r.lexed)
 
-pub nodes_of_tokens : (text : List ℕ) (ts : List Token) (f : Formula) → AreTokens 0 text ts None → Reads (symbols text ts) f → nodes_in f ≡ node_count (symbols text ts)
-nodes_of_tokens text ts f a r = sym (counted (symbols text ts) f r (simple_symbols text ts a))
+pub nodes_of_tokens : (text : List ℕ) (ts : List Token) (f : Formula) → AreTokens 0 text ts None → Reads (symbols text ts) f → nodes_in f ≡ units (symbols text ts)
+nodes_of_tokens text ts f a r = sym (united (symbols text ts) f r (simple_symbols text ts a))
 
--- the nodes of a formula are those of each text that reads as it
-pub nodes_of_text : (text : List ℕ) (f : Formula) → ReadsText text f → NodesOf text (nodes_in f)
-nodes_of_text text f r = record { tokens = r.tokens; lexed = r.lexed; count = nodes_of_tokens text r.tokens f r.lexed r.reads }
+pub size_of_tokens : (text : List ℕ) (ts : List Token) (f : Formula) → AreTokens 0 text ts None → Reads (symbols text ts) f → formula_size f ≡ node_count (symbols text ts)
+size_of_tokens text ts f a r = sym (sized (symbols text ts) f r (simple_symbols text ts a))
+
+-- the size of a formula is that of each text that reads as it
+pub nodes_of_text : (text : List ℕ) (f : Formula) → ReadsText text f → NodesOf text (formula_size f)
+nodes_of_text text f r = record { tokens = r.tokens; lexed = r.lexed; count = size_of_tokens text r.tokens f r.lexed r.reads }
 
 same_tokens : (text : List ℕ) (ts us : List Token) → AreTokens 0 text ts None → AreTokens 0 text us None → ts ≡ us
 same_tokens text ts us p q = (one_list ts us 0 text None None p q).0

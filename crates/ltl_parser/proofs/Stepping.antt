@@ -7,13 +7,16 @@ use Rattle.std.proofs.lemmas.Slice.Eq.{bytes_eq-Decides}
 use Rattle.std.proofs.lemmas.Option.{get_or_from_slice_get}
 use Rattle.ltl_syntax.specs.declared.node.BinaryOp.{BinaryOp}
 use Rattle.ltl_syntax.specs.declared.node.Node.TheVariants as nodes
-use Rattle.ltl_syntax.specs.Formula.{Formula, Name, Letter}
+use Rattle.ltl_syntax.specs.declared.node.UnaryOp.{UnaryOp}
+use Rattle.ltl_syntax.specs.Formula.{Formula, Const, Name, Letter}
+use Rattle.ltl_syntax.specs.Size.{sizes, IsInOrder}
+use Rattle.ltl_syntax.proofs.Sizes.{sizes-push}
 use Rattle.ltl_syntax.specs.Table.{Table, tree_at, tree_among, has_child, IsRoot, IsPlain, Pushes, Names}
 use Rattle.ltl_lexer.specs.Tokens.{IsWord}
 use Rattle.ltl_lexer.proofs.Words.{no_brace}
 use Rattle.ltl_parser.specs.declared.stack.Waiting.{Waiting}
 use Rattle.ltl_parser.specs.declared.stack.Waiting.TheVariants as waits
-use Rattle.ltl_parser.specs.Grammar.{Leaf, Infix, Close, walk, later, Operand, Operator}
+use Rattle.ltl_parser.specs.Grammar.{Leaf, Prefix, Infix, Close, walk, later, Operand, Operator}
 use Rattle.ltl_parser.specs.Text.{with_name}
 use Rattle.ltl_parser.specs.Standing.{parens, left_bound, IsHeld, IsStopped, frames, AreRoots, Becomes, AddsLeaf, Steps}
 use Rattle.ltl_parser.proofs.Holding.{push_infix, held_leaf, held_enclosed}
@@ -50,6 +53,7 @@ letter_added t u v text number n w few g r place =
       root = r;
       place = place ∙ long;
       count = omega (arith, ap length g.nodes ∙ length-append u.nodes (nodes.Letter number ∷ []));
+      size = omega (arith, ap sizes g.nodes ∙ sizes-push u.nodes (nodes.Letter number), ap sizes w.nodes);
       names = g.names ∙ named t u text number w;
       few = omega (arith, ap length g.names);
       others = λ k lt. g.others k (omega arith) ∙ same k;
@@ -63,7 +67,7 @@ later_none (Some n) e = absurd (cc)
 roots_map : (t u : Table) (ws : List Waiting) (high : ℕ) → ((k : ℕ) → IsRoot t k → IsRoot u k) → AreRoots t ws high → AreRoots u ws high
 roots_map t u [] high h r = tt
 roots_map t u (waits.Paren ∷ ws) high h r = roots_map t u ws high h r
-roots_map t u (waits.Prefix op ∷ ws) high h r = roots_map t u ws high h r
+roots_map t u (waits.Prefix op ∷ ws) high h r = (r.0, roots_map t u ws high h r.1)
 roots_map t u (waits.Infix left op ∷ ws) high h r = (r.0, h left r.1, roots_map t u ws left h r.2)
 
 pub leaf_steps : (t u : Table) (ws : List Waiting) (f : Formula) (n : ℕ) → AddsLeaf t f u n → AreRoots t ws (length t.nodes) → length t.names ≤ length t.nodes → Steps t ws None (Leaf f) u ws (Some n)
@@ -73,9 +77,35 @@ leaf_steps t u ws f n g r names =
       goes_on = λ rest w. subst (λ z. walk Operator (parens z) rest ≡ None) (sym same) (later_none _ w);
       ready = record { last = let c = g.count in let p = g.place in omega arith; root = g.root; roots = subst (AreRoots u ws) (sym g.place) (roots_map t u ws (length t.nodes) g.roots r) };
       room = let c = g.count in omega arith;
+      size = let c = g.size in omega arith;
       names = g.names;
       few = let c = g.count in let d = g.few in omega arith;
     }
+
+-- a constant joins the table
+pub constant_added : (t u : Table) (b : Bool) (n : ℕ) → Pushes t (nodes.Const b) u → IsRoot u n → n ≡ length t.nodes → AddsLeaf t (Const b) u n
+constant_added t u b n g r place = record {
+  tree = ap (tree_at u) place ∙ g.tree;
+  root = r;
+  place = place;
+  count = omega (arith, ap length g.nodes ∙ length-append t.nodes (nodes.Const b ∷ []));
+  size = omega (arith, ap sizes g.nodes ∙ sizes-push t.nodes (nodes.Const b));
+  names = g.names;
+  few = omega (arith, ap length g.names);
+  others = g.others;
+  roots = λ k h. g.roots k h refl;
+}
+
+pub prefix_steps : (t : Table) (ws : List Waiting) (op : UnaryOp) → IsInOrder op → AreRoots t ws (length t.nodes) → length t.names ≤ length t.nodes → Steps t ws None (Prefix op) t (waits.Prefix op ∷ ws) None
+prefix_steps t ws op o r names = record {
+  state = λ ts st. (ts, st, refl);
+  goes_on = λ rest w. later_none _ w;
+  ready = (o, r);
+  room = omega arith;
+  size = omega arith;
+  names = refl;
+  few = names;
+}
 
 pub infix_steps : (t u : Table) (ws vs : List Waiting) (a b : ℕ) (op : BinaryOp) → Becomes (left_bound op) t ws a u vs b → IsStopped (left_bound op) (frames u vs) → length t.names ≤ length t.nodes → Steps t ws (Some a) (Infix op) u (waits.Infix b op ∷ vs) None
 infix_steps t u ws vs a b op g s names = record {
@@ -83,6 +113,7 @@ infix_steps t u ws vs a b op g s names = record {
   goes_on = λ rest w. ap (λ n. walk Operand n rest) g.depth ∙ later_none _ w;
   ready = (g.pending.root.0, g.pending.root, g.pending.roots);
   room = let r = g.room in omega arith;
+  size = let r = g.size in omega arith;
   names = g.names;
   few = let e = ap length g.names in let m = g.more in omega arith;
 }
@@ -93,6 +124,7 @@ enclosed_steps t u ws xs a b g names = record {
   goes_on = λ rest w. later_none _ (subst (λ n. walk Operator n (Close ∷ rest) ≡ None) (sym g.depth) w);
   ready = record { last = g.pending.last; root = g.pending.root; roots = g.pending.roots };
   room = let r = g.room in omega arith;
+  size = let r = g.size in omega arith;
   names = g.names;
   few = let e = ap length g.names in let m = g.more in omega arith;
 }

@@ -4,6 +4,7 @@ use Rattle.ltl_syntax.specs.declared.node.UnaryOp.{UnaryOp}
 use Rattle.ltl_syntax.specs.declared.node.BinaryOp.{BinaryOp}
 use Rattle.ltl_syntax.specs.declared.node.BinaryOp.TheVariants as two
 use Rattle.ltl_syntax.specs.Formula.{Formula, Unary, Binary}
+use Rattle.ltl_syntax.specs.Size.{operator_size}
 
 -- what a token says; a leaf is a constant or a letter
 pub data Symbol : Type 0 where
@@ -113,15 +114,15 @@ walk Operator n (Open ∷ ts) = Some 0
 abbrev pub fault : List Symbol → Option ℕ
 fault ts = walk Operand 0 ts
 
--- a symbol is a node, but for a parenthesis
+-- an operand and an operator over two formulas have the size 1, an operator over one formula its own, and a parenthesis none
 abbrev pub weight : Symbol → ℕ
 weight (Leaf f) = 1
-weight (Prefix op) = 1
+weight (Prefix op) = operator_size op
 weight (Infix op) = 1
 weight Open = 0
 weight Close = 0
 
--- nodes are counted as the tokens other than parentheses
+-- the nodes are counted by the sizes of the tokens other than parentheses
 abbrev pub node_count : List Symbol → ℕ
 node_count [] = 0
 node_count (x ∷ xs) = weight x + node_count xs

@@ -6,6 +6,7 @@ use Rattle.ltl_syntax.specs.declared.node.Node.{Node}
 use Rattle.ltl_syntax.specs.declared.node.Node.TheVariants as nodes
 use Rattle.ltl_syntax.specs.Formula.{Formula, Const, Letter, Name}
 use Rattle.ltl_syntax.specs.Table.{Table, tree_at, IsRoot}
+use Rattle.ltl_syntax.specs.Size.{operator_size, sizes, IsInOrder}
 use Rattle.ltl_parser.specs.Grammar.{Symbol, Leaf, Prefix, Infix, Open, Close, opens, closes, strength, groups_left, IsOuter, Reads, walk, Wanted, Operand, Operator, fault, weight, node_count}
 use Rattle.ltl_parser.specs.Text.{with_name, names_of}
 use Rattle.ltl_parser.specs.declared.meaning.Meaning.{Meaning}
@@ -104,11 +105,31 @@ to_make (waits.Paren ∷ ws) = to_make ws
 to_make (waits.Prefix op ∷ ws) = suc (to_make ws)
 to_make (waits.Infix left op ∷ ws) = suc (to_make ws)
 
--- the left operands are roots, each below those above it and below high
+-- and their sizes
+abbrev pub to_weigh : List Waiting → ℕ
+to_weigh [] = 0
+to_weigh (waits.Paren ∷ ws) = to_weigh ws
+to_weigh (waits.Prefix op ∷ ws) = operator_size op + to_weigh ws
+to_weigh (waits.Infix left op ∷ ws) = suc (to_weigh ws)
+
+-- a symbol is a node, but for a parenthesis
+abbrev pub unit : Symbol → ℕ
+unit (Leaf f) = 1
+unit (Prefix op) = 1
+unit (Infix op) = 1
+unit Open = 0
+unit Close = 0
+
+-- the symbols other than parentheses
+abbrev pub units : List Symbol → ℕ
+units [] = 0
+units (x ∷ xs) = unit x + units xs
+
+-- the left operands are roots, each below those above it and below high, and the numbers of the operators are in order
 abbrev pub AreRoots : Table → List Waiting → ℕ → Type 0
 AreRoots t [] high = Unit {0}
 AreRoots t (waits.Paren ∷ ws) high = AreRoots t ws high
-AreRoots t (waits.Prefix op ∷ ws) high = AreRoots t ws high
+AreRoots t (waits.Prefix op ∷ ws) high = IsInOrder op × AreRoots t ws high
 AreRoots t (waits.Infix left op ∷ ws) high = (left < high) × IsRoot t left × AreRoots t ws left
 
 -- the stack, and the operand on it, which is the last node
@@ -130,6 +151,7 @@ pub record Becomes (m : ℕ) (t : Table) (ws : List Waiting) (a : ℕ) (u : Tabl
   pub depth : parens (frames u vs) ≡ parens (frames t ws)
   pub pending : ArePending u vs b
   pub room : length u.nodes + to_make vs ≡ length t.nodes + to_make ws
+  pub size : sizes u.nodes + to_weigh vs ≡ sizes t.nodes + to_weigh ws
   pub more : length t.nodes ≤ length u.nodes
   pub names : u.names ≡ t.names
 
@@ -139,6 +161,7 @@ pub record AddsLeaf (t : Table) (f : Formula) (u : Table) (n : ℕ) : Type 0 whe
   pub root : IsRoot u n
   pub place : n ≡ length t.nodes
   pub count : length u.nodes ≡ suc (length t.nodes)
+  pub size : sizes u.nodes ≡ suc (sizes t.nodes)
   pub names : u.names ≡ with_name t.names (Leaf f)
   pub few : length u.names ≤ suc (length t.names)
   pub others : (k : ℕ) → k < length t.nodes → tree_at u k ≡ tree_at t k
@@ -177,7 +200,8 @@ pub record Steps (t : Table) (ws : List Waiting) (a : Option ℕ) (x : Symbol) (
   pub state : (ts : List Symbol) → IsState t ws a ts → IsState u vs b (ts ++ x ∷ [])
   pub goes_on : (rest : List Symbol) → walk (wanted a) (parens (frames t ws)) (x ∷ rest) ≡ None → walk (wanted b) (parens (frames u vs)) rest ≡ None
   pub ready : AreReady u vs b
-  pub room : length u.nodes + to_make vs ≡ length t.nodes + to_make ws + weight x
+  pub room : length u.nodes + to_make vs ≡ length t.nodes + to_make ws + unit x
+  pub size : sizes u.nodes + to_weigh vs ≡ sizes t.nodes + to_weigh ws + weight x
   pub names : u.names ≡ with_name t.names x
   pub few : length u.names ≤ length u.nodes
 
@@ -186,7 +210,8 @@ pub record IsUnderWay (ss : List Symbol) (i : ℕ) (t : Table) (ws : List Waitin
   pub state : IsState t ws a (take i ss)
   pub clean : walk (wanted a) (parens (frames t ws)) (drop i ss) ≡ None
   pub ready : AreReady t ws a
-  pub room : length t.nodes + to_make ws + node_count (drop i ss) ≡ node_count ss
+  pub room : length t.nodes + to_make ws + units (drop i ss) ≡ units ss
+  pub size : sizes t.nodes + to_weigh ws + node_count (drop i ss) ≡ node_count ss
   pub names : t.names ≡ names_of (take i ss)
   pub few : length t.names ≤ length t.nodes
 

@@ -5,7 +5,8 @@ use Rattle.ltl_syntax.specs.declared.node.UnaryOp.{UnaryOp}
 use Rattle.ltl_syntax.specs.declared.node.BinaryOp.{BinaryOp}
 use Rattle.ltl_syntax.specs.declared.node.UnaryOp.TheVariants as one
 use Rattle.ltl_syntax.specs.declared.node.BinaryOp.TheVariants as two
-use Rattle.ltl_syntax.specs.Formula.{Formula, Const, Name, Letter, Unary, Binary, Fresh, nodes_in}
+use Rattle.ltl_syntax.specs.Formula.{Formula, Const, Name, Letter, Unary, Binary, Fresh}
+use Rattle.ltl_syntax.specs.Size.{formula_size}
 use Rattle.ltl_lexer.specs.declared.token.TokenKind.{TokenKind}
 use Rattle.ltl_lexer.specs.declared.token.TokenKind.TheVariants as kinds
 use Rattle.ltl_lexer.specs.declared.token.UnaryWord.{UnaryWord}
@@ -18,7 +19,7 @@ use Rattle.ltl_parser.specs.Grammar.{Symbol, Leaf, Prefix, Infix, Open, Close, R
 use Rattle.ltl_parser.specs.declared.parsing.ParseRefused.{ParseRefused}
 use Rattle.ltl_parser.specs.declared.parsing.ParseRefused.TheVariants as refused
 
--- the operators that the reserved words name
+-- the operators that the reserved words and the bounded operators name
 abbrev pub unary_op : UnaryWord → UnaryOp
 unary_op uword.X = one.Next
 unary_op uword.WX = one.WeakNext
@@ -28,6 +29,12 @@ unary_op uword.Y = one.Yesterday
 unary_op uword.Z = one.WeakYesterday
 unary_op uword.O = one.Once
 unary_op uword.H = one.Historically
+unary_op (uword.XTimes n) = one.NextTimes n
+unary_op (uword.YTimes n) = one.YesterdayTimes n
+unary_op (uword.FIn a b) = one.EventuallyIn a b
+unary_op (uword.GIn a b) = one.AlwaysIn a b
+unary_op (uword.OIn a b) = one.OnceIn a b
+unary_op (uword.HIn a b) = one.HistoricallyIn a b
 
 abbrev pub binary_op : BinaryWord → BinaryOp
 binary_op bword.U = two.Until
@@ -87,7 +94,7 @@ pub record IsGrammarFault (text : List ℕ) (byte : ℕ) : Type 0 where
   pub lexed : AreTokens 0 text tokens None
   pub fault : grammar_fault text tokens ≡ Some byte
 
--- the text has tokens, and so many of them are no parentheses
+-- the text has tokens, and the sizes of those that are no parentheses add up to this
 pub record NodesOf (text : List ℕ) (nodes : ℕ) : Type 0 where
   pub tokens : List Token
   pub lexed : AreTokens 0 text tokens None
@@ -97,7 +104,7 @@ pub record NodesOf (text : List ℕ) (nodes : ℕ) : Type 0 where
 pub record IsAccepted (text : List ℕ) (f : Formula) : Type 0 where
   pub short : length text ≤ 1048576
   pub reads : ReadsText text f
-  pub few : nodes_in f ≤ 16384
+  pub few : formula_size f ≤ 16384
 
 -- the names that occur, with the one of the next symbol behind them where it has one and it is new
 abbrev pub with_name : List (List ℕ) → Symbol → List (List ℕ)
@@ -113,12 +120,30 @@ names_after names (s ∷ ss) = names_after (with_name names s) ss
 abbrev pub names_of : List Symbol → List (List ℕ)
 names_of ss = names_after [] ss
 
--- no fresh letters, and the names are identifiers that are not reserved
+-- the operator's numbers are at most 255, and in order
+abbrev pub IsWithin : UnaryOp → Type 0
+IsWithin one.Not = Unit {0}
+IsWithin one.Next = Unit {0}
+IsWithin one.WeakNext = Unit {0}
+IsWithin one.Eventually = Unit {0}
+IsWithin one.Always = Unit {0}
+IsWithin one.Yesterday = Unit {0}
+IsWithin one.WeakYesterday = Unit {0}
+IsWithin one.Once = Unit {0}
+IsWithin one.Historically = Unit {0}
+IsWithin (one.NextTimes n) = n ≤ 255
+IsWithin (one.YesterdayTimes n) = n ≤ 255
+IsWithin (one.EventuallyIn a b) = (a ≤ b) × (b ≤ 255)
+IsWithin (one.AlwaysIn a b) = (a ≤ b) × (b ≤ 255)
+IsWithin (one.OnceIn a b) = (a ≤ b) × (b ≤ 255)
+IsWithin (one.HistoricallyIn a b) = (a ≤ b) × (b ≤ 255)
+
+-- no fresh letters, the names are identifiers that are not reserved, and the numbers of the operators are within their bounds
 abbrev pub IsPrintable : Formula → Type 0
 IsPrintable (Const b) = Unit {0}
 IsPrintable (Letter (Name name)) = IsWord name × (word_kind name ≡ kinds.Identifier)
 IsPrintable (Letter (Fresh n)) = ⊥
-IsPrintable (Unary op a) = IsPrintable a
+IsPrintable (Unary op a) = IsWithin op × IsPrintable a
 IsPrintable (Binary op a b) = IsPrintable a × IsPrintable b
 
 -- why the tokens of a text are refused: a fault first, then too many nodes, and want of memory only where neither is

@@ -5,9 +5,10 @@ ghost use Rattle.std.specs.Prelude.{◌≡◌, ◌≢◌, ◌+◌, ◌<◌, ◌�
 ghost use Rattle.ltl_lexer.specs.Tokens.{AreTokens, IsPartOf};
 ghost use Rattle.ltl_syntax.specs.declared.table.PushRefused.TheVariants as refused;
 ghost use Rattle.ltl_syntax.specs.Table.{IsRoot, tree_at};
+ghost use Rattle.ltl_syntax.specs.Size.{sizes};
 ghost use Rattle.ltl_parser.specs.Grammar.{Reads, fault};
 ghost use Rattle.ltl_parser.specs.Text.{symbols, symbol_of, names_of};
-ghost use Rattle.ltl_parser.specs.Standing.{AreReady, IsTaken, Steps, frames, parens, to_make, wanted, IsUnderWay};
+ghost use Rattle.ltl_parser.specs.Standing.{AreReady, IsTaken, Steps, frames, parens, to_weigh, units, wanted, IsUnderWay};
 ghost use Rattle.ltl_parser.specs.Grammar.{weight, node_count};
 
 use crate::reduce::reduce;
@@ -26,7 +27,7 @@ fn step(
 ) -> Result<Option<u32>, PushRefused>
     requires fitting { IsPartOf text.now token }
     requires ready { AreReady table.old stack.old operand }
-    requires room { length table.old.nodes + to_make stack.old + weight (symbol_of text.now token) ≤ 16384 }
+    requires room { sizes table.old.nodes + to_weigh stack.old + weight (symbol_of text.now token) ≤ 16384 }
     requires names { length table.old.names ≤ length table.old.nodes }
     requires taken { IsTaken (wanted operand) (parens (frames table.old stack.old)) (symbol_of text.now token) }
     ensures steps { IfOk result (λ b. Steps table.old stack.old operand (symbol_of text.now token) table.new stack.new b) }
@@ -50,7 +51,8 @@ pub fn build(
     ensures reads { IfOk result (λ r. Reads (symbols text.now tokens.now) (tree_at r.0 r.1)) }
     ensures root { IfOk result (λ r. IsRoot r.0 r.1) }
     ensures last { IfOk result (λ r. r.1 + 1 ≡ length r.0.nodes) }
-    ensures count { IfOk result (λ r. length r.0.nodes ≡ node_count (symbols text.now tokens.now)) }
+    ensures count { IfOk result (λ r. length r.0.nodes ≡ units (symbols text.now tokens.now)) }
+    ensures size { IfOk result (λ r. sizes r.0.nodes ≡ node_count (symbols text.now tokens.now)) }
     ensures names { IfOk result (λ r. r.0.names ≡ names_of (symbols text.now tokens.now)) }
     ensures nodes { result ≢ Err refused.Nodes }
 {

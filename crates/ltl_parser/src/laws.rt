@@ -2,7 +2,8 @@
 ghost use Rattle.std.specs.Prelude.{◌≡◌, ◌↔◌, ◌⊎◌, List, ℕ, None};
 ghost use Rattle.ltl_lexer.specs.declared.token.Token.{Token};
 ghost use Rattle.ltl_lexer.specs.Tokens.{AreTokens, IsLexicalFault};
-ghost use Rattle.ltl_syntax.specs.Formula.{Formula, nodes_in};
+ghost use Rattle.ltl_syntax.specs.Formula.{Formula};
+ghost use Rattle.ltl_syntax.specs.Size.{formula_size};
 ghost use Rattle.ltl_syntax.specs.Print.{text_of};
 ghost use Rattle.ltl_parser.specs.Grammar.{Symbol, Reads, fault};
 ghost use Rattle.ltl_parser.specs.Text.{ReadsText, IsGrammarFault, NodesOf, IsPrintable};
@@ -30,10 +31,10 @@ pub fn one_outcome()
     ensures read_or_fault { (text : List ℕ) (ts : List Token) → AreTokens 0 text ts None → ((f : Formula) × ReadsText text f) ⊎ ((byte : ℕ) × IsGrammarFault text byte) }
 {}
 
-/// The tokens of a text other than parentheses are as many as the nodes of its formula.
+/// The sizes of the tokens of a text other than parentheses add up to the size of its formula.
 pub fn nodes_of_text()
     ensures one_count { (text : List ℕ) (m n : ℕ) → NodesOf text m → NodesOf text n → m ≡ n }
-    ensures nodes { (text : List ℕ) (f : Formula) → ReadsText text f → NodesOf text (nodes_in f) }
+    ensures nodes { (text : List ℕ) (f : Formula) → ReadsText text f → NodesOf text (formula_size f) }
 {}
 
 /// The printed text of a formula reads as it and as no other, and every formula that a text reads as is such a formula.

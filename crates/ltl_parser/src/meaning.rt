@@ -29,6 +29,12 @@ fn unary_op(word: UnaryWord) -> UnaryOp
         UnaryWord::Z => UnaryOp::WeakYesterday,
         UnaryWord::O => UnaryOp::Once,
         UnaryWord::H => UnaryOp::Historically,
+        UnaryWord::XTimes(n) => UnaryOp::NextTimes(n),
+        UnaryWord::YTimes(n) => UnaryOp::YesterdayTimes(n),
+        UnaryWord::FIn(a, b) => UnaryOp::EventuallyIn(a, b),
+        UnaryWord::GIn(a, b) => UnaryOp::AlwaysIn(a, b),
+        UnaryWord::OIn(a, b) => UnaryOp::OnceIn(a, b),
+        UnaryWord::HIn(a, b) => UnaryOp::HistoricallyIn(a, b),
     }
 }
 

@@ -1,10 +1,11 @@
-// Parsing goes twice over the tokens: a walk finds the first fault and counts the nodes, and only then is the table
+// Parsing goes twice over the tokens: a walk finds the first fault and adds up the sizes, and only then is the table
 // built. So the builder meets no fault, and a text that is refused costs no table.
 ghost use Rattle.std.specs.Prelude.{◌≡◌, ◌+◌, ◌≤◌, length, IfOk, IfErr, None};
 ghost use Rattle.ltl_lexer.specs.Tokens.{AreTokens};
 ghost use Rattle.ltl_syntax.specs.Table.{IsRoot, tree_at};
 ghost use Rattle.ltl_parser.specs.Grammar.{Reads};
 ghost use Rattle.ltl_syntax.specs.Formula.{nodes_in};
+ghost use Rattle.ltl_syntax.specs.Size.{sizes, formula_size};
 ghost use Rattle.ltl_parser.specs.Text.{symbols, grammar_fault, names_of, IsAccepted, IsRefusal};
 
 use crate::build::build;
@@ -13,7 +14,7 @@ use ltl_lexer::Token;
 use ltl_syntax::FormulaTable;
 use std::alloc::Global;
 
-const MAX_NODES: u32 = 16_384;
+const MAX_SIZE: u32 = 16_384;
 
 /// Why tokens give no table, in the order in which the causes are tried.
 #[derive(Clone, Copy, Debug, PartialEq, Eq)]
@@ -21,7 +22,7 @@ pub enum ParseRefused {
     /// The byte, counted from 0, of the token that may not stand where it does, or the length of the text where it ends
     /// too early.
     Grammar(u32),
-    /// The number of tokens other than parentheses, which is above 16,384.
+    /// The sum of the sizes of the tokens other than parentheses, which is above 16,384.
     Nodes(u32),
     NoMemory,
 }
@@ -41,13 +42,14 @@ pub fn parse(
     ensures root { IfOk result (λ r. IsRoot r.0 r.1) }
     ensures last { IfOk result (λ r. r.1 + 1 ≡ length r.0.nodes) }
     ensures count { IfOk result (λ r. length r.0.nodes ≡ nodes_in (tree_at r.0 r.1)) }
+    ensures size { IfOk result (λ r. sizes r.0.nodes ≡ formula_size (tree_at r.0 r.1)) }
     ensures names { IfOk result (λ r. r.0.names ≡ names_of (symbols text.now tokens.now)) }
 
     ensures clean { IfOk result (λ r. grammar_fault text.now tokens.now ≡ None) }
     ensures refused { IfErr result (IsRefusal text.now tokens.now) }
 {
     match walk(tokens) {
-        Ok(nodes) if nodes > MAX_NODES => Err(ParseRefused::Nodes(nodes)),
+        Ok(size) if size > MAX_SIZE => Err(ParseRefused::Nodes(size)),
         Ok(_) => match build(alloc, text, tokens) {
             Ok(found) => Ok(found),
             Err(_) => Err(ParseRefused::NoMemory),

@@ -2,7 +2,8 @@
 // as they bind at least as strongly as the next operator asks. What is applied becomes a node of the table.
 ghost use Rattle.std.specs.Prelude.{◌≡◌, ◌≢◌, ◌+◌, ◌≤◌, length, IfOk, Err};
 ghost use Rattle.ltl_syntax.specs.declared.table.PushRefused.TheVariants as refused;
-ghost use Rattle.ltl_parser.specs.Standing.{applied, ArePending, Becomes, IsStopped, frames, to_make};
+ghost use Rattle.ltl_syntax.specs.Size.{sizes};
+ghost use Rattle.ltl_parser.specs.Standing.{applied, ArePending, Becomes, IsStopped, frames, to_weigh};
 
 use crate::stack::{Stack, Waiting};
 use crate::strength::strength;
@@ -29,7 +30,7 @@ pub fn reduce(
     level: u8,
 ) -> Result<u32, PushRefused>
     requires pending { ArePending table.old stack.old operand }
-    requires room { length table.old.nodes + to_make stack.old ≤ 16384 }
+    requires room { sizes table.old.nodes + to_weigh stack.old ≤ 16384 }
     ensures held { IfOk result (λ n. Becomes level table.old stack.old operand table.new stack.new n) }
     ensures stopped { IfOk result (λ n. IsStopped level (frames table.new stack.new)) }
     ensures nodes { result ≢ Err refused.Nodes }

@@ -3,9 +3,10 @@ ghost use Rattle.std.specs.Prelude.{◌≡◌, ◌≢◌, ◌+◌, ◌<◌, ◌�
 ghost use Rattle.ltl_lexer.specs.Tokens.{IsWord, IsPartOf};
 ghost use Rattle.ltl_syntax.specs.declared.table.PushRefused.TheVariants as refused;
 ghost use Rattle.ltl_syntax.specs.Formula.{Const, Name, Letter};
+ghost use Rattle.ltl_syntax.specs.Size.{sizes};
 ghost use Rattle.ltl_parser.specs.Text.{symbol_of};
 ghost use Rattle.ltl_parser.specs.Grammar.{Operand, Operator};
-ghost use Rattle.ltl_parser.specs.Standing.{ArePending, AddsLeaf, AreReady, IsTaken, Steps, frames, parens, to_make, wanted};
+ghost use Rattle.ltl_parser.specs.Standing.{ArePending, AddsLeaf, AreReady, IsTaken, Steps, frames, parens, to_weigh, wanted};
 ghost use Rattle.ltl_parser.specs.Grammar.{weight};
 
 use crate::meaning::{Meaning, meant};
@@ -16,16 +17,17 @@ use ltl_lexer::Token;
 use ltl_syntax::{FormulaTable, Node, PushRefused};
 
 fn push_constant(table: &mut FormulaTable, value: bool) -> Result<u32, PushRefused>
-    requires { length table.old.nodes < 16384 }
+    requires { sizes table.old.nodes < 16384 }
     ensures leaf { IfOk result (λ n. AddsLeaf table.old (Const value) table.new n) }
     ensures nodes { result ≢ Err refused.Nodes }
 {
-    table.push(Node::Const(value))
+    let number = table.push(Node::Const(value))?;
+    Ok(number)
 }
 
 fn push_letter(table: &mut FormulaTable, bytes: &[u8]) -> Result<u32, PushRefused>
     requires word { IsWord bytes.now }
-    requires room { length table.old.nodes < 16384 }
+    requires room { sizes table.old.nodes < 16384 }
     requires names { length table.old.names ≤ length table.old.nodes }
     ensures leaf { IfOk result (λ n. AddsLeaf table.old (Letter (Name bytes.now)) table.new n) }
     ensures nodes { result ≢ Err refused.Nodes }
@@ -49,7 +51,7 @@ pub fn step_operand(
 ) -> Result<Option<u32>, PushRefused>
     requires fitting { IsPartOf text.now token }
     requires ready { AreReady table.old stack.old None }
-    requires room { length table.old.nodes + to_make stack.old + weight (symbol_of text.now token) ≤ 16384 }
+    requires room { sizes table.old.nodes + to_weigh stack.old + weight (symbol_of text.now token) ≤ 16384 }
     requires names { length table.old.names ≤ length table.old.nodes }
     requires taken { IsTaken Operand (parens (frames table.old stack.old)) (symbol_of text.now token) }
     ensures steps { IfOk result (λ b. Steps table.old stack.old None (symbol_of text.now token) table.new stack.new b) }
@@ -85,7 +87,7 @@ pub fn step_operator(
     operand: u32,
 ) -> Result<Option<u32>, PushRefused>
     requires ready { ArePending table.old stack.old operand }
-    requires room { length table.old.nodes + to_make stack.old + weight (symbol_of text.now token) ≤ 16384 }
+    requires room { sizes table.old.nodes + to_weigh stack.old + weight (symbol_of text.now token) ≤ 16384 }
     requires names { length table.old.names ≤ length table.old.nodes }
     requires taken { IsTaken Operator (parens (frames table.old stack.old)) (symbol_of text.now token) }
     ensures steps { IfOk result (λ b. Steps table.old stack.old (Some operand) (symbol_of text.now token) table.new stack.new b) }

@@ -43,7 +43,7 @@ fn is_refused(rt: &impl Abort, found: Result<Vec<u8>, Refused>, wanted: Refused)
 
 #[test]
 fn groups(rt: HostRuntime) {
-    let texts: [(&[u8], &[u8]); 12] = [
+    let texts: [(&[u8], &[u8]); 14] = [
         (
             b"a U b U c & d | e -> f -> g <-> h",
             b"(((((a U (b U c)) & d) | e) -> (f -> g)) <-> h)",
@@ -59,6 +59,11 @@ fn groups(rt: HostRuntime) {
         (b"Xp & wX w", b"(Xp & wX w)"),
         (b"Y Z O H((True))", b"Y Z O H true"),
         (b"\xc3\xa9 && ~\xc3\xa9", b"(\xc3\xa9 & !\xc3\xa9)"),
+        (
+            b"X[2]a U Y[0]b & F[0,255]G[7,7](c)",
+            b"((X[2] a U Y[0] b) & F[0,255] G[7,7] c)",
+        ),
+        (b"O[1,30]H[0,0]!p", b"O[1,30] H[0,0] !p"),
     ];
     for (text, wanted) in texts {
         assert!(rt; text.len() < 100);
@@ -69,7 +74,7 @@ fn groups(rt: HostRuntime) {
 
 #[test]
 fn first_faults(rt: HostRuntime) {
-    let texts: [(&[u8], Refused); 12] = [
+    let texts: [(&[u8], Refused); 15] = [
         (b"", Refused::Grammar(0)),
         (b"p &", Refused::Grammar(3)),
         (b"(p", Refused::Grammar(2)),
@@ -82,6 +87,9 @@ fn first_faults(rt: HostRuntime) {
         (b"p $ q", Refused::Lexical(2)),
         (b"p) $", Refused::Lexical(3)),
         (b"p\xff", Refused::Lexical(1)),
+        (b"p X[2] q", Refused::Grammar(2)),
+        (b"X[2]", Refused::Grammar(4)),
+        (b"X[256] p", Refused::Lexical(1)),
     ];
     for (text, wanted) in texts {
         assert!(rt; text.len() < 100);
@@ -106,6 +114,33 @@ fn counts_nodes(rt: HostRuntime) {
     let found = shown(rt.alloc(), &most).expect(&rt, "a formula");
     assert!(rt; found.as_slice() == most.as_slice());
     let more = negations(&rt, rt.alloc(), 16_384);
+    assert!(rt; more.len() < 20_000);
+    is_refused(&rt, shown(rt.alloc(), &more), Refused::Nodes(16_385));
+}
+
+/// So many bounded operators of size 255, and a letter behind so many negations.
+fn far_next(rt: &impl Abort, alloc: Global, count: u32, negations: u32) -> Vec<u8> {
+    let mut text = Vec::new(alloc);
+    for _ in 0..count {
+        text.extend_from_slice(b"X[255] ").expect(rt, "memory");
+    }
+    for _ in 0..negations {
+        text.push(b'!').expect(rt, "memory");
+    }
+    text.push(b'p').expect(rt, "memory");
+    text
+}
+
+#[test]
+fn counts_sizes(rt: HostRuntime) {
+    let many = far_next(&rt, rt.alloc(), 65, 0);
+    assert!(rt; many.len() < 20_000);
+    is_refused(&rt, shown(rt.alloc(), &many), Refused::Nodes(16_576));
+    let most = far_next(&rt, rt.alloc(), 64, 63);
+    assert!(rt; most.len() < 20_000);
+    let found = shown(rt.alloc(), &most).expect(&rt, "a formula");
+    assert!(rt; found.as_slice() == most.as_slice());
+    let more = far_next(&rt, rt.alloc(), 64, 64);
     assert!(rt; more.len() < 20_000);
     is_refused(&rt, shown(rt.alloc(), &more), Refused::Nodes(16_385));
 }

@@ -1,4 +1,4 @@
-// The walk over the tokens, which finds a grammar fault and counts the nodes. It keeps only whether an operand is wanted
+// The walk over the tokens, which finds a grammar fault and adds up the sizes. It keeps only whether an operand is wanted
 // next, and how many parentheses are open.
 ghost use Rattle.std.specs.Prelude.{◌≡◌, ◌+◌, ◌<◌, ◌≤◌, ◌^◌, ◌∷◌, ℕ, List, length, MatchOption, MatchResult, None, Some};
 ghost use Rattle.ltl_parser.specs.Grammar.{Symbol, fault, walk, later, node_count, weight};
@@ -27,17 +27,18 @@ fn pass(wanted: bool, depth: u32, meaning: Meaning) -> Option<(bool, u32)>
 
 fn weight(meaning: Meaning) -> u32
     ensures value { (bytes : List ℕ) → weight (symbol_meant meaning bytes) ≡ result }
-    ensures small { result ≤ 1 }
+    ensures small { result ≤ 255 }
 {
     match meaning {
         Meaning::Open | Meaning::Close => 0,
+        Meaning::Prefix(op) => op.size(),
         _ => 1,
     }
 }
 
-/// The number of nodes, or how many tokens stand before the faulty one.
+/// The sum of the sizes, or how many tokens stand before the faulty one.
 pub fn walk(tokens: &[Token]) -> Result<u32, usize>
-    requires { length tokens.now < 2 ^ 31 }
+    requires { length tokens.now ≤ 1048576 }
     ensures { (text : List ℕ) → MatchResult result
         (λ n. (fault (symbols text tokens.now) ≡ None) × (n ≡ node_count (symbols text tokens.now)))
         (λ i. (fault (symbols text tokens.now) ≡ Some i) × (i ≤ length tokens.now)) }

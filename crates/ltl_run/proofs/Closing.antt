@@ -5,7 +5,7 @@ use Rattle.ltl_syntax.specs.declared.node.Kind.TheVariants as Kinds
 use Rattle.ltl_syntax.specs.Formula.{Formula}
 use Rattle.ltl_word.specs.declared.trace.Trace.{Trace}
 use Rattle.ltl_word.specs.declared.trace.Trace.TheVariants.{Infinite, Finite}
-use Rattle.ltl_word.specs.Trace.{IsTrace, IsOfKind}
+use Rattle.ltl_word.specs.Trace.{IsTrace, IsOfKind, IsPosition}
 use Rattle.ltl_word.specs.Holds.{Holds, Satisfies}
 use Rattle.ltl_closure.specs.Norm.{formula_of, pos_of}
 use Rattle.ltl_closure.specs.Run.{States, IsRun, IsAccepted, Empty, Loop, End}
@@ -16,8 +16,13 @@ use Rattle.ltl_run.proofs.Normal.{norm_holds}
 use Rattle.ltl_run.proofs.Looping.{loop_satisfies}
 use Rattle.ltl_run.proofs.Ending.{empty_satisfies, end_satisfies}
 
+-- the first number is a position
+pub first_position : (t : Trace) → IsTrace t → IsPosition t 0
+first_position (Infinite stem loop_part) good = tt
+first_position (Finite states) good = good
+
 satisfies : (f : Formula) (t : Trace) → IsTrace t → Holds t (formula_of (pos_of f)) 0 → Satisfies t f
-satisfies f t good h = (norm_holds t good f).yes'.to 0 h
+satisfies f t good h = (norm_holds t good f).yes'.to 0 (first_position t good) h
 
 pub run_satisfies : (f : Formula) (kind : Kind) (k : ℕ) (r : States) (close : Close) (t : Trace) → IsRun f k r → Accepts close f r k kind → GivesTrace f r k close t → IsTrace t × IsOfKind t kind × Satisfies t f
 run_satisfies f Kinds.Infinite k r closes.Empty t run none (stem, e, g) =

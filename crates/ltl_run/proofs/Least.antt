@@ -93,12 +93,12 @@ unsat_sound f kind limit k n (all_pruned le open' rejected none) acc =
 
 -- a trace of the kind that satisfies the formula gives an accepted run
 pub trace_runs : (f : Formula) (kind : Kind) (t : Trace) → IsTrace t → IsOfKind t kind → Satisfies t f → (k : ℕ) × HasAccepted f kind k
-trace_runs f Kinds.Infinite (Infinite stem loop_part) good is h = trace_accepted f stem loop_part good ((norm_holds (Infinite stem loop_part) good f).yes'.back 0 h)
+trace_runs f Kinds.Infinite (Infinite stem loop_part) good is h = trace_accepted f stem loop_part good ((norm_holds (Infinite stem loop_part) good f).yes'.back 0 tt h)
 trace_runs f Kinds.Finite (Infinite stem loop_part) good is h = absurd is
 trace_runs f Kinds.Infinite (Finite states) good is h = absurd is
 trace_runs f Kinds.Finite (Finite states) good is h =
     let e : length states ≡ suc (length states - 1) = omega arith in
-    (length states - 1, finite_accepted f states (length states - 1) e ((norm_holds (Finite states) good f).yes'.back 0 h))
+    (length states - 1, finite_accepted f states (length states - 1) e ((norm_holds (Finite states) good f).yes'.back 0 good h))
 
 pub unsat_has_no_trace : (f : Formula) (kind : Kind) (limit k : ℕ) (t : Trace) → IsVerdict f kind limit (Unsat k) → IsTrace t → IsOfKind t kind → Satisfies t f → ⊥
 unsat_has_no_trace f kind limit k t v good is h = let w = trace_runs f kind t good is h in unsat_sound f kind limit k w.0 v w.1

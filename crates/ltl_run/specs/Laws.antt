@@ -4,21 +4,26 @@ use Rattle.ltl_syntax.specs.declared.node.Kind.{Kind}
 use Rattle.ltl_syntax.specs.Formula.{Formula}
 use Rattle.ltl_word.specs.declared.trace.Trace.{Trace}
 use Rattle.ltl_word.specs.declared.trace.Trace.TheVariants.{Infinite}
-use Rattle.ltl_word.specs.Trace.{Names, IsTrace, IsOfKind}
+use Rattle.ltl_word.specs.Trace.{Names, IsTrace, IsOfKind, IsPosition}
 use Rattle.ltl_word.specs.Holds.{Holds, Satisfies}
 use Rattle.ltl_word.specs.Depth.{past_depth}
-use Rattle.ltl_closure.specs.Norm.{formula_of, pos_of, neg_of}
+use Rattle.ltl_closure.specs.Norm.{Norm, NAnd, NOr, times, chain, some_in, every_in, formula_of, pos_of, neg_of}
 use Rattle.ltl_closure.specs.Run.{States, IsRun, IsAccepted, IsPrunedAt, IsUnpruned, HasAccepted, Verdict, IsVerdict, Sat, Unsat, Undecided, bound, carry, spliced, rotated}
 use Rattle.ltl_run.specs.declared.run_state.Close.{Close}
 use Rattle.ltl_run.specs.TraceOf.{ClosesTo, Accepts, GivesTrace}
 
--- the normal form of a formula holds where the formula does
+-- the normal form of a formula holds at the positions where the formula does
 abbrev pub NormalFormAgrees : Type 0
-NormalFormAgrees = (t : Trace) (f : Formula) (i : ℕ) → IsTrace t → Holds t (formula_of (pos_of f)) i ↔ Holds t f i
+NormalFormAgrees = (t : Trace) (f : Formula) (i : ℕ) → IsTrace t → IsPosition t i → Holds t (formula_of (pos_of f)) i ↔ Holds t f i
 
--- the normal form of its negation holds where the formula does not
+-- the normal form of its negation holds at the positions where the formula does not
 abbrev pub NegationAgrees : Type 0
-NegationAgrees = (t : Trace) (f : Formula) (i : ℕ) → IsTrace t → Holds t (formula_of (neg_of f)) i ↔ (Holds t f i → ⊥)
+NegationAgrees = (t : Trace) (f : Formula) (i : ℕ) → IsTrace t → IsPosition t i → Holds t (formula_of (neg_of f)) i ↔ (Holds t f i → ⊥)
+
+-- a bounded operator whose first number is not above its second is iterates of a request over a chain of disjunctions, or of conjunctions
+abbrev pub RangesAreIterated : Type 0
+RangesAreIterated = (N : Norm → Norm) (a b : ℕ) (c : Norm) → a ≤ b
+    → (some_in N a b c ≡ times N a (chain NOr N (b - a) c)) × (every_in N a b c ≡ times N a (chain NAnd N (b - a) c))
 
 -- the trace of a run that a rule accepts is one of the run's kind and satisfies the formula
 abbrev pub RunsSatisfy : Type 0

@@ -1,12 +1,13 @@
 //! Laws of runs. Each function is empty: its contract is the law, and a proof cites it by a call.
 //!
 //! The tableau is Reynolds' one-pass tree-shaped one (2016), as Geatti, Gigante and Montanari (2019) ask a solver for its branches.
-ghost use Rattle.ltl_run.specs.Laws.{NormalFormAgrees, NegationAgrees, RunsSatisfy, RulesAccept, LassosRun, TracesRun, RunsAreCut, RunsAreRotated, PrunedRunsShorten, LeastRunsAreUnpruned, HaveUnpruned, UnsatIsSound, BoundSettles, BoundFinds, VerdictIsOne};
+ghost use Rattle.ltl_run.specs.Laws.{NormalFormAgrees, NegationAgrees, RangesAreIterated, RunsSatisfy, RulesAccept, LassosRun, TracesRun, RunsAreCut, RunsAreRotated, PrunedRunsShorten, LeastRunsAreUnpruned, HaveUnpruned, UnsatIsSound, BoundSettles, BoundFinds, VerdictIsOne};
 
-/// The normal form holds where the formula does, and that of its negation where the formula does not.
+/// At each position the normal form holds where the formula does, and that of its negation where the formula does not.
 pub fn normal_form()
     ensures same { NormalFormAgrees }
     ensures negated { NegationAgrees }
+    ensures ranges { RangesAreIterated }
 {}
 
 /// An accepted run gives a trace that satisfies the formula.

@@ -1,4 +1,5 @@
 mod Trees
+pub mod Sizes
 mod Tables
 mod NameSearch
 mod Works

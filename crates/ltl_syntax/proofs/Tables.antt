@@ -11,6 +11,8 @@ use Rattle.ltl_syntax.specs.declared.node.Node.{Node}
 use Rattle.ltl_syntax.specs.declared.node.Node.TheVariants as nodes
 use Rattle.ltl_syntax.specs.Formula.{Formula, Const, Letter, Name}
 use Rattle.ltl_syntax.specs.Table.{Table, made, trees_after, trees_of, has_child, MayFollow, IsPlain, IsFine, AreFine, IsTable, Names, tree_at}
+use Rattle.ltl_syntax.specs.Size.{sizes, node_size, HasOrder}
+use Rattle.ltl_syntax.proofs.Sizes.{sizes-push, ordered-push, length-sizes}
 use Rattle.ltl_syntax.proofs.Trees.{trees_after-push, length-trees_after}
 
 -- what is a child of the next node was a root before
@@ -18,7 +20,7 @@ child_is_root : (t : Table) (node : Node) → MayFollow t node → (number : ℕ
 child_is_root t (nodes.Const b) may number h = absurd (cc)
 child_is_root t (nodes.Letter n) may number h = absurd (cc)
 child_is_root t (nodes.Fresh n) may number h = absurd (cc)
-child_is_root t (nodes.Unary op a) may number h = subst (λ (k : ℕ). list_any (has_child k) t.nodes ≡ false) (eqb-true a number h) may.1
+child_is_root t (nodes.Unary op a) may number h = subst (λ (k : ℕ). list_any (has_child k) t.nodes ≡ false) (eqb-true a number h) may.0.1
 child_is_root t (nodes.Binary op a b) may number h = either (a == number) (b == number) refl refl h where
   either : (p q : Bool) → (a == number) ≡ p → (b == number) ≡ q → (p || q) ≡ true → list_any (has_child number) t.nodes ≡ false
   either true q l r h = subst (λ (k : ℕ). list_any (has_child k) t.nodes ≡ false) (eqb-true a number l) may.0.1
@@ -35,7 +37,7 @@ pub fine_node : (t : Table) (node : Node) → MayFollow t node → IsFine (lengt
 fine_node t (nodes.Const b) may = tt
 fine_node t (nodes.Letter n) may = may
 fine_node t (nodes.Fresh n) may = tt
-fine_node t (nodes.Unary op a) may = may.0
+fine_node t (nodes.Unary op a) may = may.0.0
 fine_node t (nodes.Binary op a b) may = (may.0.0, may.1.0, may.2)
 
 fine_push : (m place : ℕ) (ns : List Node) (n : Node) → AreFine m place ns → IsFine m (place + length ns) n → AreFine m place (ns ++ n ∷ [])
@@ -50,11 +52,20 @@ single_push t node is may number = rw (count_by-push (has_child number) t.nodes 
   by_cases true e = let none : count_by (has_child number) t.nodes ≡ 0 = none_counted (has_child number) t.nodes (child_is_root t node may number e) in omega arith
   by_cases false e = let one : count_by (has_child number) t.nodes ≤ 1 = is.single number in omega arith
 
-pub is_table-push : (t : Table) (node : Node) → IsTable t.nodes t.names → MayFollow t node → length t.nodes < 16384 → IsTable (t.nodes ++ node ∷ []) t.names
+order_node : (t : Table) (node : Node) → MayFollow t node → HasOrder node
+order_node t (nodes.Const b) may = tt
+order_node t (nodes.Letter n) may = tt
+order_node t (nodes.Fresh n) may = tt
+order_node t (nodes.Unary op a) may = may.1
+order_node t (nodes.Binary op a b) may = tt
+
+pub is_table-push : (t : Table) (node : Node) → IsTable t.nodes t.names → MayFollow t node → sizes t.nodes + node_size node ≤ 16384 → IsTable (t.nodes ++ node ∷ []) t.names
 is_table-push t node is may room = record {
-  few = omega (arith, length-append t.nodes (node ∷ []));
+  few = let small : sizes (t.nodes ++ node ∷ []) ≤ 16384 = omega (arith, sizes-push t.nodes node) in omega (arith, length-sizes (t.nodes ++ node ∷ []), small);
+  small = omega (arith, sizes-push t.nodes node);
   fine = fine_push (length t.names) 0 t.nodes node is.fine (let e : 0 + length t.nodes ≡ length t.nodes = omega arith in rw e (fine_node t node may));
   single = single_push t node is may;
+  ordered = ordered-push t.nodes node is.ordered (order_node t node may);
   few_names = is.few_names;
   distinct = is.distinct;
   plain = is.plain;
@@ -110,8 +121,10 @@ pub is_table-name : (t : Table) (text : List ℕ) → IsTable t.nodes t.names �
     → ((i : ℕ) → i < length t.names → get_or t.names i [] ≢ text) → IsTable t.nodes (t.names ++ text ∷ [])
 is_table-name t text is room plain new = record {
   few = is.few;
+  small = is.small;
   fine = fine_more (length t.names) (length (t.names ++ text ∷ [])) 0 t.nodes (omega (arith, length-append t.names (text ∷ []))) is.fine;
   single = is.single;
+  ordered = is.ordered;
   few_names = omega (arith, length-append t.names (text ∷ []));
   distinct = λ i j lt h. differ i j lt (name_cases t.names text j h);
   plain = λ i h. each i (name_cases t.names text i h);

@@ -1,5 +1,6 @@
 pub mod Formula
 pub mod FormulaCode
+pub mod Size
 pub mod Table
 pub mod Roots
 pub mod Print

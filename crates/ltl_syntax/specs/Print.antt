@@ -7,6 +7,13 @@ use Rattle.ltl_syntax.specs.declared.node.UnaryOp.TheVariants as one
 use Rattle.ltl_syntax.specs.declared.node.BinaryOp.TheVariants as two
 use Rattle.ltl_syntax.specs.Formula.{Name, Fresh, Formula, Const, Letter, Unary, Binary}
 
+-- a number, or two, stand between brackets behind the operator's letter
+abbrev pub times_text : List ℕ → ℕ → List ℕ
+times_text word n = word ++ codes "[" ++ decimal n ++ codes "] "
+
+abbrev pub range_text : List ℕ → ℕ → ℕ → List ℕ
+range_text word a b = word ++ codes "[" ++ decimal a ++ codes "," ++ decimal b ++ codes "] "
+
 -- an operator over one formula is a sign, or a word and a space
 abbrev pub unary_text : UnaryOp → List ℕ
 unary_text one.Not = codes "!"
@@ -18,6 +25,12 @@ unary_text one.Yesterday = codes "Y "
 unary_text one.WeakYesterday = codes "Z "
 unary_text one.Once = codes "O "
 unary_text one.Historically = codes "H "
+unary_text (one.NextTimes n) = times_text (codes "X") n
+unary_text (one.YesterdayTimes n) = times_text (codes "Y") n
+unary_text (one.EventuallyIn a b) = range_text (codes "F") a b
+unary_text (one.AlwaysIn a b) = range_text (codes "G") a b
+unary_text (one.OnceIn a b) = range_text (codes "O") a b
+unary_text (one.HistoricallyIn a b) = range_text (codes "H") a b
 
 -- an operator over two formulas stands between two spaces
 abbrev pub binary_text : BinaryOp → List ℕ

@@ -4,6 +4,7 @@ use Rattle.std.specs.List.{list_any, count_by}
 use Rattle.ltl_syntax.specs.declared.node.Node.{Node}
 use Rattle.ltl_syntax.specs.declared.node.Node.TheVariants as nodes
 use Rattle.ltl_syntax.specs.Formula.{Name, Fresh, Formula, Const, Letter, Unary, Binary}
+use Rattle.ltl_syntax.specs.Size.{IsInOrder, sizes, HaveOrder}
 
 -- the nodes, children before parents, and the names of the letters, each as its bytes
 pub record Table : Type 0 where
@@ -52,7 +53,7 @@ abbrev pub MayFollow : Table → Node → Type 0
 MayFollow t (nodes.Const b) = Unit {0}
 MayFollow t (nodes.Letter n) = n < length t.names
 MayFollow t (nodes.Fresh n) = Unit {0}
-MayFollow t (nodes.Unary op a) = IsRoot t a
+MayFollow t (nodes.Unary op a) = IsRoot t a × IsInOrder op
 MayFollow t (nodes.Binary op a b) = IsRoot t a × IsRoot t b × (a ≢ b)
 
 -- the children of a node at this place are before it, and a letter has a name
@@ -73,11 +74,13 @@ abbrev pub IsPlain : List ℕ → Type 0
 IsPlain [] = Unit {0}
 IsPlain (byte ∷ rest) = byte ≢ 123
 
--- what holds of every table: how much it holds, children before parents, no child used twice, and distinct plain names
+-- what holds of every table: how much it holds, children before parents, no child used twice, bounds in order, and distinct plain names
 pub record IsTable (nodes : List Node) (names : List (List ℕ)) : Type 0 where
   pub few : length nodes ≤ 16384
+  pub small : sizes nodes ≤ 16384
   pub fine : AreFine (length names) 0 nodes
   pub single : (number : ℕ) → count_by (has_child number) nodes ≤ 1
+  pub ordered : HaveOrder nodes
   pub few_names : length names < 2 ^ 32
   pub distinct : (i j : ℕ) → i < j → j < length names → slice_index_or names i [] ≢ slice_index_or names j []
   pub plain : (i : ℕ) → i < length names → IsPlain (slice_index_or names i [])

@@ -3,7 +3,7 @@
 // What is still to be printed lies on a stack, the next piece on top, so that the depth of a formula costs memory and no recursion.
 ghost use Rattle.std.specs.Prelude.{◌≡◌, ◌+◌, ◌<◌, ◌≤◌, [], ◌∷◌, ◌++◌, length, IfOk, OnOk};
 ghost use Rattle.ltl_syntax.specs.Table.{tree_at};
-ghost use Rattle.ltl_syntax.specs.Print.{text_of, unary_text, binary_text};
+ghost use Rattle.ltl_syntax.specs.Print.{text_of, unary_text, times_text, range_text, binary_text};
 ghost use Rattle.ltl_syntax.specs.Stack.{work_text, works_text, work_size, works_size, IsWork, AreWorks};
 
 use crate::{BinaryOp, FormulaTable, Node, UnaryOp};
@@ -60,7 +60,7 @@ fn step(
                 out.push(b'}')?;
             }
             Node::Unary(op, a) => {
-                out.extend_from_slice(unary_bytes(op))?;
+                put_unary(alloc, op, out)?;
                 stack.push(Work::Tree(a))?;
             }
             Node::Binary(op, a, b) => {
@@ -75,20 +75,51 @@ fn step(
     Ok(())
 }
 
-fn unary_bytes(op: UnaryOp) -> &'static [u8]
-    ensures { result.now ≡ unary_text op }
+fn put_unary(alloc: Global, op: UnaryOp, out: &mut Vec<u8>) -> Result<(), AllocError>
+    ensures { OnOk result (out.new.items ≡ out.old.items ++ unary_text op) }
 {
     match op {
-        UnaryOp::Not => b"!",
-        UnaryOp::Next => b"X ",
-        UnaryOp::WeakNext => b"wX ",
-        UnaryOp::Eventually => b"F ",
-        UnaryOp::Always => b"G ",
-        UnaryOp::Yesterday => b"Y ",
-        UnaryOp::WeakYesterday => b"Z ",
-        UnaryOp::Once => b"O ",
-        UnaryOp::Historically => b"H ",
+        UnaryOp::Not => Ok(out.extend_from_slice(b"!")?),
+        UnaryOp::Next => Ok(out.extend_from_slice(b"X ")?),
+        UnaryOp::WeakNext => Ok(out.extend_from_slice(b"wX ")?),
+        UnaryOp::Eventually => Ok(out.extend_from_slice(b"F ")?),
+        UnaryOp::Always => Ok(out.extend_from_slice(b"G ")?),
+        UnaryOp::Yesterday => Ok(out.extend_from_slice(b"Y ")?),
+        UnaryOp::WeakYesterday => Ok(out.extend_from_slice(b"Z ")?),
+        UnaryOp::Once => Ok(out.extend_from_slice(b"O ")?),
+        UnaryOp::Historically => Ok(out.extend_from_slice(b"H ")?),
+        UnaryOp::NextTimes(n) => put_times(alloc, b"X", n, out),
+        UnaryOp::YesterdayTimes(n) => put_times(alloc, b"Y", n, out),
+        UnaryOp::EventuallyIn(a, b) => put_range(alloc, b"F", a, b, out),
+        UnaryOp::AlwaysIn(a, b) => put_range(alloc, b"G", a, b, out),
+        UnaryOp::OnceIn(a, b) => put_range(alloc, b"O", a, b, out),
+        UnaryOp::HistoricallyIn(a, b) => put_range(alloc, b"H", a, b, out),
     }
+}
+
+fn put_times(alloc: Global, word: &[u8], n: u8, out: &mut Vec<u8>) -> Result<(), AllocError>
+    ensures { OnOk result (out.new.items ≡ out.old.items ++ times_text word.now n) }
+{
+    let digits = n.to_string(alloc)?;
+    out.extend_from_slice(word)?;
+    out.extend_from_slice(b"[")?;
+    out.extend_from_slice(digits.as_bytes())?;
+    out.extend_from_slice(b"] ")?;
+    Ok(())
+}
+
+fn put_range(alloc: Global, word: &[u8], a: u8, b: u8, out: &mut Vec<u8>) -> Result<(), AllocError>
+    ensures { OnOk result (out.new.items ≡ out.old.items ++ range_text word.now a b) }
+{
+    let first = a.to_string(alloc)?;
+    let second = b.to_string(alloc)?;
+    out.extend_from_slice(word)?;
+    out.extend_from_slice(b"[")?;
+    out.extend_from_slice(first.as_bytes())?;
+    out.extend_from_slice(b",")?;
+    out.extend_from_slice(second.as_bytes())?;
+    out.extend_from_slice(b"] ")?;
+    Ok(())
 }
 
 fn binary_bytes(op: BinaryOp) -> &'static [u8]

@@ -7,6 +7,7 @@ ghost use Rattle.std.specs.Prelude.{◌≡◌, ◌≢◌, ℕ, ◌+◌, ◌<◌,
 ghost use Rattle.std.specs.List.{count_by};
 ghost use Rattle.ltl_syntax.specs.declared.table.PushRefused.TheVariants.{NoMemory};
 ghost use Rattle.ltl_syntax.specs.Table.{Table, IsRoot, MayFollow, IsFine, IsPlain, Pushes, Names, tree_at, trees_of, made, has_child};
+ghost use Rattle.ltl_syntax.specs.Size.{sizes, node_size, HasOrder};
 ghost use Rattle.ltl_syntax.specs.Roots.{HasChildrenBelow};
 
 use crate::Node;
@@ -14,9 +15,9 @@ use indexmap::IndexSet;
 use std::alloc::{AllocError, AllocFailed, Global};
 use std::marker::Model;
 
-const MAX_NODES: usize = 16_384;
+const MAX_SIZE: u32 = 16_384;
 
-/// Why a node was not added: the table has its 16,384 nodes, or memory ran out.
+/// Why a node was not added: the sizes of the nodes would add up to more than 16,384, or memory ran out.
 #[derive(Clone, Copy, Debug, PartialEq, Eq)]
 pub enum PushRefused {
     Nodes,
@@ -39,19 +40,21 @@ pub struct FormulaTable {
     alloc: Global,
     nodes: Vec<Node>,
     root_flags: Vec<bool>,
+    size: u32,
     names: IndexSet<String>,
 }
 
 impl Model for FormulaTable {
-    ghost use Rattle.std.specs.Prelude.{map, string_bytes};
+    ghost use Rattle.std.specs.Prelude.{◌≡◌, map, string_bytes};
     ghost use Rattle.ltl_syntax.specs.Table.{Table, IsTable};
+    ghost use Rattle.ltl_syntax.specs.Size.{sizes};
     ghost use Rattle.ltl_syntax.specs.Roots.{AreRootFlags};
 
     ghost Value = { Table };
 
     ghost view = { λ t. record { nodes = t.nodes.items; names = map string_bytes t.names.keys } };
 
-    ghost invariant = { λ t. IsTable t.nodes.items (map string_bytes t.names.keys) × AreRootFlags t.nodes.items t.root_flags.items };
+    ghost invariant = { λ t. IsTable t.nodes.items (map string_bytes t.names.keys) × AreRootFlags t.nodes.items t.root_flags.items × (t.size ≡ sizes t.nodes.items) };
 }
 
 impl FormulaTable {
@@ -63,6 +66,7 @@ impl FormulaTable {
             alloc,
             nodes: Vec::new(alloc),
             root_flags: Vec::new(alloc),
+            size: 0,
             names: IndexSet::new(alloc),
         }
     }
@@ -97,10 +101,11 @@ impl FormulaTable {
         ensures number { IfOk result (λ number. number ≡ length self.old.nodes) }
         ensures ok { OnOk result (Pushes self.old node self.new) }
         ensures root { IfOk result (λ number. IsRoot self.new number) }
-        ensures nodes { result ≡ Err PushRefused.Nodes ↔ (length self.old.nodes ≡ 16384) }
+        ensures nodes { result ≡ Err PushRefused.Nodes ↔ (16384 < sizes self.old.nodes + node_size node) }
         ensures err { OnErr result (self.new ≡ self.old) }
     {
-        if self.nodes.len() >= MAX_NODES {
+        let size = self.size + node.size();
+        if size > MAX_SIZE {
             return Err(PushRefused::Nodes);
         }
         let number = self.nodes.len() as u32;
@@ -108,6 +113,7 @@ impl FormulaTable {
         match self.nodes.push(node) {
             Ok(()) => {
                 clear_children(&mut self.root_flags, node);
+                self.size = size;
                 Ok(number)
             }
             Err(_) => {
@@ -115,6 +121,14 @@ impl FormulaTable {
                 Err(PushRefused::NoMemory)
             }
         }
+    }
+
+    /// The sum of the sizes of the nodes.
+    pub fn size(&self) -> u32
+        ensures size { result ≡ sizes self.now.nodes }
+        ensures few { result ≤ 16384 }
+    {
+        self.size
     }
 
     /// The number of nodes. No node is the child of two.
@@ -132,6 +146,7 @@ impl FormulaTable {
         ensures node { slice_get self.now.nodes number ≡ Some result }
         ensures tree { tree_at self.now number ≡ made self.now.names (trees_of self.now) result }
         ensures below { IsFine (length self.now.names) number result }
+        ensures ordered { HasOrder result }
     {
         self.nodes[number as usize]
     }

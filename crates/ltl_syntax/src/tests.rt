@@ -19,7 +19,7 @@ fn may_follow(table: &FormulaTable, node: Node) -> bool
     match node {
         Node::Const(_) | Node::Fresh(_) => true,
         Node::Letter(letter) => letter < table.letters(),
-        Node::Unary(_, a) => table.is_root(a),
+        Node::Unary(op, a) => table.is_root(a) && op.is_in_order(),
         Node::Binary(_, a, b) => table.is_root(a) && table.is_root(b) && a != b,
     }
 }
@@ -73,6 +73,42 @@ fn prints_every_operator(rt: HostRuntime) {
     let wanted =
         b"((((((((((H O Z Y G F wX X !p & q) | true) -> false) <-> {70}) U p) R q) W p) M q) S p) T q)";
     assert!(rt; text.as_slice() == wanted.as_slice());
+}
+
+#[test]
+fn prints_numbers_of_bounded_operators(rt: HostRuntime) {
+    let mut table = FormulaTable::new(rt.alloc());
+    let p = name(&rt, &mut table, "p");
+    let mut root = push(&rt, &mut table, Node::Letter(p));
+    for op in [
+        UnaryOp::NextTimes(0),
+        UnaryOp::YesterdayTimes(7),
+        UnaryOp::EventuallyIn(2, 255),
+        UnaryOp::AlwaysIn(0, 5),
+        UnaryOp::OnceIn(0, 0),
+        UnaryOp::HistoricallyIn(1, 3),
+    ] {
+        root = push(&rt, &mut table, Node::Unary(op, root));
+    }
+    assert!(rt; root < table.len());
+    let text = print(rt.alloc(), &table, root).expect(&rt, "memory");
+    assert!(rt; text.as_slice() == b"H[1,3] O[0,0] G[0,5] F[2,255] Y[7] X[0] p".as_slice());
+    assert_eq!(rt; table.size(), 273);
+}
+
+#[test]
+fn counts_how_far_operators_look(rt: HostRuntime) {
+    let mut table = FormulaTable::new(rt.alloc());
+    let mut root = push(&rt, &mut table, Node::Const(true));
+    for _ in 0..64 {
+        root = push(&rt, &mut table, Node::Unary(UnaryOp::NextTimes(255), root));
+    }
+    assert_eq!(rt; table.size(), 16_321);
+    let node = Node::Unary(UnaryOp::NextTimes(255), root);
+    assert!(rt; may_follow(&table, node));
+    assert!(rt; table.push(node) == Err(PushRefused::Nodes));
+    push(&rt, &mut table, Node::Unary(UnaryOp::OnceIn(0, 63), root));
+    assert_eq!(rt; table.size(), 16_384);
 }
 
 #[test]

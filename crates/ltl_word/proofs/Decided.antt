@@ -2,7 +2,7 @@
 use Rattle.std.proofs.Common.{ℕ, ◌+◌, ◌*◌, arith, length}
 use native.Mathlib.Decide.{dec_lt}
 use Rattle.ltl_syntax.specs.Formula.{Formula, Const, Letter, Unary, Binary}
-use Rattle.ltl_syntax.specs.declared.node.UnaryOp.TheVariants.{Always, Eventually, Historically, Next, Not, Once, WeakNext, WeakYesterday, Yesterday}
+use Rattle.ltl_syntax.specs.declared.node.UnaryOp.TheVariants.{Always, AlwaysIn, Eventually, EventuallyIn, Historically, HistoricallyIn, Next, NextTimes, Not, Once, OnceIn, WeakNext, WeakYesterday, Yesterday, YesterdayTimes}
 use Rattle.ltl_syntax.specs.declared.node.BinaryOp.TheVariants.{And, Iff, Implies, Or, Release, Since, StrongRelease, Trigger, Until, WeakUntil}
 use Rattle.ltl_word.specs.declared.trace.Trace.{Trace}
 use Rattle.ltl_word.specs.declared.trace.Trace.TheVariants.{Infinite, Finite}
@@ -14,6 +14,7 @@ use Rattle.ltl_word.proofs.Repeats.{horizon_of_period}
 use Rattle.ltl_word.proofs.Periodicity.{Holds-repeats, Position-repeats}
 use Rattle.ltl_word.proofs.Search.{IsDecided, ¬_decided, ×_decided, ⊎_decided, →_decided, IsTrue_decided, Contains_decided}
 use Rattle.ltl_word.proofs.Expansion.{IsClosed}
+use Rattle.ltl_word.proofs.Bounded.{EventuallyIn_decided, AlwaysIn_decided, OnceIn_decided, HistoricallyIn_decided, NextTimes_decided, YesterdayTimes_decided}
 use Rattle.ltl_word.proofs.Duality.{HasHorizon, Until_decided, Released_decided, Since_decided, Triggered_decided, Next_decided, WeakNext_decided, Yesterday_decided, WeakYesterday_decided, Always_decided, Never_decided}
 
 -- what stands before a position is one
@@ -44,6 +45,12 @@ module _ (t : Trace) (good : IsTrace t) where
   Holds_decided (Unary WeakYesterday a) i = WeakYesterday_decided _ (Holds_decided a) i
   Holds_decided (Unary Once a) i = Since_decided _ _ Always_decided (Holds_decided a) i
   Holds_decided (Unary Historically a) i = Triggered_decided _ _ Never_decided (Holds_decided a) i
+  Holds_decided (Unary (NextTimes n) a) i = NextTimes_decided _ _ (Position_decided t) (Holds_decided a) n i
+  Holds_decided (Unary (YesterdayTimes n) a) i = YesterdayTimes_decided _ (Holds_decided a) n i
+  Holds_decided (Unary (EventuallyIn m n) a) i = EventuallyIn_decided _ _ (Position_decided t) (Holds_decided a) m n i
+  Holds_decided (Unary (AlwaysIn m n) a) i = AlwaysIn_decided _ _ (Position_decided t) (Holds_decided a) m n i
+  Holds_decided (Unary (OnceIn m n) a) i = OnceIn_decided _ (Holds_decided a) m n i
+  Holds_decided (Unary (HistoricallyIn m n) a) i = HistoricallyIn_decided _ (Holds_decided a) m n i
   Holds_decided (Binary And a b) i = ×_decided (Holds_decided a i) (Holds_decided b i)
   Holds_decided (Binary Or a b) i = ⊎_decided (Holds_decided a i) (Holds_decided b i)
   Holds_decided (Binary Implies a b) i = →_decided (Holds_decided a i) (Holds_decided b i)

@@ -4,6 +4,7 @@ pub mod Duality
 pub mod Agreement
 pub mod Expansion
 pub mod Repeats
+pub mod Bounded
 pub mod Periodicity
 pub mod Decided
 mod Propositional

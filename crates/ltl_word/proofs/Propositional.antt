@@ -1,7 +1,7 @@
 -- A formula without temporal operators depends on the letters of its state alone.
 use Rattle.std.proofs.Common.{ℕ, inl, inr, ◌↔◌, refl, Contains}
 use Rattle.ltl_syntax.specs.Formula.{Atom, Formula, Const, Letter, Unary, Binary}
-use Rattle.ltl_syntax.specs.declared.node.UnaryOp.TheVariants.{Always, Eventually, Historically, Next, Not, Once, WeakNext, WeakYesterday, Yesterday}
+use Rattle.ltl_syntax.specs.declared.node.UnaryOp.TheVariants.{Always, AlwaysIn, Eventually, EventuallyIn, Historically, HistoricallyIn, Next, NextTimes, Not, Once, OnceIn, WeakNext, WeakYesterday, Yesterday, YesterdayTimes}
 use Rattle.ltl_syntax.specs.declared.node.BinaryOp.TheVariants.{And, Iff, Implies, Or, Release, Since, StrongRelease, Trigger, Until, WeakUntil}
 use Rattle.ltl_word.specs.declared.trace.Trace.{Trace}
 use Rattle.ltl_word.specs.Trace.{state_at}
@@ -24,6 +24,12 @@ module _ (t u : Trace) (i j : ℕ) where
   Holds-local (Unary WeakYesterday a) w same = absurd w.0
   Holds-local (Unary Once a) w same = absurd w.0
   Holds-local (Unary Historically a) w same = absurd w.0
+  Holds-local (Unary (NextTimes n) a) w same = absurd w.0
+  Holds-local (Unary (YesterdayTimes n) a) w same = absurd w.0
+  Holds-local (Unary (EventuallyIn m n) a) w same = absurd w.0
+  Holds-local (Unary (AlwaysIn m n) a) w same = absurd w.0
+  Holds-local (Unary (OnceIn m n) a) w same = absurd w.0
+  Holds-local (Unary (HistoricallyIn m n) a) w same = absurd w.0
   Holds-local (Binary And a b) w same =
       let r = Holds-local a w.1 (λ p h. same p (inl h)) in
       let s = Holds-local b w.2 (λ p h. same p (inr h)) in

@@ -1,5 +1,5 @@
 -- What the temporal operators say of claims on positions. P says which numbers are positions.
-use Rattle.std.specs.Prelude.{◌≡◌, ℕ, suc, ◌<◌, ◌≤◌, ⊤, ◌⊎◌}
+use Rattle.std.specs.Prelude.{◌≡◌, ℕ, suc, ◌+◌, ◌<◌, ◌≤◌, ⊤, ◌⊎◌}
 
 -- a claim on positions
 abbrev pub Claim : Type 1
@@ -36,6 +36,30 @@ IsSince A B i = (j : ℕ) × (j ≤ i) × B j × ((k : ℕ) → j < k → k ≤ 
 -- at each position up to i, B, or A at some position after it up to i
 abbrev pub IsTriggered : Claim → Claim → Claim
 IsTriggered A B i = (j : ℕ) → j ≤ i → B j ⊎ ((k : ℕ) × (j < k) × (k ≤ i) × A k)
+
+-- n later there is a position, and it has it
+abbrev pub AtNextTimes : Claim → ℕ → Claim → Claim
+AtNextTimes P n A i = P (i + n) × A (i + n)
+
+-- there is a position n before i, and it has it
+abbrev pub AtYesterdayTimes : ℕ → Claim → Claim
+AtYesterdayTimes n A i = (j : ℕ) × (j + n ≡ i) × A j
+
+-- A at some position that is a to b later
+abbrev pub IsEventuallyIn : Claim → ℕ → ℕ → Claim → Claim
+IsEventuallyIn P a b A i = (j : ℕ) × (i + a ≤ j) × (j ≤ i + b) × P j × A j
+
+-- A at each position that is a to b later
+abbrev pub IsAlwaysIn : Claim → ℕ → ℕ → Claim → Claim
+IsAlwaysIn P a b A i = (j : ℕ) → i + a ≤ j → j ≤ i + b → P j → A j
+
+-- A at some position that is a to b earlier
+abbrev pub IsOnceIn : ℕ → ℕ → Claim → Claim
+IsOnceIn a b A i = (j : ℕ) × (j + a ≤ i) × (i ≤ j + b) × A j
+
+-- A at each position that is a to b earlier
+abbrev pub IsHistoricallyIn : ℕ → ℕ → Claim → Claim
+IsHistoricallyIn a b A i = (j : ℕ) → j + a ≤ i → i ≤ j + b → A j
 
 abbrev pub Always' : Claim
 Always' i = ⊤

@@ -1,7 +1,7 @@
--- How deep past operators are nested in a formula.
-use Rattle.std.specs.Prelude.{ℕ, suc, max}
+-- How deep past operators are nested in a formula, a bounded one as often as it looks back.
+use Rattle.std.specs.Prelude.{ℕ, suc, ◌+◌, max}
 use Rattle.ltl_syntax.specs.Formula.{Formula, Const, Letter, Unary, Binary}
-use Rattle.ltl_syntax.specs.declared.node.UnaryOp.TheVariants.{Always, Eventually, Historically, Next, Not, Once, WeakNext, WeakYesterday, Yesterday}
+use Rattle.ltl_syntax.specs.declared.node.UnaryOp.TheVariants.{Always, AlwaysIn, Eventually, EventuallyIn, Historically, HistoricallyIn, Next, NextTimes, Not, Once, OnceIn, WeakNext, WeakYesterday, Yesterday, YesterdayTimes}
 use Rattle.ltl_syntax.specs.declared.node.BinaryOp.TheVariants.{And, Iff, Implies, Or, Release, Since, StrongRelease, Trigger, Until, WeakUntil}
 
 abbrev pub past_depth : Formula → ℕ
@@ -16,6 +16,12 @@ past_depth (Unary Yesterday a) = suc (past_depth a)
 past_depth (Unary WeakYesterday a) = suc (past_depth a)
 past_depth (Unary Once a) = suc (past_depth a)
 past_depth (Unary Historically a) = suc (past_depth a)
+past_depth (Unary (NextTimes n) a) = past_depth a
+past_depth (Unary (YesterdayTimes n) a) = n + past_depth a
+past_depth (Unary (EventuallyIn m n) a) = past_depth a
+past_depth (Unary (AlwaysIn m n) a) = past_depth a
+past_depth (Unary (OnceIn m n) a) = n + past_depth a
+past_depth (Unary (HistoricallyIn m n) a) = n + past_depth a
 past_depth (Binary And a b) = max (past_depth a) (past_depth b)
 past_depth (Binary Or a b) = max (past_depth a) (past_depth b)
 past_depth (Binary Implies a b) = max (past_depth a) (past_depth b)

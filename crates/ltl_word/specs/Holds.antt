@@ -2,11 +2,11 @@
 use Rattle.std.specs.Prelude.{ℕ, List, ◌∷◌, ◌++◌, [], ◌⊎◌, ◌↔◌, IsTrue, Contains}
 use Rattle.std.specs.Fmt.{decimal}
 use Rattle.ltl_syntax.specs.Formula.{Atom, Name, Fresh, Formula, Const, Letter, Unary, Binary}
-use Rattle.ltl_syntax.specs.declared.node.UnaryOp.TheVariants.{Always, Eventually, Historically, Next, Not, Once, WeakNext, WeakYesterday, Yesterday}
+use Rattle.ltl_syntax.specs.declared.node.UnaryOp.TheVariants.{Always, AlwaysIn, Eventually, EventuallyIn, Historically, HistoricallyIn, Next, NextTimes, Not, Once, OnceIn, WeakNext, WeakYesterday, Yesterday, YesterdayTimes}
 use Rattle.ltl_syntax.specs.declared.node.BinaryOp.TheVariants.{And, Iff, Implies, Or, Release, Since, StrongRelease, Trigger, Until, WeakUntil}
 use Rattle.ltl_word.specs.declared.trace.Trace.{Trace}
 use Rattle.ltl_word.specs.Trace.{IsPosition, state_at}
-use Rattle.ltl_word.specs.Claims.{Claim, Always', Never, AtNext, AtWeakNext, IsUntil, IsReleased, AtYesterday, AtWeakYesterday, IsSince, IsTriggered}
+use Rattle.ltl_word.specs.Claims.{Claim, Always', Never, AtNext, AtWeakNext, IsUntil, IsReleased, AtYesterday, AtWeakYesterday, IsSince, IsTriggered, AtNextTimes, AtYesterdayTimes, IsEventuallyIn, IsAlwaysIn, IsOnceIn, IsHistoricallyIn}
 
 -- the name of a letter: a fresh letter n is {n}
 abbrev pub name_of : Atom → List ℕ
@@ -26,6 +26,12 @@ Holds t (Unary Yesterday a) i = AtYesterday (Holds t a) i
 Holds t (Unary WeakYesterday a) i = AtWeakYesterday (Holds t a) i
 Holds t (Unary Once a) i = IsSince Always' (Holds t a) i
 Holds t (Unary Historically a) i = IsTriggered Never (Holds t a) i
+Holds t (Unary (NextTimes n) a) i = AtNextTimes (IsPosition t) n (Holds t a) i
+Holds t (Unary (YesterdayTimes n) a) i = AtYesterdayTimes n (Holds t a) i
+Holds t (Unary (EventuallyIn m n) a) i = IsEventuallyIn (IsPosition t) m n (Holds t a) i
+Holds t (Unary (AlwaysIn m n) a) i = IsAlwaysIn (IsPosition t) m n (Holds t a) i
+Holds t (Unary (OnceIn m n) a) i = IsOnceIn m n (Holds t a) i
+Holds t (Unary (HistoricallyIn m n) a) i = IsHistoricallyIn m n (Holds t a) i
 Holds t (Binary And a b) i = Holds t a i × Holds t b i
 Holds t (Binary Or a b) i = Holds t a i ⊎ Holds t b i
 Holds t (Binary Implies a b) i = Holds t a i → Holds t b i

@@ -3,7 +3,7 @@ use Rattle.std.specs.Prelude.{◌≡◌, ⊤, ◌⊎◌}
 use Rattle.ltl_syntax.specs.Formula.{Atom, Formula, Const, Letter, Unary, Binary}
 use Rattle.ltl_syntax.specs.declared.node.UnaryOp.{UnaryOp}
 use Rattle.ltl_syntax.specs.declared.node.BinaryOp.{BinaryOp}
-use Rattle.ltl_syntax.specs.declared.node.UnaryOp.TheVariants.{Always, Eventually, Historically, Next, Not, Once, WeakNext, WeakYesterday, Yesterday}
+use Rattle.ltl_syntax.specs.declared.node.UnaryOp.TheVariants.{Always, AlwaysIn, Eventually, EventuallyIn, Historically, HistoricallyIn, Next, NextTimes, Not, Once, OnceIn, WeakNext, WeakYesterday, Yesterday, YesterdayTimes}
 use Rattle.ltl_syntax.specs.declared.node.BinaryOp.TheVariants.{And, Iff, Implies, Or, Release, Since, StrongRelease, Trigger, Until, WeakUntil}
 
 -- the operators that speak of one position only
@@ -17,6 +17,12 @@ IsLocal₁ Yesterday = ⊥
 IsLocal₁ WeakYesterday = ⊥
 IsLocal₁ Once = ⊥
 IsLocal₁ Historically = ⊥
+IsLocal₁ (NextTimes n) = ⊥
+IsLocal₁ (YesterdayTimes n) = ⊥
+IsLocal₁ (EventuallyIn m n) = ⊥
+IsLocal₁ (AlwaysIn m n) = ⊥
+IsLocal₁ (OnceIn m n) = ⊥
+IsLocal₁ (HistoricallyIn m n) = ⊥
 
 abbrev pub IsLocal₂ : BinaryOp → Type 0
 IsLocal₂ And = ⊤

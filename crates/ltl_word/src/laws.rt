@@ -1,7 +1,7 @@
 //! Laws of where formulas hold. Each function is empty: its contract is the law, and a proof cites it by a call.
-ghost use Rattle.std.specs.Prelude.{Bool, true, false, not};
+ghost use Rattle.std.specs.Prelude.{ℕ, suc, Bool, true, false, not};
 ghost use Rattle.ltl_syntax.specs.Formula.{Formula, Const, Unary, Binary};
-ghost use Rattle.ltl_syntax.specs.declared.node.UnaryOp.TheVariants.{Always, Eventually, Historically, Next, Not, Once, WeakNext, WeakYesterday, Yesterday};
+ghost use Rattle.ltl_syntax.specs.declared.node.UnaryOp.TheVariants.{Always, AlwaysIn, Eventually, EventuallyIn, Historically, HistoricallyIn, Next, NextTimes, Not, Once, OnceIn, WeakNext, WeakYesterday, Yesterday, YesterdayTimes};
 ghost use Rattle.ltl_syntax.specs.declared.node.BinaryOp.TheVariants.{And, Iff, Implies, Or, Release, Since, StrongRelease, Trigger, Until, WeakUntil};
 ghost use Rattle.ltl_word.specs.Laws.{IsPeriodic, EachIsDecided, AreEquivalent, AreEquivalentAtPositions, DependsOnState, DependsOnLetters, IsOneReading};
 
@@ -27,6 +27,36 @@ pub fn expansion()
     ensures trigger { (a b : Formula) → AreEquivalent (Binary Trigger a b) (Binary And b (Binary Or a (Unary WeakYesterday (Binary Trigger a b)))) }
     ensures once { (a : Formula) → AreEquivalent (Unary Once a) (Binary Or a (Unary Yesterday (Unary Once a))) }
     ensures historically { (a : Formula) → AreEquivalent (Unary Historically a) (Binary And a (Unary WeakYesterday (Unary Historically a))) }
+{}
+
+/// Each bounded operator in terms of a position and its neighbour.
+pub fn bounded_expansion()
+    ensures next_here { (a : Formula) → AreEquivalentAtPositions (Unary (NextTimes 0) a) a }
+    ensures next_later { (n : ℕ) (a : Formula) → AreEquivalent (Unary (NextTimes (suc n)) a) (Unary Next (Unary (NextTimes n) a)) }
+    ensures yesterday_here { (a : Formula) → AreEquivalent (Unary (YesterdayTimes 0) a) a }
+    ensures yesterday_earlier { (n : ℕ) (a : Formula) → AreEquivalent (Unary (YesterdayTimes (suc n)) a) (Unary Yesterday (Unary (YesterdayTimes n) a)) }
+    ensures eventually_here { (a : Formula) → AreEquivalentAtPositions (Unary (EventuallyIn 0 0) a) a }
+    ensures eventually_first { (n : ℕ) (a : Formula) → AreEquivalentAtPositions (Unary (EventuallyIn 0 (suc n)) a) (Binary Or a (Unary Next (Unary (EventuallyIn 0 n) a))) }
+    ensures eventually_later { (m n : ℕ) (a : Formula) → AreEquivalent (Unary (EventuallyIn (suc m) (suc n)) a) (Unary Next (Unary (EventuallyIn m n) a)) }
+    ensures always_here { (a : Formula) → AreEquivalentAtPositions (Unary (AlwaysIn 0 0) a) a }
+    ensures always_first { (n : ℕ) (a : Formula) → AreEquivalentAtPositions (Unary (AlwaysIn 0 (suc n)) a) (Binary And a (Unary WeakNext (Unary (AlwaysIn 0 n) a))) }
+    ensures always_later { (m n : ℕ) (a : Formula) → AreEquivalent (Unary (AlwaysIn (suc m) (suc n)) a) (Unary WeakNext (Unary (AlwaysIn m n) a)) }
+    ensures once_here { (a : Formula) → AreEquivalent (Unary (OnceIn 0 0) a) a }
+    ensures once_first { (n : ℕ) (a : Formula) → AreEquivalent (Unary (OnceIn 0 (suc n)) a) (Binary Or a (Unary Yesterday (Unary (OnceIn 0 n) a))) }
+    ensures once_earlier { (m n : ℕ) (a : Formula) → AreEquivalent (Unary (OnceIn (suc m) (suc n)) a) (Unary Yesterday (Unary (OnceIn m n) a)) }
+    ensures historically_here { (a : Formula) → AreEquivalent (Unary (HistoricallyIn 0 0) a) a }
+    ensures historically_first { (n : ℕ) (a : Formula) → AreEquivalent (Unary (HistoricallyIn 0 (suc n)) a) (Binary And a (Unary WeakYesterday (Unary (HistoricallyIn 0 n) a))) }
+    ensures historically_earlier { (m n : ℕ) (a : Formula) → AreEquivalent (Unary (HistoricallyIn (suc m) (suc n)) a) (Unary WeakYesterday (Unary (HistoricallyIn m n) a)) }
+{}
+
+/// The negation of each bounded operator.
+pub fn bounded_duality()
+    ensures next { (n : ℕ) (a : Formula) → AreEquivalent (Unary Not (Unary (NextTimes n) a)) (Unary (AlwaysIn n n) (Unary Not a)) }
+    ensures yesterday { (n : ℕ) (a : Formula) → AreEquivalent (Unary Not (Unary (YesterdayTimes n) a)) (Unary (HistoricallyIn n n) (Unary Not a)) }
+    ensures eventually { (m n : ℕ) (a : Formula) → AreEquivalent (Unary Not (Unary (EventuallyIn m n) a)) (Unary (AlwaysIn m n) (Unary Not a)) }
+    ensures always { (m n : ℕ) (a : Formula) → AreEquivalent (Unary Not (Unary (AlwaysIn m n) a)) (Unary (EventuallyIn m n) (Unary Not a)) }
+    ensures once { (m n : ℕ) (a : Formula) → AreEquivalent (Unary Not (Unary (OnceIn m n) a)) (Unary (HistoricallyIn m n) (Unary Not a)) }
+    ensures historically { (m n : ℕ) (a : Formula) → AreEquivalent (Unary Not (Unary (HistoricallyIn m n) a)) (Unary (OnceIn m n) (Unary Not a)) }
 {}
 
 /// The operators that abbreviate others.

@@ -16,8 +16,11 @@ told_of_one c =
     (sym (child_row c.args.rows.now c.in-Unary.a c.index-rows-a.result c.cells.result.now (omega (arith, below, c.requires.place)) c.cells.ensures c.index-rows-a.is))
     (c.requires.children (nodes.Unary c.in-Unary.op c.in-Unary.a) c.in-Unary.a below c.in-Unary.ensures.node (is_only c.in-Unary.op c.in-Unary.a))
 
-pub unary_row-requires : goal.unary_row-requires
-unary_row-requires c = let told = told_of_one c in omega (arith, told.count, start_within c.args.trace.now c.args.extent c.requires.extent, c.requires.extent.columns_are)
+pub unary_row-requires-clause-few : goal.unary_row-requires-clause-few
+unary_row-requires-clause-few c = let told = told_of_one c in omega (arith, told.count, c.requires.extent.columns_are, c.requires.extent.few)
+
+pub unary_row-requires-clause-within : goal.unary_row-requires-clause-within
+unary_row-requires-clause-within c = let told = told_of_one c in omega (arith, told.count, start_within c.args.trace.now c.args.extent c.requires.extent, c.requires.extent.columns_are)
 
 told_of_left : (c : goal.After-cells-b) → Tells c.args.trace.now c.args.extent.depth (tree_at c.args.table.now c.in-Binary.a) c.cells-a.result.now
 told_of_left c =

@@ -5,7 +5,7 @@ use Rattle.ltl_lexer.specs.declared.token.Token.{Token}
 use Rattle.ltl_lexer.proofs.Places.{parts_of_text}
 use Rattle.ltl_parser.specs.Text.{symbols, symbol_of}
 use Rattle.ltl_parser.specs.Standing.{IsUnderWay}
-use Rattle.ltl_parser.proofs.Running.{next_symbol, taken_symbols, way_room, way_taken, way_next, way_reads, way_count, way_names}
+use Rattle.ltl_parser.proofs.Running.{next_symbol, taken_symbols, way_room, way_taken, way_next, way_reads, way_count, way_size, way_names}
 use Rattle.ltl_parser.proofs.build.build.Goals as goal
 
 abbrev none : Token
@@ -44,6 +44,12 @@ returns-clause-count c =
     let ss = symbols c.args.text.now c.args.tokens.now in
     let way = subst (IsUnderWay ss c.loop-token.token-index c.loop-token.table c.loop-token.stack) c.in-Some.is c.loop-token.invariant in
     way_count ss c.loop-token.token-index c.loop-token.table c.reduce.new.table c.loop-token.stack c.reduce.new.stack c.in-Some.last c.in_ok-root.root (let n = length-map c.args.tokens.now (symbol_of c.args.text.now) in omega arith) way c.in_ok-root.ensures.held c.in_ok-root.ensures.stopped
+
+pub returns-clause-size : goal.returns-clause-size
+returns-clause-size c =
+    let ss = symbols c.args.text.now c.args.tokens.now in
+    let way = subst (IsUnderWay ss c.loop-token.token-index c.loop-token.table c.loop-token.stack) c.in-Some.is c.loop-token.invariant in
+    way_size ss c.loop-token.token-index c.loop-token.table c.reduce.new.table c.loop-token.stack c.reduce.new.stack c.in-Some.last c.in_ok-root.root (let n = length-map c.args.tokens.now (symbol_of c.args.text.now) in omega arith) way c.in_ok-root.ensures.held c.in_ok-root.ensures.stopped
 
 pub returns-clause-names : goal.returns-clause-names
 returns-clause-names c =

@@ -1,5 +1,6 @@
-use Rattle.std.proofs.Common.{sym, subst}
+use Rattle.std.proofs.Common.{sym, subst, arith}
 use Rattle.ltl_syntax.specs.Table.{IsPlain}
+use Rattle.ltl_syntax.proofs.Sizes.{length-sizes}
 use Rattle.ltl_syntax.specs.Formula.{Name, Letter}
 use Rattle.ltl_parser.specs.Standing.{AddsLeaf}
 use Rattle.ltl_lexer.proofs.Words.{word_utf8}
@@ -8,6 +9,13 @@ use Rattle.ltl_parser.proofs.step.push_letter.Goals as goal
 
 pub unreachable-requires : goal.unreachable-requires
 unreachable-requires c = absurd (c.in_default.ensures.cases.0 (word_utf8 c.args.bytes.now c.requires.word))
+
+pub name-requires-clause-room : goal.name-requires-clause-room
+name-requires-clause-room c =
+    let names = c.requires.names in
+    let few = length-sizes c.args.table.now.nodes in
+    let room = c.requires.room in
+    omega arith
 
 pub name-requires-clause-plain : goal.name-requires-clause-plain
 name-requires-clause-plain c = subst IsPlain (sym c.in-Ok.ensures.cases.0) (word_plain c.args.bytes.now c.requires.word)

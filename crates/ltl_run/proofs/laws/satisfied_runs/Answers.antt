@@ -8,4 +8,4 @@ pub returns-clause-accepted : goal.returns-clause-accepted
 returns-clause-accepted c = trace_runs
 
 pub returns-clause-lasso : goal.returns-clause-lasso
-returns-clause-lasso c f stem loop_part some h = lasso_runs f stem loop_part some ((norm_holds (Infinite stem loop_part) some f).yes'.back 0 h)
+returns-clause-lasso c f stem loop_part some h = lasso_runs f stem loop_part some ((norm_holds (Infinite stem loop_part) some f).yes'.back 0 tt h)

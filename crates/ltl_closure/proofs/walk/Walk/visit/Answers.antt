@@ -1,13 +1,14 @@
-use Rattle.std.proofs.Common.{◌≡◌, Bool, true, false, [], refl, reverse, arith, slice_index_or}
+use Rattle.std.proofs.Common.{◌≡◌, Bool, true, false, [], ◌∷◌, refl, reverse, arith, slice_index_or}
 use mathlib.Core.Bool.{beq}
 use Rattle.ltl_syntax.specs.Formula.{Formula, Name, Fresh, Const}
 use Rattle.ltl_syntax.specs.Table.{tree_at}
 use Rattle.ltl_closure.specs.Norm.{NConst}
-use Rattle.ltl_closure.specs.Plan.{signed}
+use Rattle.ltl_closure.specs.Plan.{signed, unary_plan}
 use Rattle.ltl_closure.specs.declared.key.Key.TheVariants as keys
 use Rattle.ltl_closure.specs.declared.plan.Work.TheVariants as works
 use Rattle.ltl_closure.proofs.Counted.{walking_few}
 use Rattle.ltl_closure.proofs.Walks.{visit_known, visit_unary, visit_binary}
+use Rattle.ltl_closure.proofs.Plans.{unary_less, weights-append}
 use Rattle.ltl_closure.proofs.Steps.{on_ok, reverse-push, visit_const_put, visit_letter_put, cost_positive}
 use Rattle.ltl_closure.proofs.walk.Walk.visit.Goals as goal
 
@@ -59,3 +60,9 @@ put_letter-requires c = walking_few c.args.table.now c.args.self.now.root c.args
 
 pub put_letter-requires-in-Fresh : goal.put_letter-requires-in-Fresh
 put_letter-requires-in-Fresh c = walking_few c.args.table.now c.args.self.now.root c.args.self.now.shared.keys.keys c.args.self.now.shared.entries.items (reverse c.args.self.now.numbers.items) c.args.self.now.memo _ c.requires
+
+pub returns-in_ok-push-in-Unary-clause-less : goal.returns-in_ok-push-in-Unary-clause-less
+returns-in_ok-push-in-Unary-clause-less c =
+    on_ok c.plan_unary.result c.plan_unary.ensures (λ p.
+    rw (p, c.in_ok-push-in-Unary.ensures.items, reverse-push c.args.self.now.work.items (works.Keep c.args.node c.args.positive), c.in-Unary.ensures.tree)
+    (omega (arith, unary_less c.args.table.now c.args.positive c.in-Unary.op c.in-Unary.a, weights-append c.args.table.now (unary_plan c.args.positive c.in-Unary.op c.in-Unary.a) (works.Keep c.args.node c.args.positive ∷ reverse c.args.self.now.work.items))))

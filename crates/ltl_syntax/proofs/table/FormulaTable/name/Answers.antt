@@ -13,6 +13,7 @@ invariant_of-self-2 c =
       rw (ap (map string_bytes) c.in_ok-insert.ensures.keys ∙ name_inserted string_bytes c.args.text.now c.self.inside.names.keys c.in_ok-name.name c.in_ok-name.ensures.ok none)
           (is_table-name (the_view c.self.inside) c.args.text.now c.self.invariant.0 room c.requires.plain (name_missing string_bytes c.args.text.now c.self.inside.names.keys none)),
       c.self.invariant.1,
+      c.self.invariant.2,
     )
 
 pub returns-clause-ok : goal.returns-clause-ok

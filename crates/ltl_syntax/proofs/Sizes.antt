@@ -1,0 +1,49 @@
+-- The sizes of a table's nodes, with one node more. Each node has a size of at least 1.
+use Rattle.std.proofs.Common.{◌≡◌, ℕ, zero, suc, ◌+◌, ◌≤◌, List, [], ◌∷◌, ◌++◌, length, Some, arith, slice_get, subst}
+use Rattle.ltl_syntax.specs.declared.node.UnaryOp.{UnaryOp}
+use Rattle.ltl_syntax.specs.declared.node.UnaryOp.TheVariants as one
+use Rattle.ltl_syntax.specs.declared.node.Node.{Node}
+use Rattle.ltl_syntax.specs.declared.node.Node.TheVariants as nodes
+use Rattle.ltl_syntax.specs.Size.{operator_size, node_size, sizes, HasOrder, HaveOrder}
+
+pub sizes-push : (ns : List Node) (n : Node) → sizes (ns ++ n ∷ []) ≡ sizes ns + node_size n
+sizes-push [] n = omega arith
+sizes-push (x ∷ ns) n = omega (arith, sizes-push ns n)
+
+pub ordered-push : (ns : List Node) (n : Node) → HaveOrder ns → HasOrder n → HaveOrder (ns ++ n ∷ [])
+ordered-push [] n h k = (k, tt)
+ordered-push (x ∷ ns) n h k = (h.0, ordered-push ns n h.1 k)
+
+pub some_operator_size : (op : UnaryOp) → 1 ≤ operator_size op
+some_operator_size one.Not = omega arith
+some_operator_size one.Next = omega arith
+some_operator_size one.WeakNext = omega arith
+some_operator_size one.Eventually = omega arith
+some_operator_size one.Always = omega arith
+some_operator_size one.Yesterday = omega arith
+some_operator_size one.WeakYesterday = omega arith
+some_operator_size one.Once = omega arith
+some_operator_size one.Historically = omega arith
+some_operator_size (one.NextTimes n) = omega arith
+some_operator_size (one.YesterdayTimes n) = omega arith
+some_operator_size (one.EventuallyIn a b) = omega arith
+some_operator_size (one.AlwaysIn a b) = omega arith
+some_operator_size (one.OnceIn a b) = omega arith
+some_operator_size (one.HistoricallyIn a b) = omega arith
+
+some_node_size : (n : Node) → 1 ≤ node_size n
+some_node_size (nodes.Const b) = omega arith
+some_node_size (nodes.Letter n) = omega arith
+some_node_size (nodes.Fresh n) = omega arith
+some_node_size (nodes.Unary op a) = some_operator_size op
+some_node_size (nodes.Binary op a b) = omega arith
+
+-- there are no more nodes than their sizes add up to
+pub length-sizes : (ns : List Node) → length ns ≤ sizes ns
+length-sizes [] = omega arith
+length-sizes (n ∷ ns) = omega (arith, length-sizes ns, some_node_size n)
+
+pub order_at : (ns : List Node) → HaveOrder ns → (k : ℕ) (node : Node) → slice_get ns k ≡ Some node → HasOrder node
+order_at [] h k node e = absurd (cc)
+order_at (n ∷ ns) h zero node e = let is : n ≡ node = cc in subst HasOrder is h.0
+order_at (n ∷ ns) h (suc k) node e = order_at ns h.1 k node e
