@@ -13,24 +13,18 @@ use Rattle.cdcl.specs.declared.solve.Answer.{Answer}
 use Rattle.cdcl.specs.declared.solve.Answer.TheVariants as answers
 use Rattle.enc_layout.specs.Letters.{LayoutValue, Meaning, Unpruned, Here, Accepted, IsLetter, letters_through}
 use Rattle.enc_layout.specs.Clauses.{Plus, counts, layout_of, literal_in, clause_list}
-use Rattle.enc_layout.specs.Assigned.{positive_of, AreSatisfiable, run_question, accepted_question, unpruned_question}
+use Rattle.enc_layout.specs.Assigned.{positive_of, AreSatisfiable, accepted_question, unpruned_question}
 use Rattle.enc_layout.specs.Targets.{negative_of}
-use Rattle.enc_layout.specs.Laws.{RunQuestionsAnswer, AcceptedQuestionsAnswer, UnprunedQuestionsAnswer}
-use Rattle.unravel.specs.Depths.{IsThrough, IsRunAnswer, IsAcceptedAnswer, IsUnprunedAnswer}
+use Rattle.enc_layout.specs.Laws.{AcceptedQuestionsAnswer, UnprunedQuestionsAnswer}
+use Rattle.unravel.specs.Depths.{IsThrough, IsAcceptedAnswer, IsUnprunedAnswer}
 use Rattle.unravel.proofs.Lines.{only_from}
-use Rattle.unravel.proofs.Negated.{opposite_of_one, opposite_of_two, consistent_one, consistent_two, known_one, known_two}
+use Rattle.unravel.proofs.Negated.{opposite_of_two, consistent_two, known_two}
 
 -- a literal of the closure's layout is one of its formula
 pub of_layout : (layout : LayoutValue) (c : ClosureValue) (p : Meaning) (l : Signed) → layout ≡ layout_of c → l ≡ literal_in layout.kind layout.counts (Plus p) → l ≡ positive_of c.formula c.kind p
 of_layout layout c p l own is = is ∙ ap (λ (m : LayoutValue). literal_in m.kind m.counts (Plus p)) own
 
--- its letter is known
-pub question_known : (layout : LayoutValue) (c : ClosureValue) (k letters : ℕ) (p : Meaning) (l : Signed) → layout ≡ layout_of c → letters ≡ letters_through c.kind (counts c.formula) k
-    → IsLetter c.kind (counts c.formula) k p → l ≡ literal_in layout.kind layout.counts (Plus p) → All (IsKnown letters) (l ∷ [])
-question_known layout c k letters p l own all h is =
-    subst (λ (m : Signed). All (IsKnown letters) (m ∷ [])) (sym (of_layout layout c p l own is)) (known_one c.formula c.kind k letters all p h)
-
--- a question of two literals
+-- the letters of a question's two literals are known
 pub two_known : (layout : LayoutValue) (c : ClosureValue) (k letters : ℕ) (p q : Meaning) (l m : Signed) → layout ≡ layout_of c → letters ≡ letters_through c.kind (counts c.formula) k
     → IsLetter c.kind (counts c.formula) k p → IsLetter c.kind (counts c.formula) k q → l ≡ literal_in layout.kind layout.counts (Plus p) → m ≡ literal_in layout.kind layout.counts (Plus q)
     → All (IsKnown letters) (l ∷ m ∷ [])
@@ -44,9 +38,6 @@ two_consistent layout c p q l m own is also =
     subst (λ (x : Signed). IsConsistent (x ∷ m ∷ [])) (sym (of_layout layout c p l own is))
     (subst (λ (y : Signed). IsConsistent (positive_of c.formula c.kind p ∷ y ∷ [])) (sym (of_layout layout c q m own also)) (consistent_two c.formula c.kind p q))
 
-pub one_consistent : (layout : LayoutValue) (c : ClosureValue) (p : Meaning) (l : Signed) → layout ≡ layout_of c → l ≡ literal_in layout.kind layout.counts (Plus p) → IsConsistent (l ∷ [])
-one_consistent layout c p l own is = subst (λ (x : Signed). IsConsistent (x ∷ [])) (sym (of_layout layout c p l own is)) (consistent_one c.formula c.kind p)
-
 pub through_longer : (f : Formula) (kind : Kind) (k : ℕ) (old new : SolverValue) → IsThrough f kind k old → new.letters ≡ old.letters → IsLonger old.log new.log → IsThrough f kind k new
 through_longer f kind k old new h letters log = record { inputs = log.inputs ∙ h.inputs; letters = letters ∙ h.letters }
 
@@ -56,15 +47,6 @@ module _ (f : Formula) (kind : Kind) (k : ℕ) (s : SolverValue) (through : IsTh
 
   not_satisfiable : (question : List Signed) → (IsSatisfiable s.log.inputs question → ⊥) → AreSatisfiable (clause_list f kind k) question → ⊥
   not_satisfiable question none (v, holds, yes') = none (v, subst (Satisfies v) (sym through.inputs) holds, yes')
-
-  pub run_found : RunQuestionsAnswer → IsAnswer s (run_question f kind k) answers.Sat → IsRunAnswer f kind k s None
-  run_found asked a = (asked f kind k k (omega arith)).1 (satisfiable (run_question f kind k) a)
-
-  pub run_refuted : RunQuestionsAnswer → (line : ℕ) → IsAnswer s (run_question f kind k) (answers.Unsat line) → IsRunAnswer f kind k s (Some line)
-  run_refuted asked line (from, upto, negated, none) = (
-    λ r. not_satisfiable (run_question f kind k) none ((asked f kind k k (omega arith)).0 r),
-    only_from s.log.lines line (run_question f kind k) (negative_of f kind (Here k) ∷ []) (opposite_of_one f kind (Here k)) from upto negated,
-  )
 
   pub accepted_found : IsAnswer s (accepted_question f kind k) answers.Sat → IsAcceptedAnswer f kind k s None
   accepted_found (long, holds, yes') = record {
@@ -93,20 +75,11 @@ module _ (f : Formula) (kind : Kind) (k : ℕ) (s : SolverValue) (through : IsTh
 -- the same of literals that the closure's layout gave
 module _ (layout : LayoutValue) (c : ClosureValue) (own : layout ≡ layout_of c) (k : ℕ) (s : SolverValue) (through : IsThrough c.formula c.kind k s)
     (here : Signed) (is : here ≡ literal_in layout.kind layout.counts (Plus (Here k))) (answer : Answer) where
-  one : IsAnswer s (here ∷ []) answer → IsAnswer s (run_question c.formula c.kind k) answer
-  one a = subst (λ (m : Signed). IsAnswer s (m ∷ []) answer) (of_layout layout c (Here k) here own is) a
-
   two : (p : Meaning) (other : Signed) → other ≡ literal_in layout.kind layout.counts (Plus p) → IsAnswer s (here ∷ other ∷ []) answer
       → IsAnswer s (positive_of c.formula c.kind (Here k) ∷ positive_of c.formula c.kind p ∷ []) answer
   two p other also a =
       subst (λ (m : Signed). IsAnswer s (positive_of c.formula c.kind (Here k) ∷ m ∷ []) answer) (of_layout layout c p other own also)
       (subst (λ (m : Signed). IsAnswer s (m ∷ other ∷ []) answer) (of_layout layout c (Here k) here own is) a)
-
-  pub run_none : RunQuestionsAnswer → IsAnswer s (here ∷ []) answer → answer ≡ answers.Sat → IsRunAnswer c.formula c.kind k s None
-  run_none asked a e = run_found c.formula c.kind k s through asked (subst (IsAnswer s (run_question c.formula c.kind k)) e (one a))
-
-  pub run_some : RunQuestionsAnswer → (line : ℕ) → IsAnswer s (here ∷ []) answer → answer ≡ answers.Unsat line → IsRunAnswer c.formula c.kind k s (Some line)
-  run_some asked line a e = run_refuted c.formula c.kind k s through asked line (subst (IsAnswer s (run_question c.formula c.kind k)) e (one a))
 
   module _ (other : Signed) (also : other ≡ literal_in layout.kind layout.counts (Plus (Accepted k))) (a : IsAnswer s (here ∷ other ∷ []) answer) where
     pub accepted_none : answer ≡ answers.Sat → IsAcceptedAnswer c.formula c.kind k s None

@@ -27,9 +27,6 @@ numbered_at lines (suc m) from upto =
 pub only_longer : (lines more : List (List Signed)) (n : ℕ) (literals : List Signed) → HasOnly lines n literals → HasOnly (lines ++ more) n literals
 only_longer lines more n literals (line, is, all) = (line, numbered_longer lines more n line is, all)
 
-pub only_weaker : (lines : List (List Signed)) (n : ℕ) (ls ms : List Signed) → ((l : Signed) → Contains ls l → Contains ms l) → HasOnly lines n ls → HasOnly lines n ms
-only_weaker lines n ls ms h (line, is, all) = (line, is, All-weaker (Contains ls) (Contains ms) h line all)
-
 -- the line of a question that was refuted has only opposites of the question's literals
 pub only_from : (lines : List (List Signed)) (n : ℕ) (assumptions literals : List Signed) → ((l : Signed) → Contains assumptions (opposite l) → Contains literals l)
     → 1 ≤ n → n ≤ length lines → IsNegated assumptions (clause_at lines n) → HasOnly lines n literals

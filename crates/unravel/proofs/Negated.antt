@@ -20,7 +20,7 @@ module _ (f : Formula) (kind : Kind) where
   turned p l e = ap opposite e ∙ opposite_opposite l
 
   -- of one literal
-  pub opposite_of_one : (p : Meaning) (l : Signed) → Contains (positive_of f kind p ∷ []) (opposite l) → Contains (negative_of f kind p ∷ []) l
+  opposite_of_one : (p : Meaning) (l : Signed) → Contains (positive_of f kind p ∷ []) (opposite l) → Contains (negative_of f kind p ∷ []) l
   opposite_of_one p l h = elim (Contains-cons_cases (positive_of f kind p) [] (opposite l) h) [
     | inl e ↦ subst (Contains (negative_of f kind p ∷ [])) (turned p l e) (Contains-here (negative_of f kind p) [])
     | inr n ↦ absurd (Contains-nil (opposite l) n)
@@ -31,13 +31,6 @@ module _ (f : Formula) (kind : Kind) where
   opposite_of_two p q l h = elim (Contains-cons_cases (positive_of f kind p) (positive_of f kind q ∷ []) (opposite l) h) [
     | inl e ↦ subst (Contains (negative_of f kind p ∷ negative_of f kind q ∷ [])) (turned p l e) (Contains-here (negative_of f kind p) (negative_of f kind q ∷ []))
     | inr r ↦ Contains-there (negative_of f kind p) (negative_of f kind q ∷ []) l (opposite_of_one q l r)
-  ]
-
-  -- what has only one literal has only that one and any other
-  pub one_of_two : (p q : Meaning) (l : Signed) → Contains (negative_of f kind p ∷ []) l → Contains (negative_of f kind p ∷ negative_of f kind q ∷ []) l
-  one_of_two p q l h = elim (Contains-cons_cases (negative_of f kind p) [] l h) [
-    | inl e ↦ subst (Contains (negative_of f kind p ∷ negative_of f kind q ∷ [])) e (Contains-here (negative_of f kind p) (negative_of f kind q ∷ []))
-    | inr n ↦ absurd (Contains-nil l n)
   ]
 
   positive_one : (p : Meaning) (l : Signed) → Contains (positive_of f kind p ∷ []) l → l.negated ≡ false
@@ -58,9 +51,6 @@ module _ (f : Formula) (kind : Kind) where
   consistent : (ls : List Signed) → ((l : Signed) → Contains ls l → l.negated ≡ false) → IsConsistent ls
   consistent ls h l here there = clash l.negated (h l here) (h (opposite l) there)
 
-  pub consistent_one : (p : Meaning) → IsConsistent (positive_of f kind p ∷ [])
-  consistent_one p = consistent (positive_of f kind p ∷ []) (positive_one p)
-
   pub consistent_two : (p q : Meaning) → IsConsistent (positive_of f kind p ∷ positive_of f kind q ∷ [])
   consistent_two p q = consistent (positive_of f kind p ∷ positive_of f kind q ∷ []) (positive_two p q)
 
@@ -70,7 +60,7 @@ module _ (f : Formula) (kind : Kind) where
         let w = number_within kind (counts f) k p h in
         subst (λ n. IsKnown n (positive_of f kind p)) (sym all) (record { from_one = omega (arith, w.0); within = w.1 })
 
-    pub known_one : (p : Meaning) → IsLetter kind (counts f) k p → All (IsKnown letters) (positive_of f kind p ∷ [])
+    known_one : (p : Meaning) → IsLetter kind (counts f) k p → All (IsKnown letters) (positive_of f kind p ∷ [])
     known_one p h = All-cons (IsKnown letters) (positive_of f kind p) [] (known p h) (All-nil (IsKnown letters))
 
     pub known_two : (p q : Meaning) → IsLetter kind (counts f) k p → IsLetter kind (counts f) k q → All (IsKnown letters) (positive_of f kind p ∷ positive_of f kind q ∷ [])

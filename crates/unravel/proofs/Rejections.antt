@@ -7,20 +7,12 @@ use Rattle.ltl_syntax.specs.Formula.{Formula}
 use Rattle.cnf_base.specs.declared.literal.Literal.{Literal as Signed}
 use Rattle.cdcl.specs.Solving.{IsLonger}
 use Rattle.clause_log.specs.LogValue.{LogValue}
-use Rattle.enc_layout.specs.Letters.{Unpruned, Here, Accepted}
+use Rattle.enc_layout.specs.Letters.{Here, Accepted}
 use Rattle.enc_layout.specs.Targets.{negative_of, CloseTableau}
-use Rattle.unravel.specs.Depths.{HasOnly, IsRejection, IsPruning, AreRejections}
-use Rattle.unravel.proofs.Lines.{only_longer, only_weaker}
-use Rattle.unravel.proofs.Negated.{one_of_two}
+use Rattle.unravel.specs.Depths.{IsRejection, IsPruning, AreRejections}
+use Rattle.unravel.proofs.Lines.{only_longer}
 
 module _ (f : Formula) (kind : Kind) where
-  -- a line that refutes the last state alone serves as either target
-  pub refutes_acceptance : (k : ℕ) (lines : List (List Signed)) (t : ℕ) → HasOnly lines t (negative_of f kind (Here k) ∷ []) → IsRejection f kind k lines t
-  refutes_acceptance k lines t h = only_weaker lines t (negative_of f kind (Here k) ∷ []) (negative_of f kind (Here k) ∷ negative_of f kind (Accepted k) ∷ []) (one_of_two f kind (Here k) (Accepted k)) h
-
-  pub refutes_unpruned : (k : ℕ) (lines : List (List Signed)) (t : ℕ) → HasOnly lines t (negative_of f kind (Here k) ∷ []) → IsPruning f kind k lines t
-  refutes_unpruned k lines t h = only_weaker lines t (negative_of f kind (Here k) ∷ []) (negative_of f kind (Here k) ∷ negative_of f kind Unpruned ∷ []) (one_of_two f kind (Here k) Unpruned) h
-
   pub rejection_longer : (k : ℕ) (old new : LogValue) (t : ℕ) → IsLonger old new → IsRejection f kind k old.lines t → IsRejection f kind k new.lines t
   rejection_longer k old new t longer h =
       subst (λ lines. IsRejection f kind k lines t) (sym longer.lines) (only_longer old.lines longer.more t (negative_of f kind (Here k) ∷ negative_of f kind (Accepted k) ∷ []) h)

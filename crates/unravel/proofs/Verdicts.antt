@@ -4,7 +4,7 @@ use Rattle.std.proofs.lemmas.Bool.{cases_lt}
 use Rattle.std.proofs.lemmas.List.Elements.{All-weaker}
 use Rattle.ltl_syntax.specs.declared.node.Kind.{Kind}
 use Rattle.ltl_syntax.specs.Formula.{Formula}
-use Rattle.ltl_closure.specs.Run.{Sat, HasRun, HasAccepted, HasUnpruned, IsOpen, IsVerdict, Unsat, Undecided, no_run, accepted, all_pruned, undecided, bound}
+use Rattle.ltl_closure.specs.Run.{Sat, HasAccepted, HasUnpruned, IsOpen, IsVerdict, Unsat, Undecided, accepted, all_pruned, undecided, bound}
 use Rattle.ltl_run.proofs.Closing.{accepted_by}
 use Rattle.ltl_run.proofs.Bounds.{settled}
 use Rattle.ltl_run.proofs.Least.{unsat_has_no_trace}
@@ -41,9 +41,7 @@ module _ (f : Formula) (kind : Kind) where
     shown_decided (decisions.Unsat n log targets) h = absurd h
     shown_decided (decisions.Undecided n) h = absurd h
 
-    pub no_run_verdict : (HasRun f k → ⊥) → IsVerdict f kind limit (Unsat k)
-    no_run_verdict none = no_run le open' none
-
+    -- where there is no run at all, there is none that is accepted or pruned nowhere, so this serves there as well
     pub pruned_verdict : (HasAccepted f kind k → ⊥) → (HasUnpruned f kind k → ⊥) → IsVerdict f kind limit (Unsat k)
     pruned_verdict none pruned = all_pruned le open' none pruned
 

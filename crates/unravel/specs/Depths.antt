@@ -2,7 +2,7 @@
 use Rattle.std.specs.Prelude.{◌≡◌, ℕ, zero, suc, ◌<◌, true, List, [], ◌∷◌, ◌++◌, length, slice_index_or, All, Contains, Option, Some, None}
 use Rattle.ltl_syntax.specs.declared.node.Kind.{Kind}
 use Rattle.ltl_syntax.specs.Formula.{Formula}
-use Rattle.ltl_closure.specs.Run.{HasRun, HasAccepted, HasUnpruned, IsOpen}
+use Rattle.ltl_closure.specs.Run.{HasAccepted, HasUnpruned, IsOpen}
 use Rattle.cnf_base.specs.declared.literal.Literal.{Literal as Signed}
 use Rattle.cnf_base.specs.Step.{numbered}
 use Rattle.cnf_base.specs.Meaning.{Satisfies}
@@ -53,11 +53,6 @@ pub record IsShowing (f : Formula) (kind : Kind) (k : ℕ) (s : SolverValue) : T
   pub here : value_of s (number_in f kind (Here k)) ≡ true
   pub accepted : value_of s (number_in f kind (Accepted k)) ≡ true
 
--- there is a run of k + 1 states, or the line refutes its last state
-abbrev pub IsRunAnswer : Formula → Kind → ℕ → SolverValue → Option ℕ → Type 0
-IsRunAnswer f kind k s None = HasRun f k
-IsRunAnswer f kind k s (Some line) = (¬ HasRun f k) × HasOnly s.log.lines line (negative_of f kind (Here k) ∷ [])
-
 -- the values show an accepted run, or there is none
 abbrev pub IsAcceptedAnswer : Formula → Kind → ℕ → SolverValue → Option ℕ → Type 0
 IsAcceptedAnswer f kind k s None = IsShowing f kind k s
@@ -70,7 +65,6 @@ IsUnprunedAnswer f kind k s (Some line) = (¬ HasUnpruned f kind k) × IsPruning
 
 -- what the answers of depth k say
 abbrev pub Tells : Formula → Kind → ℕ → SolverValue → Depth → Type 0
-Tells f kind k s (depths.NoRun line) = (¬ HasRun f k) × HasOnly s.log.lines line (negative_of f kind (Here k) ∷ [])
 Tells f kind k s depths.Accepted = IsShowing f kind k s
 Tells f kind k s (depths.Pruned rejected pruned) = (¬ HasAccepted f kind k) × (¬ HasUnpruned f kind k) × IsRejection f kind k s.log.lines rejected × IsPruning f kind k s.log.lines pruned
 Tells f kind k s (depths.Open rejected) = IsOpen f kind k × IsRejection f kind k s.log.lines rejected

@@ -47,11 +47,6 @@ fn settle(alloc: Global, closure: &Closure<'_>, limit: u32) -> Result<Option<Dec
     for depth in 0..limit + 1 {
         grow(alloc, closure, depth, &mut clauses, &mut solver)?;
         match ask(alloc, closure, &mut solver, depth)? {
-            // A line that refutes the last state alone refutes it with any other letter.
-            Depth::NoRun(line) => {
-                let decision = refuted(depth, solver, targets, line, line)?;
-                return Ok(Some(decision));
-            }
             Depth::Accepted => {
                 let decision = shown(alloc, closure, depth, &solver)?;
                 return Ok(Some(decision));

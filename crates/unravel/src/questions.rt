@@ -1,10 +1,11 @@
-// The three questions of a depth: whether there is a run of so many states, whether one is accepted, and whether one is pruned nowhere.
-// Each is put to the solver under the letters that ask it, and a refusal is a line of the log that the letters alone refute.
+// The two questions of a depth: whether a run of so many states is accepted, and whether one is pruned nowhere. Where there is no run at
+// all both are refused, so that need not be asked. Each is put to the solver under the letters that ask it, and a refusal is a line of
+// the log that the letters alone refute.
 ghost use Rattle.std.specs.Prelude.{◌≡◌, ◌≤◌, IfOk};
 ghost use Rattle.cdcl.specs.Solving.{IsLonger};
 ghost use Rattle.enc_layout.specs.Letters.{Fits};
 ghost use Rattle.enc_layout.specs.Clauses.{layout_of};
-ghost use Rattle.unravel.specs.Depths.{IsThrough, IsRunAnswer, IsAcceptedAnswer, IsUnprunedAnswer, Tells};
+ghost use Rattle.unravel.specs.Depths.{IsThrough, IsAcceptedAnswer, IsUnprunedAnswer, Tells};
 
 use cdcl::{Answer, Solver};
 use enc_layout::{Layout, Part};
@@ -14,40 +15,15 @@ use std::alloc::{AllocError, Global};
 /// What the questions of a depth were answered. Lines are those of the solver's log, from 1.
 #[derive(Clone, Copy, Drop)]
 pub enum Depth {
-    /// There is no run, as the line shows.
-    NoRun(u64),
     /// A run is accepted, and the solver's values are those of one.
     Accepted,
-    /// No run is accepted, and each is pruned, as the lines show.
+    /// No run is accepted, and each is pruned, as the lines show. There may be none.
     Pruned { rejected: u64, pruned: u64 },
     /// No run is accepted, as the line shows, and one is pruned nowhere.
     Open(u64),
 }
 
-/// Asks whether there is a run of depth + 1 states. The line that is answered otherwise shows that there is none.
-fn refute_run(
-    alloc: Global,
-    closure: &Closure<'_>,
-    solver: &mut Solver,
-    depth: u32,
-) -> Result<Option<u64>, AllocError>
-    requires few { depth ≤ 1000 }
-    requires fits { Fits (layout_of closure.now) depth }
-    requires through { IsThrough closure.now.formula closure.now.kind depth solver.old }
-    ensures through { IsThrough closure.now.formula closure.now.kind depth solver.new }
-    ensures longer { IsLonger solver.old.log solver.new.log }
-    ensures answer { IfOk result (IsRunAnswer closure.now.formula closure.now.kind depth solver.new) }
-{
-    enc_layout::laws::questions();
-    let layout = Layout::of(closure);
-    let here = layout.positive(depth, Part::Here);
-    match solver.solve(alloc, &[here])? {
-        Answer::Sat => Ok(None),
-        Answer::Unsat(line) => Ok(Some(line)),
-    }
-}
-
-/// Asks whether an accepted one is among them. Where there is one, the solver's values are those of one.
+/// Asks whether a run of depth + 1 states is accepted. Where one is, the solver's values are those of such a run.
 fn refute_accepted(
     alloc: Global,
     closure: &Closure<'_>,
@@ -71,7 +47,7 @@ fn refute_accepted(
     }
 }
 
-/// Asks whether one that is pruned nowhere is among them.
+/// Asks whether a run of depth + 1 states is pruned nowhere.
 fn refute_unpruned(
     alloc: Global,
     closure: &Closure<'_>,
@@ -95,7 +71,7 @@ fn refute_unpruned(
     }
 }
 
-/// Asks the three questions in their order, up to the first that settles the formula.
+/// Asks the two questions in their order, up to the first that settles the formula.
 pub fn ask(
     alloc: Global,
     closure: &Closure<'_>,
@@ -109,9 +85,6 @@ pub fn ask(
     ensures longer { IsLonger solver.old.log solver.new.log }
     ensures tells { IfOk result (Tells closure.now.formula closure.now.kind depth solver.new) }
 {
-    if let Some(line) = refute_run(alloc, closure, solver, depth)? {
-        return Ok(Depth::NoRun(line));
-    }
     match refute_accepted(alloc, closure, solver, depth)? {
         None => Ok(Depth::Accepted),
         Some(rejected) => match refute_unpruned(alloc, closure, solver, depth)? {

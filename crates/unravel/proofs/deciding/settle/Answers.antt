@@ -1,8 +1,7 @@
 use Rattle.std.proofs.Common.{subst, [], ◌∷◌, ◌++◌}
 use Rattle.enc_layout.specs.Clauses.{layout_of}
 use Rattle.unravel.specs.Depths.{Tells}
-use Rattle.unravel.proofs.Rejections.{refutes_acceptance, refutes_unpruned}
-use Rattle.unravel.proofs.Verdicts.{within_limit, open_more, before_more, shown_decided, refuted_decided, no_run_verdict, pruned_verdict, refuted, rejected_more, open_through}
+use Rattle.unravel.proofs.Verdicts.{within_limit, open_more, before_more, shown_decided, refuted_decided, pruned_verdict, refuted, rejected_more, open_through}
 use Rattle.unravel.proofs.deciding.settle.Goals as goal
 
 pub grow-requires-clause-fits : goal.grow-requires-clause-fits
@@ -13,20 +12,6 @@ ask-requires-clause-fits c = c.numbering.ensures.lower (layout_of c.args.closure
 
 pub shown-requires-clause-fits : goal.shown-requires-clause-fits
 shown-requires-clause-fits c = c.numbering.ensures.lower (layout_of c.args.closure.now) c.loop-depth.depth c.args.limit (within_limit c.loop-depth.depth c.args.limit c.loop-depth-test.true) c.requires.fits
-
-pub returns-in-NoRun : goal.returns-in-NoRun
-returns-in-NoRun c =
-    let f = c.args.closure.now.formula in
-    let kind = c.args.closure.now.kind in
-    let k = c.loop-depth.depth in
-    let asked = c.ask.new.solver in
-    let tells = subst (Tells f kind k asked) c.in-NoRun.is c.in_ok-line.ensures.tells in
-    refuted_decided f kind c.args.limit k asked.log (c.loop-depth.targets.items ++ c.in-NoRun.line ∷ [] ++ c.in-NoRun.line ∷ []) c.in_ok-decision-in-NoRun.decision
-    (no_run_verdict f kind c.args.limit k (within_limit k c.args.limit c.loop-depth-test.true) c.loop-depth.invariant.still tells.0)
-    (refuted f kind k c.loop-depth.targets.items c.loop-depth.solver c.grow.new.solver asked c.loop-depth.invariant.rejected c.in_ok-grow.ensures.lines c.ask.ensures.longer
-    c.ask.ensures.through c.in-NoRun.line c.in-NoRun.line (refutes_acceptance f kind k asked.log.lines c.in-NoRun.line tells.1) (refutes_unpruned f kind k asked.log.lines c.in-NoRun.line tells.1)
-    c.in_ok-decision-in-NoRun.ensures.known)
-    c.in_ok-decision-in-NoRun.ensures.refuted
 
 pub returns-in-Accepted : goal.returns-in-Accepted
 returns-in-Accepted c =
@@ -40,7 +25,7 @@ returns-in-Pruned c =
     let kind = c.args.closure.now.kind in
     let k = c.loop-depth.depth in
     let asked = c.ask.new.solver in
-    let tells = subst (Tells f kind k asked) c.in-Pruned.is c.in_ok-line.ensures.tells in
+    let tells = subst (Tells f kind k asked) c.in-Pruned.is c.in_ok-ask.ensures.tells in
     refuted_decided f kind c.args.limit k asked.log (c.loop-depth.targets.items ++ c.in-Pruned.rejected ∷ [] ++ c.in-Pruned.pruned ∷ []) c.in_ok-decision-in-Pruned.decision
     (pruned_verdict f kind c.args.limit k (within_limit k c.args.limit c.loop-depth-test.true) c.loop-depth.invariant.still tells.0 tells.1)
     (refuted f kind k c.loop-depth.targets.items c.loop-depth.solver c.grow.new.solver asked c.loop-depth.invariant.rejected c.in_ok-grow.ensures.lines c.ask.ensures.longer
@@ -53,7 +38,7 @@ loop-depth-preserved c =
     let kind = c.args.closure.now.kind in
     let k = c.loop-depth.depth in
     let asked = c.ask.new.solver in
-    let tells = subst (Tells f kind k asked) c.in-Open.is c.in_ok-line.ensures.tells in
+    let tells = subst (Tells f kind k asked) c.in-Open.is c.in_ok-ask.ensures.tells in
     record {
       before = before_more f kind k asked c.ask.ensures.through;
       still = open_more f kind k c.loop-depth.invariant.still tells.0;
