@@ -95,6 +95,19 @@ impl FormulaTable {
         (number as usize) < self.root_flags.len() && self.root_flags[number as usize]
     }
 
+    /// Whether `push` may be asked for the node: its children are two distinct roots, its letter has a name, and its numbers are in
+    /// order. Takes constant time.
+    pub fn may_push(&self, node: Node) -> bool
+        ensures { IsTrue result ↔ MayFollow self.now node }
+    {
+        match node {
+            Node::Const(_) | Node::Fresh(_) => true,
+            Node::Letter(letter) => letter < self.letters(),
+            Node::Unary(op, a) => self.is_root(a) && op.is_in_order(),
+            Node::Binary(_, a, b) => self.is_root(a) && self.is_root(b) && a != b,
+        }
+    }
+
     /// Puts a node behind the others, on top of roots, and answers its number.
     pub fn push(&mut self, node: Node) -> Result<u32, PushRefused>
         requires { MayFollow self.old node }

@@ -1,5 +1,5 @@
 ghost use Rattle.std.specs.Prelude.{IsTrue};
-ghost use Rattle.ltl_syntax.specs.Table.{MayFollow, IsPlain};
+ghost use Rattle.ltl_syntax.specs.Table.{IsPlain};
 
 use crate::{BinaryOp, FormulaTable, Node, PushRefused, UnaryOp, print};
 use std::process::Abort;
@@ -13,25 +13,39 @@ fn is_plain(text: &str) -> bool
     }
 }
 
-fn may_follow(table: &FormulaTable, node: Node) -> bool
-    ensures { IsTrue result → MayFollow table.now node }
-{
-    match node {
-        Node::Const(_) | Node::Fresh(_) => true,
-        Node::Letter(letter) => letter < table.letters(),
-        Node::Unary(op, a) => table.is_root(a) && op.is_in_order(),
-        Node::Binary(_, a, b) => table.is_root(a) && table.is_root(b) && a != b,
-    }
-}
-
 fn name(rt: &impl Abort, table: &mut FormulaTable, text: &str) -> u32 {
     assert!(rt; table.letters() < u32::MAX && is_plain(text));
     table.name(text).expect(rt, "memory")
 }
 
 fn push(rt: &impl Abort, table: &mut FormulaTable, node: Node) -> u32 {
-    assert!(rt; may_follow(table, node));
+    assert!(rt; table.may_push(node));
     table.push(node).expect(rt, "a place")
+}
+
+#[test]
+fn tells_what_may_be_pushed(rt: HostRuntime) {
+    let mut table = FormulaTable::new(rt.alloc());
+    let p = name(&rt, &mut table, "p");
+    let leaf = push(&rt, &mut table, Node::Letter(p));
+    let next = push(&rt, &mut table, Node::Unary(UnaryOp::Next, leaf));
+    let other = push(&rt, &mut table, Node::Fresh(7));
+    for (node, wanted) in [
+        (Node::Const(false), true),
+        (Node::Letter(p), true),
+        (Node::Letter(1), false),
+        (Node::Fresh(u32::MAX), true),
+        (Node::Unary(UnaryOp::Not, next), true),
+        (Node::Unary(UnaryOp::Not, leaf), false),
+        (Node::Unary(UnaryOp::Not, 3), false),
+        (Node::Unary(UnaryOp::AlwaysIn(5, 5), next), true),
+        (Node::Unary(UnaryOp::AlwaysIn(5, 4), next), false),
+        (Node::Binary(BinaryOp::And, next, other), true),
+        (Node::Binary(BinaryOp::And, next, next), false),
+        (Node::Binary(BinaryOp::And, next, leaf), false),
+    ] {
+        assert_eq!(rt; table.may_push(node), wanted, "{node:?}");
+    }
 }
 
 #[test]
@@ -105,7 +119,7 @@ fn counts_how_far_operators_look(rt: HostRuntime) {
     }
     assert_eq!(rt; table.size(), 16_321);
     let node = Node::Unary(UnaryOp::NextTimes(255), root);
-    assert!(rt; may_follow(&table, node));
+    assert!(rt; table.may_push(node));
     assert!(rt; table.push(node) == Err(PushRefused::Nodes));
     push(&rt, &mut table, Node::Unary(UnaryOp::OnceIn(0, 63), root));
     assert_eq!(rt; table.size(), 16_384);
