@@ -7,10 +7,11 @@ use Rattle.cnf_base.specs.declared.literal.Literal.{Literal}
 use Rattle.cnf_base.specs.Literal.{opposite}
 use Rattle.cnf_base.specs.Meaning.{literal_value, clause_value, Satisfies}
 use Rattle.cnf_base.specs.Step.{clause_at}
+use Rattle.cnf_base.specs.Known.{IsKnown, AreKnown}
 use Rattle.cnf_base.proofs.Soundness.{some_element}
 use Rattle.clause_log.specs.LogValue.{LogValue, IsLog}
 use Rattle.clause_log.proofs.LogLemmas.{lines_follow}
-use Rattle.cdcl_state.specs.Trail.{StateValue, literals_of, IsKnown, AreKnown, IsModel, positive}
+use Rattle.cdcl_state.specs.Trail.{StateValue, literals_of, IsModel, positive}
 use Rattle.cdcl_state.specs.Learnt.{literal_at}
 use Rattle.cdcl_state.specs.declared.assigned.Entry.{Entry}
 use Rattle.cdcl_state.proofs.Settled.{place_of}

@@ -9,10 +9,11 @@ use Rattle.cnf_base.specs.declared.literal.Hint.{Hint}
 use Rattle.cnf_base.specs.declared.literal.Hint.TheVariants.{Clause}
 use Rattle.cnf_base.specs.Literal.{opposite}
 use Rattle.cnf_base.specs.Step.{numbered, clause_at, IsHintedStep, Refutes, conflict, propagate}
+use Rattle.cnf_base.specs.Known.{IsKnown, AreKnown}
 use Rattle.cnf_base.proofs.SameLiteral.{opposite_opposite}
 use Rattle.cnf_base.proofs.MoreClauses.{refutes_more}
 use Rattle.clause_log.specs.LogValue.{LogValue, greatest_u32, with_line}
-use Rattle.cdcl_state.specs.Trail.{StateValue, with_trail, with_log, literals_of, IsReason, IsSettled, IsKnown, AreSet, AreKnown, Propagated}
+use Rattle.cdcl_state.specs.Trail.{StateValue, with_trail, with_log, literals_of, IsReason, IsSettled, AreSet, Propagated}
 use Rattle.cdcl_state.specs.Learnt.{blank_entry, literal_at, IsDecision, IsLearnt, IsTurn, IsUnturned, IsDecided}
 use Rattle.cdcl_state.specs.declared.assigned.Entry.{Entry}
 use Rattle.cdcl_state.specs.declared.analyze.Learnt.{Learnt}

@@ -5,8 +5,9 @@ ghost use Rattle.std.specs.Prelude.{◌≡◌, ◌≤◌, ◌+◌, ◌⊎◌, Li
 ghost use Rattle.cnf_base.specs.declared.literal.Literal.{Literal};
 ghost use Rattle.cnf_base.specs.declared.literal.Hint.{Hint};
 ghost use Rattle.cnf_base.specs.Step.{IsHintedStep};
+ghost use Rattle.cnf_base.specs.Known.{IsKnown};
 ghost use Rattle.clause_log.specs.LogValue.{greatest_u32};
-ghost use Rattle.cdcl_state.specs.Trail.{IsBack, IsKnown};
+ghost use Rattle.cdcl_state.specs.Trail.{IsBack};
 ghost use Rattle.cdcl.specs.Solving.{IsAfter, IsFound, IsLast, IsNegated, IsConsistent};
 
 use crate::choice::{Choice, choose, is_assumed};

@@ -4,8 +4,8 @@ ghost use Rattle.std.specs.Prelude.{◌≡◌, ◌↔◌, ◌≤◌, ◌<◌, �
 ghost use Rattle.cnf_base.specs.declared.literal.Literal.{Literal};
 ghost use Rattle.cnf_base.specs.declared.literal.Hint.{Hint};
 ghost use Rattle.cnf_base.specs.Step.{IsHintedStep};
+ghost use Rattle.cnf_base.specs.Known.{IsKnown, AreKnown};
 ghost use Rattle.clause_log.specs.LogValue.{greatest_u32, with_input};
-ghost use Rattle.cdcl_state.specs.Trail.{IsKnown, AreKnown};
 ghost use Rattle.cdcl.specs.Solving.{IsLonger, IsNegated, IsConsistent, IsSatisfiable};
 ghost use Rattle.cdcl.specs.SolverValue.{IsAnswer};
 ghost use Rattle.cdcl.specs.declared.solve.Answer.TheVariants.{Sat};

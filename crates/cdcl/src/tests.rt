@@ -1,5 +1,5 @@
 ghost use Rattle.std.specs.Prelude.{◌≡◌, ◌≤◌, ◌<◌, ◌+◌, IsTrue, All, length, ◌↔◌};
-ghost use Rattle.cdcl_state.specs.Trail.{IsKnown};
+ghost use Rattle.cnf_base.specs.Known.{IsKnown};
 ghost use Rattle.cdcl.specs.Solving.{IsConsistent};
 
 use crate::choice::has;

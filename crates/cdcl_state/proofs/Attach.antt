@@ -9,8 +9,9 @@ use Rattle.cnf_base.specs.declared.literal.Hint.{Hint}
 use Rattle.cnf_base.specs.declared.literal.Hint.TheVariants.{Clause, Line}
 use Rattle.cnf_base.specs.Literal.{opposite}
 use Rattle.cnf_base.specs.Step.{named, numbered}
+use Rattle.cnf_base.specs.Known.{IsKnown, AreKnown}
 use Rattle.clause_log.specs.LogValue.{LogValue, with_input, with_line}
-use Rattle.cdcl_state.specs.Trail.{literals_of, IsTrail, IsReason, StandsAt, HasLevel, IsKnown, AreKnown}
+use Rattle.cdcl_state.specs.Trail.{literals_of, IsTrail, IsReason, StandsAt, HasLevel}
 use Rattle.cdcl_state.specs.Learnt.{literal_at, place_level}
 use Rattle.cdcl_watches.specs.Watching.{IsWatch, AreApart, WatchValue, clause_of, list_of, code, with_clause, with_watch, blank}
 use Rattle.cdcl_state.specs.Assigned.{AssignedValue}

@@ -5,10 +5,11 @@ use Rattle.std.proofs.lemmas.List.Elements.{All-contains, All-push}
 use Rattle.cnf_base.specs.declared.literal.Literal.{Literal}
 use Rattle.cnf_base.specs.declared.literal.Hint.{Hint}
 use Rattle.cnf_base.specs.Literal.{opposite}
+use Rattle.cnf_base.specs.Known.{IsKnown, AreKnown}
 use Rattle.clause_log.specs.LogValue.{LogValue}
-use Rattle.cdcl_state.specs.Trail.{IsTrail, IsKnown, AreKnown, AreValues}
+use Rattle.cdcl_state.specs.Trail.{IsTrail, AreValues}
 use Rattle.cdcl_state.specs.Learnt.{blank_entry, literal_at, IsLearnt}
-use Rattle.cdcl_state.specs.Analysis.{refuted_at}
+use Rattle.cdcl_state.specs.Analysis.{AreFromOne, refuted_at}
 use Rattle.cdcl_state.specs.State.{AreKnownDecisions}
 use Rattle.cdcl_state.specs.declared.assigned.Entry.{Entry}
 use Rattle.cdcl_state.specs.declared.analyze.Learnt.{Learnt}
@@ -28,6 +29,9 @@ trail_known letters inputs lines trail is_trail known_inputs known_lines decided
     go (Some hint) forced =
         let reason = reason_at inputs lines trail k hint is_trail below forced in
         All-contains (IsKnown letters) reason.clause (literal_at trail k) (named_has (All (IsKnown letters)) inputs lines hint reason.clause known_inputs known_lines reason.is) reason.there
+
+pub known_from_one : (letters : ℕ) (trail : List Entry) → All (λ e. IsKnown letters e.literal) trail → AreFromOne trail
+known_from_one letters trail known k d below = (known k d below).from_one
 
 pub learnt_known : (letters : ℕ) (log : LogValue) (trail : List Entry) (learnt : Learnt) → IsLearnt log trail learnt → All (λ e. IsKnown letters e.literal) trail → All (IsKnown letters) learnt.clause.items
 learnt_known letters log trail learnt is known i d below =

@@ -6,8 +6,9 @@ use Rattle.cnf_base.specs.declared.literal.Literal.{Literal}
 use Rattle.cnf_base.specs.declared.literal.Hint.{Hint}
 use Rattle.cnf_base.specs.declared.literal.Hint.TheVariants.{Line}
 use Rattle.cnf_base.specs.Literal.{opposite}
+use Rattle.cnf_base.specs.Known.{AreKnown}
 use Rattle.clause_log.specs.LogValue.{LogValue}
-use Rattle.cdcl_state.specs.Trail.{AreValues, IsBack, AreKnown, MayStand}
+use Rattle.cdcl_state.specs.Trail.{AreValues, IsBack, MayStand}
 use Rattle.cdcl_state.specs.Learnt.{literal_at, IsInside, IsDecision, IsTarget, IsAsserting}
 use Rattle.cdcl_state.specs.Analysis.{state_of}
 use Rattle.cdcl_watches.specs.Watching.{AreApart, WatchValue, with_clause, blank}

@@ -1,13 +1,13 @@
 -- A trail up to a place, and then the decision that the literal there is false: its reason is a conflict.
 use Rattle.std.proofs.Common.{◌≡◌, ℕ, zero, suc, ◌<◌, ◌≤◌, ◌+◌, ◌-◌, ◌^◌, inl, inr, List, [], ◌∷◌, ◌++◌, Bool, not, Option, Some, None, take, set, All, Contains, length, get_or, refl, sym, ap, ◌∙◌, subst, arith, length-take-le, length-set}
 use Rattle.std.proofs.lemmas.List.{map-append, take-take, take_all, take_more, get_or-take, get_or_append_left, get_or_at, length_push, get_or_default}
-use Rattle.std.proofs.lemmas.List.Elements.{Contains-append_left, Contains-push}
+use Rattle.std.proofs.lemmas.List.Elements.{All-push, Contains-append_left, Contains-push}
 use Rattle.cnf_base.specs.declared.literal.Literal.{Literal}
 use Rattle.cnf_base.specs.declared.literal.Hint.{Hint}
 use Rattle.cnf_base.specs.Literal.{opposite}
 use Rattle.cdcl_state.specs.Trail.{literals_of, IsReason, IsUnset, StandsAt, IsTrail, AreValues}
 use Rattle.cdcl_state.specs.Learnt.{blank_entry, literal_at}
-use Rattle.cdcl_state.specs.Analysis.{IsLike, refuted_at}
+use Rattle.cdcl_state.specs.Analysis.{AreFromOne, IsLike, refuted_at}
 use Rattle.cdcl_state.specs.declared.assigned.Entry.{Entry}
 use Rattle.cdcl_state.proofs.Assign.{values_push, values_pop, trail_push}
 use Rattle.cdcl_state.proofs.Walk.{true_place, places_apart}
@@ -84,6 +84,14 @@ module _ (inputs lines : List (List Literal)) (values : List (Option Bool)) (tra
 
       values_front : HasValues (length values) (take p trail)
       values_front = let d = rest (length trail) (omega arith) in values_take values trail are d.0 p d.1
+
+  pub refuted_from_one : AreFromOne trail → AreFromOne (refuted_at trail p)
+  refuted_from_one from_one =
+      All-push (λ e. 1 ≤ e.literal.letter.0) (take p trail) (record { literal = opposite (literal_at trail p); level = p + 1; reason = None })
+      (λ k d below.
+      let k_low : k < p = omega (arith, below, front_length) in
+      subst (λ (e : Entry). 1 ≤ e.literal.letter.0) (sym (get_or-take p trail k d k_low)) (from_one k d (omega (arith, low))))
+      (from_one p blank_entry low)
 
   -- its reason is false on it
   pub refuted_false : (hint : Hint) → (reason : IsReason inputs lines (literals_of (take p trail)) (literal_at trail p) hint) → All (λ l. Contains (literals_of (refuted_at trail p)) (opposite l)) reason.clause

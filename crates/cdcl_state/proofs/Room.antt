@@ -5,8 +5,9 @@ use Rattle.std.proofs.lemmas.Bool.{cases_lt}
 use Rattle.std.proofs.lemmas.List.{get_or_append_left, get_or_at}
 use Rattle.cnf_base.specs.declared.literal.Literal.{Literal}
 use Rattle.cnf_base.specs.declared.literal.Hint.{Hint}
+use Rattle.cnf_base.specs.Known.{IsKnown, AreKnown}
 use Rattle.clause_log.specs.LogValue.{LogValue}
-use Rattle.cdcl_state.specs.Trail.{IsKnown, AreKnown, literals_of, positive}
+use Rattle.cdcl_state.specs.Trail.{literals_of, positive}
 use Rattle.cdcl_watches.specs.Watching.{WatchValue}
 use Rattle.cdcl_state.specs.Assigned.{AssignedValue}
 use Rattle.cdcl_state.specs.State.{IsState}

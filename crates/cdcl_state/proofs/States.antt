@@ -7,8 +7,9 @@ use Rattle.cnf_base.specs.declared.literal.Literal.{Literal}
 use Rattle.cnf_base.specs.declared.literal.Hint.{Hint}
 use Rattle.cnf_base.specs.Literal.{opposite}
 use Rattle.cnf_base.specs.Step.{named}
+use Rattle.cnf_base.specs.Known.{IsKnown, AreKnown}
 use Rattle.clause_log.specs.LogValue.{LogValue}
-use Rattle.cdcl_state.specs.Trail.{literals_of, AreValues, IsTrail, IsBack, IsSettled, IsConflict, IsReason, IsUnset, IsKnown, AreKnown, StandsAt, Propagated}
+use Rattle.cdcl_state.specs.Trail.{literals_of, AreValues, IsTrail, IsBack, IsSettled, IsConflict, IsReason, IsUnset, StandsAt, Propagated}
 use Rattle.cdcl_state.specs.Learnt.{blank_entry, literal_at}
 use Rattle.cdcl_state.specs.Analysis.{AreBelow, state_of}
 use Rattle.cdcl_watches.specs.Watching.{WatchValue, IsWatching, clause_of}
@@ -32,7 +33,7 @@ some_same a b = cc
 pub below_values : (letters : ℕ) (a : AssignedValue) (clauses : List (List Literal)) → ((x : ℕ) → 1 ≤ x → x ≤ letters → x < length a.values) → AreKnown letters clauses → AreBelow (length a.values) clauses
 below_values letters a clauses room known i d below j e low =
     let k = known i d below j e low in
-    room (get_or (get_or clauses i d) j e).letter.0 k.from_one k.within
+    (k.from_one, room (get_or (get_or clauses i d) j e).letter.0 k.from_one k.within)
 
 -- a watched clause has two literals
 pub long_clause : (inputs lines clauses : List (List Literal)) (names : List Hint) → IsStored inputs lines clauses names → AreLong inputs lines names → (c : ℕ) → c < length clauses → 2 ≤ length (clause_of clauses c)

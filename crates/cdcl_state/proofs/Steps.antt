@@ -7,7 +7,7 @@ use Rattle.cnf_base.specs.Literal.{opposite}
 use Rattle.cnf_base.specs.Step.{named}
 use Rattle.cdcl_state.specs.Trail.{IsTrail, IsReason, HasLevel, literals_of}
 use Rattle.cdcl_state.specs.Learnt.{blank_entry, literal_at, IsDecision}
-use Rattle.cdcl_state.specs.Analysis.{AreBelow, AreWaiting, IsLike, IsWalk}
+use Rattle.cdcl_state.specs.Analysis.{IsBelow, AreBelow, AreWaiting, IsLike, IsWalk}
 use Rattle.cdcl_state.specs.Marks.{MarksValue, IsMarked, IsNext}
 use Rattle.cdcl_state.specs.declared.assigned.Entry.{Entry}
 use Rattle.cdcl_state.proofs.Bridge.{named_has}
@@ -84,7 +84,7 @@ module _ (inputs lines : List (List Literal)) (trail t : List Entry) (from k : �
       let in_t : k < length t = omega (arith, here.within) in
       let reason = reason_at inputs lines t k hint like.is_trail in_t (ap (λ (f : Entry). f.reason) entry_is ∙ forced) in
       let same : named_clause ≡ reason.clause = some_same is_named reason.is in
-      let known = named_has (All (λ l. l.letter.0 < letters)) inputs lines hint reason.clause below_inputs below_lines reason.is in
+      let known = named_has (All (IsBelow letters)) inputs lines hint reason.clause below_inputs below_lines reason.is in
       rw (c_is, hs_is, ps_is)
       (walk_resolve _ _ _ k _ _ _ _ here letters like.values more hint reason like.told known few kept (subst (All (λ l. more l.letter.0)) same all))
 

@@ -7,13 +7,14 @@ use Rattle.std.proofs.lemmas.List.Elements.{All-nil, All-cons, All-push, All-wea
 use Rattle.cnf_base.specs.declared.literal.Literal.{Literal}
 use Rattle.cnf_base.specs.declared.literal.Hint.{Hint}
 use Rattle.cnf_base.specs.Literal.{opposite}
-use Rattle.cnf_base.specs.Step.{named, IsWithin, conflict, propagate, IsUnit, IsHintedStep}
+use Rattle.cnf_base.specs.Step.{named, conflict, propagate, IsUnit, IsHintedStep}
 use Rattle.cnf_base.proofs.SameLiteral.{opposite_opposite}
 use Rattle.clause_log.specs.LogValue.{greatest_u32}
 use Rattle.cdcl_state.specs.Trail.{literals_of, IsReason, AreValues}
 use Rattle.cdcl_state.specs.Learnt.{blank_entry, literal_at}
 use Rattle.cdcl_state.specs.Learnt.{IsInside}
-use Rattle.cdcl_state.specs.Analysis.{IsUnder, Covers, IsWalk}
+use Rattle.cnf_base.specs.Known.{IsKnown}
+use Rattle.cdcl_state.specs.Analysis.{IsBelow, AreFromOne, IsUnder, Covers, IsWalk}
 use Rattle.cdcl_state.specs.declared.assigned.Entry.{Entry}
 
 pub Contains_cons : {X : Type 0} (x y : X) (xs : List X) → Contains xs y → Contains (x ∷ xs) y
@@ -100,11 +101,11 @@ covered trail k marked clause falses covers within l there is_marked =
     subst (Contains falses) (ap opposite place.2 ∙ opposite_opposite l) inside
 
 -- known letters are numbers of a `u32`
-within_u32 : (letters : ℕ) (clause : List Literal) → letters ≤ 2 ^ 32 → All (λ l. l.letter.0 < letters) clause → IsWithin greatest_u32 clause
-within_u32 letters clause few known k d below = omega (arith, known k d below, few)
+within_u32 : (letters : ℕ) (clause : List Literal) → letters ≤ 2 ^ 32 → All (IsBelow letters) clause → All (IsKnown greatest_u32) clause
+within_u32 letters clause few known k d below = let here = known k d below in record { from_one = here.0; within = omega (arith, here.1, few) }
 
 pub walk_start : (inputs lines : List (List Literal)) (trail : List Entry) (letters : ℕ) (marked : ℕ → Type 0) (hint : Hint) (clause : List Literal)
-    → named inputs lines hint ≡ Some clause → All (λ l. l.letter.0 < letters) clause → letters ≤ 2 ^ 32 → All (λ l. Contains (literals_of trail) (opposite l)) clause
+    → named inputs lines hint ≡ Some clause → All (IsBelow letters) clause → letters ≤ 2 ^ 32 → All (λ l. Contains (literals_of trail) (opposite l)) clause
     → All (λ l. marked l.letter.0) clause
     → IsWalk inputs lines trail (length trail) marked [] (hint ∷ []) []
 walk_start inputs lines trail letters marked hint clause is known few all_false all_marked = record {
@@ -148,7 +149,7 @@ module _ (inputs lines : List (List Literal)) (trail : List Entry) (k : ℕ) (ma
   }
 
   pub walk_resolve : (letters : ℕ) (values : List (Option Bool)) (more : ℕ → Type 0) (hint : Hint) (reason : IsReason inputs lines (literals_of (take k trail)) (literal_at trail k) hint)
-      → AreValues values trail → All (λ l. l.letter.0 < letters) reason.clause → letters ≤ 2 ^ 32
+      → AreValues values trail → All (IsBelow letters) reason.clause → letters ≤ 2 ^ 32
       → ((x : ℕ) → marked x → more x) → All (λ l. more l.letter.0) reason.clause
       → IsWalk inputs lines trail k more clause (hints ++ hint ∷ []) places
   walk_resolve letters values more hint reason are known few kept all_marked =
@@ -187,8 +188,8 @@ module _ (inputs lines : List (List Literal)) (trail : List Entry) (k : ℕ) (ma
 
 -- at the foot of the trail the clause with its hints is a hinted step
 pub walk_end : (values : List (Option Bool)) (inputs lines : List (List Literal)) (trail : List Entry) (marked : ℕ → Type 0) (clause : List Literal) (hints : List Hint) (places : List ℕ)
-    → AreValues values trail → length values ≤ 2 ^ 32 → IsWalk inputs lines trail 0 marked clause hints places → IsHintedStep inputs lines greatest_u32 clause (reverse hints)
-walk_end values inputs lines trail marked clause hints places are few walk =
+    → AreValues values trail → length values ≤ 2 ^ 32 → AreFromOne trail → IsWalk inputs lines trail 0 marked clause hints places → IsHintedStep inputs lines greatest_u32 clause (reverse hints)
+walk_end values inputs lines trail marked clause hints places are few from_one walk =
     let from_place : (m : Literal) → Contains clause m → (p : ℕ) × (p < length trail) × (m ≡ opposite (literal_at trail p)) =
     λ m c.
     let p = Contains_map (λ q. opposite (literal_at trail q)) 0 places m (subst (λ cs. Contains cs m) walk.clause_is c) in
@@ -197,7 +198,8 @@ walk_end values inputs lines trail marked clause hints places are few walk =
       within = λ i d below.
           let p = from_place (get_or clause i d) (Contains-get_or clause i d below) in
           let known = are.known p.0 blank_entry p.1 in
-          omega (arith, ap (λ (n : Literal). n.letter.0) p.2, known, few);
+          let letter = ap (λ (n : Literal). n.letter.0) p.2 in
+          record { from_one = omega (arith, letter, from_one p.0 blank_entry p.1); within = omega (arith, letter, known, few) };
       no_pair = λ l here there.
           let p = from_place l here in
           let q = from_place (opposite l) there in

@@ -11,9 +11,17 @@ use Rattle.cdcl_state.specs.Marks.{MarksValue, IsMarked}
 use Rattle.cdcl_state.specs.declared.assigned.Entry.{Entry}
 use Rattle.cdcl_state.specs.declared.analyze.Learnt.{Learnt}
 
--- each letter of each clause is below n
+-- the literal's letter is one of those from 1 to n - 1
+abbrev pub IsBelow : ℕ → Literal → Type 0
+IsBelow n l = (1 ≤ l.letter.0) × (l.letter.0 < n)
+
+-- the letters of each clause are below n
 abbrev pub AreBelow : ℕ → List (List Literal) → Type 0
-AreBelow n clauses = All (λ clause. All (λ l. l.letter.0 < n) clause) clauses
+AreBelow n clauses = All (λ clause. All (IsBelow n) clause) clauses
+
+-- the letters of the trail are numbered from 1
+abbrev pub AreFromOne : List Entry → Type 0
+AreFromOne trail = All (λ e. 1 ≤ e.literal.letter.0) trail
 
 -- of the trail's first `end` places each whose letter is marked waits
 abbrev pub AreWaiting : List Entry → ℕ → MarksValue → Type 0

@@ -3,8 +3,9 @@ use Rattle.std.specs.Prelude.{◌≡◌, ℕ, ◌^◌, ◌<◌, ◌≤◌, ◌�
 use Rattle.cnf_base.specs.declared.literal.Literal.{Literal}
 use Rattle.cnf_base.specs.declared.literal.Hint.{Hint}
 use Rattle.cnf_base.specs.Step.{named}
+use Rattle.cnf_base.specs.Known.{IsKnown, AreKnown}
 use Rattle.clause_log.specs.LogValue.{LogValue}
-use Rattle.cdcl_state.specs.Trail.{literals_of, IsKnown, AreKnown}
+use Rattle.cdcl_state.specs.Trail.{literals_of}
 use Rattle.cdcl_watches.specs.Watching.{WatchValue}
 use Rattle.cdcl_state.specs.Assigned.{AssignedValue}
 use Rattle.cdcl_state.specs.Sure.{IsSure}

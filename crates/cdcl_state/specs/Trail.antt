@@ -4,6 +4,7 @@ use Rattle.cnf_base.specs.declared.literal.Literal.{Literal}
 use Rattle.cnf_base.specs.declared.literal.Hint.{Hint}
 use Rattle.cnf_base.specs.Literal.{opposite}
 use Rattle.cnf_base.specs.Step.{named}
+use Rattle.cnf_base.specs.Known.{IsKnown}
 use Rattle.clause_log.specs.LogValue.{LogValue}
 use Rattle.cdcl_state.specs.Values.{value_at}
 use Rattle.cdcl_state.specs.declared.assigned.Entry.{Entry}
@@ -76,15 +77,6 @@ pub record AreValues (values : List (Option Bool)) (trail : List Entry) : Type 0
   pub on_trail : (l : Literal) → value_at values l.letter.0 ≡ Some (not l.negated) → Contains (literals_of trail) l
   pub apart : AllPairs (λ e f. e.literal.letter.0 ≢ f.literal.letter.0) trail
   pub known : All (λ e. e.literal.letter.0 < length values) trail
-
--- the literal's letter is one of those from 1 to `letters`
-pub record IsKnown (letters : ℕ) (l : Literal) : Type 0 where
-  pub from_one : 1 ≤ l.letter.0
-  pub within : l.letter.0 ≤ letters
-
--- the letters of each clause are known
-abbrev pub AreKnown : ℕ → List (List Literal) → Type 0
-AreKnown letters clauses = All (λ clause. All (IsKnown letters) clause) clauses
 
 -- entries that have reasons were put behind the trail
 pub record Propagated (old new : StateValue) : Type 0 where

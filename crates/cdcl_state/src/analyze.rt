@@ -7,7 +7,7 @@ ghost use Rattle.std.specs.Prelude.{◌≡◌, ℕ, ◌^◌, ◌<◌, ◌≤◌,
 ghost use Rattle.cnf_base.specs.Step.{named};
 ghost use Rattle.cdcl_state.specs.Trail.{IsTrail, IsConflict, literals_of};
 ghost use Rattle.cdcl_state.specs.Learnt.{blank_entry, IsDecision, IsLearnt};
-ghost use Rattle.cdcl_state.specs.Analysis.{AreBelow, AreWaiting, IsLike, IsWalk, refuted_at, state_of};
+ghost use Rattle.cdcl_state.specs.Analysis.{IsBelow, AreBelow, AreFromOne, AreWaiting, IsLike, IsWalk, refuted_at, state_of};
 ghost use Rattle.cdcl_state.specs.Marks.{IsMarked};
 ghost use Rattle.cdcl_state.specs.declared.assigned.Entry.{Entry};
 ghost use Rattle.cdcl_state.specs.declared.analyze.Cut.TheVariants.{Decisions};
@@ -92,7 +92,7 @@ fn mark(
     marks: &mut Marks,
     open: &mut usize,
 ) -> Result<(), AllocError>
-    requires known { All (λ l. l.letter.0 < length assigned.now.values) clause.now }
+    requires known { All (IsBelow (length assigned.now.values)) clause.now }
     requires size { length assigned.now.values ≤ length marks.old.stamps }
     ensures size { length marks.new.stamps ≡ length marks.old.stamps }
     ensures kept { OnOk result ((x : ℕ) → IsMarked marks.old x → IsMarked marks.new x) }
@@ -217,6 +217,7 @@ pub fn explain(
     requires known_lines { AreBelow (length assigned.now.values) log.now.lines }
     requires few { length assigned.now.values ≤ 2 ^ 32 }
     requires size { length assigned.now.values ≤ length marks.old.stamps }
+    requires from_one { AreFromOne assigned.now.trail }
     requires conflict { IsConflict log.now.inputs log.now.lines (literals_of assigned.now.trail) conflict }
     ensures size { length marks.new.stamps ≡ length marks.old.stamps }
     ensures learnt { IfOk result (IsLearnt log.now assigned.now.trail) }
@@ -260,6 +261,7 @@ pub fn explain_forced(
     requires known_lines { AreBelow (length assigned.now.values) log.now.lines }
     requires few { length assigned.now.values ≤ 2 ^ 32 }
     requires size { length assigned.now.values ≤ length marks.old.stamps }
+    requires from_one { AreFromOne assigned.now.trail }
     requires place { place < length assigned.now.trail }
     requires forced { (slice_index_or assigned.now.trail place blank_entry).reason ≡ Some hint }
     ensures size { length marks.new.stamps ≡ length marks.old.stamps }

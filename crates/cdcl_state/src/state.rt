@@ -1,6 +1,7 @@
 // The state of the solver: the trail, the log, and the log's clauses in the order in which they are watched.
 ghost use Rattle.std.specs.Prelude.{◌≡◌, ◌≢◌, ◌+◌, ◌<◌, ◌≤◌, [], ◌⊎◌, All, AllPairs, length, MatchOption, IfSome, IfOk, OnErr, OnOk};
-ghost use Rattle.cdcl_state.specs.Trail.{IsSettled, Propagated, IsConflict, literals_of, IsUnset, IsKnown, AreKnown, HasValue, AreSet, IsModel, with_log, with_letters};
+ghost use Rattle.cnf_base.specs.Known.{IsKnown, AreKnown};
+ghost use Rattle.cdcl_state.specs.Trail.{IsSettled, Propagated, IsConflict, literals_of, IsUnset, HasValue, AreSet, IsModel, with_log, with_letters};
 ghost use Rattle.cnf_base.specs.Step.{IsHintedStep};
 ghost use Rattle.clause_log.specs.LogValue.{IsLog, greatest_u32, with_line, with_input};
 ghost use Rattle.cdcl_watches.specs.Watching.{AreApart};

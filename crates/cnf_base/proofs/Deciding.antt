@@ -1,5 +1,5 @@
 -- Whether a clause with hints is a hinted step, computed.
-use Rattle.std.proofs.Common.{◌≡◌, ◌==◌, ℕ, suc, ◌≤◌, ◌⊎◌, ◌||◌, Bool, true, false, not, List, [], ◌∷◌, get_or, All, Contains, Option, Some, None, refl, ap, ap₂, ◌∙◌, arith}
+use Rattle.std.proofs.Common.{◌≡◌, ◌==◌, ℕ, suc, ◌⊎◌, ◌||◌, Bool, true, false, not, List, [], ◌∷◌, get_or, All, Contains, Option, Some, None, refl, ap, ap₂, ◌∙◌, arith}
 use mathlib.Core.Bool.{false≢true, ◌&&◌, beq}
 use Rattle.std.specs.Bool.{Decides}
 use Rattle.std.specs.List.{list_any, list_all}
@@ -14,7 +14,8 @@ use Rattle.cnf_base.specs.declared.literal.Literal.{Literal}
 use Rattle.cnf_base.specs.declared.literal.Hint.{Hint}
 use Rattle.cnf_base.specs.declared.literal.Hint.TheVariants.{Clause, Line}
 use Rattle.cnf_base.specs.Literal.{opposite}
-use Rattle.cnf_base.specs.Step.{named, IsWithin, HasNoPair, IsFalse, IsUnit, Names, Refutes, conflict, propagate, IsHintedStep}
+use Rattle.cnf_base.specs.Known.{IsKnown}
+use Rattle.cnf_base.specs.Step.{named, HasNoPair, IsFalse, IsUnit, Names, Refutes, conflict, propagate, IsHintedStep}
 use Rattle.cnf_base.proofs.Soundness.{some_element}
 
 -- both tests pass exactly where each does
@@ -55,13 +56,20 @@ has clause l = is_member same clause l
 Decides-has : (clause : List Literal) (l : Literal) → Decides (has clause l) (Contains clause l)
 Decides-has clause l = is_member-Decides Decides-same clause l
 
-abbrev is_within : ℕ → List Literal → Bool
-is_within greatest clause = list_all (λ l. ltb l.letter.0 (suc greatest)) clause
+-- whether the literal's letter is one of those from 1 to the greatest
+abbrev is_known : ℕ → Literal → Bool
+is_known greatest l = ltb 0 l.letter.0 && ltb l.letter.0 (suc greatest)
 
-Decides-within : (greatest : ℕ) (clause : List Literal) → Decides (is_within greatest clause) (IsWithin greatest clause)
-Decides-within greatest clause =
-    Decides-all (λ l. ltb l.letter.0 (suc greatest)) (λ l. l.letter.0 ≤ greatest)
-    (λ l. let low = Decides-ltb l.letter.0 (suc greatest) in (λ e. omega (arith, low.0 e), λ h. low.1 (omega (arith, h)))) clause
+Decides-known : (greatest : ℕ) (l : Literal) → Decides (is_known greatest l) (IsKnown greatest l)
+Decides-known greatest l =
+    let both = Decides-and (ltb 0 l.letter.0) (ltb l.letter.0 (suc greatest)) (Decides-ltb 0 l.letter.0) (Decides-ltb l.letter.0 (suc greatest)) in
+    (λ e. let p = both.0 e in record { from_one = omega (arith, p.0); within = omega (arith, p.1) }, λ known. both.1 (omega (arith, known.from_one), omega (arith, known.within)))
+
+abbrev are_known : ℕ → List Literal → Bool
+are_known greatest clause = list_all (is_known greatest) clause
+
+Decides-all_known : (greatest : ℕ) (clause : List Literal) → Decides (are_known greatest clause) (All (IsKnown greatest) clause)
+Decides-all_known greatest clause = Decides-all (is_known greatest) (IsKnown greatest) (Decides-known greatest) clause
 
 abbrev has_no_pair : List Literal → Bool
 has_no_pair clause = list_all (λ l. not (has clause (opposite l))) clause
@@ -96,38 +104,38 @@ Decides-unit falses clause u =
     )
 
 -- whether the hint may name this clause
-abbrev is_known : ℕ → Hint → List Literal → Bool
-is_known greatest (Clause number) clause = true
-is_known greatest (Line number) clause = is_within greatest clause
+abbrev may_name : ℕ → Hint → List Literal → Bool
+may_name greatest (Clause number) clause = true
+may_name greatest (Line number) clause = are_known greatest clause
 
-Decides-known : (greatest : ℕ) (hint : Hint) (clause : List Literal) → Decides (is_known greatest hint clause) ((number : ℕ) → hint ≡ Line number → IsWithin greatest clause)
-Decides-known greatest (Clause number) clause = (λ e n is. cc, λ h. refl)
-Decides-known greatest (Line number) clause =
-    let within = Decides-within greatest clause in
+Decides-named : (greatest : ℕ) (hint : Hint) (clause : List Literal) → Decides (may_name greatest hint clause) ((number : ℕ) → hint ≡ Line number → All (IsKnown greatest) clause)
+Decides-named greatest (Clause number) clause = (λ e n is. cc, λ h. refl)
+Decides-named greatest (Line number) clause =
+    let within = Decides-all_known greatest clause in
     (λ e n is. within.0 e, λ h. within.1 (h number refl))
 
 module _ (clauses lines : List (List Literal)) (greatest : ℕ) where
   -- whether the hints lead from these false literals to a false clause
   abbrev refutes : List Literal → List Hint → Bool
   refutes falses [] = false
-  refutes falses (hint ∷ []) = on_some (named clauses lines hint) (λ clause. is_known greatest hint clause && is_false falses clause)
+  refutes falses (hint ∷ []) = on_some (named clauses lines hint) (λ clause. may_name greatest hint clause && is_false falses clause)
   refutes falses (hint ∷ next ∷ hints) =
-      on_some (named clauses lines hint) (λ clause. is_known greatest hint clause
+      on_some (named clauses lines hint) (λ clause. may_name greatest hint clause
       && list_any (λ u. is_unit falses clause u && refutes (opposite u ∷ falses) (next ∷ hints)) clause)
 
-  names_of : (hint : Hint) (clause : List Literal) → named clauses lines hint ≡ Some clause → is_known greatest hint clause ≡ true → Names clauses lines greatest hint clause
-  names_of hint clause is known = record { is = is; within = (Decides-known greatest hint clause).0 known }
+  names_of : (hint : Hint) (clause : List Literal) → named clauses lines hint ≡ Some clause → may_name greatest hint clause ≡ true → Names clauses lines greatest hint clause
+  names_of hint clause is known = record { is = is; within = (Decides-named greatest hint clause).0 known }
 
   found : (hints : List Hint) (falses : List Literal) → refutes falses hints ≡ true → Refutes clauses lines greatest falses hints
   found [] falses e = absurd (false≢true e)
   found (hint ∷ []) falses e =
-      let it = some_parts (named clauses lines hint) (λ clause. is_known greatest hint clause && is_false falses clause) e in
-      let parts = and_parts (is_known greatest hint it.0) (is_false falses it.0) it.2 in
+      let it = some_parts (named clauses lines hint) (λ clause. may_name greatest hint clause && is_false falses clause) e in
+      let parts = and_parts (may_name greatest hint it.0) (is_false falses it.0) it.2 in
       conflict (names_of hint it.0 it.1 parts.0) ((Decides-false falses it.0).0 parts.1)
   found (hint ∷ next ∷ hints) falses e =
       let step : List Literal → Literal → Bool = λ clause u. is_unit falses clause u && refutes (opposite u ∷ falses) (next ∷ hints) in
-      let it = some_parts (named clauses lines hint) (λ clause. is_known greatest hint clause && list_any (step clause) clause) e in
-      let parts = and_parts (is_known greatest hint it.0) (list_any (step it.0) it.0) it.2 in
+      let it = some_parts (named clauses lines hint) (λ clause. may_name greatest hint clause && list_any (step clause) clause) e in
+      let parts = and_parts (may_name greatest hint it.0) (list_any (step it.0) it.0) it.2 in
       let unit = some_element (step it.0) it.0 parts.1 in
       let both = and_parts (is_unit falses it.0 unit.0) (refutes (opposite unit.0 ∷ falses) (next ∷ hints)) unit.2 in
       propagate (names_of hint it.0 it.1 parts.0) ((Decides-unit falses it.0 unit.0).0 both.0) (found (next ∷ hints) (opposite unit.0 ∷ falses) both.1)
@@ -139,23 +147,23 @@ module _ (clauses lines : List (List Literal)) (greatest : ℕ) where
       let step : List Literal → Literal → Bool = λ clause u. is_unit falses clause u && refutes (opposite u ∷ falses) (next ∷ hints) in
       let here : step clause u ≡ true = and_made (is_unit falses clause u) (refutes (opposite u ∷ falses) (next ∷ hints)) ((Decides-unit falses clause u).1 unit) e in
       let passes = list_any_at (step clause) clause unit.there.0 u unit.there.1 (ap (step clause) unit.there.2 ∙ here) in
-      some_made (named clauses lines hint) (λ clause. is_known greatest hint clause && list_any (step clause) clause) clause names.is
-      (and_made (is_known greatest hint clause) (list_any (step clause) clause) ((Decides-known greatest hint clause).1 names.within) passes)
+      some_made (named clauses lines hint) (λ clause. may_name greatest hint clause && list_any (step clause) clause) clause names.is
+      (and_made (may_name greatest hint clause) (list_any (step clause) clause) ((Decides-named greatest hint clause).1 names.within) passes)
 
   kept : {falses : List Literal} {hints : List Hint} → Refutes clauses lines greatest falses hints → refutes falses hints ≡ true
   kept (conflict {falses = falses} {hint = hint} {clause = clause} names all_false) =
-      some_made (named clauses lines hint) (λ clause. is_known greatest hint clause && is_false falses clause) clause names.is
-      (and_made (is_known greatest hint clause) (is_false falses clause) ((Decides-known greatest hint clause).1 names.within) ((Decides-false falses clause).1 all_false))
+      some_made (named clauses lines hint) (λ clause. may_name greatest hint clause && is_false falses clause) clause names.is
+      (and_made (may_name greatest hint clause) (is_false falses clause) ((Decides-named greatest hint clause).1 names.within) ((Decides-false falses clause).1 all_false))
   kept (propagate {falses = falses} {hint = hint} {hints = hints} {clause = clause} {u = u} names unit rest) =
       after hints falses hint clause u names unit (kept rest)
 
   -- whether the clause with these hints is a hinted step
   abbrev pub is_hinted_step : List Literal → List Hint → Bool
-  is_hinted_step clause hints = is_within greatest clause && (has_no_pair clause && refutes clause hints)
+  is_hinted_step clause hints = are_known greatest clause && (has_no_pair clause && refutes clause hints)
 
   pub Decides-hinted_step : (clause : List Literal) (hints : List Hint) → Decides (is_hinted_step clause hints) (IsHintedStep clauses lines greatest clause hints)
   Decides-hinted_step clause hints =
       let rest : Decides (refutes clause hints) (Refutes clauses lines greatest clause hints) = (found hints clause, kept) in
-      let all = Decides-and (is_within greatest clause) (has_no_pair clause && refutes clause hints) (Decides-within greatest clause)
+      let all = Decides-and (are_known greatest clause) (has_no_pair clause && refutes clause hints) (Decides-all_known greatest clause)
       (Decides-and (has_no_pair clause) (refutes clause hints) (Decides-no_pair clause) rest) in
       (λ e. let p = all.0 e in record { within = p.0; no_pair = p.1.0; refutes = p.1.1 }, λ step. all.1 (step.within, (step.no_pair, step.refutes)))

@@ -1,4 +1,5 @@
 pub mod Literal
+pub mod Known
 pub mod Step
 pub mod Meaning
 pub mod Worked

@@ -1,9 +1,10 @@
 -- Hinted steps: reverse unit propagation with the order of the clauses given.
-use Rattle.std.specs.Prelude.{◌≡◌, ℕ, zero, suc, ◌≤◌, ◌⊎◌, List, [], ◌∷◌, All, Contains, slice_get, slice_index_or, Option, Some, None, ◌-◌}
+use Rattle.std.specs.Prelude.{◌≡◌, ℕ, zero, suc, ◌⊎◌, List, [], ◌∷◌, All, Contains, slice_get, slice_index_or, Option, Some, None, ◌-◌}
 use Rattle.cnf_base.specs.declared.literal.Literal.{Literal}
 use Rattle.cnf_base.specs.declared.literal.Hint.{Hint}
 use Rattle.cnf_base.specs.declared.literal.Hint.TheVariants.{Clause, Line}
 use Rattle.cnf_base.specs.Literal.{opposite}
+use Rattle.cnf_base.specs.Known.{IsKnown}
 
 -- the clause of a number that runs from 1, if there is one
 abbrev pub numbered : List (List Literal) → ℕ → Option (List Literal)
@@ -18,10 +19,6 @@ clause_at clauses number = slice_index_or clauses (number - 1) []
 abbrev pub named : List (List Literal) → List (List Literal) → Hint → Option (List Literal)
 named clauses lines (Clause number) = numbered clauses number
 named clauses lines (Line number) = numbered lines number
-
--- each letter is at most the greatest one
-abbrev pub IsWithin : ℕ → List Literal → Type 0
-IsWithin greatest clause = All (λ l. l.letter.0 ≤ greatest) clause
 
 -- no literal stands beside its opposite
 abbrev pub HasNoPair : List Literal → Type 0
@@ -38,10 +35,10 @@ pub record IsUnit (falses clause : List Literal) (u : Literal) : Type 0 where
   pub not_true : ¬ Contains falses (opposite u)
   pub others : All (λ l. Contains falses l ⊎ (l ≡ u)) clause
 
--- the hint names this clause; the letters of a named line are at most the greatest one
+-- the hint names this clause; each letter of a named line is one of those from 1 to the greatest
 pub record Names (clauses lines : List (List Literal)) (greatest : ℕ) (hint : Hint) (clause : List Literal) : Type 0 where
   pub is : named clauses lines hint ≡ Some clause
-  pub within : (number : ℕ) → hint ≡ Line number → IsWithin greatest clause
+  pub within : (number : ℕ) → hint ≡ Line number → All (IsKnown greatest) clause
 
 -- the hints lead from these false literals to a false clause: each but the last makes one literal true
 pub data Refutes (clauses lines : List (List Literal)) (greatest : ℕ) : List Literal → List Hint → Type 0 where
@@ -53,8 +50,8 @@ pub data Refutes (clauses lines : List (List Literal)) (greatest : ℕ) : List L
       → Refutes clauses lines greatest (opposite u ∷ falses) hints
       → Refutes clauses lines greatest falses (hint ∷ hints)
 
--- the clause with these hints is a hinted step over the clauses, the earlier lines and the greatest letter
+-- the clause with these hints is a hinted step over the clauses and the earlier lines; each letter is one of those from 1 to the greatest
 pub record IsHintedStep (clauses lines : List (List Literal)) (greatest : ℕ) (clause : List Literal) (hints : List Hint) : Type 0 where
-  pub within : IsWithin greatest clause
+  pub within : All (IsKnown greatest) clause
   pub no_pair : HasNoPair clause
   pub refutes : Refutes clauses lines greatest clause hints

@@ -43,6 +43,8 @@ pub record WorkedSteps : Type 0 where
   pub complementary : ¬ IsStep [] (plus 2 ∷ minus 2 ∷ []) (Clause 2 ∷ Clause 1 ∷ [])
   -- the letter of the line's own literal is above the greatest one
   pub unknown_letter : ¬ IsStep [] (minus 2 ∷ plus 7 ∷ []) (Clause 2 ∷ Clause 1 ∷ [])
+  -- letters are numbered from 1
+  pub letter_zero : ¬ IsStep [] (minus 2 ∷ plus 0 ∷ []) (Clause 2 ∷ Clause 1 ∷ [])
   -- the first line has no line before it, least of all itself
   pub names_itself : ¬ IsStep [] (minus 2 ∷ []) (Clause 2 ∷ Line 1 ∷ [])
   -- numbers run from 1 to 3
@@ -50,3 +52,5 @@ pub record WorkedSteps : Type 0 where
   pub number_four : ¬ IsStep [] (minus 2 ∷ []) (Clause 2 ∷ Clause 4 ∷ [])
   -- the line that is named has a letter above the greatest one
   pub unknown_line : ¬ IsStep ((plus 7 ∷ []) ∷ []) (minus 2 ∷ []) (Line 1 ∷ Clause 2 ∷ Clause 1 ∷ [])
+  -- the line that is named has the letter 0
+  pub line_of_zero : ¬ IsStep ((plus 0 ∷ []) ∷ []) (minus 2 ∷ []) (Line 1 ∷ Clause 2 ∷ Clause 1 ∷ [])

@@ -6,6 +6,7 @@ pub mod clauses;
 pub mod laws;
 pub mod literal;
 pub mod rows;
+mod shared;
 #[cfg(test)]
 mod tests;
 

@@ -5,8 +5,8 @@ use Rattle.ltl_syntax.specs.declared.node.Kind.{Kind}
 use Rattle.ltl_syntax.specs.Formula.{Formula}
 use Rattle.cnf_base.specs.declared.literal.Literal.{Literal as Signed}
 use Rattle.cnf_base.specs.Meaning.{Satisfies, literal_value}
+use Rattle.cnf_base.specs.Known.{IsKnown}
 use Rattle.ltl_closure.specs.Entries.{ClosureValue}
-use Rattle.cdcl_state.specs.Trail.{IsKnown}
 use Rattle.cdcl.specs.Solving.{IsLonger, IsConsistent, IsSatisfiable}
 use Rattle.cdcl.specs.SolverValue.{SolverValue, IsAnswer, value_of}
 use Rattle.cdcl.specs.declared.solve.Answer.{Answer}

@@ -6,8 +6,8 @@ use Rattle.std.proofs.lemmas.List.Elements.{All-drop, All-weaker}
 use Rattle.ltl_syntax.specs.declared.node.Kind.{Kind}
 use Rattle.ltl_syntax.specs.Formula.{Formula}
 use Rattle.cnf_base.specs.declared.literal.Literal.{Literal as Signed}
+use Rattle.cnf_base.specs.Known.{IsKnown, AreKnown}
 use Rattle.clause_log.specs.LogValue.{LogValue}
-use Rattle.cdcl_state.specs.Trail.{IsKnown, AreKnown}
 use Rattle.cdcl.specs.SolverValue.{SolverValue}
 use Rattle.enc_layout.specs.Letters.{letters_through}
 use Rattle.enc_layout.specs.Clauses.{counts, step_clauses, signed_clauses, clause_list}

@@ -5,9 +5,9 @@ use Rattle.ltl_syntax.specs.declared.node.Kind.{Kind}
 use Rattle.ltl_syntax.specs.Formula.{Formula}
 use Rattle.cnf_base.specs.declared.literal.Literal.{Literal as Signed}
 use Rattle.cnf_base.specs.Literal.{opposite}
+use Rattle.cnf_base.specs.Known.{IsKnown}
 use Rattle.cnf_base.proofs.SameLiteral.{opposite_opposite}
 use Rattle.ltl_closure.proofs.Lists.{Contains-nil, Contains-cons_cases, Contains-here, Contains-there}
-use Rattle.cdcl_state.specs.Trail.{IsKnown}
 use Rattle.cdcl.specs.Solving.{IsConsistent}
 use Rattle.enc_layout.specs.Letters.{Meaning, IsLetter, letters_through}
 use Rattle.enc_layout.specs.Clauses.{counts}

@@ -1,16 +1,14 @@
 -- The decisions, from what the questions of the depths were answered.
 use Rattle.std.proofs.Common.{◌≡◌, ℕ, suc, ◌+◌, ◌≤◌, arith, inl, inr, sym, subst, List, [], ◌∷◌, ◌++◌, All, ◌<◌}
 use Rattle.std.proofs.lemmas.Bool.{cases_lt}
-use Rattle.std.proofs.lemmas.List.Elements.{All-weaker}
 use Rattle.ltl_syntax.specs.declared.node.Kind.{Kind}
 use Rattle.ltl_syntax.specs.Formula.{Formula}
 use Rattle.ltl_closure.specs.Run.{Sat, HasAccepted, HasUnpruned, IsOpen, IsVerdict, Unsat, Undecided, accepted, all_pruned, undecided, bound}
 use Rattle.ltl_run.proofs.Closing.{accepted_by}
 use Rattle.ltl_run.proofs.Bounds.{settled}
 use Rattle.ltl_run.proofs.Least.{unsat_has_no_trace}
-use Rattle.cnf_base.specs.Step.{IsWithin}
+use Rattle.cnf_base.specs.Known.{AreKnown}
 use Rattle.clause_log.specs.LogValue.{LogValue}
-use Rattle.cdcl_state.specs.Trail.{IsKnown, AreKnown}
 use Rattle.cdcl.specs.SolverValue.{SolverValue}
 use Rattle.cdcl.specs.Solving.{IsLonger}
 use Rattle.enc_layout.specs.Targets.{CloseTableau}
@@ -49,8 +47,7 @@ module _ (f : Formula) (kind : Kind) where
   pub refutation : (k : ℕ) (s : SolverValue) (targets : List ℕ) → IsThrough f kind k s → AreKnown s.letters s.log.lines → CloseTableau f kind k s.log.lines targets → IsRefutation f kind k s.log targets
   refutation k s targets through known closes = record {
     inputs = through.inputs;
-    letters = subst (λ n. All (IsWithin n) s.log.lines) through.letters
-        (All-weaker (λ line. All (IsKnown s.letters) line) (IsWithin s.letters) (λ line h. All-weaker (IsKnown s.letters) (λ l. l.letter.0 ≤ s.letters) (λ l w. w.within) line h) s.log.lines known);
+    letters = subst (λ n. AreKnown n s.log.lines) through.letters known;
     closed = closes;
   }
 

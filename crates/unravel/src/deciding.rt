@@ -3,7 +3,7 @@
 // tableau system for LTL (2019).
 ghost use Rattle.std.specs.Prelude.{◌≤◌, [], ◌∷◌, ◌++◌, IfOk, OnOk};
 ghost use Rattle.ltl_closure.specs.Run.{bound};
-ghost use Rattle.cdcl_state.specs.Trail.{AreKnown};
+ghost use Rattle.cnf_base.specs.Known.{AreKnown};
 ghost use Rattle.enc_layout.specs.Letters.{Fits};
 ghost use Rattle.enc_layout.specs.Clauses.{layout_of};
 ghost use Rattle.unravel.specs.Decision.{IsDecision, IsUnsat, IsUndecided, HasNoTrace};

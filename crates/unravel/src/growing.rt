@@ -1,6 +1,6 @@
 // A depth's clauses, put into the solver behind those of the depths before. What the solver has learnt of these stays.
 ghost use Rattle.std.specs.Prelude.{◌≡◌, ◌≤◌, OnOk};
-ghost use Rattle.cdcl_state.specs.Trail.{AreKnown};
+ghost use Rattle.cnf_base.specs.Known.{AreKnown};
 ghost use Rattle.enc_layout.specs.Letters.{Fits};
 ghost use Rattle.enc_layout.specs.Clauses.{layout_of, step_clauses, signed_clauses};
 ghost use Rattle.unravel.specs.Depths.{IsBefore, IsThrough, HasAdded};

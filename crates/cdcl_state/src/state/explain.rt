@@ -2,7 +2,8 @@
 // After Marques-Silva and Sakallah, GRASP (1999), and Een and Sorensson, Temporal induction by incremental SAT
 // solving (2003).
 ghost use Rattle.std.specs.Prelude.{◌≡◌, ◌≢◌, ℕ, [], ◌⊎◌, All, None, MatchOption, IfOk, Contains};
-ghost use Rattle.cdcl_state.specs.Trail.{IsConflict, literals_of, IsKnown};
+ghost use Rattle.cnf_base.specs.Known.{IsKnown};
+ghost use Rattle.cdcl_state.specs.Trail.{IsConflict, literals_of};
 ghost use Rattle.cdcl_state.specs.Learnt.{literal_at, IsDecision, IsLearnt, IsAsserting, IsTop};
 ghost use Rattle.cdcl_state.specs.Analysis.{IsRefuted};
 ghost use Rattle.cnf_base.specs.Literal.{opposite};

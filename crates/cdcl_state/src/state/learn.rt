@@ -1,7 +1,8 @@
 // A learnt clause is put behind the lines and watched, the trail is cut to the second highest of its levels, and its
 // first literal is forced there, without a new visit of what stays. After Marques-Silva and Sakallah, GRASP (1999).
 ghost use Rattle.std.specs.Prelude.{◌≡◌, ◌<◌, ◌≤◌, [], ◌∷◌, ◌++◌, All, length, Some, OnErr, OnOk, IsTrue};
-ghost use Rattle.cdcl_state.specs.Trail.{IsKnown, MayStand, with_log, with_trail};
+ghost use Rattle.cnf_base.specs.Known.{IsKnown};
+ghost use Rattle.cdcl_state.specs.Trail.{MayStand, with_log, with_trail};
 ghost use Rattle.clause_log.specs.LogValue.{with_line};
 ghost use Rattle.cdcl_state.specs.Learnt.{IsInside, IsLearnt, IsAsserting, IsTarget, IsTurn, IsUnturned};
 ghost use Rattle.cnf_base.specs.declared.literal.Hint.TheVariants.{Line};

@@ -1,5 +1,5 @@
 use Rattle.std.proofs.Common.{All, take}
-use Rattle.cdcl_state.specs.Trail.{IsKnown}
+use Rattle.cnf_base.specs.Known.{IsKnown}
 use Rattle.cdcl.proofs.tests.are_known.Given as goal
 
 abbrev pub invariant-loop-literal : goal.invariant-loop-literal

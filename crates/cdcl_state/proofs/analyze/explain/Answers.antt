@@ -5,7 +5,7 @@ use Rattle.cnf_base.specs.Step.{named}
 use Rattle.clause_log.specs.LogValue.{LogValue}
 use Rattle.cdcl_state.specs.Trail.{literals_of}
 use Rattle.cdcl_state.specs.Learnt.{IsDecision}
-use Rattle.cdcl_state.specs.Analysis.{IsLike, IsWalk}
+use Rattle.cdcl_state.specs.Analysis.{IsBelow, IsLike, IsWalk}
 use Rattle.cdcl_state.specs.Marks.{IsMarked}
 use Rattle.cdcl_state.proofs.Bridge.{named_has}
 use Rattle.cdcl_state.proofs.Walk.{walk_start, walk_end}
@@ -24,7 +24,7 @@ returns-clause-learnt c =
     let is : named log.inputs log.lines c.args.conflict ≡ Some clause =
     subst (λ (l : LogValue). named l.inputs l.lines c.args.conflict ≡ Some clause) c.view-view.ensures.same c.clause_of.ensures in
     let given = c.requires.conflict in
-    let known = named_has (All (λ l. l.letter.0 < letters)) log.inputs log.lines c.args.conflict clause c.requires.known_inputs c.requires.known_lines is in
+    let known = named_has (All (IsBelow letters)) log.inputs log.lines c.args.conflict clause c.requires.known_inputs c.requires.known_lines is in
     let like : IsLike log.inputs log.lines trail trail (length trail) = record { same = λ k low. refl; long = omega arith; is_trail = c.requires.is_trail; values = values; told = c.told.ensures; few = c.requires.few } in
     let start = walk_start log.inputs log.lines trail letters (IsMarked c.mark.new.marks) c.args.conflict clause is known c.requires.few
     (subst (All (λ l. Contains (literals_of trail) (opposite l))) (some_same given.is is) given.all_false) c.in_ok-mark.ensures.all in
@@ -32,7 +32,7 @@ returns-clause-learnt c =
     rw (c.len.ensures, c.in_ok-cite.ensures.clause, c.in_ok-cite.ensures.hints, c.in_ok-cite.ensures.places, c.new.ensures.items, c.new-2.ensures.items, c.new-3.ensures.items) start in
     let walked = c.in_ok-walk.ensures.walked trail (subst (IsLike log.inputs log.lines trail trail) (sym c.len.ensures) like) begun in
     record {
-      step = rw c.reverse.ensures.items (walk_end values log.inputs log.lines trail _ _ _ _ c.told.ensures c.requires.few walked);
+      step = rw c.reverse.ensures.items (walk_end values log.inputs log.lines trail _ _ _ _ c.told.ensures c.requires.few c.requires.from_one walked);
       clause_is = walked.clause_is;
       inside = walked.inside;
       falling = walked.falling;

@@ -7,13 +7,13 @@ use Rattle.cnf_base.proofs.SameLiteral.{opposite_opposite}
 use Rattle.clause_log.specs.LogValue.{LogValue}
 use Rattle.cdcl_state.specs.Trail.{literals_of}
 use Rattle.cdcl_state.specs.Learnt.{blank_entry, literal_at, IsDecision}
-use Rattle.cdcl_state.specs.Analysis.{IsWalk, refuted_at}
+use Rattle.cdcl_state.specs.Analysis.{IsBelow, IsWalk, refuted_at}
 use Rattle.cdcl_state.specs.declared.assigned.Entry.{Entry}
 use Rattle.cdcl_state.specs.Marks.{IsMarked}
 use Rattle.cdcl_state.proofs.Bridge.{named_has}
 use Rattle.cdcl_state.proofs.Steps.{reason_at}
 use Rattle.cdcl_state.proofs.Walk.{walk_start, walk_keep, walk_end}
-use Rattle.cdcl_state.proofs.Refuted.{refuted_like, refuted_false, refuted_last, refuted_length}
+use Rattle.cdcl_state.proofs.Refuted.{refuted_from_one, refuted_like, refuted_false, refuted_last, refuted_length}
 use Rattle.cdcl_state.proofs.analyze.explain_forced.Goals as goal
 
 some_same : {X : Type 0} {x y : X} {o : Option X} → o ≡ Some x → o ≡ Some y → x ≡ y
@@ -26,7 +26,7 @@ mark-requires-clause-known c =
     let clause = c.clause_of.result.now in
     let is : named log.inputs log.lines c.args.hint ≡ Some clause =
     subst (λ (l : LogValue). named l.inputs l.lines c.args.hint ≡ Some clause) c.view-view.ensures.same c.clause_of.ensures in
-    named_has (All (λ l. l.letter.0 < letters)) log.inputs log.lines c.args.hint clause c.requires.known_inputs c.requires.known_lines is
+    named_has (All (IsBelow letters)) log.inputs log.lines c.args.hint clause c.requires.known_inputs c.requires.known_lines is
 
 pub returns-clause-learnt : goal.returns-clause-learnt
 returns-clause-learnt c =
@@ -40,7 +40,7 @@ returns-clause-learnt c =
     let is : named log.inputs log.lines c.args.hint ≡ Some clause =
     subst (λ (l : LogValue). named l.inputs l.lines c.args.hint ≡ Some clause) c.view-view.ensures.same c.clause_of.ensures in
     let reason = reason_at log.inputs log.lines trail p c.args.hint c.requires.is_trail c.requires.place c.requires.forced in
-    let known = named_has (All (λ l. l.letter.0 < letters)) log.inputs log.lines c.args.hint clause c.requires.known_inputs c.requires.known_lines is in
+    let known = named_has (All (IsBelow letters)) log.inputs log.lines c.args.hint clause c.requires.known_inputs c.requires.known_lines is in
     let like = refuted_like log.inputs log.lines values trail p c.requires.is_trail c.told.ensures c.requires.place c.requires.few in
     let all_false = subst (All (λ l. Contains (literals_of t) (opposite l))) (some_same reason.is is)
     (refuted_false log.inputs log.lines values trail p c.requires.is_trail c.told.ensures c.requires.place c.args.hint reason) in
@@ -54,7 +54,7 @@ returns-clause-learnt c =
     rw (c.in_ok-cite.ensures.clause, c.in_ok-cite.ensures.hints, c.in_ok-cite.ensures.places, c.in_ok-keep.ensures.clause, c.in_ok-keep.ensures.hints, c.in_ok-keep.ensures.places, c.new.ensures.items, c.new-2.ensures.items, c.new-3.ensures.items, literal) kept in
     let walked = c.in_ok-walk.ensures.walked t like begun in
     record {
-      step = rw c.reverse.ensures.items (walk_end like.values log.inputs log.lines t _ _ _ _ like.told like.few walked);
+      step = rw c.reverse.ensures.items (walk_end like.values log.inputs log.lines t _ _ _ _ like.told like.few (refuted_from_one log.inputs log.lines values trail p c.requires.is_trail c.told.ensures c.requires.place c.requires.from_one) walked);
       clause_is = walked.clause_is;
       inside = walked.inside;
       falling = walked.falling;

@@ -4,6 +4,7 @@ use Rattle.std.proofs.lemmas.List.{get_or_default}
 use Rattle.cnf_base.specs.Step.{named}
 use Rattle.clause_log.specs.LogValue.{LogValue}
 use Rattle.cdcl_state.specs.Learnt.{blank_entry, IsDecision}
+use Rattle.cdcl_state.specs.Analysis.{IsBelow}
 use Rattle.cdcl_state.specs.Marks.{IsMarked}
 use Rattle.cdcl_state.proofs.Bridge.{named_has}
 use Rattle.cdcl_state.proofs.Steps.{still_waiting, like_passed, like_ended, like_keep, like_resolve, like_decided}
@@ -16,7 +17,7 @@ mark-requires-clause-known c =
     let clause = c.clause_of.result.now in
     let is : named log.inputs log.lines c.in-Some-reason.hint ≡ Some clause =
     subst (λ (l : LogValue). named l.inputs l.lines c.in-Some-reason.hint ≡ Some clause) c.view-view.ensures.same c.clause_of.ensures in
-    named_has (All (λ l. l.letter.0 < letters)) log.inputs log.lines c.in-Some-reason.hint clause c.requires.known_inputs c.requires.known_lines is
+    named_has (All (IsBelow letters)) log.inputs log.lines c.in-Some-reason.hint clause c.requires.known_inputs c.requires.known_lines is
 
 pub down-preserved-then-resolves : goal.down-preserved-then-resolves
 down-preserved-then-resolves c =

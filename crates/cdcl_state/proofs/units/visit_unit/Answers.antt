@@ -7,6 +7,7 @@ use Rattle.cdcl_state.specs.Trail.{literals_of, IsTrail}
 use Rattle.cdcl_watches.specs.Watching.{blank}
 use Rattle.cdcl_state.specs.Visit.{HasTrue}
 use Rattle.cdcl_state.specs.State.{IsOne}
+use Rattle.cdcl_state.specs.Analysis.{IsBelow}
 use Rattle.cdcl_state.specs.declared.assigned.Entry.{Entry}
 use Rattle.cdcl_state.proofs.Assign.{trail_push}
 use Rattle.cdcl_state.proofs.Bridge.{named_has}
@@ -41,7 +42,7 @@ assign-requires-clause-known c =
     let clause = c.clause_of-clause.result.now in
     let is : named log.inputs log.lines c.args.hint ≡ Some clause =
     subst (λ (l : LogValue). named l.inputs l.lines c.args.hint ≡ Some clause) c.view-view.ensures.same c.clause_of-clause.ensures in
-    named_has (All (λ l. l.letter.0 < letters)) log.inputs log.lines c.args.hint clause c.requires.known_inputs c.requires.known_lines is 0 blank (omega (arith, c.if-clause-eq0.false))
+    (named_has (All (IsBelow letters)) log.inputs log.lines c.args.hint clause c.requires.known_inputs c.requires.known_lines is 0 blank (omega (arith, c.if-clause-eq0.false))).1
 
 pub returns-clause-is_trail : goal.returns-clause-is_trail
 returns-clause-is_trail c =

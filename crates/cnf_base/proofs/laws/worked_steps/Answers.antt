@@ -26,8 +26,10 @@ returns c = record {
   already_true = is_none [] (minus 2 ∷ []) (Clause 2 ∷ Clause 2 ∷ Clause 1 ∷ []) refl;
   complementary = is_none [] (plus 2 ∷ minus 2 ∷ []) (Clause 2 ∷ Clause 1 ∷ []) refl;
   unknown_letter = is_none [] (minus 2 ∷ plus 7 ∷ []) (Clause 2 ∷ Clause 1 ∷ []) refl;
+  letter_zero = is_none [] (minus 2 ∷ plus 0 ∷ []) (Clause 2 ∷ Clause 1 ∷ []) refl;
   names_itself = is_none [] (minus 2 ∷ []) (Clause 2 ∷ Line 1 ∷ []) refl;
   number_zero = is_none [] (minus 2 ∷ []) (Clause 2 ∷ Clause 0 ∷ []) refl;
   number_four = is_none [] (minus 2 ∷ []) (Clause 2 ∷ Clause 4 ∷ []) refl;
   unknown_line = is_none ((plus 7 ∷ []) ∷ []) (minus 2 ∷ []) (Line 1 ∷ Clause 2 ∷ Clause 1 ∷ []) refl;
+  line_of_zero = is_none ((plus 0 ∷ []) ∷ []) (minus 2 ∷ []) (Line 1 ∷ Clause 2 ∷ Clause 1 ∷ []) refl;
 }

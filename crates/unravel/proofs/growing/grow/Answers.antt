@@ -1,6 +1,6 @@
 use Rattle.std.proofs.Common.{◌≡◌, ◌≤◌, ap, sym, ◌∙◌, subst}
 use Rattle.std.proofs.lemmas.Result.{on_ok_weaker}
-use Rattle.cdcl_state.specs.Trail.{AreKnown}
+use Rattle.cnf_base.specs.Known.{AreKnown}
 use Rattle.cdcl.specs.SolverValue.{SolverValue}
 use Rattle.enc_layout.specs.Letters.{LayoutValue, letters_through}
 use Rattle.enc_layout.specs.Clauses.{counts, step_clauses, signed_clauses}

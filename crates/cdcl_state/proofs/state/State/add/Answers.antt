@@ -1,5 +1,6 @@
 use Rattle.std.proofs.Common.{All, sym, subst}
-use Rattle.cdcl_state.specs.Trail.{StateValue, IsKnown}
+use Rattle.cnf_base.specs.Known.{IsKnown}
+use Rattle.cdcl_state.specs.Trail.{StateValue}
 use Rattle.cdcl_state.specs.Visit.{HaveSame}
 use Rattle.cdcl_state.proofs.Attach.{stored_below}
 use Rattle.cdcl_state.proofs.Distinct.{same_itself, same_again}

@@ -1,7 +1,8 @@
 use Rattle.std.proofs.Common.{◌≡◌, ◌+◌, All, length, sym, ap, ◌∙◌, subst}
 use Rattle.cnf_base.specs.declared.literal.Hint.TheVariants.{Clause}
+use Rattle.cnf_base.specs.Known.{IsKnown}
 use Rattle.clause_log.specs.LogValue.{LogValue, with_input}
-use Rattle.cdcl_state.specs.Trail.{StateValue, IsKnown}
+use Rattle.cdcl_state.specs.Trail.{StateValue}
 use Rattle.cdcl_state.proofs.Attach.{input_more, state_short, known_more}
 use Rattle.cdcl_state.proofs.Distinct.{one_short}
 use Rattle.cdcl_state.proofs.state.State.add_short.Goals as goal

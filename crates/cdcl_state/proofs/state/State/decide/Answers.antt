@@ -1,5 +1,6 @@
 use Rattle.std.proofs.Common.{◌+◌, is_ok, None, length, sym, ap, subst, arith}
-use Rattle.cdcl_state.specs.Trail.{StateValue, IsKnown}
+use Rattle.cnf_base.specs.Known.{IsKnown}
+use Rattle.cdcl_state.specs.Trail.{StateValue}
 use Rattle.cdcl_state.specs.declared.assigned.Entry.{Entry}
 use Rattle.cdcl_state.proofs.Bound.{trail_bounded}
 use Rattle.cdcl_state.proofs.States.{state_assigned, decision_stands}

@@ -1,7 +1,16 @@
 use Rattle.std.proofs.Common.{All, subst}
-use Rattle.cdcl_state.specs.Trail.{StateValue, IsKnown}
-use Rattle.cdcl_state.proofs.Known.{trail_known, learnt_known}
+use Rattle.cnf_base.specs.Known.{IsKnown}
+use Rattle.cdcl_state.specs.Trail.{StateValue}
+use Rattle.cdcl_state.proofs.Known.{trail_known, known_from_one, learnt_known}
 use Rattle.cdcl_state.proofs.state.State.explain.Goals as goal
+
+pub explain-requires-clause-from_one : goal.explain-requires-clause-from_one
+explain-requires-clause-from_one c =
+    let a = c.self.inside.assigned in
+    let log = c.self.inside.log in
+    let letters = c.self.inside.letters in
+    let state = c.self.invariant in
+    known_from_one letters a.trail (trail_known letters log.inputs log.lines a.trail state.ready.is_trail state.known_inputs state.known_lines state.decided)
 
 pub returns-clause-known : goal.returns-clause-known
 returns-clause-known c =

@@ -1,8 +1,17 @@
 use Rattle.std.proofs.Common.{All, subst}
-use Rattle.cdcl_state.specs.Trail.{StateValue, IsKnown}
+use Rattle.cnf_base.specs.Known.{IsKnown}
+use Rattle.cdcl_state.specs.Trail.{StateValue}
 use Rattle.cdcl_state.specs.Analysis.{refuted_at}
-use Rattle.cdcl_state.proofs.Known.{trail_known, learnt_known, refuted_known}
+use Rattle.cdcl_state.proofs.Known.{trail_known, known_from_one, learnt_known, refuted_known}
 use Rattle.cdcl_state.proofs.state.State.explain_false.Goals as goal
+
+pub explain_forced-requires-clause-from_one : goal.explain_forced-requires-clause-from_one
+explain_forced-requires-clause-from_one c =
+    let a = c.self.inside.assigned in
+    let log = c.self.inside.log in
+    let letters = c.self.inside.letters in
+    let state = c.self.invariant in
+    known_from_one letters a.trail (trail_known letters log.inputs log.lines a.trail state.ready.is_trail state.known_inputs state.known_lines state.decided)
 
 pub returns-in-Some-clause-known : goal.returns-in-Some-clause-known
 returns-in-Some-clause-known c =

@@ -2,8 +2,9 @@ use Rattle.std.proofs.Common.{◌≡◌, ◌+◌, [], ◌∷◌, ◌++◌, Some,
 use Rattle.std.proofs.lemmas.List.{take_at, get_or_default}
 use Rattle.std.proofs.lemmas.List.Elements.{All-contains_itself}
 use Rattle.cnf_base.specs.declared.literal.Hint.TheVariants.{Line}
+use Rattle.cnf_base.specs.Known.{IsKnown}
 use Rattle.clause_log.specs.LogValue.{LogValue, with_line}
-use Rattle.cdcl_state.specs.Trail.{StateValue, IsKnown, with_log}
+use Rattle.cdcl_state.specs.Trail.{StateValue, with_log}
 use Rattle.cdcl_state.specs.Learnt.{IsLearnt, IsAsserting, IsTarget, IsTurn}
 use Rattle.cdcl_state.specs.Analysis.{state_of}
 use Rattle.cdcl_watches.specs.Watching.{AreApart, IsAdded, with_clause, blank}
