@@ -1,7 +1,7 @@
 // How the letters of the clauses are numbered. Letter 1 turns pruning on; after it come the letters of step 0, of step 1 and so on. A
 // step has letters of its own, and then some for the pair that it makes with each earlier step, so that the letters through a depth
 // keep their numbers when the next depth is asked.
-ghost use Rattle.std.specs.Prelude.{◌≡◌, ℕ, ◌+◌, ◌-◌, ◌*◌, ◌/◌, ◌^◌, ◌<◌, ◌≤◌};
+ghost use Rattle.std.specs.Prelude.{◌≡◌, ◌↔◌, IsTrue, ℕ, ◌+◌, ◌-◌, ◌*◌, ◌/◌, ◌^◌, ◌<◌, ◌≤◌};
 ghost use Rattle.enc_layout.specs.Letters.{own_count, pair_count, count_before, count_before_pair, letters_through, number_of, IsLetter, Fits};
 ghost use Rattle.enc_layout.specs.Letters.{Unpruned, EntryAt};
 ghost use Rattle.enc_layout.specs.Numbered.{IsNumber};
@@ -88,6 +88,14 @@ impl Layout {
         self.letters_before(depth + 1)
     }
 
+    /// Whether the letters through the depth are at most 16,777,216, which whatever numbers them asks for.
+    pub fn fits(&self, depth: u32) -> bool
+        requires { depth ≤ 1000 }
+        ensures { IsTrue result ↔ Fits self.now depth }
+    {
+        self.letters_through(depth) <= MAX_LETTERS
+    }
+
     /// The greatest depth up to `at_most` whose letters are at most 16,777,216. Depth 0 is always one.
     pub fn greatest_depth(&self, at_most: u32) -> u32
         requires { at_most ≤ 1000 }
@@ -97,7 +105,7 @@ impl Layout {
     {
         self.fits_first();
         let mut depth = at_most;
-        while depth > 0 && self.letters_through(depth) > MAX_LETTERS {
+        while depth > 0 && !self.fits(depth) {
             depth -= 1;
         }
         depth

@@ -1,6 +1,6 @@
 // Decisions that were worked by hand.
 ghost use Rattle.std.specs.Prelude.{IsTrue};
-ghost use Rattle.ltl_syntax.specs.Table.{MayFollow, IsPlain};
+ghost use Rattle.ltl_syntax.specs.Table.{IsPlain};
 
 use crate::{Decision, decide};
 use enc_layout::Layout;
@@ -26,24 +26,13 @@ fn is_plain(text: &str) -> bool
     }
 }
 
-fn may_follow(table: &FormulaTable, node: Node) -> bool
-    ensures { IsTrue result → MayFollow table.now node }
-{
-    match node {
-        Node::Const(_) | Node::Fresh(_) => true,
-        Node::Letter(letter) => letter < table.letters(),
-        Node::Unary(_, a) => table.is_root(a),
-        Node::Binary(_, a, b) => table.is_root(a) && table.is_root(b) && a != b,
-    }
-}
-
 fn name(rt: &impl Abort, table: &mut FormulaTable, text: &str) {
     assert!(rt; table.letters() < u32::MAX && is_plain(text));
     let _number = table.name(text).expect(rt, "memory");
 }
 
 fn push(rt: &impl Abort, table: &mut FormulaTable, node: Node) -> u32 {
-    assert!(rt; may_follow(table, node));
+    assert!(rt; table.may_push(node));
     table.push(node).expect(rt, "a place")
 }
 
@@ -69,7 +58,7 @@ fn verdict_of(decision: Decision) -> Verdict {
 fn decided(rt: &impl Abort, alloc: Global, closure: &Closure<'_>, limit: u32) -> Verdict {
     let layout = Layout::of(closure);
     assert!(rt; limit <= 1000);
-    assert!(rt; layout.letters_through(limit) <= 16_777_216);
+    assert!(rt; layout.fits(limit));
     verdict_of(decide(alloc, closure, limit).expect(rt, "memory"))
 }
 

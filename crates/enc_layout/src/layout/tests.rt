@@ -1,10 +1,10 @@
 // Letters by their numbers. What is expected was worked by hand from the order of the letters.
 ghost use Rattle.std.specs.Prelude.{IsTrue};
-ghost use Rattle.ltl_syntax.specs.Table.{MayFollow, IsPlain};
+ghost use Rattle.ltl_syntax.specs.Table.{IsPlain};
 ghost use Rattle.enc_layout.specs.Letters.{IsLetter};
 ghost use Rattle.enc_layout.specs.Parts.{meaning_of};
 
-use super::{Layout, MAX_LETTERS, Part};
+use super::{Layout, Part};
 use ltl_closure::Closure;
 use ltl_syntax::{BinaryOp, FormulaTable, Kind, Node, UnaryOp};
 use std::alloc::Global;
@@ -19,24 +19,13 @@ fn is_plain(text: &str) -> bool
     }
 }
 
-fn may_follow(table: &FormulaTable, node: Node) -> bool
-    ensures { IsTrue result → MayFollow table.now node }
-{
-    match node {
-        Node::Const(_) | Node::Fresh(_) => true,
-        Node::Letter(letter) => letter < table.letters(),
-        Node::Unary(_, a) => table.is_root(a),
-        Node::Binary(_, a, b) => table.is_root(a) && table.is_root(b) && a != b,
-    }
-}
-
 fn name(rt: &impl Abort, table: &mut FormulaTable, text: &str) -> u32 {
     assert!(rt; table.letters() < u32::MAX && is_plain(text));
     table.name(text).expect(rt, "memory")
 }
 
 fn push(rt: &impl Abort, table: &mut FormulaTable, node: Node) -> u32 {
-    assert!(rt; may_follow(table, node));
+    assert!(rt; table.may_push(node));
     table.push(node).expect(rt, "a place")
 }
 
@@ -99,7 +88,7 @@ fn is_letter(layout: &Layout, step: u32, part: Part) -> bool
 
 fn number_of(rt: &impl Abort, layout: &Layout, step: u32, part: Part) -> u32 {
     assert!(rt; step <= 1000);
-    assert!(rt; layout.letters_through(step) <= MAX_LETTERS && is_letter(layout, step, part));
+    assert!(rt; layout.fits(step) && is_letter(layout, step, part));
     let letter = layout.letter(step, part);
     assert!(rt;
         layout.positive(step, part).letter == letter && !layout.positive(step, part).negated
