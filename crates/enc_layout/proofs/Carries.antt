@@ -1,5 +1,5 @@
 -- The entries of a carry, and what clauses of a few letters say.
-use Rattle.std.proofs.Common.{◌≡◌, ℕ, zero, suc, ◌<◌, Bool, true, false, not, ◌||◌, IsTrue, IsFalse, ◌⊎◌, inl, inr, refl, arith, ◌∙◌, sym, subst, List, [], ◌∷◌, ◌++◌, length, map, get_or, Contains}
+use Rattle.std.proofs.Common.{◌≡◌, ℕ, zero, suc, ◌<◌, Bool, true, false, not, ◌||◌, IsTrue, IsFalse, ◌⊎◌, inl, inr, refl, arith, ◌∙◌, ap, ap₂, sym, subst, List, [], ◌∷◌, ◌++◌, length, map, get_or, Contains}
 use Rattle.std.proofs.lemmas.Bool.{or_cases, or_left, or_right, cases_lt}
 use Rattle.std.proofs.lemmas.List.{get_or_default}
 use Rattle.std.proofs.lemmas.List.Elements.{Contains-append_left, Contains-append_right, Contains-append_cases}
@@ -7,8 +7,7 @@ use Rattle.ltl_syntax.specs.Formula.{Formula}
 use Rattle.ltl_closure.specs.Norm.{Norm, NNext, NWeakNext, NYesterday, NWeakYesterday, NUntil}
 use Rattle.ltl_closure.specs.Closure.{closure, nexts, yesterdays, eventualities, argument, is_next, is_yesterday, is_eventuality}
 use Rattle.ltl_closure.specs.Run.{RunState, val, carry, right_of}
-use Rattle.ltl_closure.proofs.Lists.{Contains-nil, Contains-cons_cases, Contains-here, Contains-there, Contains-from_filter}
-use Rattle.ltl_run.proofs.Carry.{OneCarry-from, carry-from}
+use Rattle.ltl_closure.proofs.Lists.{Contains-nil, Contains-cons_cases, Contains-here, Contains-there, Contains-from_filter, agree_in_front, map_agree}
 use Rattle.enc_layout.specs.Letters.{Meaning, below}
 use Rattle.enc_layout.specs.Clauses.{Clause, Plus, literal_true, clause_true, carried}
 use Rattle.enc_layout.proofs.Gates.{first_child, second_child}
@@ -65,17 +64,21 @@ module _ (f : Formula) where
   -- one carry is one value at each of its entries
   pub carried_from : (s u : RunState) → carry f s ≡ carry f u → (e : Norm) → Contains (carried f) e → val s e ≡ val u e
   carried_from s u h e m =
-      let c = OneCarry-from f s u h in
+      let before = λ (w : RunState). map (λ e. val w (argument e)) (yesterdays f) in
+      let front = agree_in_front s u (nexts f) (before s) (before u) h in
+      let back = agree_in_front (λ e. val s (argument e)) (λ e. val u (argument e)) (yesterdays f) [] [] (ap (λ z. z ++ []) front.1) in
       elim (Contains-append_cases (nexts f) (map argument (yesterdays f)) e m) [
-        | inl n ↦ let t = (Contains-from_filter is_next (closure f) e n).1 in next_value s e t ∙ (c.next e n ∙ sym (next_value u e t))
-        | inr y ↦ let w = Contains-from_map argument (yesterdays f) e y in subst (λ z. val s z ≡ val u z) w.2 (c.before w.0 w.1)
+        | inl n ↦ let t = (Contains-from_filter is_next (closure f) e n).1 in next_value s e t ∙ (front.0 e n ∙ sym (next_value u e t))
+        | inr y ↦ let w = Contains-from_map argument (yesterdays f) e y in subst (λ z. val s z ≡ val u z) w.2 (back.0 w.0 w.1)
       ]
 
   pub carried_same : (s u : RunState) → ((e : Norm) → Contains (carried f) e → val s e ≡ val u e) → carry f s ≡ carry f u
-  carried_same s u h = carry-from f s u (record {
-    next = λ e n. let t = (Contains-from_filter is_next (closure f) e n).1 in sym (next_value s e t) ∙ (h e (Contains-append_left (nexts f) (map argument (yesterdays f)) e n) ∙ next_value u e t);
-    before = λ e y. h (argument e) (Contains-append_right (nexts f) (map argument (yesterdays f)) (argument e) (Contains-map argument (yesterdays f) e y));
-  })
+  carried_same s u h = ap₂ ◌++◌
+      (map_agree s u (nexts f) (λ e n.
+      let t = (Contains-from_filter is_next (closure f) e n).1 in
+      sym (next_value s e t) ∙ (h e (Contains-append_left (nexts f) (map argument (yesterdays f)) e n) ∙ next_value u e t)))
+      (map_agree (λ e. val s (argument e)) (λ e. val u (argument e)) (yesterdays f)
+      (λ e y. h (argument e) (Contains-append_right (nexts f) (map argument (yesterdays f)) (argument e) (Contains-map argument (yesterdays f) e y))))
 
 -- what clauses of few letters say
 pub alone : (a : Bool) → IsTrue (a || false) → IsTrue a

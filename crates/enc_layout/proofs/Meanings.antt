@@ -1,16 +1,15 @@
 -- What each letter means of a run, decided.
-use Rattle.std.proofs.Common.{◌≡◌, ℕ, zero, suc, ◌-◌, ◌≤◌, Bool, true, false, IsTrue, IsFalse, inl, inr, refl, List, Contains, slice_index_or}
+use Rattle.std.proofs.Common.{◌≡◌, ℕ, zero, suc, ◌-◌, ◌≤◌, Bool, true, false, IsTrue, IsFalse, inl, inr, refl, subst, List, [], ◌∷◌, Contains, slice_index_or}
 use native.Mathlib.Decide.{dec_le}
 use Rattle.ltl_syntax.specs.Formula.{Formula}
 use Rattle.ltl_closure.specs.Decide.{is_yes, number_decided}
 use Rattle.ltl_closure.specs.Norm.{Norm, NConst}
 use Rattle.ltl_closure.specs.Closure.{closure, nexts, eventualities}
 use Rattle.ltl_closure.specs.Run.{States, val, carry, is_pending, IsFulfilledIn}
+use Rattle.ltl_closure.proofs.Lists.{Contains-nil, Contains-cons_cases, Contains-here, Contains-there}
 use Rattle.enc_layout.specs.Pairs.{IsRepeated, IsSeen, IsNew}
 use Rattle.ltl_word.proofs.Search.{¬_decided, ×_decided, →_decided, IsTrue_decided, first_or_none}
-use Rattle.ltl_run.proofs.Bounds.{member_or_all, fulfilled_decided}
-use Rattle.ltl_run.proofs.Least.{carry_decided}
-use Rattle.enc_layout.proofs.Pairing.{seen_decided}
+use Rattle.enc_layout.proofs.Pairing.{carry_decided, fulfilled_decided, seen_decided}
 use Rattle.enc_layout.specs.Letters.{Meaning, Unpruned, Here, Accepted, EmptyAt, Repeated, EntryAt, Seen, Equal, LoopTo, Differs, Fulfilled, New}
 use Rattle.enc_layout.specs.Clauses.{carried, eventuality}
 
@@ -43,7 +42,14 @@ same_decided false true = no (λ e. cc)
 same_decided false false = yes refl
 
 all_decided : {X : Type 0} (P : X → Type 0) → ((x : X) → Dec (P x)) → (xs : List X) → Dec ((x : X) → Contains xs x → P x)
-all_decided P d xs = elim (member_or_all P d xs) [ inl w ↦ no (λ all. w.2 (all w.0 w.1)) | inr all ↦ yes all ]
+all_decided P d [] = yes (λ x c. absurd (Contains-nil x c))
+all_decided P d (y ∷ ys) = elim (d y) [
+  | no h ↦ no (λ all. h (all y (Contains-here y ys)))
+  | yes p ↦ elim (all_decided P d ys) [
+    | no h ↦ no (λ all. h (λ x c. all x (Contains-there y ys x c)))
+    | yes all ↦ yes (λ x c. elim (Contains-cons_cases y ys x c) [ inl e ↦ subst P e p | inr i ↦ all x i ])
+  ]
+]
 
 -- the run's states, how many there are, whether the last one is marked accepted, and letter 1
 module _ (f : Formula) (r : States) (k : ℕ) (accepted final : Bool) where

@@ -1,5 +1,5 @@
 -- Runs and assignments to the numbered letters.
-use Rattle.std.proofs.Common.{◌≡◌, ℕ, ◌<◌, ◌≤◌, Bool, true, false, IsTrue, refl, arith, ◌∙◌, List, [], ◌∷◌, All}
+use Rattle.std.proofs.Common.{◌≡◌, ℕ, ◌<◌, ◌≤◌, Bool, true, false, IsTrue, IsFalse, refl, arith, ◌∙◌, List, [], ◌∷◌, All, Contains}
 use Rattle.std.specs.Prelude.{◌↔◌}
 use Rattle.std.proofs.lemmas.List.Elements.{All-nil, All-cons, All-head, All-tail}
 use Rattle.ltl_syntax.specs.declared.node.Kind.{Kind}
@@ -7,9 +7,9 @@ use Rattle.ltl_syntax.specs.declared.node.Kind.TheVariants as Kinds
 use Rattle.ltl_syntax.specs.Formula.{Formula}
 use Rattle.cnf_base.specs.declared.literal.Literal.{Literal as Signed}
 use Rattle.cnf_base.specs.Meaning.{Satisfies, literal_value}
-use Rattle.ltl_closure.specs.Run.{States, IsRun, IsAccepted, IsPrunedAt, IsUnpruned, HasRun, HasAccepted, HasUnpruned, End}
-use Rattle.ltl_run.specs.declared.run_state.Close.TheVariants as closes
-use Rattle.ltl_run.specs.TraceOf.{Accepts}
+use Rattle.ltl_closure.specs.Norm.{Norm, NNext}
+use Rattle.ltl_closure.specs.Closure.{closure, nexts, eventualities}
+use Rattle.ltl_closure.specs.Run.{States, IsRun, IsAccepted, IsPrunedAt, IsUnpruned, HasRun, HasAccepted, HasUnpruned, End, carry, is_pending, IsFulfilledIn}
 use Rattle.enc_layout.specs.Letters.{Meaning, Unpruned, Here, Accepted, LoopTo}
 use Rattle.enc_layout.specs.Clauses.{Plus, letter_of, number_in, signed, clause_list}
 use Rattle.enc_layout.specs.Assigned.{states_of, Shows, AreSatisfiable, run_question, accepted_question, unpruned_question}
@@ -27,19 +27,20 @@ module _ (f : Formula) where
   accepted_from Kinds.Infinite d k v le h acc = reads_accepted f d (by_number f Kinds.Infinite v) (letters_true f Kinds.Infinite v d h) k le acc
   accepted_from Kinds.Finite d k v le h acc = End (reads_ended f d (by_number f Kinds.Finite v) (letters_true f Kinds.Finite v d h) k le acc)
 
-  -- by which rule that run is accepted
+  -- and what accepts it
   pub loop_from : (kind : Kind) (d k l : ℕ) (v : ℕ → Bool) → kind ≡ Kinds.Infinite → k ≤ d → l < k → Satisfies v (clause_list f kind d) → v (number_in f kind (LoopTo l k)) ≡ true
-      → Accepts (closes.Loop l) f (states_of f kind v) k kind
+      → (carry f (states_of f kind v l) ≡ carry f (states_of f kind v k))
+      × ((e : Norm) → Contains (eventualities f) e → IsTrue (is_pending (states_of f kind v k) e) → IsFulfilledIn (states_of f kind v) l k e)
   loop_from Kinds.Infinite d k l v e le lt h to = reads_loop f d (by_number f Kinds.Infinite v) (letters_true f Kinds.Infinite v d h) k l le lt to
   loop_from Kinds.Finite d k l v e le lt h to = cc
 
   pub empty_from : (kind : Kind) (d k : ℕ) (v : ℕ → Bool) → kind ≡ Kinds.Infinite → k ≤ d → Satisfies v (clause_list f kind d) → v (number_in f kind (Accepted k)) ≡ true
-      → ((l : ℕ) → l < k → v (number_in f kind (LoopTo l k)) ≡ false) → Accepts closes.Empty f (states_of f kind v) k kind
+      → ((l : ℕ) → l < k → v (number_in f kind (LoopTo l k)) ≡ false) → (e : Norm) → Contains (nexts f) e → IsFalse (states_of f kind v k e)
   empty_from Kinds.Infinite d k v e le h acc none = reads_empty f d (by_number f Kinds.Infinite v) (letters_true f Kinds.Infinite v d h) k le acc none
   empty_from Kinds.Finite d k v e le h acc none = cc
 
   pub end_from : (kind : Kind) (d k : ℕ) (v : ℕ → Bool) → kind ≡ Kinds.Finite → k ≤ d → Satisfies v (clause_list f kind d) → v (number_in f kind (Accepted k)) ≡ true
-      → Accepts closes.End f (states_of f kind v) k kind
+      → (a : Norm) → Contains (closure f) (NNext a) → IsFalse (states_of f kind v k (NNext a))
   end_from Kinds.Finite d k v e le h acc = reads_ended f d (by_number f Kinds.Finite v) (letters_true f Kinds.Finite v d h) k le acc
   end_from Kinds.Infinite d k v e le h acc = cc
 

@@ -12,7 +12,6 @@ use Rattle.ltl_closure.specs.Closure.{closure, nexts, yesterdays, eventualities,
 use Rattle.ltl_closure.specs.Run.{States, IsRun, val, carry, request_of, right_of, is_pending, is_fulfilled, IsFulfilledIn, IsAccepted, Empty, Loop, IsPrunedAt, Pair}
 use Rattle.ltl_closure.proofs.Lists.{Contains-filter}
 use Rattle.ltl_closure.proofs.Entries.{closure_root}
-use Rattle.ltl_run.specs.TraceOf.{ClosesTo}
 use Rattle.enc_layout.proofs.Pairing.{pair_from_triple}
 use Rattle.enc_layout.specs.Letters.{Meaning, Unpruned, Here, Accepted, EmptyAt, Repeated, Seen, Equal, LoopTo, Differs, Fulfilled, New, below}
 use Rattle.enc_layout.specs.Clauses.{Clause, Plus, Minus, clause_true, letter_of, carried, carried_letter, eventuality, part_a, part_b, start, next_clauses, before_clauses, part_c, place_clauses, equal_clause, fulfilled_clauses, loop_clause, closing_clauses, pair_clauses, part_d, is_strong_next, part_e, seen_clauses, new_clauses, pruned_clause, part_f, step_clauses, clauses_through}
@@ -150,19 +149,18 @@ module _ (f : Formula) (d : ℕ) (v : Meaning → Bool) (holds : Each (IsTrueCla
     ]
 
   -- where the letter of the loop to l is true, the run closes to l
-  pub reads_loop : (k l : ℕ) → k ≤ d → l < k → IsTrue (v (LoopTo l k)) → ClosesTo f run l k
+  pub reads_loop : (k l : ℕ) → k ≤ d → l < k → IsTrue (v (LoopTo l k))
+      → (carry f (run l) ≡ carry f (run k)) × ((e : Norm) → Contains (eventualities f) e → IsTrue (is_pending (run k) e) → IsFulfilledIn run l k e)
   reads_loop k l le lt h =
-      let c = Each-right (IsTrueClause v) (below (length (eventualities f)) (fulfilled_clauses f k l)) ((Minus (LoopTo l k) ∷ Plus (Equal l k) ∷ []) ∷ below (length (eventualities f)) (λ m. loop_clause f k l m ∷ [])) (of_rest f Kinds.Infinite d v holds k l le lt).1 in
-      record {
-        earlier = lt;
-        one = equal_same f Kinds.Infinite d v holds k l le lt (then1 (v (LoopTo l k)) (v (Equal l k)) c.0 h);
-        fulfilled = λ e m pending.
+      let c = Each-right (IsTrueClause v) (below (length (eventualities f)) (fulfilled_clauses f k l)) ((Minus (LoopTo l k) ∷ Plus (Equal l k) ∷ []) ∷ below (length (eventualities f)) (λ m. loop_clause f k l m ∷ [])) (of_rest f Kinds.Infinite d v holds k l le lt).1 in (
+        equal_same f Kinds.Infinite d v holds k l le lt (then1 (v (LoopTo l k)) (v (Equal l k)) c.0 h),
+        λ e m pending.
             let u = place_of (eventualities f) e (NConst false) m in
             let closes = (below-Each (IsTrueClause v) (length (eventualities f)) (λ m. loop_clause f k l m ∷ []) c.1 u.0 u.1).0 in
             subst (IsFulfilledIn run l k) u.2
             (reads_fulfilled u.0 u.1 l k le lt
-            (then2 (v (LoopTo l k)) (v (letter_of f k (request_of (eventuality f u.0)))) (v (Fulfilled l k (suc u.0))) closes h (subst (λ z. IsTrue (is_pending (run k) z)) (sym u.2) pending)));
-      }
+            (then2 (v (LoopTo l k)) (v (letter_of f k (request_of (eventuality f u.0)))) (v (Fulfilled l k (suc u.0))) closes h (subst (λ z. IsTrue (is_pending (run k) z)) (sym u.2) pending))),
+      )
 
   -- where the letter of acceptance is true, no next request is, or the letter of some loop is
   empty_or_loop : (k : ℕ) → k ≤ d → IsTrue (v (Accepted k)) → ((e : Norm) → Contains (nexts f) e → IsFalse (run k e)) ⊎ ((l : ℕ) × (l < k) × IsTrue (v (LoopTo l k)))
@@ -189,7 +187,7 @@ module _ (f : Formula) (d : ℕ) (v : Meaning → Bool) (holds : Each (IsTrueCla
   pub reads_accepted : (k : ℕ) → k ≤ d → IsTrue (v (Accepted k)) → IsAccepted f run k Kinds.Infinite
   reads_accepted k le h = elim (empty_or_loop k le h) [
     | inl empty ↦ Empty empty
-    | inr w ↦ let c = reads_loop k w.0 le w.1 w.2 in Loop w.0 c.earlier c.one c.fulfilled
+    | inr w ↦ let c = reads_loop k w.0 le w.1 w.2 in Loop w.0 w.1 c.0 c.1
   ]
 
   pub reads_unpruned : IsTrue (v Unpruned) → (i : ℕ) → i ≤ d → IsPrunedAt f run i Kinds.Infinite → ⊥

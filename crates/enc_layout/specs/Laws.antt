@@ -1,13 +1,13 @@
 -- What the laws of the clause list say. They are stated for both kinds of trace.
-use Rattle.std.specs.Prelude.{◌≡◌, ℕ, suc, ◌<◌, ◌≤◌, ◌↔◌, ◌++◌, Bool, true, false, List, length, get_or, All}
+use Rattle.std.specs.Prelude.{◌≡◌, ℕ, suc, ◌<◌, ◌≤◌, ◌↔◌, ◌++◌, Bool, true, false, IsTrue, IsFalse, List, length, get_or, All, Contains}
 use Rattle.ltl_syntax.specs.declared.node.Kind.{Kind}
 use Rattle.ltl_syntax.specs.declared.node.Kind.TheVariants as Kinds
 use Rattle.ltl_syntax.specs.Formula.{Formula}
 use Rattle.cnf_base.specs.declared.literal.Literal.{Literal as Signed}
 use Rattle.cnf_base.specs.Meaning.{Satisfies}
-use Rattle.ltl_closure.specs.Run.{States, IsRun, IsAccepted, IsUnpruned, HasRun, HasAccepted, HasUnpruned}
-use Rattle.ltl_run.specs.declared.run_state.Close.TheVariants as closes
-use Rattle.ltl_run.specs.TraceOf.{Accepts}
+use Rattle.ltl_closure.specs.Norm.{Norm, NNext}
+use Rattle.ltl_closure.specs.Closure.{closure, nexts, eventualities}
+use Rattle.ltl_closure.specs.Run.{States, IsRun, IsAccepted, IsUnpruned, HasRun, HasAccepted, HasUnpruned, carry, is_pending, IsFulfilledIn}
 use Rattle.enc_layout.specs.Letters.{Meaning, Unpruned, Here, Accepted, LoopTo, Counts, LayoutValue, AreFew, IsLetter, all_letters, letters_through, Fits, number_of}
 use Rattle.enc_layout.specs.Clauses.{counts, number_in, state_clauses, loop_clauses, prune_clauses, step_clauses, signed_clauses, clause_list}
 use Rattle.enc_layout.specs.Assigned.{states_of, Shows, AreSatisfiable, run_question, accepted_question, unpruned_question}
@@ -57,20 +57,22 @@ abbrev pub AssignmentsAccept : Type 0
 AssignmentsAccept = (f : Formula) (kind : Kind) (d k : ℕ) (v : ℕ → Bool) → k ≤ d → Satisfies v (clause_list f kind d) → v (number_in f kind (Accepted k)) ≡ true
     → IsAccepted f (states_of f kind v) k kind
 
--- for infinite traces, where the letter of the loop from state k to l is true, by that loop
+-- for infinite traces, where the letter of the loop from state k to l is true, they have one carry, and each eventuality that is pending at k is fulfilled after l
 abbrev pub AssignmentsLoop : Type 0
 AssignmentsLoop = (f : Formula) (kind : Kind) (d k l : ℕ) (v : ℕ → Bool) → kind ≡ Kinds.Infinite → k ≤ d → l < k → Satisfies v (clause_list f kind d) → v (number_in f kind (LoopTo l k)) ≡ true
-    → Accepts (closes.Loop l) f (states_of f kind v) k kind
+    → (carry f (states_of f kind v l) ≡ carry f (states_of f kind v k))
+    × ((e : Norm) → Contains (eventualities f) e → IsTrue (is_pending (states_of f kind v k) e) → IsFulfilledIn (states_of f kind v) l k e)
 
--- where the letter of acceptance is true and that of no loop from state k, by having no next request there
+-- where the letter of acceptance is true and that of no loop from state k, no next request is true there
 abbrev pub AssignmentsEmpty : Type 0
 AssignmentsEmpty = (f : Formula) (kind : Kind) (d k : ℕ) (v : ℕ → Bool) → kind ≡ Kinds.Infinite → k ≤ d → Satisfies v (clause_list f kind d) → v (number_in f kind (Accepted k)) ≡ true
-    → ((l : ℕ) → l < k → v (number_in f kind (LoopTo l k)) ≡ false) → Accepts closes.Empty f (states_of f kind v) k kind
+    → ((l : ℕ) → l < k → v (number_in f kind (LoopTo l k)) ≡ false)
+    → (e : Norm) → Contains (nexts f) e → IsFalse (states_of f kind v k e)
 
--- for finite traces, where the letter of acceptance is true, by its end
+-- for finite traces, where the letter of acceptance is true, no strong next request is true at state k
 abbrev pub AssignmentsEnd : Type 0
 AssignmentsEnd = (f : Formula) (kind : Kind) (d k : ℕ) (v : ℕ → Bool) → kind ≡ Kinds.Finite → k ≤ d → Satisfies v (clause_list f kind d) → v (number_in f kind (Accepted k)) ≡ true
-    → Accepts closes.End f (states_of f kind v) k kind
+    → (a : Norm) → Contains (closure f) (NNext a) → IsFalse (states_of f kind v k (NNext a))
 
 -- where the list through k and letter 1 are true, that run is pruned nowhere
 abbrev pub AssignmentsAreUnpruned : Type 0

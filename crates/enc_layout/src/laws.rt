@@ -35,7 +35,7 @@ pub fn run_assigns()
     ensures unpruned { UnprunedRunsAreAssigned }
 {}
 
-/// What the three questions of a depth ask.
+/// What the two questions of a depth ask, and what tells whether there is a run at all.
 pub fn questions()
     ensures run { RunQuestionsAnswer }
     ensures accepted { AcceptedQuestionsAnswer }

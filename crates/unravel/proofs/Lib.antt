@@ -6,5 +6,6 @@ mod Grown
 mod Agreeing
 mod Reading
 mod LetterEntries
+mod Rules
 mod Rooms
 mod Verdicts

@@ -1,5 +1,5 @@
 -- The decisions, from what the questions of the depths were answered.
-use Rattle.std.proofs.Common.{◌≡◌, ℕ, suc, ◌+◌, ◌≤◌, arith, inl, inr, sym, subst, List, [], ◌∷◌, ◌++◌, All, ◌<◌}
+use Rattle.std.proofs.Common.{◌≡◌, ℕ, suc, ◌+◌, ◌≤◌, arith, inl, inr, sym, subst, List, [], ◌∷◌, ◌++◌, ◌<◌}
 use Rattle.std.proofs.lemmas.Bool.{cases_lt}
 use Rattle.ltl_syntax.specs.declared.node.Kind.{Kind}
 use Rattle.ltl_syntax.specs.Formula.{Formula}
