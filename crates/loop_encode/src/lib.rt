@@ -6,7 +6,5 @@ mod accepting;
 mod appending;
 mod carry;
 mod fulfilment;
-#[cfg(test)]
-mod tests;
 
 pub use appending::append;

@@ -4,7 +4,5 @@
 mod appending;
 mod prune;
 mod seen;
-#[cfg(test)]
-mod tests;
 
 pub use appending::append;

@@ -4,7 +4,5 @@
 mod appending;
 mod gate;
 mod link;
-#[cfg(test)]
-mod tests;
 
 pub use appending::append;

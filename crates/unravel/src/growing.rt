@@ -17,12 +17,8 @@ fn write_step(closure: &Closure<'_>, step: u32, clauses: &mut ClauseList) -> Res
     requires fits { Fits (layout_of closure.now) step }
     ensures { OnOk result (clauses.new ≡ signed_clauses closure.now.formula closure.now.kind (step_clauses closure.now.formula closure.now.kind step)) }
 {
-    let layout = Layout::of(closure);
     clauses.truncate(0);
-    step_encode::append(closure, &layout, step, clauses)?;
-    loop_encode::append(closure, &layout, step, clauses)?;
-    prune_encode::append(closure, &layout, step, clauses)?;
-    Ok(())
+    encode::append(closure, step, clauses)
 }
 
 /// Adds the clauses to the solver, in their order.
