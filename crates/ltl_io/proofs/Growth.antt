@@ -1,8 +1,8 @@
 -- How a told content grows, and a told rest shrinks, over several calls.
-use Rattle.std.proofs.Common.{◌≡◌, ℕ, ◌+◌, List, ◌++◌, take, drop, length, ◌-◌, Option, Some, None, append_assoc, subst, sym, ap, ◌∙◌}
+use Rattle.std.proofs.Common.{◌≡◌, ℕ, ◌+◌, ◌≤◌, List, ◌++◌, take, drop, length, ◌-◌, Option, Some, None, append_assoc, subst, sym, ap, ◌∙◌, arith, length-append}
 use Rattle.std.proofs.Math.Seq.{take-add}
-use Rattle.std.proofs.lemmas.List.{take_rest, take-append-drop}
-use Rattle.ltl_io.specs.Outside.{Grows, Gives, Loses, LosesFront}
+use Rattle.std.proofs.lemmas.List.{take_rest, take-append-drop, length-take}
+use Rattle.ltl_io.specs.Outside.{Grows, Gives, Loses, LosesAtMost}
 
 -- after n bytes of a list, m more are n + m of it
 pub grown_more : (n m : ℕ) (l : List ℕ) (x y z : Option (List ℕ)) → Grows (take n l) x y → Grows (take m (take (length l - n) (drop n l))) y z → Grows (take (n + m) l) x z
@@ -11,9 +11,15 @@ grown_more n m l (Some content) y z g h =
     let told : z ≡ Some ((content ++ take n l) ++ take m (take (length l - n) (drop n l))) = subst (λ o. Grows (take m (take (length l - n) (drop n l))) o z) g h in
     rw (take-add, ← append_assoc) (rw (take_rest l n) at told)
 
--- what lost some bytes and then some more lost a front
-pub lost_more : (lost into : List ℕ) (n : ℕ) (x y z : Option (List ℕ)) → Loses lost x y → Gives n into y z → LosesFront x z
-lost_more lost into n None y z l g = tt
-lost_more lost into n (Some rest) y z (left, split, told) g =
+-- what lost some bytes lost a front
+pub lost_front : (lost : List ℕ) (most : ℕ) (x y : Option (List ℕ)) → Loses lost x y → length lost ≤ most → LosesAtMost most x y
+lost_front lost most None y l few = tt
+lost_front lost most (Some rest) y (left, split, told) few = (lost, left, split, few, told)
+
+-- and after some more a longer one
+pub lost_more : (lost into : List ℕ) (n most more : ℕ) (x y z : Option (List ℕ)) → Loses lost x y → Gives n into y z → length lost ≤ most → n ≤ more → LosesAtMost (most + more) x z
+lost_more lost into n most more None y z l g few less = tt
+lost_more lost into n most more (Some rest) y z (left, split, told) g few less =
     let given : Gives n into (Some left) z = subst (λ o. Gives n into o z) told g in
-    (lost ++ take n left, drop n left, split ∙ ap (λ l. lost ++ l) (sym (take-append-drop n left)) ∙ sym (append_assoc lost (take n left) (drop n left)), given.2)
+    let size : length (take n left) ≤ n = omega (arith, length-take n left) in
+    (lost ++ take n left, drop n left, split ∙ ap (λ l. lost ++ l) (sym (take-append-drop n left)) ∙ sym (append_assoc lost (take n left) (drop n left)), omega (arith, few, less, size, length-append lost (take n left)), given.2)

@@ -7,6 +7,7 @@ mod edge;
 mod gate;
 mod memory_sink;
 mod memory_source;
+mod shared;
 mod sink;
 mod source;
 mod sure_source;

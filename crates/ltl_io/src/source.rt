@@ -2,7 +2,7 @@
 ghost use Rattle.std.specs.Prelude.{◌≡◌, ◌+◌, ◌<◌, ◌≤◌, Option, List, ℕ, length, IfOk, OnOk, OnErr, IsErrOf};
 ghost use Rattle.ltl_io.specs.declared.source.ReadRefused.TheVariants.{NoMemory};
 ghost use Rattle.ltl_io.specs.Count.{Rose, Counts};
-ghost use Rattle.ltl_io.specs.Outside.{Gives, Stays, LosesFront, TakesWhole};
+ghost use Rattle.ltl_io.specs.Outside.{Gives, Stays, LosesAtMost, TakesWhole};
 
 use std::alloc::{AllocError, Global};
 
@@ -50,7 +50,8 @@ pub trait Source {
 const PIECE: usize = 4096;
 
 /// Reads to the end of input, or until more than `stop_after` bytes were taken, and answers the
-/// bytes in order. So an input above a limit is known by its length, and never taken whole.
+/// bytes in order. So an input above a limit is known by its length, and what stands behind the
+/// read that brought it there is left for another reader.
 pub fn read_whole<S: Source>(
     alloc: Global,
     source: &mut S,
@@ -58,7 +59,8 @@ pub fn read_whole<S: Source>(
 ) -> Result<Vec<u8>, ReadRefused>
     ensures bytes { IfOk result (λ bytes. TakesWhole stop_after bytes.items (S.rest source.old) (S.rest source.new)) }
     ensures bounded { IfOk result (λ bytes. length bytes.items ≤ stop_after + PIECE) }
-    ensures err { OnErr result (LosesFront (S.rest source.old) (S.rest source.new)) }
+    ensures left { LosesAtMost (stop_after + PIECE) (S.rest source.old) (S.rest source.new) }
+    ensures fault_left { IsErrOf result ReadRefused.Fault → LosesAtMost stop_after (S.rest source.old) (S.rest source.new) }
     ensures fault { IsErrOf result ReadRefused.Fault → Rose (S.faults source.old) (S.faults source.new) }
     ensures no_memory { IsErrOf result ReadRefused.NoMemory → S.faults source.new ≡ S.faults source.old }
     ensures count { OnOk result (S.faults source.new ≡ S.faults source.old) }

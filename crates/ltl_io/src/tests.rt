@@ -73,6 +73,11 @@ fn reads_to_the_end_or_past_the_stop(rt: HostRuntime) -> Result<(), Fail> {
             _ => panic!(rt; "of {text}"),
         }
     }
+    let mut halves = MemorySource::new(b"abcdef".to_vec(rt.alloc())?, 2, Vec::new(rt.alloc()));
+    for wanted in ["abcd", "ef", ""] {
+        let bytes = read_whole(rt.alloc(), &mut halves, 3)?;
+        assert_eq!(rt; bytes.as_slice(), wanted.as_bytes());
+    }
     let mut sure = SureSource::new(b"abc".to_vec(rt.alloc())?);
     assert_eq!(rt;
         read_whole(rt.alloc(), &mut sure, 9)?.as_slice(),
