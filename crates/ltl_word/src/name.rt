@@ -1,5 +1,5 @@
 //! Names of letters.
-ghost use Rattle.std.specs.Prelude.{◌≡◌, IfOk, nat_eq};
+ghost use Rattle.std.specs.Prelude.{◌≡◌, IfOk, nat_eq, string_bytes};
 ghost use Rattle.std.proofs.Common.{rules};
 ghost use Rattle.std.specs.Cmp.{partial_order_from_own_ties};
 ghost use Rattle.std.specs.Cmp.Rules.{comparing};
@@ -38,6 +38,13 @@ impl Name {
         ensures { result.now ≡ self.now }
     {
         &self.text
+    }
+
+    /// The text itself, which takes no memory.
+    pub fn into_string(self) -> String
+        ensures { string_bytes result ≡ self }
+    {
+        self.text
     }
 }
 

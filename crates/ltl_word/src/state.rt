@@ -44,6 +44,14 @@ impl StateSet {
         &self.names
     }
 
+    /// The list of the names, which takes no memory.
+    pub fn into_vec(self) -> Vec<Name>
+        ensures names { result.items ≡ self }
+        ensures ascending { IsAscending result.items }
+    {
+        self.names
+    }
+
     /// Whether the name is among them, by a binary search.
     pub fn has(&self, name: &str) -> bool
         ensures { IsTrue result ↔ Contains self.now name.now }

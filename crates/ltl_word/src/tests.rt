@@ -41,6 +41,19 @@ fn a_state_is_a_set(rt: HostRuntime) -> Result<(), Fail> {
 }
 
 #[test]
+fn lists_come_back(rt: HostRuntime) -> Result<(), Fail> {
+    let mut text = String::new(rt.alloc());
+    for state in states(rt.alloc(), &[&["q", "p"], &[], &["r"]])?.into_vec() {
+        for name in state.into_vec() {
+            text.push_str(name.into_string().as_str())?;
+        }
+        text.push_str("|")?;
+    }
+    assert_eq!(rt; text.as_str(), "pq||r|");
+    Ok(())
+}
+
+#[test]
 fn written(rt: HostRuntime) -> Result<(), Fail> {
     let alloc = rt.alloc();
     let stem = states(alloc, &[&["q", "p"], &[]])?;

@@ -31,6 +31,13 @@ impl States {
         &self.states
     }
 
+    /// The list of the states, which takes no memory.
+    pub fn into_vec(self) -> Vec<StateSet>
+        ensures { result.items ≡ self }
+    {
+        self.states
+    }
+
     /// The number of states.
     pub fn len(&self) -> usize
         ensures { result ≡ length self.now }
