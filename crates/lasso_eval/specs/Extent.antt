@@ -14,7 +14,7 @@ pub record IsExtent (t : Trace) (extent : Extent) : Type 0 where
   pub few : extent.columns ≤ max_cells
   pub loop_starts : extent.loop_start ≡ loop_start t extent.depth
 
--- the past depths of the first nodes, none greater than 255 for each node before it
+-- the past depths of the first nodes, none greater than 255 times the number of the node
 pub record AreDepths (table : Table) (depths : List ℕ) : Type 0 where
   pub right : (i : ℕ) → i < length depths → slice_index_or depths i 0 ≡ past_depth (tree_at table i)
   pub small : (i : ℕ) → i < length depths → slice_index_or depths i 0 ≤ 255 * i

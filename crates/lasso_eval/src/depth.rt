@@ -32,6 +32,7 @@ fn depth_of(table: &FormulaTable, number: u32, depths: &[u32]) -> u32
     ensures depth { result ≡ past_depth (tree_at table.now number) }
     ensures small { result ≤ 255 * number }
 {
+    // A table has at most 16,384 nodes, so that no sum below passes its type.
     let _nodes = table.len();
     match table.node(number) {
         Node::Const(_) | Node::Letter(_) | Node::Fresh(_) => 0,

@@ -1,3 +1,8 @@
+ghost use Rattle.std.specs.Prelude.{◌<◌, ◌≤◌};
+ghost use Rattle.ltl_syntax.specs.Table.{tree_at};
+ghost use Rattle.lasso_eval.specs.Cells.{positions};
+ghost use Rattle.lasso_eval.specs.Rows.{AreValues};
+
 use super::*;
 use ltl_syntax::{BinaryOp, FormulaTable, Node, UnaryOp};
 use ltl_word::{Name, StateSet, States, Trace};
@@ -60,6 +65,7 @@ fn bounded_of(word: &str) -> Option<UnaryOp> {
         "Y[4]" => Some(UnaryOp::YesterdayTimes(4)),
         "F[0,2]" => Some(UnaryOp::EventuallyIn(0, 2)),
         "F[0,3]" => Some(UnaryOp::EventuallyIn(0, 3)),
+        "F[1,2]" => Some(UnaryOp::EventuallyIn(1, 2)),
         "F[2,9]" => Some(UnaryOp::EventuallyIn(2, 9)),
         "F[4,6]" => Some(UnaryOp::EventuallyIn(4, 6)),
         "F[4,7]" => Some(UnaryOp::EventuallyIn(4, 7)),
@@ -74,6 +80,7 @@ fn bounded_of(word: &str) -> Option<UnaryOp> {
         "O[2,3]" => Some(UnaryOp::OnceIn(2, 3)),
         "O[4,9]" => Some(UnaryOp::OnceIn(4, 9)),
         "H[0,3]" => Some(UnaryOp::HistoricallyIn(0, 3)),
+        "H[1,2]" => Some(UnaryOp::HistoricallyIn(1, 2)),
         "H[1,3]" => Some(UnaryOp::HistoricallyIn(1, 3)),
         "H[4,9]" => Some(UnaryOp::HistoricallyIn(4, 9)),
         _ => None,
@@ -236,6 +243,97 @@ fn holds_on_finite_traces(rt: HostRuntime) -> Result<(), Fail> {
             holds_on(&rt, rt.alloc(), text, &trace)?,
             want,
             "{text} on {states_text}"
+        );
+    }
+    Ok(())
+}
+
+// Positions that the table of the root has: the states, or the stem and one loop.
+fn shown_positions(table: &FormulaTable, root: u32, trace: &Trace) -> u128
+    ensures { result ≤ positions trace.now (tree_at table.now root) }
+{
+    match trace {
+        Trace::Infinite { stem, loop_part } => stem.len() as u128 + loop_part.len() as u128,
+        Trace::Finite { states } => states.len() as u128,
+    }
+}
+
+fn at_root(values: &Values, table: &FormulaTable, root: u32, trace: &Trace, position: u32) -> bool
+    requires values { AreValues table.now root trace.now values.now }
+    requires within { position < positions trace.now (tree_at table.now root) }
+{
+    values.at(root, position)
+}
+
+// The root's value at a position, where that is one of those shown.
+fn shown_at(
+    values: &Values,
+    table: &FormulaTable,
+    root: u32,
+    trace: &Trace,
+    position: u32,
+) -> Option<bool>
+    requires { AreValues table.now root trace.now values.now }
+{
+    if position as u128 >= shown_positions(table, root, trace) {
+        return None;
+    }
+    Some(at_root(values, table, root, trace, position))
+}
+
+// The root's values at the positions shown, as a word of 0 and 1.
+fn values_on(rt: &impl Abort, alloc: Global, text: &str, trace: &Trace) -> Result<String, Fail> {
+    let mut table = FormulaTable::new(alloc);
+    let root = formula(rt, &mut table, alloc, text)?;
+    assert!(rt; root < table.len());
+    match trace {
+        Trace::Infinite { stem: _, loop_part } => assert!(rt; loop_part.as_slice().len() > 0),
+        Trace::Finite { states } => assert!(rt; states.as_slice().len() > 0),
+    }
+    let values = values(alloc, &table, root, trace)?;
+    let mut word = String::new(alloc);
+    for position in 0..9 {
+        match shown_at(&values, &table, root, trace, position) {
+            Some(true) => word.push_str("1")?,
+            Some(false) => word.push_str("0")?,
+            None => {}
+        }
+    }
+    Ok(word)
+}
+
+#[test]
+fn values_at_each_position(rt: HostRuntime) -> Result<(), Fail> {
+    let alloc = rt.alloc();
+    let finite = [
+        ("p Y", "p|q|p|", "0101"),
+        ("q F[1,2]", "p|q|p|q|p", "11100"),
+        ("p H[1,2]", "p||p|p|p", "11001"),
+    ];
+    for (text, states_text, want) in finite {
+        let trace = Trace::Finite {
+            states: states(alloc, Some(states_text))?,
+        };
+        assert_eq!(rt;
+            values_on(&rt, alloc, text, &trace)?.as_str(),
+            want,
+            "{text}"
+        );
+    }
+    let infinite = [
+        ("p Y[2]", Some("p|q"), "|p", "0010"),
+        ("p X[2]", None, "p||", "010"),
+        ("p q U", Some("|p"), "q|", "0110"),
+    ];
+    for (text, stem, loop_part, want) in infinite {
+        let trace = Trace::Infinite {
+            stem: states(alloc, stem)?,
+            loop_part: states(alloc, Some(loop_part))?,
+        };
+        assert_eq!(rt;
+            values_on(&rt, alloc, text, &trace)?.as_str(),
+            want,
+            "{text}"
         );
     }
     Ok(())
