@@ -3,7 +3,7 @@ pub mod Norm
 pub mod Closure
 pub mod Entries
 pub mod Run
-pub mod Rows
+pub mod Worked
 pub mod Groups
 pub mod Keys
 pub mod Plan

@@ -107,43 +107,52 @@ window_plan c z r s n zero (suc b) = works.Visit n s ∷ ((window_plan c z r s n
 window_plan c z r s n (suc a) (suc b) = window_plan c z r s n a b ++ works.Ask r ∷ []
 window_plan c z r s n (suc a) zero = works.Const z ∷ []
 
-abbrev pub some_plan : Request → Bool → ℕ → ℕ → ℕ → List Work
-some_plan r s n a b = window_plan joins.Or false r s n a b
+abbrev pub range_plan : Bool → Request → Bool → ℕ → ℕ → ℕ → List Work
+range_plan true r s n a b = window_plan joins.Or false r s n a b
+range_plan false r s n a b = window_plan joins.And true r s n a b
 
-abbrev pub every_plan : Request → Bool → ℕ → ℕ → ℕ → List Work
-every_plan r s n a b = window_plan joins.And true r s n a b
+-- for a request once, and for some or all positions on one side
+abbrev pub request_plan : Request → Bool → ℕ → List Work
+request_plan r s n = works.Visit n s ∷ works.Ask r ∷ []
 
--- what there is to do for an operator
+abbrev pub span_plan : Bool → Connective → Bool → ℕ → List Work
+span_plan some c s n = works.Const some ∷ works.Visit n s ∷ works.Join c ∷ []
+
+-- a request, or the weak one
+abbrev pub next_request : Bool → Request
+next_request true = asks.Next
+next_request false = asks.WeakNext
+
+abbrev pub yesterday_request : Bool → Request
+yesterday_request true = asks.Yesterday
+yesterday_request false = asks.WeakYesterday
+
+-- the connective that looks for some position, or at all of them
+abbrev pub future_connective : Bool → Connective
+future_connective true = joins.Until
+future_connective false = joins.Release
+
+abbrev pub past_connective : Bool → Connective
+past_connective true = joins.Since
+past_connective false = joins.Trigger
+
+-- what there is to do for an operator. Its negation has the dual operator, over the operand's negation
 abbrev pub unary_plan : Bool → UnaryOp → ℕ → List Work
 unary_plan s one.Not a = works.Visit a (not s) ∷ []
-unary_plan true one.Next a = works.Visit a true ∷ works.Ask asks.Next ∷ []
-unary_plan false one.Next a = works.Visit a false ∷ works.Ask asks.WeakNext ∷ []
-unary_plan true one.WeakNext a = works.Visit a true ∷ works.Ask asks.WeakNext ∷ []
-unary_plan false one.WeakNext a = works.Visit a false ∷ works.Ask asks.Next ∷ []
-unary_plan true one.Yesterday a = works.Visit a true ∷ works.Ask asks.Yesterday ∷ []
-unary_plan false one.Yesterday a = works.Visit a false ∷ works.Ask asks.WeakYesterday ∷ []
-unary_plan true one.WeakYesterday a = works.Visit a true ∷ works.Ask asks.WeakYesterday ∷ []
-unary_plan false one.WeakYesterday a = works.Visit a false ∷ works.Ask asks.Yesterday ∷ []
-unary_plan true one.Eventually a = works.Const true ∷ works.Visit a true ∷ works.Join joins.Until ∷ []
-unary_plan false one.Eventually a = works.Const false ∷ works.Visit a false ∷ works.Join joins.Release ∷ []
-unary_plan true one.Always a = works.Const false ∷ works.Visit a true ∷ works.Join joins.Release ∷ []
-unary_plan false one.Always a = works.Const true ∷ works.Visit a false ∷ works.Join joins.Until ∷ []
-unary_plan true one.Once a = works.Const true ∷ works.Visit a true ∷ works.Join joins.Since ∷ []
-unary_plan false one.Once a = works.Const false ∷ works.Visit a false ∷ works.Join joins.Trigger ∷ []
-unary_plan true one.Historically a = works.Const false ∷ works.Visit a true ∷ works.Join joins.Trigger ∷ []
-unary_plan false one.Historically a = works.Const true ∷ works.Visit a false ∷ works.Join joins.Since ∷ []
-unary_plan true (one.NextTimes n) a = times_plan asks.Next true a n
-unary_plan false (one.NextTimes n) a = times_plan asks.WeakNext false a n
-unary_plan true (one.YesterdayTimes n) a = times_plan asks.Yesterday true a n
-unary_plan false (one.YesterdayTimes n) a = times_plan asks.WeakYesterday false a n
-unary_plan true (one.EventuallyIn m n) a = some_plan asks.Next true a m n
-unary_plan false (one.EventuallyIn m n) a = every_plan asks.WeakNext false a m n
-unary_plan true (one.AlwaysIn m n) a = every_plan asks.WeakNext true a m n
-unary_plan false (one.AlwaysIn m n) a = some_plan asks.Next false a m n
-unary_plan true (one.OnceIn m n) a = some_plan asks.Yesterday true a m n
-unary_plan false (one.OnceIn m n) a = every_plan asks.WeakYesterday false a m n
-unary_plan true (one.HistoricallyIn m n) a = every_plan asks.WeakYesterday true a m n
-unary_plan false (one.HistoricallyIn m n) a = some_plan asks.Yesterday false a m n
+unary_plan s one.Next a = request_plan (next_request s) s a
+unary_plan s one.WeakNext a = request_plan (next_request (not s)) s a
+unary_plan s one.Yesterday a = request_plan (yesterday_request s) s a
+unary_plan s one.WeakYesterday a = request_plan (yesterday_request (not s)) s a
+unary_plan s one.Eventually a = span_plan s (future_connective s) s a
+unary_plan s one.Always a = span_plan (not s) (future_connective (not s)) s a
+unary_plan s one.Once a = span_plan s (past_connective s) s a
+unary_plan s one.Historically a = span_plan (not s) (past_connective (not s)) s a
+unary_plan s (one.NextTimes n) a = times_plan (next_request s) s a n
+unary_plan s (one.YesterdayTimes n) a = times_plan (yesterday_request s) s a n
+unary_plan s (one.EventuallyIn m n) a = range_plan s (next_request s) s a m n
+unary_plan s (one.AlwaysIn m n) a = range_plan (not s) (next_request (not s)) s a m n
+unary_plan s (one.OnceIn m n) a = range_plan s (yesterday_request s) s a m n
+unary_plan s (one.HistoricallyIn m n) a = range_plan (not s) (yesterday_request (not s)) s a m n
 
 abbrev pub connective_of : Bool → BinaryOp → Connective
 connective_of true two.And = joins.And

@@ -5,6 +5,7 @@ mod closure;
 mod entry;
 mod group;
 mod key;
+pub mod laws;
 mod memo;
 mod plan;
 mod shared;

@@ -1,6 +1,6 @@
 // What there is to do for a node: its operands from left to right, and then the entry of its own operator.
 ghost use Rattle.std.specs.Prelude.{◌≡◌, ◌++◌, reverse, OnOk};
-ghost use Rattle.ltl_closure.specs.Plan.{unary_plan, times_plan, window_plan, connective_of, binary_plan};
+ghost use Rattle.ltl_closure.specs.Plan.{next_request, yesterday_request, future_connective, past_connective, request_plan, span_plan, times_plan, window_plan, range_plan, unary_plan, connective_of, binary_plan};
 
 use crate::key::{Connective, Request};
 use ltl_syntax::{BinaryOp, UnaryOp};
@@ -92,113 +92,121 @@ fn plan_window(
     )
 }
 
-pub fn plan_unary(
+/// Puts the plan of a request.
+fn plan_request(
     work: &mut Vec<Work>,
-    op: UnaryOp,
+    request: Request,
     a: u32,
     positive: bool,
 ) -> Result<(), AllocError>
-    ensures { OnOk result (reverse work.new.items ≡ unary_plan positive op a ++ reverse work.old.items) }
+    ensures { OnOk result (reverse work.new.items ≡ request_plan request positive a ++ reverse work.old.items) }
 {
-    let visit = Work::Visit(a, positive);
-    match (op, positive) {
-        (UnaryOp::Not, _) => put_plan(work, &[Work::Visit(a, !positive)]),
-        (UnaryOp::Next, true) | (UnaryOp::WeakNext, false) => put_plan(
-            work,
-            &[visit, Work::Ask(Request::Next)],
-        ),
-        (UnaryOp::Next, false) | (UnaryOp::WeakNext, true) => put_plan(
-            work,
-            &[visit, Work::Ask(Request::WeakNext)],
-        ),
-        (UnaryOp::Yesterday, true) | (UnaryOp::WeakYesterday, false) => {
-            put_plan(work, &[visit, Work::Ask(Request::Yesterday)])
-        }
-        (UnaryOp::Yesterday, false) | (UnaryOp::WeakYesterday, true) => {
-            put_plan(work, &[visit, Work::Ask(Request::WeakYesterday)])
-        }
-        (UnaryOp::Eventually, true) | (UnaryOp::Always, false) => {
-            put_plan(
-                work,
-                &[Work::Const(true), visit, Work::Join(Connective::Until)],
-            )
-        }
-        (UnaryOp::Eventually, false) | (UnaryOp::Always, true) => {
-            put_plan(
-                work,
-                &[Work::Const(false), visit, Work::Join(Connective::Release)],
-            )
-        }
-        (UnaryOp::Once, true) | (UnaryOp::Historically, false) => {
-            put_plan(
-                work,
-                &[Work::Const(true), visit, Work::Join(Connective::Since)],
-            )
-        }
-        (UnaryOp::Once, false) | (UnaryOp::Historically, true) => {
-            put_plan(
-                work,
-                &[Work::Const(false), visit, Work::Join(Connective::Trigger)],
-            )
-        }
-        (UnaryOp::NextTimes(n), true) => plan_times(work, Request::Next, a, true, n),
-        (UnaryOp::NextTimes(n), false) => plan_times(work, Request::WeakNext, a, false, n),
-        (UnaryOp::YesterdayTimes(n), true) => plan_times(work, Request::Yesterday, a, true, n),
-        (UnaryOp::YesterdayTimes(n), false) => plan_times(
-            work,
-            Request::WeakYesterday,
-            a,
-            false,
-            n,
-        ),
-        (UnaryOp::EventuallyIn(m, n), true) | (UnaryOp::AlwaysIn(m, n), false) => {
-            plan_window(
-                work,
-                Connective::Or,
-                false,
-                Request::Next,
-                a,
-                positive,
-                m,
-                n,
-            )
-        }
-        (UnaryOp::EventuallyIn(m, n), false) | (UnaryOp::AlwaysIn(m, n), true) => {
-            plan_window(
-                work,
-                Connective::And,
-                true,
-                Request::WeakNext,
-                a,
-                positive,
-                m,
-                n,
-            )
-        }
-        (UnaryOp::OnceIn(m, n), true) | (UnaryOp::HistoricallyIn(m, n), false) => {
-            plan_window(
-                work,
-                Connective::Or,
-                false,
-                Request::Yesterday,
-                a,
-                positive,
-                m,
-                n,
-            )
-        }
-        (UnaryOp::OnceIn(m, n), false) | (UnaryOp::HistoricallyIn(m, n), true) => {
-            plan_window(
-                work,
-                Connective::And,
-                true,
-                Request::WeakYesterday,
-                a,
-                positive,
-                m,
-                n,
-            )
-        }
+    put_plan(work, &[Work::Visit(a, positive), Work::Ask(request)])
+}
+
+/// Puts the plan of an operator that looks at all positions on one side, for some of them or for all.
+fn plan_span(
+    work: &mut Vec<Work>,
+    some: bool,
+    connective: Connective,
+    a: u32,
+    positive: bool,
+) -> Result<(), AllocError>
+    ensures { OnOk result (reverse work.new.items ≡ span_plan some connective positive a ++ reverse work.old.items) }
+{
+    put_plan(
+        work,
+        &[
+            Work::Const(some),
+            Work::Visit(a, positive),
+            Work::Join(connective),
+        ],
+    )
+}
+
+/// Puts the plan of an operator that looks at a range of positions, for some of them or for all.
+fn plan_range(
+    work: &mut Vec<Work>,
+    some: bool,
+    request: Request,
+    a: u32,
+    positive: bool,
+    from: u8,
+    to: u8,
+) -> Result<(), AllocError>
+    ensures { OnOk result (reverse work.new.items ≡ range_plan some request positive a from to ++ reverse work.old.items) }
+{
+    if some {
+        plan_window(work, Connective::Or, false, request, a, positive, from, to)
+    } else {
+        plan_window(work, Connective::And, true, request, a, positive, from, to)
+    }
+}
+
+/// The request of the next position, or the weak one.
+fn next(strong: bool) -> Request
+    ensures { result ≡ next_request strong }
+{
+    if strong {
+        Request::Next
+    } else {
+        Request::WeakNext
+    }
+}
+
+/// The request of the position before, or the weak one.
+fn yesterday(strong: bool) -> Request
+    ensures { result ≡ yesterday_request strong }
+{
+    if strong {
+        Request::Yesterday
+    } else {
+        Request::WeakYesterday
+    }
+}
+
+/// The connective that looks for some position from one on, or at all of them.
+fn future(some: bool) -> Connective
+    ensures { result ≡ future_connective some }
+{
+    if some {
+        Connective::Until
+    } else {
+        Connective::Release
+    }
+}
+
+/// The connective that looks for some position up to one, or at all of them.
+fn past(some: bool) -> Connective
+    ensures { result ≡ past_connective some }
+{
+    if some {
+        Connective::Since
+    } else {
+        Connective::Trigger
+    }
+}
+
+/// Puts the plan of an operator of one operand, or with `false` that of its negation: the dual operator, over the operand's negation.
+pub fn plan_unary(work: &mut Vec<Work>, op: UnaryOp, a: u32, sign: bool) -> Result<(), AllocError>
+    ensures { OnOk result (reverse work.new.items ≡ unary_plan sign op a ++ reverse work.old.items) }
+{
+    match op {
+        UnaryOp::Not => put_plan(work, &[Work::Visit(a, !sign)]),
+        UnaryOp::Next => plan_request(work, next(sign), a, sign),
+        UnaryOp::WeakNext => plan_request(work, next(!sign), a, sign),
+        UnaryOp::Yesterday => plan_request(work, yesterday(sign), a, sign),
+        UnaryOp::WeakYesterday => plan_request(work, yesterday(!sign), a, sign),
+        UnaryOp::Eventually => plan_span(work, sign, future(sign), a, sign),
+        UnaryOp::Always => plan_span(work, !sign, future(!sign), a, sign),
+        UnaryOp::Once => plan_span(work, sign, past(sign), a, sign),
+        UnaryOp::Historically => plan_span(work, !sign, past(!sign), a, sign),
+        UnaryOp::NextTimes(n) => plan_times(work, next(sign), a, sign, n),
+        UnaryOp::YesterdayTimes(n) => plan_times(work, yesterday(sign), a, sign, n),
+        UnaryOp::EventuallyIn(m, n) => plan_range(work, sign, next(sign), a, sign, m, n),
+        UnaryOp::AlwaysIn(m, n) => plan_range(work, !sign, next(!sign), a, sign, m, n),
+        UnaryOp::OnceIn(m, n) => plan_range(work, sign, yesterday(sign), a, sign, m, n),
+        UnaryOp::HistoricallyIn(m, n) => plan_range(work, !sign, yesterday(!sign), a, sign, m, n),
     }
 }
 

@@ -1,5 +1,5 @@
 ghost use Rattle.std.specs.Prelude.{IsTrue};
-ghost use Rattle.ltl_syntax.specs.Table.{MayFollow, IsPlain};
+ghost use Rattle.ltl_syntax.specs.Table.{IsPlain};
 
 use crate::{Closure, Entry};
 use ltl_syntax::{BinaryOp, FormulaTable, Kind, Node, UnaryOp};
@@ -15,24 +15,13 @@ fn is_plain(text: &str) -> bool
     }
 }
 
-fn may_follow(table: &FormulaTable, node: Node) -> bool
-    ensures { IsTrue result → MayFollow table.now node }
-{
-    match node {
-        Node::Const(_) | Node::Fresh(_) => true,
-        Node::Letter(letter) => letter < table.letters(),
-        Node::Unary(op, a) => table.is_root(a) && op.is_in_order(),
-        Node::Binary(_, a, b) => table.is_root(a) && table.is_root(b) && a != b,
-    }
-}
-
 fn name(rt: &impl Abort, table: &mut FormulaTable, text: &str) -> u32 {
     assert!(rt; table.letters() < u32::MAX && is_plain(text));
     table.name(text).expect(rt, "memory")
 }
 
 fn push(rt: &impl Abort, table: &mut FormulaTable, node: Node) -> u32 {
-    assert!(rt; may_follow(table, node));
+    assert!(rt; table.may_push(node));
     table.push(node).expect(rt, "a place")
 }
 
@@ -242,6 +231,73 @@ fn entries_with_their_numbers(rt: HostRuntime) {
             eventualities: &[],
         },
     );
+}
+
+#[test]
+fn entries_of_ranges(rt: HostRuntime) {
+    // F[1,2] p
+    check(
+        &rt,
+        rt.alloc(),
+        &Row {
+            nodes: &[P, Node::Unary(UnaryOp::EventuallyIn(1, 2), 0)],
+            entries: &[
+                Entry::Letter(0),
+                Entry::Next {
+                    argument: 1,
+                    weak: false,
+                },
+                Entry::Or(1, 2),
+                Entry::Next {
+                    argument: 3,
+                    weak: false,
+                },
+            ],
+            nexts: &[2, 4],
+            yesterdays: &[],
+            eventualities: &[],
+        },
+    );
+    // !H[0,1] p
+    check(
+        &rt,
+        rt.alloc(),
+        &Row {
+            nodes: &[
+                P,
+                Node::Unary(UnaryOp::HistoricallyIn(0, 1), 0),
+                Node::Unary(UnaryOp::Not, 1),
+            ],
+            entries: &[
+                Entry::Letter(0),
+                Entry::NotLetter(1),
+                Entry::Yesterday {
+                    argument: 2,
+                    weak: false,
+                },
+                Entry::Or(2, 3),
+            ],
+            nexts: &[],
+            yesterdays: &[3],
+            eventualities: &[],
+        },
+    );
+}
+
+// Each range has two entries for each of its 255 steps, and walks its operand once.
+#[test]
+fn ranges_of_ranges(rt: HostRuntime) {
+    let (mut table, mut root) = table_of(&rt, rt.alloc(), &[P]);
+    for level in 0..64 {
+        let op = if level % 2 == 0 {
+            UnaryOp::EventuallyIn(0, 255)
+        } else {
+            UnaryOp::AlwaysIn(0, 255)
+        };
+        root = push(&rt, &mut table, Node::Unary(op, root));
+    }
+    let closure = closure_of(&rt, rt.alloc(), &table, root, Kind::Infinite);
+    assert!(rt; closure.entries().len() == 64 * 510 + 1);
 }
 
 #[test]
