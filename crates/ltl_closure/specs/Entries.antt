@@ -3,6 +3,7 @@ use Rattle.std.specs.Prelude.{◌≡◌, ℕ, suc, ◌<◌, ◌≤◌, true, fal
 use Rattle.std.specs.Coded.{Coded, code_by, coded×, coded_list, coded_ℕ}
 use Rattle.ltl_syntax.specs.declared.node.Kind.{Kind}
 use Rattle.ltl_syntax.specs.contracts.node.Kind as kind_row
+use Rattle.ltl_syntax.specs.contracts.table.FormulaTable as table_row
 use Rattle.ltl_closure.specs.contracts.entry.Entry as entry_row
 use Rattle.ltl_syntax.specs.FormulaCode.{coded_formula}
 use Rattle.ltl_syntax.specs.Table.{Table, tree_at}
@@ -48,8 +49,10 @@ pub record AreEntries (names : List (List ℕ)) (f : Formula) (entries : List En
 abbrev pub numbers_of : Formula → List Norm → List ℕ
 numbers_of f es = map (place_in (closure f)) es
 
--- what a contract sees of a closure: its formula and kind, the names that letters' numbers mean, and the entries
+-- what a contract sees of a closure: its table and node, their formula and names, its kind, and its entries
 pub record ClosureValue : Type 0 where
+  pub table : Table
+  pub node : ℕ
   pub formula : Formula
   pub kind : Kind
   pub names : List (List ℕ)
@@ -57,8 +60,10 @@ pub record ClosureValue : Type 0 where
 
 abbrev pub coded_closure : Coded ClosureValue
 coded_closure =
-    code_by (Formula × (Kind × (List (List ℕ) × List Entry))) (coded× coded_formula (coded× kind_row.the_row.coded (coded× (coded_list (coded_list coded_ℕ)) (coded_list entry_row.the_row.coded))))
-    (λ c. (c.formula, (c.kind, (c.names, c.entries)))) (λ p. record { formula = p.0; kind = p.1.0; names = p.1.1.0; entries = p.1.1.1 }) (λ _. refl)
+    code_by (Table × (ℕ × (Formula × (Kind × (List (List ℕ) × List Entry)))))
+    (coded× table_row.the_row.coded (coded× coded_ℕ (coded× coded_formula (coded× kind_row.the_row.coded (coded× (coded_list (coded_list coded_ℕ)) (coded_list entry_row.the_row.coded))))))
+    (λ c. (c.table, (c.node, (c.formula, (c.kind, (c.names, c.entries))))))
+    (λ p. record { table = p.0; node = p.1.0; formula = p.1.1.0; kind = p.1.1.1.0; names = p.1.1.1.1.0; entries = p.1.1.1.1.1 }) (λ _. refl)
 
 -- what holds of a closure's fields: the tree is there, the entries are those of its closure, and so are the numbers
 pub record IsClosure (t : Table) (node : ℕ) (stored : List Entry) (number : ℕ) (next yesterday eventuality : List ℕ) : Type 0 where

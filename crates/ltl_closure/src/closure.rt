@@ -34,7 +34,7 @@ impl<'t> Model for Closure<'t> {
 
     ghost coded = { coded_closure };
 
-    ghost view = { λ c. record { formula = tree_at c.table.now c.node; kind = c.kind; names = c.table.now.names; entries = c.entries.items } };
+    ghost view = { λ c. record { table = c.table.now; node = c.node; formula = tree_at c.table.now c.node; kind = c.kind; names = c.table.now.names; entries = c.entries.items } };
 
     ghost invariant = { λ c. IsClosure c.table.now c.node c.entries.items c.root c.nexts.items c.yesterdays.items c.eventualities.items };
 }
@@ -48,6 +48,8 @@ impl<'t> Closure<'t> {
         kind: Kind,
     ) -> Result<Closure<'t>, AllocError>
         requires { root < length table.now.nodes }
+        ensures table { IfOk result (λ c. c.table ≡ table.now) }
+        ensures node { IfOk result (λ c. c.node ≡ root) }
         ensures formula { IfOk result (λ c. c.formula ≡ tree_at table.now root) }
         ensures kind { IfOk result (λ c. c.kind ≡ kind) }
         ensures names { IfOk result (λ c. c.names ≡ table.now.names) }
@@ -69,11 +71,23 @@ impl<'t> Closure<'t> {
         })
     }
 
+    /// The table that was lent.
     pub fn table(&self) -> &'t FormulaTable
+        ensures table { result.now ≡ self.now.table }
         ensures names { result.now.names ≡ self.now.names }
         ensures formula { (node : ℕ) × (node < length result.now.nodes) × (tree_at result.now node ≡ self.now.formula) }
     {
         self.table
+    }
+
+    /// The node whose formula's closure it is.
+    pub fn node(&self) -> u32
+        ensures node { result ≡ self.now.node }
+        ensures there { result < length self.now.table.nodes }
+        ensures formula { tree_at self.now.table result ≡ self.now.formula }
+        ensures names { self.now.table.names ≡ self.now.names }
+    {
+        self.node
     }
 
     pub fn kind(&self) -> Kind

@@ -75,6 +75,7 @@ fn check(rt: &impl Abort, alloc: Global, row: &Row<'_>) {
     assert!(rt; are_numbers(closure.eventualities(), row.eventualities));
     assert!(rt; closure.kind() == Kind::Finite);
     assert!(rt; closure.table().letters() == 3);
+    assert!(rt; closure.node() == root);
 }
 
 const P: Node = Node::Letter(0);
