@@ -20,7 +20,7 @@ if ! [ -x "$(program solver_bench)" ]; then
 #![tactic(auto)]
 
 ghost use Rattle.std.specs.Prelude.{◌≡◌, IsTrue, All};
-ghost use Rattle.cdcl_state.specs.Trail.{IsKnown};
+ghost use Rattle.cnf_base.specs.Known.{IsKnown};
 ghost use Rattle.cdcl.specs.Solving.{IsConsistent};
 
 use cdcl::choice::has;

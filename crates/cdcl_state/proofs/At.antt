@@ -16,7 +16,7 @@ use Rattle.cdcl_state.proofs.Assign.{entry_there, level_there}
 use Rattle.cdcl_watches.specs.Watching.{IsWatch, IsWatching, clause_of, list_of, code, WatchValue}
 use Rattle.cdcl_watches.proofs.Moves.{first_two, code_same}
 use Rattle.cdcl_state.specs.Assigned.{AssignedValue}
-use Rattle.cdcl_state.specs.Visit.{HasTrue, IsVisiting, IsFaced, IsReplacement, AreFalseFrom, false_at, watcher_at, blank_hint}
+use Rattle.cdcl_state.specs.Visit.{HasTrue, IsVisiting, IsFaced, IsReplacement, AreFalseFrom, false_at, list_length, watcher_at, blank_hint}
 use Rattle.cdcl_watches.specs.Watching.{blank}
 use Rattle.cdcl_state.proofs.Guard.{visit_kept, visit_turned, visit_moved, visit_grown}
 
@@ -46,9 +46,24 @@ faced_turned w v c l known watch differ clauses_is lists_is =
       same = inr (clauses_is, lists_is);
     }
 
--- the list up to i is still to be visited, and the clause at i has the false literal second
+-- facing a clause leaves the lists as they are
+pub faced_lists : (w v : WatchValue) (c : ℕ) (l : Literal) → IsFaced w v c l → v.lists ≡ w.lists
+faced_lists w v c l faced = elim faced.same [
+  | inl same ↦ ap (λ (u : WatchValue). u.lists) same
+  | inr turned ↦ turned.1
+]
+
+-- and so their lengths
+pub list_length_same : (t : List Entry) (k : ℕ) (w v : WatchValue) → v.lists ≡ w.lists → list_length t v k ≡ list_length t w k
+list_length_same t k w v is = ap (λ ls. length (list_of ls (false_at t k))) is
+
+pub list_length_grown : (a t : List Entry) (e : Entry) (k : ℕ) (w : WatchValue) → k < length a → t ≡ a ++ e ∷ [] → list_length t w k ≡ list_length a w k
+list_length_grown a t e k w low trail_is =
+    ap (λ l. length (list_of w.lists l)) (ap (λ t. false_at t k) trail_is ∙ ap (λ (f : Entry). opposite f.literal) (get_or_append_left a (e ∷ []) blank_entry k low))
+
+-- the list was visited up to i, and the clause at i has the false literal second
 pub record IsAt (inputs lines : List (List Literal)) (names : List Hint) (k i : ℕ) (a : AssignedValue) (w : WatchValue) (c : ℕ) : Type 0 where
-  pub visiting : IsVisiting inputs lines names k (i + 1) a w
+  pub visiting : IsVisiting inputs lines names k i a w
   pub watching : IsWatching w.clauses w.lists
   pub low : i < length (list_of w.lists (false_at a.trail k))
   pub at : get_or (list_of w.lists (false_at a.trail k)) i 0 ≡ c
@@ -56,34 +71,24 @@ pub record IsAt (inputs lines : List (List Literal)) (names : List Hint) (k i : 
   pub long : 2 ≤ length (clause_of w.clauses c)
   pub second : false_at a.trail k ≡ get_or (clause_of w.clauses c) 1 blank
 
-pub visit_weak : (inputs lines : List (List Literal)) (names : List Hint) (k i n : ℕ) (a : AssignedValue) (w : WatchValue) → i ≤ n → IsVisiting inputs lines names k i a w → IsVisiting inputs lines names k n a w
-visit_weak inputs lines names k i n a w le v = record {
-  is_trail = v.is_trail;
-  stored = v.stored;
-  guarded = v.guarded;
-  within = v.within;
-  sized = v.sized;
-  done = λ j from below. v.done j (omega arith) below;
-}
-
 -- nothing is said of a list that is not begun
-pub visit_all : (inputs lines : List (List Literal)) (names : List Hint) (k i : ℕ) (a : AssignedValue) (w : WatchValue) → IsVisiting inputs lines names k i a w → IsVisiting inputs lines names k (length (list_of w.lists (false_at a.trail k))) a w
+pub visit_all : (inputs lines : List (List Literal)) (names : List Hint) (k i : ℕ) (a : AssignedValue) (w : WatchValue) → IsVisiting inputs lines names k i a w → IsVisiting inputs lines names k 0 a w
 visit_all inputs lines names k i a w v = record {
   is_trail = v.is_trail;
   stored = v.stored;
   guarded = v.guarded;
   within = v.within;
   sized = v.sized;
-  done = λ j from below. absurd (omega (arith, from, below));
+  done = λ j from below. absurd (omega (arith, from));
 }
 
 pub at_faced : (inputs lines : List (List Literal)) (names : List Hint) (k i : ℕ) (a : AssignedValue) (w v : WatchValue) (c : ℕ) (l : Literal) → l ≡ false_at a.trail k → IsWatching v.clauses v.lists
-    → i < length (list_of w.lists (false_at a.trail k)) → get_or (list_of w.lists (false_at a.trail k)) i 0 ≡ c → c < length w.clauses → IsFaced w v c l → IsVisiting inputs lines names k (i + 1) a w → IsAt inputs lines names k i a v c
+    → i < length (list_of w.lists (false_at a.trail k)) → get_or (list_of w.lists (false_at a.trail k)) i 0 ≡ c → c < length w.clauses → IsFaced w v c l → IsVisiting inputs lines names k i a w → IsAt inputs lines names k i a v c
 at_faced inputs lines names k i a w v c l l_is new_watching low at known faced visiting =
     let second : false_at a.trail k ≡ get_or (clause_of v.clauses c) 1 blank = sym l_is ∙ faced.second ∙ get_or_default (clause_of v.clauses c) 1 l blank (omega (arith, faced.long)) in
     elim faced.same [
       | inl same ↦ record {
-        visiting = subst (IsVisiting inputs lines names k (i + 1) a) (sym same) visiting;
+        visiting = subst (IsVisiting inputs lines names k i a) (sym same) visiting;
         watching = new_watching;
         low = subst (λ (u : WatchValue). i < length (list_of u.lists (false_at a.trail k))) (sym same) low;
         at = ap (λ (u : WatchValue). get_or (list_of u.lists (false_at a.trail k)) i 0) same ∙ at;
@@ -96,7 +101,7 @@ at_faced inputs lines names k i a w v c l l_is new_watching low at known faced v
           let row : clause_of v.clauses c ≡ s = ap (λ cs. clause_of cs c) turned.0 ∙ get_or-set_same w.clauses c s [] known in
           let was_long : 2 ≤ length (clause_of w.clauses c) = omega (arith, faced.long, ap length row, length-swap (clause_of w.clauses c) 0 1) in
           record {
-            visiting = visit_turned inputs lines names k (i + 1) a w c v known was_long turned.0 turned.1 visiting;
+            visiting = visit_turned inputs lines names k i a w c v known was_long turned.0 turned.1 visiting;
             watching = new_watching;
             low = subst (λ ls. i < length (list_of ls (false_at a.trail k))) (sym turned.1) low;
             at = ap (λ ls. get_or (list_of ls (false_at a.trail k)) i 0) turned.1 ∙ at;
@@ -107,7 +112,7 @@ at_faced inputs lines names k i a w v c l l_is new_watching low at known faced v
     ]
 
 module _ (inputs lines : List (List Literal)) (names : List Hint) (k i : ℕ) (a : AssignedValue) (w : WatchValue) (c : ℕ) (at : IsAt inputs lines names k i a w c) where
-  pub at_true : Contains (literals_of a.trail) (get_or (clause_of w.clauses c) 0 blank) → IsVisiting inputs lines names k i a w
+  pub at_true : Contains (literals_of a.trail) (get_or (clause_of w.clauses c) 0 blank) → IsVisiting inputs lines names k (i + 1) a w
   at_true there =
       let r = clause_of w.clauses c in
       visit_kept inputs lines names k i a w (subst (λ n. HasTrue (literals_of a.trail) (clause_of w.clauses n)) (sym at.at) (get_or r 0 blank, Contains-get_or r 0 blank (omega (arith, at.long)), there)) at.visiting
@@ -157,7 +162,7 @@ module _ (inputs lines : List (List Literal)) (names : List Hint) (k i : ℕ) (a
 
   pub at_moved : (v : WatchValue) (j : ℕ) → IsReplacement a.trail (clause_of w.clauses c) j → (m : Literal) → m ≡ get_or (clause_of w.clauses c) j blank → (f : Literal) → f ≡ false_at a.trail k
       → v.clauses ≡ set w.clauses c (swap (clause_of w.clauses c) 1 j) → v.lists ≡ set (set w.lists (code m) (list_of w.lists m ++ c ∷ [])) (code f) (swap_remove (list_of w.lists f) i 0)
-      → IsVisiting inputs lines names k i a v
+      → IsVisiting inputs lines names k i a v × (list_length a.trail v k + 1 ≡ list_length a.trail w k)
   at_moved v j found m m_is f f_is clauses_is lists_is =
       visit_moved inputs lines names k i a w v c j m at.watching at.low at.known found.behind found.within at.second m_is
       (λ there. found.not_false (subst (λ l. Contains (literals_of a.trail) (opposite l)) m_is there)) clauses_is
@@ -216,7 +221,7 @@ module _ (inputs lines : List (List Literal)) (names : List Hint) (k i : ℕ) (a
       watching.only x l (subst (Contains (list_of w.lists l)) (sym x_is) (Contains-get_or (list_of w.lists l) i 0 low_l))
 
   pub at_from : (v : WatchValue) → e ≡ get_or a.trail k e → l ≡ opposite e.literal → x ≡ get_or (list_of w.lists l) i 0 → IsWatching w.clauses w.lists → IsWatching v.clauses v.lists
-      → i < length (list_of w.lists (false_at a.trail k)) → IsVisiting inputs lines names k (i + 1) a w → IsFaced w v x l → IsAt inputs lines names k i a v x
+      → i < length (list_of w.lists (false_at a.trail k)) → IsVisiting inputs lines names k i a w → IsFaced w v x l → IsAt inputs lines names k i a v x
   at_from v e_is l_is x_is watching new_watching low visiting faced =
       let f_is = false_is e_is l_is visiting.within in
       at_faced inputs lines names k i a w v x l f_is new_watching low (sym (x_is ∙ ap (λ m. get_or (list_of w.lists m) i 0) f_is)) (watch_from e_is l_is x_is watching low visiting.within).0 faced visiting
@@ -239,9 +244,9 @@ same_watch v w one two = ap₂ (λ x y. let u : WatchValue = record { clauses = 
 
 -- the first literal was put on the trail
 pub at_assigned : (inputs lines : List (List Literal)) (names : List Hint) (k i : ℕ) (a : AssignedValue) (w : WatchValue) (c : ℕ) → IsAt inputs lines names k i a w c → (e : Entry) (n : AssignedValue) → StandsAt inputs lines a.trail e
-    → e.literal ≡ get_or (clause_of w.clauses c) 0 blank → n.trail ≡ a.trail ++ e ∷ [] → length n.values ≡ length a.values → IsVisiting inputs lines names k i n w
+    → e.literal ≡ get_or (clause_of w.clauses c) 0 blank → n.trail ≡ a.trail ++ e ∷ [] → length n.values ≡ length a.values → IsVisiting inputs lines names k (i + 1) n w
 at_assigned inputs lines names k i a w c at e n stands e_is trail_is values_is =
-    let after = visit_grown inputs lines names k (i + 1) a w e n stands trail_is values_is at.visiting in
+    let after = visit_grown inputs lines names k i a w e n stands trail_is values_is at.visiting in
     let b = get_or (clause_of w.clauses c) 0 blank in
     let same : false_at n.trail k ≡ false_at a.trail k =
     ap (λ t. false_at t k) trail_is ∙ ap (λ (f : Entry). opposite f.literal) (get_or_append_left a.trail (e ∷ []) blank_entry k at.visiting.within) in

@@ -19,7 +19,7 @@ use Rattle.cdcl_watches.specs.Watching.{IsWatch, IsWatching, clause_of, list_of,
 use Rattle.cdcl_watches.proofs.Moves.{first_two, are_first, contains_swapped, contains_unswapped, list_same}
 use Rattle.cdcl_watches.proofs.Removed.{length-removed, place_before}
 use Rattle.cdcl_state.specs.Assigned.{AssignedValue}
-use Rattle.cdcl_state.specs.Visit.{HasTrue, HaveSame, IsStored, IsVisiting, false_at, watcher_at}
+use Rattle.cdcl_state.specs.Visit.{HasTrue, HaveSame, IsStored, IsVisiting, false_at, list_length, watcher_at}
 use Rattle.cdcl_watches.specs.Watching.{blank}
 
 -- no literal is true beside its opposite
@@ -93,7 +93,7 @@ true_set clauses now true_ones c i j k known i_low j_low is told =
 
 module _ (inputs lines : List (List Literal)) (names : List Hint) (k i : ℕ) (a : AssignedValue) (w : WatchValue) where
   -- the clause at i is done
-  pub visit_kept : HasTrue (literals_of a.trail) (watcher_at w (false_at a.trail k) i) → IsVisiting inputs lines names k (i + 1) a w → IsVisiting inputs lines names k i a w
+  pub visit_kept : HasTrue (literals_of a.trail) (watcher_at w (false_at a.trail k) i) → IsVisiting inputs lines names k i a w → IsVisiting inputs lines names k (i + 1) a w
   visit_kept told visiting = record {
     is_trail = visiting.is_trail;
     stored = visiting.stored;
@@ -126,15 +126,15 @@ module _ (inputs lines : List (List Literal)) (names : List Hint) (k i : ℕ) (a
         guarded = λ n p x low watch below at. still n (visiting.guarded n p x (omega arith) (back n x watch) below at);
         within = visiting.within;
         sized = ap length lists_is ∙ visiting.sized;
-        done = subst (λ ls. (j : ℕ) → i ≤ j → j < length (list_of ls f) → HasTrue T (clause_of v.clauses (get_or (list_of ls f) j 0))) (sym lists_is) (λ j from below. still (get_or (list_of w.lists f) j 0) (visiting.done j from below));
+        done = subst (λ ls. (j : ℕ) → j < i → j < length (list_of ls f) → HasTrue T (clause_of v.clauses (get_or (list_of ls f) j 0))) (sym lists_is) (λ j from below. still (get_or (list_of w.lists f) j 0) (visiting.done j from below));
       }
 
-  -- the clause at i watches another literal that is not false
+  -- the clause at i watches another literal that is not false, and the list is shorter by it
   pub visit_moved : (v : WatchValue) (c j : ℕ) (m : Literal) → IsWatching w.clauses w.lists → i < length (list_of w.lists (false_at a.trail k)) → c < length w.clauses → 2 ≤ j → j < length (clause_of w.clauses c)
       → false_at a.trail k ≡ get_or (clause_of w.clauses c) 1 blank → m ≡ get_or (clause_of w.clauses c) j blank → ¬ Contains (literals_of a.trail) (opposite m)
       → v.clauses ≡ set w.clauses c (swap (clause_of w.clauses c) 1 j)
       → v.lists ≡ set (set w.lists (code m) (list_of w.lists m ++ c ∷ [])) (code (false_at a.trail k)) (swap_remove (list_of w.lists (false_at a.trail k)) i 0)
-      → IsVisiting inputs lines names k (i + 1) a w → IsVisiting inputs lines names k i a v
+      → IsVisiting inputs lines names k i a w → IsVisiting inputs lines names k i a v × (list_length a.trail v k + 1 ≡ list_length a.trail w k)
   visit_moved v c j m watching low known high j_low second_is m_is not_false clauses_is lists_is visiting =
       let T = literals_of a.trail in
       let f = false_at a.trail k in
@@ -151,27 +151,29 @@ module _ (inputs lines : List (List Literal)) (names : List Hint) (k i : ℕ) (a
       let code_f : code f < length w.lists = subst (λ l. code l < length w.lists) (sym second_is) (watching.fits c known 1 blank (omega arith)) in
       let grown = list_of w.lists m ++ c ∷ [] in
       let half = set w.lists (code m) grown in
-      let new_list : list_of v.lists f ≡ swap_remove ls i 0 = ap (λ x. list_of x f) lists_is ∙ list_same half f (swap_remove ls i 0) (omega (arith, length-set w.lists (code m) grown)) in
-      record {
-        is_trail = visiting.is_trail;
-        stored = subst (λ cs. IsStored inputs lines cs names) (sym clauses_is) (stored_swapped inputs lines w.clauses names c 1 j known (omega arith) (omega arith) visiting.stored);
-        guarded = λ n p x n_low watch below is_false. elim (watch_set w.clauses c s n x known (subst (λ cs. IsWatch (clause_of cs n) x) clauses_is watch)) [
-          | inr other ↦ still n (visiting.guarded n p x (omega arith) other.1 below is_false)
-          | inl here ↦
-              let there : Contains T (opposite x) = subst (Contains T) is_false (entry_there a.trail p blank_entry (omega (arith, visiting.within))) in
-              elim (first_two s x here.1.0 blank here.1.1) [
-                | inl e ↦ subst (λ q. HasTrue T (clause_of v.clauses q)) (sym here.0) (still c (visiting.guarded c p x0 known r_watch below (is_false ∙ ap opposite (e.0 ∙ s0))))
-                | inr e ↦ absurd (not_false (subst (λ l. Contains T (opposite l)) (e.0 ∙ s1) there))
-              ]
-        ];
-        within = visiting.within;
-        sized = ap length lists_is ∙ length-set half (code f) (swap_remove ls i 0) ∙ length-set w.lists (code m) grown ∙ visiting.sized;
-        done = subst (λ xs. (q : ℕ) → i ≤ q → q < length xs → HasTrue T (clause_of v.clauses (get_or xs q 0))) (sym new_list)
-            (λ q from below.
-            let before = place_before ls i 0 low q (omega (arith, below, length-removed ls i 0 low)) in
-            let later : i + 1 ≤ before.0 = elim before.4 [ inl e ↦ omega (arith, e, before.2) | inr e ↦ omega (arith, e.0, before.1, before.2, low, below, length-removed ls i 0 low, from, e.1) ] in
-            subst (λ n. HasTrue T (clause_of v.clauses n)) (sym (before.3 0)) (still (get_or ls before.0 0) (visiting.done before.0 later before.1)));
-      }
+      let new_list : list_of v.lists f ≡ swap_remove ls i 0 = ap (λ x. list_of x f) lists_is ∙ list_same half f (swap_remove ls i 0) (omega (arith, length-set w.lists (code m) grown)) in (
+        record {
+          is_trail = visiting.is_trail;
+          stored = subst (λ cs. IsStored inputs lines cs names) (sym clauses_is) (stored_swapped inputs lines w.clauses names c 1 j known (omega arith) (omega arith) visiting.stored);
+          guarded = λ n p x n_low watch below is_false. elim (watch_set w.clauses c s n x known (subst (λ cs. IsWatch (clause_of cs n) x) clauses_is watch)) [
+            | inr other ↦ still n (visiting.guarded n p x (omega arith) other.1 below is_false)
+            | inl here ↦
+                let there : Contains T (opposite x) = subst (Contains T) is_false (entry_there a.trail p blank_entry (omega (arith, visiting.within))) in
+                elim (first_two s x here.1.0 blank here.1.1) [
+                  | inl e ↦ subst (λ q. HasTrue T (clause_of v.clauses q)) (sym here.0) (still c (visiting.guarded c p x0 known r_watch below (is_false ∙ ap opposite (e.0 ∙ s0))))
+                  | inr e ↦ absurd (not_false (subst (λ l. Contains T (opposite l)) (e.0 ∙ s1) there))
+                ]
+          ];
+          within = visiting.within;
+          sized = ap length lists_is ∙ length-set half (code f) (swap_remove ls i 0) ∙ length-set w.lists (code m) grown ∙ visiting.sized;
+          done = subst (λ xs. (q : ℕ) → q < i → q < length xs → HasTrue T (clause_of v.clauses (get_or xs q 0))) (sym new_list)
+              (λ q from below.
+              let before = place_before ls i 0 low q (omega (arith, below, length-removed ls i 0 low)) in
+              let earlier : before.0 < i = elim before.4 [ inl e ↦ omega (arith, e, from) | inr e ↦ omega (arith, e.1, from) ] in
+              subst (λ n. HasTrue T (clause_of v.clauses n)) (sym (before.3 0)) (still (get_or ls before.0 0) (visiting.done before.0 earlier before.1)));
+        },
+        omega (arith, ap length new_list, length-removed ls i 0 low),
+      )
 
   -- one entry more
   pub visit_grown : (e : Entry) (n : AssignedValue) → StandsAt inputs lines a.trail e → n.trail ≡ a.trail ++ e ∷ [] → length n.values ≡ length a.values → IsVisiting inputs lines names k i a w → IsVisiting inputs lines names k i n w
@@ -190,7 +192,7 @@ module _ (inputs lines : List (List Literal)) (names : List Hint) (k i : ℕ) (a
         guarded = λ c p x known watch below is_false. still (clause_of w.clauses c) (visiting.guarded c p x known watch below (sym (same_at p (omega (arith, visiting.within))) ∙ is_false));
         within = omega (arith, visiting.within);
         sized = visiting.sized ∙ ap (λ m. 2 * m) (sym values_is);
-        done = subst (λ f. (j : ℕ) → i ≤ j → j < length (list_of w.lists f) → HasTrue (literals_of n.trail) (watcher_at w f j)) (sym f_same) (λ j from below. still (watcher_at w (false_at a.trail k) j) (visiting.done j from below));
+        done = subst (λ f. (j : ℕ) → j < i → j < length (list_of w.lists f) → HasTrue (literals_of n.trail) (watcher_at w f j)) (sym f_same) (λ j from below. still (watcher_at w (false_at a.trail k) j) (visiting.done j from below));
       }
 
 -- a literal is true where the values say so

@@ -1,5 +1,5 @@
 -- From one place of the trail to the next.
-use Rattle.std.proofs.Common.{◌≡◌, ◌≢◌, ℕ, ◌<◌, ◌≤◌, ◌+◌, ◌*◌, inl, inr, List, [], ◌++◌, Option, MatchOption, Bool, true, false, None, length, get_or, refl, sym, ap, ◌∙◌, subst, arith, length-append}
+use Rattle.std.proofs.Common.{◌≡◌, ◌≢◌, ℕ, ◌<◌, ◌≤◌, ◌+◌, ◌-◌, ◌*◌, inl, inr, List, [], ◌++◌, Option, MatchOption, Bool, true, false, None, length, get_or, refl, sym, ap, ◌∙◌, subst, arith, length-append}
 use Rattle.std.proofs.lemmas.Bool.{cases_lt}
 use Rattle.std.proofs.lemmas.List.{append-nil, append_assoc, get_or_default, get_or_append_left}
 use Rattle.std.proofs.lemmas.List.Elements.{All-nil, All-append}
@@ -7,12 +7,14 @@ use Rattle.cnf_base.specs.declared.literal.Literal.{Literal}
 use Rattle.cnf_base.specs.declared.literal.Hint.{Hint}
 use Rattle.cnf_base.specs.Literal.{opposite}
 use Rattle.cnf_base.proofs.SameLiteral.{opposite_opposite}
-use Rattle.cdcl_state.specs.Trail.{literals_of, AreValues}
+use Rattle.cdcl_state.specs.Trail.{literals_of, AreValues, IsConflict}
 use Rattle.cdcl_state.specs.Learnt.{blank_entry}
 use Rattle.cdcl_state.specs.declared.assigned.Entry.{Entry}
+use Rattle.cdcl_state.specs.declared.visit.Visited.{Visited}
+use Rattle.cdcl_state.specs.declared.visit.Visited.TheVariants.{Stays, Moved, Conflict}
 use Rattle.cdcl_watches.specs.Watching.{IsWatch, IsWatching, clause_of, list_of, code, WatchValue}
 use Rattle.cdcl_state.specs.Assigned.{AssignedValue}
-use Rattle.cdcl_state.specs.Visit.{HasTrue, IsVisiting, IsReady, IsGrown, false_at}
+use Rattle.cdcl_state.specs.Visit.{HasTrue, IsVisiting, IsVisited, IsReady, IsGrown, false_at, list_length}
 
 pub grown_none : (t : List Entry) → IsGrown t t
 grown_none t = record { more = []; trail = sym (append-nil t); forced = All-nil (λ (e : Entry). e.reason ≢ None) }
@@ -32,33 +34,22 @@ grown_longer s t grown = omega (arith, ap length grown.trail, length-append s gr
 
 module _ (inputs lines : List (List Literal)) (names : List Hint) (k : ℕ) (a : AssignedValue) (w : WatchValue) where
   -- before the list is visited
-  pub begin_visit : (i : ℕ) → k < length a.trail → length (list_of w.lists (false_at a.trail k)) ≤ i → IsReady inputs lines names k a w → IsVisiting inputs lines names k i a w
-  begin_visit i there all r = record {
+  pub begin_visit : k < length a.trail → IsReady inputs lines names k a w → IsVisiting inputs lines names k 0 a w
+  begin_visit there r = record {
     is_trail = r.is_trail;
     stored = r.stored;
     guarded = r.guarded;
     within = there;
     sized = r.sized;
-    done = λ j from below. absurd (omega (arith, from, below, all));
+    done = λ j from below. absurd (omega (arith, from));
   }
 
   pub still_ready : (i : ℕ) → IsVisiting inputs lines names k i a w → IsReady inputs lines names k a w
   still_ready i v = record { is_trail = v.is_trail; stored = v.stored; guarded = v.guarded; within = omega (arith, v.within); sized = v.sized }
 
-  -- past the end of the list
-  pub past_visit : (i : ℕ) → length (list_of w.lists (false_at a.trail k)) ≤ i → IsVisiting inputs lines names k (i + 1) a w → IsVisiting inputs lines names k i a w
-  past_visit i all v = record {
-    is_trail = v.is_trail;
-    stored = v.stored;
-    guarded = v.guarded;
-    within = v.within;
-    sized = v.sized;
-    done = λ j from below. absurd (omega (arith, from, below, all));
-  }
-
   -- the whole list was visited
-  pub end_visit : IsWatching w.clauses w.lists → IsVisiting inputs lines names k 0 a w → IsReady inputs lines names (k + 1) a w
-  end_visit watching v = record {
+  pub end_visit : (i : ℕ) → length (list_of w.lists (false_at a.trail k)) ≤ i → IsWatching w.clauses w.lists → IsVisiting inputs lines names k i a w → IsReady inputs lines names (k + 1) a w
+  end_visit i all watching v = record {
     is_trail = v.is_trail;
     stored = v.stored;
     guarded = λ c p x known watch below is_false. elim (cases_lt p k) [
@@ -69,7 +60,7 @@ module _ (inputs lines : List (List Literal)) (names : List Hint) (k : ℕ) (a :
           let x_is : x ≡ f = sym (opposite_opposite x) ∙ ap opposite (sym is_false) ∙ ap (λ n. false_at a.trail n) last in
           let there = watching.watched c f known (subst (IsWatch (clause_of w.clauses c)) x_is watch) in
           let is : get_or (list_of w.lists f) there.0 0 ≡ c = get_or_default (list_of w.lists f) there.0 0 c there.1 ∙ there.2 in
-          subst (λ n. HasTrue (literals_of a.trail) (clause_of w.clauses n)) is (v.done there.0 (omega arith) there.1)
+          subst (λ n. HasTrue (literals_of a.trail) (clause_of w.clauses n)) is (v.done there.0 (omega (arith, all, there.1)) there.1)
     ];
     within = omega (arith, v.within);
     sized = v.sized;
@@ -89,3 +80,20 @@ list_known values trail k lists are low sized = omega (arith, code_known (false_
 
 pub none_case : {X A : Type 0} (P : X → Type 0) (o : Option X) → o ≡ None → MatchOption o A P → A
 none_case {X} {A} P o is h = let Q : Option X → Type 0 = λ q. MatchOption q A P in subst Q is h
+
+-- what a visit left, by what it found
+module _ (inputs lines : List (List Literal)) (names : List Hint) (k i count : ℕ) (a : AssignedValue) (w : WatchValue) (found : Visited) where
+  pub stays_case : found ≡ Stays → IsVisited inputs lines names k i count a w found → IsVisiting inputs lines names k (i + 1) a w × (list_length a.trail w k ≡ count)
+  stays_case is h = subst (IsVisited inputs lines names k i count a w) is h
+
+  pub moved_case : found ≡ Moved → IsVisited inputs lines names k i count a w found → IsVisiting inputs lines names k i a w × (list_length a.trail w k + 1 ≡ count)
+  moved_case is h = subst (IsVisited inputs lines names k i count a w) is h
+
+  pub conflict_case : (hint : Hint) → found ≡ Conflict hint → IsVisited inputs lines names k i count a w found → IsConflict inputs lines (literals_of a.trail) hint
+  conflict_case hint is h = subst (IsVisited inputs lines names k i count a w) is h
+
+-- what is left of the list grows shorter
+pub shorter : (old new : List (List ℕ)) (l f g : Literal) (i j : ℕ) → l ≡ f → l ≡ g → i < length (list_of old l)
+    → length (list_of new g) - j < length (list_of old f) - i → length (list_of new l) - j < length (list_of old l) - i
+shorter old new l f g i j of_old of_new low less =
+    omega (arith, less, ap (λ m. length (list_of old m)) of_old, ap (λ m. length (list_of new m)) of_new)

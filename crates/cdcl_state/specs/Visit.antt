@@ -1,14 +1,16 @@
 -- What holds while the clauses that watch a false literal are visited.
-use Rattle.std.specs.Prelude.{◌≡◌, ◌≢◌, ℕ, ◌*◌, ◌<◌, ◌≤◌, ◌⊎◌, ◌++◌, List, Some, None, length, All, Contains, slice_index_or, slice_set}
+use Rattle.std.specs.Prelude.{◌≡◌, ◌≢◌, ℕ, ◌+◌, ◌*◌, ◌<◌, ◌≤◌, ◌⊎◌, ◌++◌, List, Some, None, length, All, Contains, slice_index_or, slice_set}
 use Rattle.std.specs.List.{swap}
 use Rattle.cnf_base.specs.declared.literal.Literal.{Literal}
 use Rattle.cnf_base.specs.declared.literal.Hint.{Hint}
 use Rattle.cnf_base.specs.declared.literal.Hint.TheVariants.{Clause}
 use Rattle.cnf_base.specs.Literal.{opposite}
 use Rattle.cnf_base.specs.Step.{named}
-use Rattle.cdcl_state.specs.Trail.{literals_of, IsTrail}
+use Rattle.cdcl_state.specs.Trail.{literals_of, IsTrail, IsConflict}
 use Rattle.cdcl_state.specs.Learnt.{literal_at}
 use Rattle.cdcl_state.specs.declared.assigned.Entry.{Entry}
+use Rattle.cdcl_state.specs.declared.visit.Visited.{Visited}
+use Rattle.cdcl_state.specs.declared.visit.Visited.TheVariants.{Stays, Moved, Conflict}
 use Rattle.cdcl_watches.specs.Watching.{IsWatch, clause_of, list_of, WatchValue, blank}
 use Rattle.cdcl_state.specs.Assigned.{AssignedValue}
 
@@ -42,14 +44,24 @@ false_at trail k = opposite (literal_at trail k)
 abbrev pub watcher_at : WatchValue → Literal → ℕ → List Literal
 watcher_at w l i = clause_of w.clauses (slice_index_or (list_of w.lists l) i 0)
 
--- the list of the literal that became false at the place k has been visited from i on: the clauses there have true literals
+-- the list of the literal that became false at the place k has been visited up to i: the clauses there have true literals
 pub record IsVisiting (inputs lines : List (List Literal)) (names : List Hint) (k i : ℕ) (a : AssignedValue) (w : WatchValue) : Type 0 where
   pub is_trail : IsTrail inputs lines a.trail
   pub stored : IsStored inputs lines w.clauses names
   pub guarded : IsGuarded w.clauses a.trail k
   pub within : k < length a.trail
   pub sized : length w.lists ≡ 2 * length a.values
-  pub done : (j : ℕ) → i ≤ j → j < length (list_of w.lists (false_at a.trail k)) → HasTrue (literals_of a.trail) (watcher_at w (false_at a.trail k) j)
+  pub done : (j : ℕ) → j < i → j < length (list_of w.lists (false_at a.trail k)) → HasTrue (literals_of a.trail) (watcher_at w (false_at a.trail k) j)
+
+-- how many clauses watch the literal that became false at the place k
+abbrev pub list_length : List Entry → WatchValue → ℕ → ℕ
+list_length trail w k = length (list_of w.lists (false_at trail k))
+
+-- what a visit of the clause at i leaves: it is done and stays, or the list is shorter by it, or it is false
+abbrev pub IsVisited : List (List Literal) → List (List Literal) → List Hint → ℕ → ℕ → ℕ → AssignedValue → WatchValue → Visited → Type 0
+IsVisited inputs lines names k i count a w Stays = IsVisiting inputs lines names k (i + 1) a w × (list_length a.trail w k ≡ count)
+IsVisited inputs lines names k i count a w Moved = IsVisiting inputs lines names k i a w × (list_length a.trail w k + 1 ≡ count)
+IsVisited inputs lines names k i count a w (Conflict hint) = IsConflict inputs lines (literals_of a.trail) hint
 
 -- entries that have reasons were put behind the trail
 pub record IsGrown (old new : List Entry) : Type 0 where

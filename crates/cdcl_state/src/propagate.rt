@@ -8,7 +8,7 @@ ghost use Rattle.cdcl_state.specs.Sure.{IsSure};
 ghost use Rattle.cdcl_state.specs.Visit.{IsVisiting, IsGrown, IsReady, false_at};
 
 use crate::assigned::Assigned;
-use crate::visit::visit;
+use crate::visit::{Visited, visit};
 use cdcl_watches::watches::Watches;
 use clause_log::Log;
 use cnf_base::Hint;
@@ -32,15 +32,17 @@ pub fn visit_list(
 {
     assigned.told();
     let falsified = assigned.entry(place).literal.opposite();
-    let mut i = watches.watchers(falsified);
-    'down: while i > 0 {
-        i -= 1;
-        if i >= watches.watchers(falsified) {
-            continue 'down;
-        }
+    let mut i = 0;
+    'along: while i < watches.watchers(falsified) {
         match visit(assigned, watches, names, log, place, i)? {
-            Some(hint) => return Ok(Some(hint)),
-            None => {}
+            Visited::Stays => {
+                i += 1;
+                continue 'along;
+            }
+            Visited::Moved => {
+                continue 'along;
+            }
+            Visited::Conflict(hint) => return Ok(Some(hint)),
         }
     }
     watches.watching();

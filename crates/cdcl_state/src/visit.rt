@@ -9,13 +9,24 @@ ghost use Rattle.cdcl_state.specs.Trail.{literals_of, IsConflict};
 ghost use Rattle.cdcl_state.specs.Learnt.{blank_entry};
 ghost use Rattle.cdcl_watches.specs.Watching.{code, clause_of, list_of, IsWatch};
 ghost use Rattle.cdcl_state.specs.Sure.{IsSure};
-ghost use Rattle.cdcl_state.specs.Visit.{HasTrue, IsVisiting, IsGrown, IsFaced, IsReplacement, AreFalseFrom, false_at, watcher_at};
+ghost use Rattle.cdcl_state.specs.Visit.{HasTrue, IsVisiting, IsVisited, IsGrown, IsFaced, IsReplacement, AreFalseFrom, false_at, list_length, watcher_at};
 
 use crate::assigned::{Assigned, Entry};
 use cdcl_watches::watches::{Watches, number};
 use clause_log::Log;
 use cnf_base::{Hint, Literal};
 use std::alloc::AllocError;
+
+/// What a visit finds of a clause in the list of a literal that became false.
+#[derive(Clone, Copy, Drop)]
+pub enum Visited {
+    /// It has a true literal, and stays in the list.
+    Stays,
+    /// It watches another literal now; the last of the list stands in its place.
+    Moved,
+    /// It is false.
+    Conflict(Hint),
+}
 
 /// The place of a literal behind the first two that is not false.
 pub fn find(assigned: &Assigned, clause: &[Literal]) -> Option<usize>
@@ -62,19 +73,19 @@ pub fn visit(
     log: &Log,
     place: usize,
     i: usize,
-) -> Result<Option<Hint>, AllocError>
-    requires visiting { IsVisiting log.now.inputs log.now.lines names.now place (i + 1) assigned.old watches.old }
+) -> Result<Visited, AllocError>
+    requires visiting { IsVisiting log.now.inputs log.now.lines names.now place i assigned.old watches.old }
     requires there { i < length (list_of watches.old.lists (false_at assigned.old.trail place)) }
     ensures grown { IsGrown assigned.old.trail assigned.new.trail }
     ensures letters { length assigned.new.values ≡ length assigned.old.values }
-    ensures kept { IsVisiting log.now.inputs log.now.lines names.now place (length (list_of watches.new.lists (false_at assigned.new.trail place))) assigned.new watches.new }
+    ensures kept { IsVisiting log.now.inputs log.now.lines names.now place 0 assigned.new watches.new }
     ensures sure { (n : ℕ) → n ≤ place → IsSure watches.old.clauses assigned.old.trail n → IsSure watches.new.clauses assigned.new.trail n }
-    ensures found { IfOk result (λ found. MatchOption found (IsVisiting log.now.inputs log.now.lines names.now place i assigned.new watches.new) (IsConflict log.now.inputs log.now.lines (literals_of assigned.new.trail))) }
+    ensures found { IfOk result (IsVisited log.now.inputs log.now.lines names.now place i (list_length assigned.old.trail watches.old place) assigned.new watches.new) }
 {
     watches.watching();
     let falsified = assigned.entry(place).literal.opposite();
     if blocker_holds(assigned, watches, falsified, i) {
-        return Ok(None);
+        return Ok(Visited::Stays);
     }
     let clause = watches.watcher(falsified, i);
     face(watches, clause, falsified);
@@ -82,19 +93,19 @@ pub fn visit(
     let other = watches.clause(clause)[0];
     if assigned.holds(other) {
         watches.refresh(falsified, i, 0);
-        return Ok(None);
+        return Ok(Visited::Stays);
     }
     match find(assigned, watches.clause(clause)) {
         Some(j) => {
             let replacement = watches.clause(clause)[j];
             watches.rewatch(clause, falsified, i, replacement, j)?;
-            return Ok(None);
+            return Ok(Visited::Moved);
         }
         None => {}
     }
     let hint = names[clause];
     if assigned.holds(other.opposite()) {
-        return Ok(Some(hint));
+        return Ok(Visited::Conflict(hint));
     }
     let level = assigned.level();
     assigned.assign(Entry {
@@ -102,5 +113,5 @@ pub fn visit(
         level,
         reason: Some(hint),
     })?;
-    Ok(None)
+    Ok(Visited::Stays)
 }

@@ -1,4 +1,4 @@
-use Rattle.std.proofs.Common.{◌≡◌, ◌<◌, Option, Some, All, Contains, length, refl, sym, subst, arith}
+use Rattle.std.proofs.Common.{◌≡◌, Option, Some, All, Contains, length, refl, sym, subst, arith}
 use Rattle.std.proofs.lemmas.List.Elements.{All-nil}
 use Rattle.cnf_base.specs.Literal.{opposite}
 use Rattle.cnf_base.specs.Step.{named}

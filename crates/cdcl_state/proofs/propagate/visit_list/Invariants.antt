@@ -1,10 +1,11 @@
-use Rattle.std.proofs.Common.{◌≡◌, ◌≤◌, ℕ, length}
+use Rattle.std.proofs.Common.{◌≡◌, ◌≤◌, ◌-◌, ℕ, length}
+use Rattle.cdcl_watches.specs.Watching.{list_of}
 use Rattle.cdcl_state.specs.Visit.{IsVisiting, IsGrown, false_at}
 use Rattle.cdcl_state.specs.Sure.{IsSure}
 use Rattle.cdcl_state.proofs.propagate.visit_list.Given as goal
 
-abbrev pub invariant-down : goal.invariant-down
-invariant-down l = record {
+abbrev pub invariant-along : goal.invariant-along
+invariant-along l = record {
   visiting : IsVisiting l.log.inputs l.log.lines l.names l.place l.i l.assigned l.watches;
   grown : IsGrown l.initial.assigned.trail l.assigned.trail;
   letters : length l.assigned.values ≡ length l.initial.assigned.values;
@@ -12,5 +13,5 @@ invariant-down l = record {
   same : l.falsified ≡ false_at l.assigned.trail l.place;
 }
 
-abbrev pub decreases-down : goal.decreases-down
-decreases-down l = l.i
+abbrev pub decreases-along : goal.decreases-along
+decreases-along l = length (list_of l.watches.lists l.falsified) - l.i

@@ -6,13 +6,13 @@ use Rattle.cnf_base.specs.Literal.{opposite}
 use Rattle.cdcl_state.specs.Trail.{literals_of, StandsAt}
 use Rattle.cdcl_state.specs.Learnt.{blank_entry}
 use Rattle.cdcl_state.specs.declared.assigned.Entry.{Entry}
-use Rattle.cdcl_watches.specs.Watching.{clause_of, list_of, WatchValue}
+use Rattle.cdcl_watches.specs.Watching.{clause_of, WatchValue}
 use Rattle.cdcl_state.specs.Visit.{HasTrue, IsVisiting, IsReplacement, AreFalseFrom, false_at, watcher_at, blank_hint}
 use Rattle.cdcl_watches.specs.Watching.{blank}
 use Rattle.cdcl_state.specs.Sure.{IsSure}
 use Rattle.cdcl_state.proofs.SureVisit.{sure_faced, sure_moved, sure_grown}
 use Rattle.cdcl_state.proofs.Guard.{visit_kept, visit_grown}
-use Rattle.cdcl_state.proofs.At.{false_is, watch_from, at_from, at_true, at_reason, at_conflict, at_moved, at_letters, visit_all, visit_same, same_watch, at_assigned, last_level}
+use Rattle.cdcl_state.proofs.At.{false_is, watch_from, at_from, at_true, at_reason, at_conflict, at_moved, at_letters, faced_lists, list_length_same, list_length_grown, visit_all, visit_same, same_watch, at_assigned, last_level}
 use Rattle.cdcl_state.proofs.visit.visit.Goals as goal
 
 pub face-requires-clause-known : goal.face-requires-clause-known
@@ -28,7 +28,10 @@ returns-then-blocker_holds-clause-found c =
     let f_is = false_is c.args.log.now.inputs c.args.log.now.lines c.args.names.now c.args.place c.args.i c.args.assigned.now c.args.watches.now c.entry.result c.opposite-falsified.result c.args.i c.entry.ensures c.opposite-falsified.ensures c.requires.visiting.within in
     let told : HasTrue (literals_of c.args.assigned.now.trail) (watcher_at c.args.watches.now (false_at c.args.assigned.now.trail c.args.place) c.args.i) =
     subst (λ l. HasTrue (literals_of c.args.assigned.now.trail) (watcher_at c.args.watches.now l c.args.i)) f_is (c.blocker_holds.ensures c.if-blocker_holds.true) in
-    visit_kept c.args.log.now.inputs c.args.log.now.lines c.args.names.now c.args.place c.args.i c.args.assigned.now c.args.watches.now told c.requires.visiting
+    (visit_kept c.args.log.now.inputs c.args.log.now.lines c.args.names.now c.args.place c.args.i c.args.assigned.now c.args.watches.now told c.requires.visiting, refl)
+
+pub returns-then-blocker_holds-clause-kept : goal.returns-then-blocker_holds-clause-kept
+returns-then-blocker_holds-clause-kept c = visit_all c.args.log.now.inputs c.args.log.now.lines c.args.names.now c.args.place c.args.i c.args.assigned.now c.args.watches.now c.requires.visiting
 
 pub returns-then-holds-clause-kept : goal.returns-then-holds-clause-kept
 returns-then-holds-clause-kept c =
@@ -36,8 +39,8 @@ returns-then-holds-clause-kept c =
     c.entry.ensures c.opposite-falsified.ensures c.watcher-clause.ensures c.watching.ensures c.watching-2.ensures c.requires.there c.requires.visiting c.face.ensures in
     let first : get_or c.clause.result.now 0 blank ≡ get_or (clause_of c.face.new.watches.clauses c.watcher-clause.result) 0 blank = ap (λ r. get_or r 0 blank) c.clause.ensures in
     let done = at_true c.args.log.now.inputs c.args.log.now.lines c.args.names.now c.args.place c.args.i c.args.assigned.now c.face.new.watches c.watcher-clause.result at (subst (Contains (literals_of c.args.assigned.now.trail)) first (c.holds.ensures.0 c.if-holds.true)) in
-    subst (λ (u : WatchValue). IsVisiting c.args.log.now.inputs c.args.log.now.lines c.args.names.now c.args.place (length (list_of u.lists (false_at c.args.assigned.now.trail c.args.place))) c.args.assigned.now u) (sym c.refresh.ensures)
-    (visit_all c.args.log.now.inputs c.args.log.now.lines c.args.names.now c.args.place c.args.i c.args.assigned.now c.face.new.watches done)
+    subst (λ (u : WatchValue). IsVisiting c.args.log.now.inputs c.args.log.now.lines c.args.names.now c.args.place 0 c.args.assigned.now u) (sym c.refresh.ensures)
+    (visit_all c.args.log.now.inputs c.args.log.now.lines c.args.names.now c.args.place (c.args.i + 1) c.args.assigned.now c.face.new.watches done)
 
 pub returns-then-holds-clause-found : goal.returns-then-holds-clause-found
 returns-then-holds-clause-found c =
@@ -45,7 +48,10 @@ returns-then-holds-clause-found c =
     c.entry.ensures c.opposite-falsified.ensures c.watcher-clause.ensures c.watching.ensures c.watching-2.ensures c.requires.there c.requires.visiting c.face.ensures in
     let first : get_or c.clause.result.now 0 blank ≡ get_or (clause_of c.face.new.watches.clauses c.watcher-clause.result) 0 blank = ap (λ r. get_or r 0 blank) c.clause.ensures in
     let done = at_true c.args.log.now.inputs c.args.log.now.lines c.args.names.now c.args.place c.args.i c.args.assigned.now c.face.new.watches c.watcher-clause.result at (subst (Contains (literals_of c.args.assigned.now.trail)) first (c.holds.ensures.0 c.if-holds.true)) in
-    subst (IsVisiting c.args.log.now.inputs c.args.log.now.lines c.args.names.now c.args.place c.args.i c.args.assigned.now) (sym c.refresh.ensures) done
+    let lists = faced_lists c.args.watches.now c.face.new.watches c.watcher-clause.result c.opposite-falsified.result c.face.ensures in (
+      subst (IsVisiting c.args.log.now.inputs c.args.log.now.lines c.args.names.now c.args.place (c.args.i + 1) c.args.assigned.now) (sym c.refresh.ensures) done,
+      list_length_same c.args.assigned.now.trail c.args.place c.args.watches.now c.refresh.new.self (ap (λ (u : WatchValue). u.lists) c.refresh.ensures ∙ lists),
+    )
 
 pub find-requires : goal.find-requires
 find-requires c =
@@ -58,8 +64,8 @@ returns-in_err-rewatch-in-Some-clause-kept c =
     let at = at_from c.args.log.now.inputs c.args.log.now.lines c.args.names.now c.args.place c.args.i c.args.assigned.now c.args.watches.now c.entry.result c.opposite-falsified.result c.watcher-clause.result c.face.new.watches
     c.entry.ensures c.opposite-falsified.ensures c.watcher-clause.ensures c.watching.ensures c.watching-2.ensures c.requires.there c.requires.visiting c.face.ensures in
     let same : c.rewatch.new.self ≡ c.face.new.watches = same_watch c.rewatch.new.self c.face.new.watches c.in_err-rewatch-in-Some.ensures.clauses c.in_err-rewatch-in-Some.ensures.lists in
-    subst (λ (u : WatchValue). IsVisiting c.args.log.now.inputs c.args.log.now.lines c.args.names.now c.args.place (length (list_of u.lists (false_at c.args.assigned.now.trail c.args.place))) c.args.assigned.now u) (sym same)
-    (visit_all c.args.log.now.inputs c.args.log.now.lines c.args.names.now c.args.place (c.args.i + 1) c.args.assigned.now c.face.new.watches at.visiting)
+    subst (λ (u : WatchValue). IsVisiting c.args.log.now.inputs c.args.log.now.lines c.args.names.now c.args.place 0 c.args.assigned.now u) (sym same)
+    (visit_all c.args.log.now.inputs c.args.log.now.lines c.args.names.now c.args.place c.args.i c.args.assigned.now c.face.new.watches at.visiting)
 
 pub returns-in-Some-clause-kept : goal.returns-in-Some-clause-kept
 returns-in-Some-clause-kept c =
@@ -71,7 +77,7 @@ returns-in-Some-clause-kept c =
     let f_is = false_is c.args.log.now.inputs c.args.log.now.lines c.args.names.now c.args.place c.args.i c.args.assigned.now c.args.watches.now c.entry.result c.opposite-falsified.result c.watcher-clause.result c.entry.ensures c.opposite-falsified.ensures c.requires.visiting.within in
     let done = at_moved c.args.log.now.inputs c.args.log.now.lines c.args.names.now c.args.place c.args.i c.args.assigned.now c.face.new.watches c.watcher-clause.result at c.rewatch.new.self c.in-Some.j found (get_or c.clause-in-Some.result.now c.in-Some.j blank) (ap (λ r. get_or r c.in-Some.j blank) row_3) c.opposite-falsified.result f_is
     c.in_ok-rewatch-in-Some.ensures.clauses c.in_ok-rewatch-in-Some.ensures.lists in
-    visit_all c.args.log.now.inputs c.args.log.now.lines c.args.names.now c.args.place c.args.i c.args.assigned.now c.rewatch.new.self done
+    visit_all c.args.log.now.inputs c.args.log.now.lines c.args.names.now c.args.place c.args.i c.args.assigned.now c.rewatch.new.self done.0
 
 pub returns-in-Some-clause-found : goal.returns-in-Some-clause-found
 returns-in-Some-clause-found c =
@@ -83,13 +89,13 @@ returns-in-Some-clause-found c =
     let f_is = false_is c.args.log.now.inputs c.args.log.now.lines c.args.names.now c.args.place c.args.i c.args.assigned.now c.args.watches.now c.entry.result c.opposite-falsified.result c.watcher-clause.result c.entry.ensures c.opposite-falsified.ensures c.requires.visiting.within in
     let done = at_moved c.args.log.now.inputs c.args.log.now.lines c.args.names.now c.args.place c.args.i c.args.assigned.now c.face.new.watches c.watcher-clause.result at c.rewatch.new.self c.in-Some.j found (get_or c.clause-in-Some.result.now c.in-Some.j blank) (ap (λ r. get_or r c.in-Some.j blank) row_3) c.opposite-falsified.result f_is
     c.in_ok-rewatch-in-Some.ensures.clauses c.in_ok-rewatch-in-Some.ensures.lists in
-    done
+    (done.0, done.1 ∙ list_length_same c.args.assigned.now.trail c.args.place c.args.watches.now c.face.new.watches (faced_lists c.args.watches.now c.face.new.watches c.watcher-clause.result c.opposite-falsified.result c.face.ensures))
 
 pub returns-then-holds-2-clause-kept : goal.returns-then-holds-2-clause-kept
 returns-then-holds-2-clause-kept c =
     let at = at_from c.args.log.now.inputs c.args.log.now.lines c.args.names.now c.args.place c.args.i c.args.assigned.now c.args.watches.now c.entry.result c.opposite-falsified.result c.watcher-clause.result c.face.new.watches
     c.entry.ensures c.opposite-falsified.ensures c.watcher-clause.ensures c.watching.ensures c.watching-2.ensures c.requires.there c.requires.visiting c.face.ensures in
-    visit_all c.args.log.now.inputs c.args.log.now.lines c.args.names.now c.args.place (c.args.i + 1) c.args.assigned.now c.face.new.watches at.visiting
+    visit_all c.args.log.now.inputs c.args.log.now.lines c.args.names.now c.args.place c.args.i c.args.assigned.now c.face.new.watches at.visiting
 
 pub returns-then-holds-2-clause-found : goal.returns-then-holds-2-clause-found
 returns-then-holds-2-clause-found c =
@@ -117,8 +123,8 @@ pub returns-in_err-assign-clause-kept : goal.returns-in_err-assign-clause-kept
 returns-in_err-assign-clause-kept c =
     let at = at_from c.args.log.now.inputs c.args.log.now.lines c.args.names.now c.args.place c.args.i c.args.assigned.now c.args.watches.now c.entry.result c.opposite-falsified.result c.watcher-clause.result c.face.new.watches
     c.entry.ensures c.opposite-falsified.ensures c.watcher-clause.ensures c.watching.ensures c.watching-2.ensures c.requires.there c.requires.visiting c.face.ensures in
-    visit_all c.args.log.now.inputs c.args.log.now.lines c.args.names.now c.args.place (c.args.i + 1) c.assign.new.self c.face.new.watches
-    (visit_same c.args.log.now.inputs c.args.log.now.lines c.args.names.now c.args.place (c.args.i + 1) c.args.assigned.now c.assign.new.self c.face.new.watches c.in_err-assign.ensures.trail c.in_err-assign.ensures.letters at.visiting)
+    visit_all c.args.log.now.inputs c.args.log.now.lines c.args.names.now c.args.place c.args.i c.assign.new.self c.face.new.watches
+    (visit_same c.args.log.now.inputs c.args.log.now.lines c.args.names.now c.args.place c.args.i c.args.assigned.now c.assign.new.self c.face.new.watches c.in_err-assign.ensures.trail c.in_err-assign.ensures.letters at.visiting)
 
 pub returns-clause-kept : goal.returns-clause-kept
 returns-clause-kept c =
@@ -134,8 +140,8 @@ returns-clause-kept c =
     let stands : StandsAt c.args.log.now.inputs c.args.log.now.lines c.args.assigned.now.trail e =
     subst (λ n. StandsAt c.args.log.now.inputs c.args.log.now.lines c.args.assigned.now.trail (make (get_or c.clause.result.now 0 blank) n)) (sym c.level-level.ensures)
     (subst (λ u. StandsAt c.args.log.now.inputs c.args.log.now.lines c.args.assigned.now.trail (make u (get_or c.args.assigned.now.trail (length c.args.assigned.now.trail - 1) blank_entry).level)) (sym first) stands_first) in
-    let after = visit_grown c.args.log.now.inputs c.args.log.now.lines c.args.names.now c.args.place (c.args.i + 1) c.args.assigned.now c.face.new.watches e c.assign.new.self stands c.in_ok-assign.ensures.trail c.in_ok-assign.ensures.letters at.visiting in
-    visit_all c.args.log.now.inputs c.args.log.now.lines c.args.names.now c.args.place (c.args.i + 1) c.assign.new.self c.face.new.watches after
+    let after = visit_grown c.args.log.now.inputs c.args.log.now.lines c.args.names.now c.args.place c.args.i c.args.assigned.now c.face.new.watches e c.assign.new.self stands c.in_ok-assign.ensures.trail c.in_ok-assign.ensures.letters at.visiting in
+    visit_all c.args.log.now.inputs c.args.log.now.lines c.args.names.now c.args.place c.args.i c.assign.new.self c.face.new.watches after
 
 pub returns-clause-found : goal.returns-clause-found
 returns-clause-found c =
@@ -151,8 +157,11 @@ returns-clause-found c =
     let stands : StandsAt c.args.log.now.inputs c.args.log.now.lines c.args.assigned.now.trail e =
     subst (λ n. StandsAt c.args.log.now.inputs c.args.log.now.lines c.args.assigned.now.trail (make (get_or c.clause.result.now 0 blank) n)) (sym c.level-level.ensures)
     (subst (λ u. StandsAt c.args.log.now.inputs c.args.log.now.lines c.args.assigned.now.trail (make u (get_or c.args.assigned.now.trail (length c.args.assigned.now.trail - 1) blank_entry).level)) (sym first) stands_first) in
-    let after = visit_grown c.args.log.now.inputs c.args.log.now.lines c.args.names.now c.args.place (c.args.i + 1) c.args.assigned.now c.face.new.watches e c.assign.new.self stands c.in_ok-assign.ensures.trail c.in_ok-assign.ensures.letters at.visiting in
-    at_assigned c.args.log.now.inputs c.args.log.now.lines c.args.names.now c.args.place c.args.i c.args.assigned.now c.face.new.watches c.watcher-clause.result at e c.assign.new.self stands first c.in_ok-assign.ensures.trail c.in_ok-assign.ensures.letters
+    let after = visit_grown c.args.log.now.inputs c.args.log.now.lines c.args.names.now c.args.place c.args.i c.args.assigned.now c.face.new.watches e c.assign.new.self stands c.in_ok-assign.ensures.trail c.in_ok-assign.ensures.letters at.visiting in (
+      at_assigned c.args.log.now.inputs c.args.log.now.lines c.args.names.now c.args.place c.args.i c.args.assigned.now c.face.new.watches c.watcher-clause.result at e c.assign.new.self stands first c.in_ok-assign.ensures.trail c.in_ok-assign.ensures.letters,
+      list_length_grown c.args.assigned.now.trail c.assign.new.self.trail e c.args.place c.face.new.watches c.requires.visiting.within c.in_ok-assign.ensures.trail
+          ∙ list_length_same c.args.assigned.now.trail c.args.place c.args.watches.now c.face.new.watches (faced_lists c.args.watches.now c.face.new.watches c.watcher-clause.result c.opposite-falsified.result c.face.ensures),
+    )
 
 pub returns-then-holds-clause-sure : goal.returns-then-holds-clause-sure
 returns-then-holds-clause-sure c =
