@@ -205,9 +205,9 @@ impl Choices {
         self.bump = self.bump >> 40 | 1;
     }
 
-    /// Lets later bumps count more.
+    /// Lets later bumps count more, by a ninth.
     pub fn decay(&mut self) {
-        self.bump = self.bump.saturating_add(self.bump / 16 + 1);
+        self.bump = self.bump.saturating_add(self.bump / 9 + 1);
         if self.bump > 1 << 60 {
             self.rescale();
         }

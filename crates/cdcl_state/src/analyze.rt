@@ -48,12 +48,12 @@ pub fn clause_of<'a>(view: &LogView<'a>, hint: Hint) -> &'a [Literal]
     }
 }
 
-/// Counts a letter that is marked anew and stands on the level of the cut.
-fn count(assigned: &Assigned, cut: Cut, place: usize, open: &mut usize) {
+/// Counts a letter that is marked anew, if its level is that of the cut.
+fn count(cut: Cut, reached: usize, open: &mut usize) {
     match cut {
         Cut::Decisions => {}
         Cut::FirstUnique(level) => {
-            if assigned.level_at(place) == level {
+            if reached == level {
                 *open = open.saturating_add(1);
             }
         }
@@ -79,7 +79,9 @@ fn mark_letter(
         return Ok(());
     }
     let place = assigned.place_of(letter);
-    count(assigned, cut, place, open);
+    let level = assigned.level_at(place);
+    count(cut, level, open);
+    marks.join(level);
     marks.mark(letter, place)?;
     Ok(())
 }
@@ -113,10 +115,11 @@ fn resolves(
     cut: Cut,
     entry: Entry,
     hint: Hint,
-    marks: &Marks,
+    marks: &mut Marks,
     open: &mut usize,
 ) -> bool
-    ensures { cut ≡ Decisions → result ≡ true }
+    ensures all { cut ≡ Decisions → result ≡ true }
+    ensures same { marks.new ≡ marks.old }
 {
     match cut {
         Cut::Decisions => {
@@ -225,7 +228,7 @@ pub fn explain(
 {
     assigned.told();
     let view = log.view();
-    marks.begin()?;
+    marks.begin();
     let mut open: usize = 0;
     let mut learnt = Learnt {
         clause: Vec::new(alloc),
@@ -270,7 +273,7 @@ pub fn explain_forced(
 {
     assigned.told();
     let view = log.view();
-    marks.begin()?;
+    marks.begin();
     let mut open: usize = 0;
     let mut learnt = Learnt {
         clause: Vec::new(alloc),

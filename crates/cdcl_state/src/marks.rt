@@ -1,6 +1,7 @@
 // The letters that an analysis has come to, and the places of the trail that it has still to go over, the last one first.
 // A letter is marked by the number of the analysis, so that the next one begins with no marks, whatever became of this one.
-ghost use Rattle.std.specs.Prelude.{◌≡◌, ℕ, ◌+◌, ◌<◌, ◌≤◌, [], ◌⊎◌, ◌↔◌, Contains, length, IsTrue, MatchOption, OnOk};
+// What the analysis found out of other letters is remembered in the same way; nothing is promised of that.
+ghost use Rattle.std.specs.Prelude.{◌≡◌, ℕ, ◌+◌, ◌<◌, ◌≤◌, [], ◌⊎◌, ◌↔◌, All, Contains, length, IsTrue, MatchOption, OnOk};
 ghost use Rattle.cdcl_state.specs.Marks.{IsMarked, IsNext};
 
 use std::alloc::{AllocError, Global};
@@ -11,11 +12,15 @@ use std::marker::Model;
 #[derive(Drop)]
 pub struct Marks {
     /// The number of the analysis that marked a letter last.
-    stamps: Vec<u64>,
-    /// The number of this analysis.
-    stamp: u64,
+    stamps: Vec<u32>,
+    /// The number of this analysis. It is even.
+    stamp: u32,
     /// Places of the trail that wait.
     waiting: BinaryHeap<usize>,
+    /// The number of the analysis that asked last whether a letter's value follows, and one more where it does.
+    outcomes: Vec<u32>,
+    /// The levels on which a marked letter stands, modulo 64, one bit each.
+    levels: u64,
 }
 
 impl Model for Marks {
@@ -40,6 +45,8 @@ impl Marks {
             stamps: Vec::new(alloc),
             stamp: 0,
             waiting: BinaryHeap::new(alloc),
+            outcomes: Vec::new(alloc),
+            levels: 0,
         }
     }
 
@@ -48,24 +55,27 @@ impl Marks {
         ensures kept { length self.old.stamps ≤ length self.new.stamps }
         ensures room { OnOk result (length self.new.stamps ≡ length self.old.stamps + 1) }
     {
+        self.outcomes.push(0)?;
         self.stamps.push(0)?;
         Ok(())
     }
 
     /// Begins an analysis: no letter is marked, and no place waits.
-    pub fn begin(&mut self) -> Result<(), AllocError>
+    pub fn begin(&mut self)
         ensures room { length self.new.stamps ≡ length self.old.stamps }
-        ensures none { OnOk result ((x : ℕ) → ¬ IsMarked self.new x) }
-        ensures empty { OnOk result (self.new.waiting ≡ []) }
+        ensures none { (x : ℕ) → ¬ IsMarked self.new x }
+        ensures empty { self.new.waiting ≡ [] }
     {
-        match self.stamp.checked_add(1) {
-            None => {
-                return Err(AllocError);
-            }
+        self.waiting.clear();
+        self.levels = 0;
+        match self.stamp.checked_add(2) {
             Some(stamp) => {
                 self.stamp = stamp;
-                self.waiting.clear();
-                return Ok(());
+            }
+            None => {
+                clear(&mut self.stamps);
+                clear(&mut self.outcomes);
+                self.stamp = 2;
             }
         }
     }
@@ -104,6 +114,40 @@ impl Marks {
         self.stamps[letter] = self.stamp;
     }
 
+    /// Notes that a marked letter stands on the level.
+    pub fn join(&mut self, level: usize)
+        ensures { self.new ≡ self.old }
+    {
+        self.levels |= 1 << (level % 64) as u32;
+    }
+
+    /// Whether a marked letter may stand on the level.
+    pub fn may_have(&self, level: usize) -> bool {
+        self.levels >> (level % 64) as u32 & 1 != 0
+    }
+
+    /// Whether the letter's value follows, if this analysis has asked.
+    pub fn outcome(&self, letter: usize) -> Option<bool> {
+        match self.outcomes.get(letter) {
+            None => None,
+            Some(outcome) => {
+                if *outcome < self.stamp {
+                    return None;
+                }
+                Some(*outcome != self.stamp)
+            }
+        }
+    }
+
+    /// Remembers whether the letter's value follows.
+    pub fn remember(&mut self, letter: usize, follows: bool)
+        ensures { self.new ≡ self.old }
+    {
+        if letter < self.outcomes.len() {
+            self.outcomes[letter] = self.stamp.saturating_add(follows as u32);
+        }
+    }
+
     /// The last place below `end` that waits. Those from `end` on wait no longer.
     pub fn pop(&mut self, end: usize) -> Option<usize>
         ensures room { length self.new.stamps ≡ length self.old.stamps }
@@ -130,5 +174,15 @@ impl Marks {
         }
         self.stamps[letter] = 0;
         true
+    }
+}
+
+/// Sets all numbers to 0, so that analyses can be counted from the beginning.
+fn clear(stamps: &mut [u32])
+    ensures size { length stamps.new ≡ length stamps.old }
+    ensures zero { All (λ s. s ≡ 0) stamps.new }
+{
+    for i in 0..stamps.len() {
+        stamps[i] = 0;
     }
 }

@@ -1,14 +1,17 @@
-// A learnt clause without what follows from the rest of it: an entry of a lower level is resolved away where each literal of its
-// reason is marked, or on level 0, or follows from such ones in turn, up to a few steps; the walk goes on to each of these. After
-// Sorensson and Biere, Minimizing learned clauses (2009). Nothing is promised of it but safety.
+// A learnt clause without what follows from the rest of it: an entry of a lower level is resolved away where each other literal of
+// its reason is marked, or on level 0, or follows from such ones in turn; the walk goes on to each of these. What follows and what
+// doesn't is remembered for one analysis, so that each letter is asked once, and a letter on a level of which the clause has nothing
+// is not asked at all. After Sorensson and Biere, Minimizing learned clauses (2009). Nothing is promised of it but safety.
+ghost use Rattle.std.specs.Prelude.{◌≡◌};
+
 use crate::assigned::Assigned;
 use crate::marks::Marks;
 use crate::unmark::clause_at;
 use clause_log::LogView;
 use cnf_base::{Hint, Literal};
 
-/// How many reasons deep a literal may follow.
-const STEPS: u32 = 4;
+/// How many reasons deep a letter may follow.
+const STEPS: u32 = 1000;
 
 /// Whether each literal of the reason but that of the letter is marked, or follows from literals that are.
 pub fn is_covered(
@@ -16,8 +19,13 @@ pub fn is_covered(
     view: &LogView<'_>,
     letter: usize,
     hint: Hint,
-    marks: &Marks,
-) -> bool {
+    marks: &mut Marks,
+) -> bool
+    ensures { marks.new ≡ marks.old }
+{
+    if marks.outcome(letter) == Some(true) {
+        return true;
+    }
     follows(assigned, view, letter, hint, marks, STEPS)
 }
 
@@ -28,9 +36,11 @@ fn follows(
     view: &LogView<'_>,
     letter: usize,
     hint: Hint,
-    marks: &Marks,
+    marks: &mut Marks,
     steps: u32,
-) -> bool {
+) -> bool
+    ensures { marks.new ≡ marks.old }
+{
     match clause_at(view, hint) {
         None => false,
         Some(clause) => all_follow(assigned, view, letter, clause, marks, steps),
@@ -43,9 +53,11 @@ fn all_follow(
     view: &LogView<'_>,
     letter: usize,
     clause: &[Literal],
-    marks: &Marks,
+    marks: &mut Marks,
     steps: u32,
-) -> bool {
+) -> bool
+    ensures { marks.new ≡ marks.old }
+{
     for literal in clause {
         let other = literal.letter.0 as usize;
         if other != letter && !is_given(assigned, view, other, marks, steps) {
@@ -61,17 +73,31 @@ fn is_given(
     assigned: &Assigned,
     view: &LogView<'_>,
     letter: usize,
-    marks: &Marks,
+    marks: &mut Marks,
     steps: u32,
-) -> bool {
-    if marks.has(letter) || assigned.level_of(letter) == 0 {
+) -> bool
+    ensures { marks.new ≡ marks.old }
+{
+    if marks.has(letter) {
         return true;
     }
-    if steps == 0 {
+    let level = assigned.level_of(letter);
+    if level == 0 {
+        return true;
+    }
+    match marks.outcome(letter) {
+        Some(known) => return known,
+        None => {}
+    }
+    if steps == 0 || !marks.may_have(level) {
         return false;
     }
     match assigned.reason_of(letter) {
         None => false,
-        Some(hint) => follows(assigned, view, letter, hint, marks, steps - 1),
+        Some(hint) => {
+            let covered = follows(assigned, view, letter, hint, marks, steps - 1);
+            marks.remember(letter, covered);
+            covered
+        }
     }
 }

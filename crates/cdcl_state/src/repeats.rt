@@ -27,8 +27,6 @@ pub fn repeats(marks: &mut Marks, clause: &[Literal]) -> bool
     ensures size { length marks.new.stamps ≡ length marks.old.stamps }
     ensures apart { result ≡ false → AreApart clause.now }
 {
-    match marks.begin() {
-        Ok(()) => meets_marked(marks, clause),
-        Err(_) => true,
-    }
+    marks.begin();
+    meets_marked(marks, clause)
 }

@@ -49,4 +49,4 @@ returns-clause-decided c = λ is_cut.
 
 -- no letter was marked before the clause's letters were
 pub walk-requires-clause-waiting : goal.walk-requires-clause-waiting
-walk-requires-clause-waiting c = c.in_ok-mark.ensures.waiting c.len.result (λ j low inside is. absurd (c.in_ok-begin.ensures.none _ is))
+walk-requires-clause-waiting c = c.in_ok-mark.ensures.waiting c.len.result (λ j low inside is. absurd (c.begin.ensures.none _ is))

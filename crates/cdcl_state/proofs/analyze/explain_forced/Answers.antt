@@ -76,4 +76,4 @@ returns-clause-decided c =
 
 -- no letter was marked before the clause's letters were
 pub walk-requires-clause-waiting : goal.walk-requires-clause-waiting
-walk-requires-clause-waiting c = c.in_ok-mark.ensures.waiting c.args.place (λ j low inside is. absurd (c.in_ok-begin.ensures.none _ is))
+walk-requires-clause-waiting c = c.in_ok-mark.ensures.waiting c.args.place (λ j low inside is. absurd (c.begin.ensures.none _ is))

@@ -1,11 +1,11 @@
-use Rattle.std.proofs.Common.{◌≡◌, ◌<◌, length, get_or, All, Some, sym, ◌∙◌, subst, arith}
+use Rattle.std.proofs.Common.{◌≡◌, ℕ, ◌<◌, length, get_or, All, Some, sym, ap, ◌∙◌, subst, arith}
 use mathlib.Core.Bool.{false≢true}
 use Rattle.std.proofs.lemmas.List.{get_or_default}
 use Rattle.cnf_base.specs.Step.{named}
 use Rattle.clause_log.specs.LogValue.{LogValue}
 use Rattle.cdcl_state.specs.Learnt.{blank_entry, IsDecision}
-use Rattle.cdcl_state.specs.Analysis.{IsBelow}
-use Rattle.cdcl_state.specs.Marks.{IsMarked}
+use Rattle.cdcl_state.specs.Analysis.{IsBelow, AreWaiting}
+use Rattle.cdcl_state.specs.Marks.{MarksValue, IsMarked}
 use Rattle.cdcl_state.proofs.Bridge.{named_has}
 use Rattle.cdcl_state.proofs.Steps.{still_waiting, like_passed, like_ended, like_keep, like_resolve, like_decided}
 use Rattle.cdcl_state.proofs.analyze.walk.Goals as goal
@@ -36,14 +36,16 @@ down-preserved-then-resolves c =
     let old = c.down.marks in
     let popped = c.pop.new.self in
     let after = c.mark.new.marks in
+    let kept = subst (λ (m : MarksValue). (x : ℕ) → IsMarked m x → IsMarked after x) c.resolves.ensures.same c.in_ok-mark-in-Some-reason.ensures.kept in
+    let waits = subst (λ (m : MarksValue). (end : ℕ) → AreWaiting trail end m → AreWaiting trail end after) c.resolves.ensures.same c.in_ok-mark-in-Some-reason.ensures.waiting in
     record {
       walked = λ t like start. like_resolve log.inputs log.lines trail t c.args.from k c.entry-entry.result like under entry (IsMarked popped) _ _ _
           (like_passed trail c.down.end k old popped c.down.invariant.waiting c.pop.ensures.marks next log.inputs log.lines t c.args.from like fits c.requires.from _ _ _ (c.down.invariant.walked t like start))
-          letters (IsMarked after) c.in-Some-reason.hint clause _ _ _ c.in-Some-reason.is is c.requires.known_inputs c.requires.known_lines c.requires.few c.in_ok-mark-in-Some-reason.ensures.kept c.in_ok-mark-in-Some-reason.ensures.all
+          letters (IsMarked after) c.in-Some-reason.hint clause _ _ _ c.in-Some-reason.is is c.requires.known_inputs c.requires.known_lines c.requires.few kept c.in_ok-mark-in-Some-reason.ensures.all
           c.in_ok-cite-in-Some-reason.ensures.clause c.in_ok-cite-in-Some-reason.ensures.hints c.in_ok-cite-in-Some-reason.ensures.places;
       decided = λ t like is_cut start. subst (All (IsDecision t)) (sym c.in_ok-cite-in-Some-reason.ensures.places) (c.down.invariant.decided t like is_cut start);
-      size = c.mark.ensures.size ∙ c.pop.ensures.room ∙ c.down.invariant.size;
-      waiting = c.in_ok-mark-in-Some-reason.ensures.waiting k (still_waiting trail c.down.end k old popped c.down.invariant.waiting c.pop.ensures.marks next (omega (arith, fits, c.requires.from)));
+      size = c.mark.ensures.size ∙ ap (λ (m : MarksValue). length m.stamps) c.resolves.ensures.same ∙ c.pop.ensures.room ∙ c.down.invariant.size;
+      waiting = waits k (still_waiting trail c.down.end k old popped c.down.invariant.waiting c.pop.ensures.marks next (omega (arith, fits, c.requires.from)));
       low = omega (arith, next.low, fits);
     }
 
@@ -59,13 +61,14 @@ down-preserved-in-Some-reason c =
     let entry : c.entry-entry.result ≡ get_or trail k blank_entry = c.entry-entry.ensures ∙ get_or_default trail k _ blank_entry low in
     let old = c.down.marks in
     let popped = c.pop.new.self in
+    let same = c.resolves.ensures.same in
     record {
-      walked = λ t like start. like_keep log.inputs log.lines trail t c.args.from k c.entry-entry.result like under entry (IsMarked popped) _ _ _
+      walked = λ t like start. rw same (like_keep log.inputs log.lines trail t c.args.from k c.entry-entry.result like under entry (IsMarked popped) _ _ _
           (like_passed trail c.down.end k old popped c.down.invariant.waiting c.pop.ensures.marks next log.inputs log.lines t c.args.from like fits c.requires.from _ _ _ (c.down.invariant.walked t like start))
-          c.opposite.result _ _ _ c.opposite.ensures c.in_ok-keep-in-Some-reason.ensures.clause c.in_ok-keep-in-Some-reason.ensures.hints c.in_ok-keep-in-Some-reason.ensures.places;
-      decided = λ t like is_cut start. absurd (false≢true (sym c.if-resolves.false ∙ c.resolves.ensures is_cut));
-      size = c.pop.ensures.room ∙ c.down.invariant.size;
-      waiting = still_waiting trail c.down.end k old popped c.down.invariant.waiting c.pop.ensures.marks next (omega (arith, fits, c.requires.from));
+          c.opposite.result _ _ _ c.opposite.ensures c.in_ok-keep-in-Some-reason.ensures.clause c.in_ok-keep-in-Some-reason.ensures.hints c.in_ok-keep-in-Some-reason.ensures.places);
+      decided = λ t like is_cut start. absurd (false≢true (sym c.if-resolves.false ∙ c.resolves.ensures.all is_cut));
+      size = ap (λ (m : MarksValue). length m.stamps) same ∙ c.pop.ensures.room ∙ c.down.invariant.size;
+      waiting = rw same (still_waiting trail c.down.end k old popped c.down.invariant.waiting c.pop.ensures.marks next (omega (arith, fits, c.requires.from)));
       low = omega (arith, next.low, fits);
     }
 
