@@ -14,10 +14,11 @@ use Rattle.ltl_closure.specs.Closure.{nexts, yesterdays, eventualities, argument
 use Rattle.ltl_closure.specs.Run.{States, IsRun, val, carry, is_pending, is_fulfilled, IsFulfilledIn, IsAccepted, Loop, Triple, Pair, IsUnpruned, IsVerdict, undecided, Undecided, bound}
 use Rattle.ltl_closure.proofs.Lists.{Contains-nil, Contains-cons_cases, Contains-here, Contains-there}
 use Rattle.ltl_word.proofs.Search.{first_or_none, ×_decided, →_decided, IsTrue_decided}
+use Rattle.ltl_run.specs.Repeated.{IsAscending, HaveCarry}
 use Rattle.ltl_run.proofs.Carry.{carry-from}
 use Rattle.ltl_run.proofs.Splicing.{run_prefix}
 use Rattle.ltl_run.proofs.Shorter.{one_pending}
-use Rattle.ltl_run.proofs.Crowd.{IsAscending, places, length-places, places_within, IsAscending-places, Agree, crowd, count_by-lt}
+use Rattle.ltl_run.proofs.Crowd.{places, length-places, places_within, IsAscending-places, Agree, crowd, count_by-lt}
 
 -- each member has it, or one has not
 pub member_or_all : {X : Type 0} (P : X → Type 0) → ((x : X) → Dec (P x)) → (xs : List X) → ((x : X) × Contains xs x × (P x → ⊥)) ⊎ ((x : X) → Contains xs x → P x)
@@ -165,6 +166,20 @@ bounded f k r run open' unpruned = elim (cases_lt k (bound f Kinds.Infinite)) [
       let few = carries_few f k r run open' unpruned w.0 w.1 (λ y c. let lt = w.3 y c in omega arith) w.4 in
       absurd (omega arith)
 ]
+
+-- in an unpruned run none of whose fronts is accepted, each carry comes at most e + 1 times
+pub carry_comes_few : (f : Formula) (k : ℕ) (r : States) → IsRun f k r → ((i : ℕ) → i ≤ k → IsAccepted f r i Kinds.Infinite → ⊥) → IsUnpruned f r k Kinds.Infinite → (c : List Bool) (states : List ℕ) → HaveCarry f r k c states
+    → length states ≤ length (eventualities f) + 1
+carry_comes_few f k r run open' unpruned c states have = carries_few f k r run open' unpruned states have.ascending have.within (λ y z a b. have.one y a ∙ sym (have.one z b))
+
+-- and in the finite kind once
+pub carry_comes_once : (f : Formula) (k : ℕ) (r : States) → IsUnpruned f r k Kinds.Finite → (c : List Bool) (states : List ℕ) → HaveCarry f r k c states → length states ≤ 1
+carry_comes_once f k r unpruned c [] have = omega arith
+carry_comes_once f k r unpruned c (x ∷ []) have = omega arith
+carry_comes_once f k r unpruned c (x ∷ y ∷ ys) have =
+    let cx = Contains-here x (y ∷ ys) in
+    let cy = Contains-there x (y ∷ ys) y (Contains-here y ys) in
+    absurd (unpruned y (have.within y cy) (Pair x (have.ascending.0 y (Contains-here y ys)) (have.one x cx ∙ sym (have.one y cy))))
 
 pub bounded_finite : (f : Formula) (k : ℕ) (r : States) → IsRun f k r → IsUnpruned f r k Kinds.Finite → k < bound f Kinds.Finite
 bounded_finite f k r run unpruned = elim (cases_lt k (bound f Kinds.Finite)) [

@@ -20,7 +20,7 @@ use Rattle.ltl_run.specs.TraceOf.{Shows, AreShown}
 use Rattle.ltl_run.proofs.Letters.{letters_placed}
 use Rattle.ltl_run.proofs.Naming.{the_name, letter_names_are, letters_differ}
 
-letter_of : (e : Norm) → IsTrue (is_letter e) → (p : Atom) × (e ≡ NLetter p)
+pub letter_of : (e : Norm) → IsTrue (is_letter e) → (p : Atom) × (e ≡ NLetter p)
 letter_of (NLetter p) h = (p, refl)
 letter_of (NConst b) h = cc
 letter_of (NNotLetter p) h = cc

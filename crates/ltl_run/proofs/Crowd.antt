@@ -3,11 +3,7 @@ use Rattle.std.proofs.Common.{◌≡◌, ℕ, zero, suc, ◌+◌, ◌*◌, ◌^�
 use Rattle.std.proofs.lemmas.Bool.{cases_lt, not-true}
 use Rattle.std.proofs.lemmas.List.Sums.{sum_by-cons}
 use Rattle.ltl_closure.proofs.Lists.{Contains-nil, Contains-cons_cases, Contains-from_filter}
-
--- each place stands before those after it
-abbrev pub IsAscending : List ℕ → Type 0
-IsAscending [] = Unit {0}
-IsAscending (x ∷ xs) = ((y : ℕ) → Contains xs y → x < y) × IsAscending xs
+use Rattle.ltl_run.specs.Repeated.{IsAscending}
 
 ascending_case : (b : Bool) (x : ℕ) (rest : List ℕ) → ((y : ℕ) → Contains rest y → x < y) → IsAscending rest → IsAscending (cond b (x ∷ rest) rest)
 ascending_case true x rest h t = (h, t)

@@ -17,3 +17,5 @@ pub mod Naming
 pub mod Choosing
 pub mod Collecting
 pub mod Closed
+pub mod PlainNames
+pub mod Traces

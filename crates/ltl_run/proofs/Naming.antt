@@ -1,5 +1,5 @@
 -- The names that the code collects are those of the closure's letters, and no two letters have one name.
-use Rattle.std.proofs.Common.{◌≡◌, ℕ, zero, suc, ◌-◌, ◌<◌, ◌^◌, true, false, List, [], ◌∷◌, ◌++◌, length, get_or, filter, map, Option, Some, None, Contains, All, refl, sym, ◌∙◌, ap, subst, arith}
+use Rattle.std.proofs.Common.{◌≡◌, ℕ, zero, suc, ◌-◌, ◌<◌, true, false, List, [], ◌∷◌, ◌++◌, length, get_or, filter, map, Option, Some, None, Contains, All, refl, sym, ◌∙◌, ap, subst, arith}
 use Rattle.std.specs.Fmt.{decimal}
 use Rattle.std.proofs.lemmas.Fmt.{decimal_injective}
 use Rattle.std.proofs.lemmas.List.{append_cancel_right}
@@ -14,6 +14,7 @@ use Rattle.ltl_closure.specs.Entries.{place_in, StandsAmong, AreEntries}
 use Rattle.ltl_closure.specs.declared.entry.Entry.{Entry}
 use Rattle.ltl_closure.specs.declared.entry.Entry.TheVariants as Is
 use Rattle.ltl_closure.proofs.Places.{entry_place, place_within, place_from_one}
+use Rattle.ltl_run.specs.Plain.{IsPlainLetter}
 use Rattle.ltl_run.specs.States.{is_letter, letters}
 use Rattle.ltl_run.specs.Shown.{entry_name, name_before, entry_names, IsSmall}
 
@@ -69,43 +70,39 @@ module _ (known : Names) (kept : List Norm) where
       ap (λ o. name_before o (entry_names known xs)) (stands_name e x (h zero (omega arith)))
       ∙ one_more e es (entry_names known xs) (names_agree es xs (omega arith) (λ k lt. h (suc k) (omega arith)))
 
+brace_not_plain : (bytes rest : List ℕ) → IsPlain bytes → bytes ≡ 123 ∷ rest → ⊥
+brace_not_plain [] rest h e = cc
+brace_not_plain (b ∷ bytes) rest h e = h (cc)
+
+same_digits : (m n : ℕ) → name_of (Fresh m) ≡ name_of (Fresh n) → decimal m ≡ decimal n
+same_digits m n e = append_cancel_right (decimal m) (decimal n) (125 ∷ []) (tails (decimal m ++ 125 ∷ []) (decimal n ++ 125 ∷ []) e)
+  where
+    tails : (xs ys : List ℕ) → 123 ∷ xs ≡ 123 ∷ ys → xs ≡ ys
+    tails xs ys e = cc
+
+-- two letters with one name are one
+pub one_name : (p q : Atom) → IsPlainLetter p → IsPlainLetter q → name_of p ≡ name_of q → p ≡ q
+one_name (Name a) (Name b) h k e = ap Name e
+one_name (Name a) (Fresh n) h k e = absurd (brace_not_plain a _ h e)
+one_name (Fresh m) (Name b) h k e = absurd (brace_not_plain b _ k (sym e))
+one_name (Fresh m) (Fresh n) h k e = ap Fresh (decimal_injective m n (omega arith) (omega arith) (same_digits m n e))
+
 module _ (known : Names) (f : Formula) (entries : List Entry) (are : AreEntries known f entries) where
   pub letter_names_are : entry_names known entries ≡ map the_name (letters f)
   letter_names_are = names_agree known (closure f) (closure f) entries are.long are.each
 
   module _ (plain : (i : ℕ) → i < length known → IsPlain (get_or known i [])) (small : All IsSmall entries) where
-    -- a name that is no fresh letter's, or a number that fits
-    abbrev IsTold : Atom → Type 0
-    IsTold (Name bytes) = IsPlain bytes
-    IsTold (Fresh n) = n < 2 ^ 32
-
-    letter_told : (p : Atom) (x : Entry) → StandsAmong known (closure f) (NLetter p) x → IsSmall x → IsTold p
+    letter_told : (p : Atom) (x : Entry) → StandsAmong known (closure f) (NLetter p) x → IsSmall x → IsPlainLetter p
     letter_told (Name bytes) x h s = subst IsPlain h.3 (plain h.0 h.2)
     letter_told (Fresh n) x h s = subst IsSmall h s
 
-    told : (p : Atom) → Contains (closure f) (NLetter p) → IsTold p
+    told : (p : Atom) → Contains (closure f) (NLetter p) → IsPlainLetter p
     told p c =
         let k = place_in (closure f) (NLetter p) - 1 in
         let lt : place_in (closure f) (NLetter p) - 1 < length (closure f) = omega (arith, place_within (closure f) (NLetter p) c, place_from_one (closure f) (NLetter p)) in
         let n = are.long in
         letter_told p _ (subst (λ e. StandsAmong known (closure f) e (get_or entries (place_in (closure f) (NLetter p) - 1) Is.True)) (entry_place (closure f) (NLetter p) (NConst false) c) (are.each (place_in (closure f) (NLetter p) - 1) lt))
         (All-get_or IsSmall entries (place_in (closure f) (NLetter p) - 1) Is.True (omega arith) small)
-
-    brace_not_plain : (bytes rest : List ℕ) → IsPlain bytes → bytes ≡ 123 ∷ rest → ⊥
-    brace_not_plain [] rest h e = cc
-    brace_not_plain (b ∷ bytes) rest h e = h (cc)
-
-    same_digits : (m n : ℕ) → name_of (Fresh m) ≡ name_of (Fresh n) → decimal m ≡ decimal n
-    same_digits m n e = append_cancel_right (decimal m) (decimal n) (125 ∷ []) (tails (decimal m ++ 125 ∷ []) (decimal n ++ 125 ∷ []) e)
-      where
-        tails : (xs ys : List ℕ) → 123 ∷ xs ≡ 123 ∷ ys → xs ≡ ys
-        tails xs ys e = cc
-
-    one_name : (p q : Atom) → IsTold p → IsTold q → name_of p ≡ name_of q → p ≡ q
-    one_name (Name a) (Name b) h k e = ap Name e
-    one_name (Name a) (Fresh n) h k e = absurd (brace_not_plain a _ h e)
-    one_name (Fresh m) (Name b) h k e = absurd (brace_not_plain b _ k (sym e))
-    one_name (Fresh m) (Fresh n) h k e = ap Fresh (decimal_injective m n (omega arith) (omega arith) (same_digits m n e))
 
     -- two letters of the closure with one name are one
     pub letters_differ : (p q : Atom) → Contains (closure f) (NLetter p) → Contains (closure f) (NLetter q) → name_of p ≡ name_of q → p ≡ q

@@ -1,16 +1,21 @@
 -- What the laws of runs say. They are stated for both kinds of trace.
-use Rattle.std.specs.Prelude.{◌≡◌, ℕ, ◌+◌, ◌-◌, ◌*◌, ◌<◌, ◌≤◌, ◌↔◌, List, length}
+use Rattle.std.specs.Prelude.{◌≡◌, ℕ, ◌+◌, ◌-◌, ◌*◌, ◌<◌, ◌≤◌, ◌↔◌, Bool, List, length, All}
 use Rattle.ltl_syntax.specs.declared.node.Kind.{Kind}
+use Rattle.ltl_syntax.specs.declared.node.Kind.TheVariants as Kinds
 use Rattle.ltl_syntax.specs.Formula.{Formula}
+use Rattle.ltl_syntax.specs.Table.{Table, IsTable, tree_at}
 use Rattle.ltl_word.specs.declared.trace.Trace.{Trace}
 use Rattle.ltl_word.specs.declared.trace.Trace.TheVariants.{Infinite}
 use Rattle.ltl_word.specs.Trace.{Names, IsTrace, IsOfKind, IsPosition}
 use Rattle.ltl_word.specs.Holds.{Holds, Satisfies}
 use Rattle.ltl_word.specs.Depth.{past_depth}
 use Rattle.ltl_closure.specs.Norm.{Norm, NAnd, NOr, times, chain, some_in, every_in, formula_of, pos_of, neg_of}
+use Rattle.ltl_closure.specs.Closure.{eventualities}
 use Rattle.ltl_closure.specs.Run.{States, IsRun, IsAccepted, IsPrunedAt, IsUnpruned, HasAccepted, Verdict, IsVerdict, Sat, Unsat, Undecided, bound, carry, spliced, rotated}
 use Rattle.ltl_run.specs.declared.run_state.Close.{Close}
 use Rattle.ltl_run.specs.TraceOf.{ClosesTo, Accepts, GivesTrace}
+use Rattle.ltl_run.specs.Plain.{HasPlainNames, IsSmallNode}
+use Rattle.ltl_run.specs.Repeated.{HaveCarry}
 
 -- the normal form of a formula holds at the positions where the formula does
 abbrev pub NormalFormAgrees : Type 0
@@ -84,3 +89,33 @@ BoundFinds = (f : Formula) (kind : Kind) (limit : ℕ) (v : Verdict) (t : Trace)
 -- at each limit a formula has at most one verdict
 abbrev pub VerdictIsOne : Type 0
 VerdictIsOne = (f : Formula) (kind : Kind) (limit : ℕ) (v w : Verdict) → IsVerdict f kind limit v → IsVerdict f kind limit w → v ≡ w
+
+-- the formula of a table's node has plain names
+abbrev pub TreesHavePlainNames : Type 0
+TreesHavePlainNames = (t : Table) (number : ℕ) → IsTable t.nodes t.names → All IsSmallNode t.nodes → HasPlainNames (tree_at t number)
+
+-- an accepted run has a trace
+abbrev pub AcceptedRunsHaveTraces : Type 0
+AcceptedRunsHaveTraces = (f : Formula) (kind : Kind) (k : ℕ) (r : States) (close : Close) → HasPlainNames f → Accepts close f r k kind → (t : Trace) × GivesTrace f r k close t
+
+-- a trace of the kind satisfies the formula
+abbrev pub IsSatisfiable : Formula → Kind → Type 0
+IsSatisfiable f kind = (t : Trace) × IsTrace t × IsOfKind t kind × Satisfies t f
+
+-- where the verdict is SAT, a trace of the kind satisfies the formula
+abbrev pub SatIsSound : Type 0
+SatIsSound = (f : Formula) (kind : Kind) (limit k : ℕ) → HasPlainNames f → IsVerdict f kind limit (Sat k) → IsSatisfiable f kind
+
+-- at a limit of at least the bound the verdict is SAT exactly where a trace of the kind satisfies the formula
+abbrev pub SatIsExact : Type 0
+SatIsExact = (f : Formula) (kind : Kind) (limit : ℕ) (v : Verdict) → HasPlainNames f → bound f kind ≤ limit → IsVerdict f kind limit v
+    → ((k : ℕ) × (v ≡ Sat k)) ↔ IsSatisfiable f kind
+
+-- in an unpruned run none of whose fronts is accepted, a carry comes at most once more often than there are eventualities
+abbrev pub CarriesAreFew : Type 0
+CarriesAreFew = (f : Formula) (k : ℕ) (r : States) → IsRun f k r → ((i : ℕ) → i ≤ k → IsAccepted f r i Kinds.Infinite → ⊥) → IsUnpruned f r k Kinds.Infinite
+    → (c : List Bool) (states : List ℕ) → HaveCarry f r k c states → length states ≤ length (eventualities f) + 1
+
+-- in the finite kind it comes once
+abbrev pub CarriesComeOnce : Type 0
+CarriesComeOnce = (f : Formula) (k : ℕ) (r : States) → IsUnpruned f r k Kinds.Finite → (c : List Bool) (states : List ℕ) → HaveCarry f r k c states → length states ≤ 1

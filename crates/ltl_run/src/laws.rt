@@ -1,9 +1,10 @@
 //! Laws of runs. Each function is empty: its contract is the law, and a proof cites it by a call.
 //!
 //! The tableau is Reynolds' one-pass tree-shaped one (2016), as Geatti, Gigante and Montanari (2019) ask a solver for its branches.
-ghost use Rattle.ltl_run.specs.Laws.{NormalFormAgrees, NegationAgrees, RangesAreIterated, RunsSatisfy, RulesAccept, LassosRun, TracesRun, RunsAreCut, RunsAreRotated, PrunedRunsShorten, LeastRunsAreUnpruned, HaveUnpruned, UnsatIsSound, BoundSettles, BoundFinds, VerdictIsOne};
+ghost use Rattle.ltl_run.specs.Laws.{NormalFormAgrees, NegationAgrees, RangesAreIterated, RunsSatisfy, RulesAccept, LassosRun, TracesRun, RunsAreCut, RunsAreRotated, PrunedRunsShorten, LeastRunsAreUnpruned, HaveUnpruned, UnsatIsSound, BoundSettles, BoundFinds, VerdictIsOne, TreesHavePlainNames, AcceptedRunsHaveTraces, SatIsSound, SatIsExact, CarriesAreFew, CarriesComeOnce};
 
-/// At each position the normal form holds where the formula does, and that of its negation where the formula does not.
+/// At each position the normal form holds where the formula does, and that of its negation where the formula does not. That of a
+/// bounded operator is a request several times over.
 pub fn normal_form()
     ensures same { NormalFormAgrees }
     ensures negated { NegationAgrees }
@@ -53,4 +54,26 @@ pub fn bounded()
 /// The verdict is one.
 pub fn one_verdict()
     ensures { VerdictIsOne }
+{}
+
+/// No name of a table begins with `{`, so that its formulas' letters are told apart by their names.
+pub fn plain_names()
+    ensures { TreesHavePlainNames }
+{}
+
+/// An accepted run of a formula with plain names has a trace.
+pub fn traces_of_runs()
+    ensures { AcceptedRunsHaveTraces }
+{}
+
+/// SAT means that a trace of the kind satisfies the formula, and at the bound it comes exactly where one does.
+pub fn satisfiable()
+    ensures sound { SatIsSound }
+    ensures exact { SatIsExact }
+{}
+
+/// How often a carry comes in an unpruned run.
+pub fn carries()
+    ensures few { CarriesAreFew }
+    ensures once { CarriesComeOnce }
 {}
