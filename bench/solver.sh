@@ -76,7 +76,6 @@ fn are_consistent(literals: &[Literal]) -> bool
 
 /// Adds a clause, or asks.
 fn take(
-    alloc: Global,
     solver: &mut Solver,
     letters: u32,
     literals: &[Literal],
@@ -90,7 +89,7 @@ fn take(
         return Err(AllocError);
     }
     if !question {
-        match solver.add(alloc, literals) {
+        match solver.add(literals) {
             Ok(_) => return Ok(()),
             Err(_) => return Err(AllocError),
         }
@@ -98,7 +97,7 @@ fn take(
     if !are_consistent(literals) {
         return Err(AllocError);
     }
-    match solver.solve(alloc, literals) {
+    match solver.solve(literals) {
         Ok(Answer::Sat) => {
             counts.sat = counts.sat.saturating_add(1);
             return Ok(());
@@ -112,13 +111,13 @@ fn take(
 }
 
 /// Ends a number: a literal, or the end of the list.
-fn end(alloc: Global, solver: &mut Solver, letters: u32, reading: &mut Reading, counts: &mut Counts) -> Result<(), AllocError>
+fn end(solver: &mut Solver, letters: u32, reading: &mut Reading, counts: &mut Counts) -> Result<(), AllocError>
     requires { solver.old.letters ≡ letters }
     ensures { solver.new.letters ≡ letters }
 {
     reading.inside = false;
     if reading.number == 0 {
-        take(alloc, solver, letters, &reading.literals, reading.question, counts)?;
+        take(solver, letters, &reading.literals, reading.question, counts)?;
         reading.literals.truncate(0);
         reading.question = false;
         return Ok(());
@@ -133,7 +132,7 @@ fn end(alloc: Global, solver: &mut Solver, letters: u32, reading: &mut Reading, 
 }
 
 /// Reads one byte.
-fn step(alloc: Global, solver: &mut Solver, letters: u32, byte: u8, reading: &mut Reading, counts: &mut Counts) -> Result<(), AllocError>
+fn step(solver: &mut Solver, letters: u32, byte: u8, reading: &mut Reading, counts: &mut Counts) -> Result<(), AllocError>
     requires { solver.old.letters ≡ letters }
     ensures { solver.new.letters ≡ letters }
 {
@@ -151,7 +150,7 @@ fn step(alloc: Global, solver: &mut Solver, letters: u32, byte: u8, reading: &mu
         return Ok(());
     }
     if reading.inside {
-        return end(alloc, solver, letters, reading, counts);
+        return end(solver, letters, reading, counts);
     }
     Ok(())
 }
@@ -169,7 +168,7 @@ fn read(alloc: Global, solver: &mut Solver, letters: u32, text: &[u8], counts: &
         literals: Vec::new(alloc),
     };
     'bytes: for byte in text {
-        step(alloc, solver, letters, *byte, &mut reading, counts)?;
+        step(solver, letters, *byte, &mut reading, counts)?;
     }
     Ok(())
 }
@@ -200,7 +199,7 @@ fn rest(text: &[u8]) -> &[u8] {
 fn answer(alloc: Global, text: &[u8], counts: &mut Counts) -> Result<u64, AllocError> {
     let letters = first(text);
     let mut solver = Solver::new(alloc);
-    match solver.letters(alloc, letters) {
+    match solver.letters(letters) {
         Ok(()) => {}
         Err(_) => return Err(AllocError),
     }

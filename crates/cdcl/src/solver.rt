@@ -1,6 +1,6 @@
 // The solver as its callers see it: inputs, lines, known letters, and the values that were found last. What was learnt
-// in one question stays for the next.
-ghost use Rattle.std.specs.Prelude.{◌≡◌, ◌↔◌, ◌≤◌, ◌<◌, ◌+◌, List, [], length, All, IfOk, OnOk, OnErr, false, slice_index_or};
+// in one question stays for the next. Its memory is that of one allocator, which it keeps.
+ghost use Rattle.std.specs.Prelude.{◌≡◌, ◌↔◌, ◌⊎◌, ◌≤◌, ◌<◌, ◌+◌, List, [], length, All, IfOk, OnOk, OnErr, false, slice_index_or};
 ghost use Rattle.cnf_base.specs.declared.literal.Literal.{Literal};
 ghost use Rattle.cnf_base.specs.declared.literal.Hint.{Hint};
 ghost use Rattle.cnf_base.specs.Step.{IsHintedStep};
@@ -20,6 +20,7 @@ use std::marker::Model;
 /// Answers questions about clauses that are added one after another. Letters are numbered from 1.
 #[derive(Drop)]
 pub struct Solver {
+    alloc: Global,
     state: State,
     model: Vec<bool>,
 }
@@ -38,43 +39,48 @@ impl Solver {
         ensures { result ≡ record { letters = 0; log = record { inputs = []; lines = []; hints = [] }; model = [] } }
     {
         Solver {
+            alloc,
             state: State::new(alloc),
             model: Vec::new(alloc),
         }
     }
 
     /// Makes the letters from 1 to the count known.
-    pub fn letters(&mut self, alloc: Global, count: u32) -> Result<(), AllocError>
+    pub fn letters(&mut self, count: u32) -> Result<(), AllocError>
         requires { self.old.letters ≤ count }
         ensures known { OnOk result (self.new ≡ record { letters = count; log = self.old.log; model = [] }) }
         ensures refused { OnErr result (self.new ≡ self.old) }
     {
-        self.state.letters(alloc, count)?;
+        self.state.letters(self.alloc, count)?;
         self.model.truncate(0);
         Ok(())
     }
 
     /// Puts the clause behind the inputs, and answers its number in the log. After a refusal all is as before.
-    pub fn add(&mut self, alloc: Global, clause: &[Literal]) -> Result<u64, AllocError>
+    pub fn add(&mut self, clause: &[Literal]) -> Result<u64, AllocError>
         requires { All (IsKnown self.old.letters) clause.now }
         ensures added { IfOk result (λ number. (self.new ≡ record { letters = self.old.letters; log = with_input self.old.log clause.now; model = [] }) × (number ≡ length self.new.log.inputs)) }
         ensures refused { OnErr result (self.new ≡ self.old) }
     {
         // Without decisions few literals are false, so that a clause is seldom watched by one that is.
         self.state.reset();
-        let number = self.state.add(alloc, clause)?;
+        let number = self.state.add(self.alloc, clause)?;
         self.model.truncate(0);
         Ok(number)
     }
 
     /// Asks whether some assignment makes all inputs and assumptions true. The line that is answered otherwise has
     /// negations of assumptions alone. Lines that were learnt stay, also after a refusal.
-    pub fn solve(&mut self, alloc: Global, assumptions: &[Literal]) -> Result<Answer, AllocError>
+    pub fn solve(&mut self, assumptions: &[Literal]) -> Result<Answer, AllocError>
         requires known { All (IsKnown self.old.letters) assumptions.now }
         requires consistent { IsConsistent assumptions.now }
 
         ensures sat { IfOk result (λ answer. (answer ≡ Sat) ↔ IsSatisfiable self.old.log.inputs assumptions.now) }
         ensures answer { IfOk result (IsAnswer self.new assumptions.now) }
+
+        // Values are there after `Sat` alone.
+        ensures unset { IfOk result (λ answer. (answer ≡ Sat) ⊎ (self.new.model ≡ [])) }
+        ensures refused { OnErr result (self.new.model ≡ []) }
 
         // What stays, whatever is answered.
         ensures letters { self.new.letters ≡ self.old.letters }
@@ -84,11 +90,11 @@ impl Solver {
         ensures near { (clause : List Literal) (hints : List Hint) → IsNegated assumptions.now clause → IsHintedStep self.old.log.inputs self.old.log.lines greatest_u32 clause hints → length self.new.log.lines ≤ length self.old.log.lines + 1 }
     {
         self.model.truncate(0);
-        let answer = solve(&mut self.state, alloc, assumptions)?;
+        let answer = solve(&mut self.state, self.alloc, assumptions)?;
         self.state.bounded();
         match answer {
             Answer::Sat => {
-                let model = self.state.model(alloc)?;
+                let model = self.state.model(self.alloc)?;
                 self.model = model;
                 return Ok(answer);
             }

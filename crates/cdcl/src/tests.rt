@@ -97,7 +97,6 @@ fn are_negated(assumptions: &[Literal], literals: &[Literal]) -> bool {
 
 fn add(
     rt: &impl Abort,
-    alloc: Global,
     solver: &mut Solver,
     letters: u32,
     clause: &[Literal],
@@ -106,7 +105,7 @@ fn add(
     ensures { solver.new.letters ≡ letters }
 {
     assert!(rt; are_known(letters, clause));
-    match solver.add(alloc, clause) {
+    match solver.add(clause) {
         Ok(_) => Ok(()),
         Err(_) => Err(AllocError),
     }
@@ -115,7 +114,6 @@ fn add(
 /// Asks, and finds values that make the assumptions, these literals and the inputs true.
 fn grants(
     rt: &impl Abort,
-    alloc: Global,
     solver: &mut Solver,
     letters: u32,
     assumptions: &[Literal],
@@ -126,7 +124,7 @@ fn grants(
 {
     assert!(rt; are_known(letters, assumptions));
     assert!(rt; are_consistent(assumptions));
-    match solver.solve(alloc, assumptions) {
+    match solver.solve(assumptions) {
         Ok(Answer::Sat) => {
             assert!(rt; makes_all_true(solver, letters, assumptions));
             assert!(rt; makes_all_true(solver, letters, wanted));
@@ -144,7 +142,6 @@ fn grants(
 /// Asks, and finds a line of opposites of assumptions.
 fn refuses(
     rt: &impl Abort,
-    alloc: Global,
     solver: &mut Solver,
     letters: u32,
     assumptions: &[Literal],
@@ -154,7 +151,7 @@ fn refuses(
 {
     assert!(rt; are_known(letters, assumptions));
     assert!(rt; are_consistent(assumptions));
-    match solver.solve(alloc, assumptions) {
+    match solver.solve(assumptions) {
         Ok(Answer::Sat) => {
             assert!(rt; false);
             return Ok(());
@@ -203,9 +200,9 @@ fn take(
     let given = literals(alloc, row.1)?;
     let wanted = literals(alloc, row.2)?;
     match row.0 {
-        Call::Add => add(rt, alloc, solver, letters, &given),
-        Call::Grants => grants(rt, alloc, solver, letters, &given, &wanted),
-        Call::Refuses => refuses(rt, alloc, solver, letters, &given),
+        Call::Add => add(rt, solver, letters, &given),
+        Call::Grants => grants(rt, solver, letters, &given, &wanted),
+        Call::Refuses => refuses(rt, solver, letters, &given),
     }
 }
 
@@ -241,7 +238,7 @@ fn answers_in_turn(rt: HostRuntime) -> Result<(), Fail> {
         (Call::Refuses, &[], &[]),
     ];
     let mut solver = Solver::new(alloc);
-    solver.letters(alloc, 3)?;
+    solver.letters(3)?;
     play(&rt, alloc, &mut solver, 3, &rows)?;
     Ok(())
 }
@@ -261,8 +258,8 @@ fn takes_odd_clauses(rt: HostRuntime) -> Result<(), Fail> {
         (Call::Refuses, &[3], &[]),
     ];
     let mut solver = Solver::new(alloc);
-    grants(&rt, alloc, &mut solver, 0, &[], &[])?;
-    solver.letters(alloc, 3)?;
+    grants(&rt, &mut solver, 0, &[], &[])?;
+    solver.letters(3)?;
     play(&rt, alloc, &mut solver, 3, &rows)?;
     Ok(())
 }
@@ -280,7 +277,7 @@ fn answers_again_by_one_line(rt: HostRuntime) -> Result<(), Fail> {
     ];
     let again: [(Call, &[i32], &[i32]); 2] = [(Call::Refuses, &[], &[]), (Call::Refuses, &[], &[])];
     let mut solver = Solver::new(alloc);
-    solver.letters(alloc, 2)?;
+    solver.letters(2)?;
     play(&rt, alloc, &mut solver, 2, &first)?;
     let lines = solver.log().view().lines();
     play(&rt, alloc, &mut solver, 2, &again)?;
@@ -290,14 +287,13 @@ fn answers_again_by_one_line(rt: HostRuntime) -> Result<(), Fail> {
 }
 
 /// Pigeon p is in hole h where letter 4p + h is true: each of the five is in one of the four.
-fn house(rt: &impl Abort, alloc: Global, solver: &mut Solver) -> Result<(), AllocError>
+fn house(rt: &impl Abort, solver: &mut Solver) -> Result<(), AllocError>
     requires { solver.old.letters ≡ 20 }
     ensures { solver.new.letters ≡ 20 }
 {
     for p in 0..5_u32 {
         add(
             rt,
-            alloc,
             solver,
             20,
             &[
@@ -312,7 +308,7 @@ fn house(rt: &impl Abort, alloc: Global, solver: &mut Solver) -> Result<(), Allo
 }
 
 /// No two pigeons are in one hole.
-fn keep_apart(rt: &impl Abort, alloc: Global, solver: &mut Solver) -> Result<(), AllocError>
+fn keep_apart(rt: &impl Abort, solver: &mut Solver) -> Result<(), AllocError>
     requires { solver.old.letters ≡ 20 }
     ensures { solver.new.letters ≡ 20 }
 {
@@ -321,7 +317,7 @@ fn keep_apart(rt: &impl Abort, alloc: Global, solver: &mut Solver) -> Result<(),
         let p = number % 5;
         let q = number / 5 % 5;
         if q < p {
-            add(rt, alloc, solver, 20, &[minus(4 * p + h), minus(4 * q + h)])?;
+            add(rt, solver, 20, &[minus(4 * p + h), minus(4 * q + h)])?;
         }
     }
     Ok(())
@@ -381,10 +377,10 @@ fn is_step(
 fn keeps_pigeons_apart(rt: HostRuntime) -> Result<(), Fail> {
     let alloc = rt.alloc();
     let mut solver = Solver::new(alloc);
-    solver.letters(alloc, 20)?;
-    house(&rt, alloc, &mut solver)?;
-    keep_apart(&rt, alloc, &mut solver)?;
-    refuses(&rt, alloc, &mut solver, 20, &[])?;
+    solver.letters(20)?;
+    house(&rt, &mut solver)?;
+    keep_apart(&rt, &mut solver)?;
+    refuses(&rt, &mut solver, 20, &[])?;
     let log = solver.into_log();
     let view = log.view();
     for index in 0..view.lines() {

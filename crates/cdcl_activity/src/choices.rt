@@ -1,17 +1,19 @@
 // Which literal is decided next: of the letters without a value one that stood in many recent conflicts, with the
-// value that it had last. Activities are whole numbers, kept in a binary heap. After Een and Sorensson, MiniSat (2003).
-// Nothing is promised of it but safety: who asks for a letter tests whether it has a value.
-ghost use Rattle.std.specs.Prelude.{◌≡◌};
+// value that it had last. Activities are whole numbers; those that wait are kept as a binary heap. After Een and Sorensson,
+// MiniSat (2003). Which one comes first is not promised: who asks for a letter tests whether it has a value.
+ghost use Rattle.std.specs.Prelude.{◌≡◌, ◌≢◌, ◌↔◌, ◌⊎◌, ℕ, ◌/◌, ◌<◌, [], length, MatchOption};
+ghost use Rattle.cdcl_activity.specs.Order.{IsWaiting};
+ghost use Rattle.cdcl_activity.specs.Choices.{IsOffered};
 
+use crate::order::Order;
 use cnf_base::{Letter, Literal};
 use std::alloc::{AllocError, Global};
+use std::marker::Model;
 
 /// Letters by their activity, the most active first, and the values that they had last.
 #[derive(Drop)]
 pub struct Choices {
-    heap: Vec<u32>,
-    /// Where a letter stands in the heap; `usize::MAX` for none.
-    places: Vec<usize>,
+    order: Order,
     activities: Vec<u64>,
     bump: u64,
     /// Whether the letter was false last.
@@ -20,11 +22,21 @@ pub struct Choices {
     held: u32,
 }
 
+impl Model for Choices {
+    ghost use Rattle.cdcl_activity.specs.Choices.{ChoicesValue};
+
+    ghost Value = { ChoicesValue };
+
+    ghost view = { λ a. record { order = a.order; held = a.held } };
+}
+
 impl Choices {
-    pub fn new(alloc: Global) -> Self {
+    /// No letters.
+    pub fn new(alloc: Global) -> Self
+        ensures { result ≡ record { order = record { letters = []; places = []; count = 0 }; held = 0 } }
+    {
         Choices {
-            heap: Vec::new(alloc),
-            places: Vec::new(alloc),
+            order: Order::new(alloc),
             activities: Vec::new(alloc),
             bump: 1,
             phases: Vec::new(alloc),
@@ -32,101 +44,118 @@ impl Choices {
         }
     }
 
-    /// Makes one more letter known.
+    /// Makes the next letter known, and lets it wait. There is no letter 0, and none behind the greatest number.
     pub fn letter(&mut self) -> Result<(), AllocError> {
-        self.places.push(usize::MAX)?;
+        let letter = self.order.letters();
+        if letter > 4294967295 {
+            return Ok(());
+        }
         self.activities.push(0)?;
         self.phases.push(true)?;
-        let letter = (self.activities.len() - 1) as u64;
-        if 0 < letter && letter < 4294967296 {
-            self.insert(letter as u32)?;
+        self.order.letter()?;
+        if letter > 0 {
+            self.insert(letter as u32);
         }
         Ok(())
     }
 
-    fn activity(&self, place: usize) -> u64 {
-        match self.heap.get(place) {
+    fn activity(&self, letter: u32) -> u64 {
+        match self.activities.get(letter as usize) {
             None => 0,
-            Some(letter) => match self.activities.get(*letter as usize) {
-                None => 0,
-                Some(activity) => *activity,
-            },
+            Some(activity) => *activity,
         }
     }
 
-    fn put(&mut self, place: usize, letter: u32) {
-        if place < self.heap.len() {
-            self.heap[place] = letter;
-        }
-        if (letter as usize) < self.places.len() {
-            self.places[letter as usize] = place;
-        }
+    /// Whether the letter at the first place is more active than that at the second.
+    fn is_above(&self, one: usize, two: usize) -> bool
+        requires one { one < self.now.order.count }
+        requires two { two < self.now.order.count }
+    {
+        self.activity(self.order.at(one)) > self.activity(self.order.at(two))
     }
 
-    fn exchange(&mut self, one: usize, two: usize) {
-        if one < self.heap.len() && two < self.heap.len() {
-            let a = self.heap[one];
-            let b = self.heap[two];
-            self.put(one, b);
-            self.put(two, a);
-        }
-    }
-
-    fn rise(&mut self, place: usize) {
+    /// Lets the letter at a place change with those above it while it is more active.
+    fn rise(&mut self, place: usize)
+        requires { place < self.old.order.count }
+        ensures size { length self.new.order.places ≡ length self.old.order.places }
+        ensures held { self.new.held ≡ self.old.held }
+        ensures waiting { (x : ℕ) → IsWaiting self.new.order x ↔ IsWaiting self.old.order x }
+    {
         let mut at = place;
-        for _ in 0..64 {
+        'up: for _ in 0..64 {
             if at == 0 {
                 return;
             }
             let above = (at - 1) / 2;
-            if self.activity(at) <= self.activity(above) {
+            if !self.is_above(at, above) {
                 return;
             }
-            self.exchange(at, above);
+            self.order.swap(at, above);
             at = above;
         }
     }
 
-    fn sink(&mut self, place: usize) {
+    /// The more active of the letters below a place.
+    fn below(&self, at: usize) -> usize
+        requires { at < self.now.order.count / 2 }
+        ensures { result < self.now.order.count }
+    {
+        let count = self.order.waiting();
+        let left = 2 * at + 1;
+        if left + 1 < count && self.is_above(left + 1, left) {
+            return left + 1;
+        }
+        left
+    }
+
+    /// Lets the letter at a place change with those below it while they are more active.
+    fn sink(&mut self, place: usize)
+        ensures size { length self.new.order.places ≡ length self.old.order.places }
+        ensures held { self.new.held ≡ self.old.held }
+        ensures waiting { (x : ℕ) → IsWaiting self.new.order x ↔ IsWaiting self.old.order x }
+    {
         let mut at = place;
-        for _ in 0..64 {
-            if at >= self.heap.len() / 2 {
+        'down: for _ in 0..64 {
+            if at >= self.order.waiting() / 2 {
                 return;
             }
-            let left = larger(self, 2 * at + 1);
-            if self.activity(left) <= self.activity(at) {
+            let below = self.below(at);
+            if !self.is_above(below, at) {
                 return;
             }
-            self.exchange(at, left);
-            at = left;
+            self.order.swap(at, below);
+            at = below;
         }
     }
 
-    /// Puts the letter in, if it is not there.
-    pub fn insert(&mut self, letter: u32) -> Result<(), AllocError> {
-        match self.places.get(letter as usize) {
-            None => return Ok(()),
-            Some(place) => {
-                if *place != usize::MAX {
-                    return Ok(());
-                }
-            }
+    /// Lets a letter wait, if it doesn't.
+    pub fn insert(&mut self, letter: u32)
+        ensures size { length self.new.order.places ≡ length self.old.order.places }
+        ensures held { self.new.held ≡ self.old.held }
+        ensures waiting { (x : ℕ) → IsWaiting self.new.order x ↔ (IsOffered self.old x letter ⊎ IsWaiting self.old.order x) }
+    {
+        if letter as usize >= self.order.letters() {
+            return;
         }
-        let place = self.heap.len();
-        self.heap.push(letter)?;
-        self.put(place, letter);
+        match self.order.place(letter) {
+            Some(_) => return,
+            None => {}
+        }
+        let place = self.order.insert(letter);
         self.rise(place);
-        Ok(())
     }
 
     /// The literal's letter lost its value: it may be decided again, as it was.
-    pub fn release(&mut self, literal: Literal) {
+    pub fn release(&mut self, literal: Literal)
+        ensures size { length self.new.order.places ≡ length self.old.order.places }
+        ensures held { self.new.held ≡ self.old.held }
+        ensures waiting { (x : ℕ) → IsWaiting self.new.order x ↔ (IsOffered self.old x literal.letter.0 ⊎ IsWaiting self.old.order x) }
+    {
         let letter = literal.letter.0 as usize;
         if letter < self.phases.len() {
             self.phases[letter] = literal.negated;
         }
-        // Where there is no memory the letter is found by the search through all of them.
-        let _ = self.insert(literal.letter.0);
+        self.insert(literal.letter.0);
     }
 
     /// The letter's literal that was true last.
@@ -142,63 +171,79 @@ impl Choices {
         }
     }
 
-    /// Puts the letter that was held ready back. Where there is no memory it is found by the search through all of them.
-    pub fn put_back(&mut self) {
+    /// Lets the letter that was held ready wait again.
+    pub fn put_back(&mut self)
+        ensures size { length self.new.order.places ≡ length self.old.order.places }
+        ensures held { self.new.held ≡ 0 }
+        ensures waiting { 0 < self.old.held → (x : ℕ) → IsWaiting self.new.order x ↔ (IsOffered self.old x self.old.held ⊎ IsWaiting self.old.order x) }
+        ensures none { self.old.held ≡ 0 → self.new ≡ self.old }
+    {
         if self.held != 0 {
-            let _ = self.insert(self.held);
+            let letter = self.held;
             self.held = 0;
+            self.insert(letter);
         }
     }
 
     /// Holds the letter ready.
-    pub fn hold(&mut self, letter: u32) {
+    pub fn hold(&mut self, letter: u32)
+        ensures order { self.new.order ≡ self.old.order }
+        ensures held { self.new.held ≡ letter }
+    {
         self.held = letter;
     }
 
     /// How many letters may be decided.
-    pub fn waiting(&self) -> usize {
-        self.heap.len()
+    pub fn waiting(&self) -> usize
+        ensures { result ≡ self.now.order.count }
+    {
+        self.order.waiting()
     }
 
     /// The letter that is held ready; 0 for none.
-    pub fn held(&self) -> u32 {
+    pub fn held(&self) -> u32
+        ensures { result ≡ self.now.held }
+    {
         self.held
     }
 
-    /// Takes out the most active letter.
-    pub fn pop(&mut self) -> Option<u32> {
-        let count = self.heap.len();
-        if count == 0 {
+    /// Takes out a letter that waits, one of those that are most active.
+    pub fn pop(&mut self) -> Option<u32>
+        ensures size { length self.new.order.places ≡ length self.old.order.places }
+        ensures held { self.new.held ≡ self.old.held }
+        ensures none { MatchOption result (self.old.order.count ≡ 0) (IsWaiting self.old.order) }
+        ensures less { MatchOption result (self.new ≡ self.old) (λ l. (x : ℕ) → IsWaiting self.new.order x ↔ (IsWaiting self.old.order x × (x ≢ l))) }
+    {
+        if self.order.waiting() == 0 {
             return None;
         }
-        let first = self.heap[0];
-        let last = self.heap[count - 1];
-        self.put(0, last);
-        self.heap.pop();
-        if (first as usize) < self.places.len() {
-            self.places[first as usize] = usize::MAX;
-        }
+        let first = self.order.take();
         self.sink(0);
         Some(first)
     }
 
     /// Makes the letter more active; all are made smaller before a sum would be too large.
-    pub fn bump(&mut self, letter: u32) {
-        let letter = letter as usize;
-        if letter >= self.activities.len() {
-            return;
+    pub fn bump(&mut self, letter: u32)
+        ensures size { length self.new.order.places ≡ length self.old.order.places }
+        ensures held { self.new.held ≡ self.old.held }
+        ensures waiting { (x : ℕ) → IsWaiting self.new.order x ↔ IsWaiting self.old.order x }
+    {
+        let at = letter as usize;
+        if at < self.activities.len() {
+            self.activities[at] = self.activities[at].saturating_add(self.bump);
+            if self.activities[at] > 1 << 60 {
+                self.rescale();
+            }
         }
-        self.activities[letter] = self.activities[letter].saturating_add(self.bump);
-        if self.activities[letter] > 1 << 60 {
-            self.rescale();
-        }
-        if letter < self.places.len() {
-            let place = self.places[letter];
-            self.rise(place);
+        match self.order.place(letter) {
+            None => {}
+            Some(place) => self.rise(place),
         }
     }
 
-    fn rescale(&mut self) {
+    fn rescale(&mut self)
+        ensures { self.new ≡ self.old }
+    {
         for i in 0..self.activities.len() {
             self.activities[i] >>= 40;
         }
@@ -206,24 +251,12 @@ impl Choices {
     }
 
     /// Lets later bumps count more, by a ninth.
-    pub fn decay(&mut self) {
+    pub fn decay(&mut self)
+        ensures { self.new ≡ self.old }
+    {
         self.bump = self.bump.saturating_add(self.bump / 9 + 1);
         if self.bump > 1 << 60 {
             self.rescale();
-        }
-    }
-}
-
-/// The more active of two neighbours in the heap.
-fn larger(heap: &Choices, left: usize) -> usize {
-    match left.checked_add(1) {
-        None => left,
-        Some(right) => {
-            if right < heap.heap.len() && heap.activity(right) > heap.activity(left) {
-                right
-            } else {
-                left
-            }
         }
     }
 }

@@ -228,7 +228,7 @@ impl State {
         ensures refused { OnErr result (self.new ≡ self.old) }
     {
         let count = self.units.len();
-        let number = next(self.log.view().inputs())?;
+        let number = next(self.log.view().inputs());
         self.units.push(Hint::Clause(number))?;
         match self.log.add_input(clause) {
             Ok(number) => {
@@ -251,7 +251,7 @@ impl State {
     {
         self.watches.watching();
         let count = self.names.len();
-        let number = next(self.log.view().inputs())?;
+        let number = next(self.log.view().inputs());
         store(
             &mut self.watches,
             &mut self.names,
@@ -304,7 +304,7 @@ impl State {
         ensures refused { OnErr result (self.new ≡ self.old) }
     {
         let count = self.units.len();
-        let number = next(self.log.view().lines())?;
+        let number = next(self.log.view().lines());
         self.units.push(Hint::Line(number))?;
         match self.log.derive(clause, hints) {
             Ok(number) => {
@@ -333,7 +333,7 @@ impl State {
     {
         self.watches.watching();
         let count = self.names.len();
-        let number = next(self.log.view().lines())?;
+        let number = next(self.log.view().lines());
         store(
             &mut self.watches,
             &mut self.names,
@@ -401,12 +401,9 @@ impl State {
     }
 }
 
-/// The number after this one, if there is memory for so many clauses.
-fn next(count: u64) -> Result<u64, AllocError>
-    ensures { IfOk result (λ number. number ≡ count + 1) }
+/// The number after this one. Behind the last number of all the log takes no clause.
+fn next(count: u64) -> u64
+    ensures { count < 18446744073709551615 → result ≡ count + 1 }
 {
-    match count.checked_add(1) {
-        Some(number) => Ok(number),
-        None => Err(AllocError),
-    }
+    count.saturating_add(1)
 }

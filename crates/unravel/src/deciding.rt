@@ -45,8 +45,8 @@ fn settle(alloc: Global, closure: &Closure<'_>, limit: u32) -> Result<Option<Dec
     let mut clauses = ClauseList::new(alloc);
     let mut targets = Vec::new(alloc);
     for depth in 0..limit + 1 {
-        grow(alloc, closure, depth, &mut clauses, &mut solver)?;
-        match ask(alloc, closure, &mut solver, depth)? {
+        grow(closure, depth, &mut clauses, &mut solver)?;
+        match ask(closure, &mut solver, depth)? {
             Depth::Accepted => {
                 let decision = shown(alloc, closure, depth, &solver)?;
                 return Ok(Some(decision));

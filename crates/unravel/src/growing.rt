@@ -9,7 +9,7 @@ use cdcl::Solver;
 use cnf_base::{ClauseList, Clauses};
 use enc_layout::Layout;
 use ltl_closure::Closure;
-use std::alloc::{AllocError, Global};
+use std::alloc::AllocError;
 
 /// Puts the clauses of a step into the list, in place of what was there.
 fn write_step(closure: &Closure<'_>, step: u32, clauses: &mut ClauseList) -> Result<(), AllocError>
@@ -22,12 +22,12 @@ fn write_step(closure: &Closure<'_>, step: u32, clauses: &mut ClauseList) -> Res
 }
 
 /// Adds the clauses to the solver, in their order.
-fn add_all(alloc: Global, solver: &mut Solver, clauses: &ClauseList) -> Result<(), AllocError>
+fn add_all(solver: &mut Solver, clauses: &ClauseList) -> Result<(), AllocError>
     requires { AreKnown solver.old.letters clauses.now }
     ensures { OnOk result (HasAdded clauses.now solver.old solver.new) }
 {
     for index in 0..clauses.count() {
-        solver.add(alloc, clauses.clause(index + 1))?;
+        solver.add(clauses.clause(index + 1))?;
     }
     Ok(())
 }
@@ -35,7 +35,6 @@ fn add_all(alloc: Global, solver: &mut Solver, clauses: &ClauseList) -> Result<(
 /// Makes the letters of a step known to the solver, which has those of the steps before, and adds the step's clauses. The list serves
 /// as a buffer.
 pub fn grow(
-    alloc: Global,
     closure: &Closure<'_>,
     step: u32,
     clauses: &mut ClauseList,
@@ -51,6 +50,6 @@ pub fn grow(
     enc_layout::laws::steps();
     write_step(closure, step, clauses)?;
     let layout = Layout::of(closure);
-    solver.letters(alloc, layout.letters_through(step) as u32)?;
-    add_all(alloc, solver, clauses)
+    solver.letters(layout.letters_through(step) as u32)?;
+    add_all(solver, clauses)
 }

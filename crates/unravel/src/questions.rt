@@ -10,7 +10,7 @@ ghost use Rattle.unravel.specs.Depths.{IsThrough, IsAcceptedAnswer, IsUnprunedAn
 use cdcl::{Answer, Solver};
 use enc_layout::{Layout, Part};
 use ltl_closure::Closure;
-use std::alloc::{AllocError, Global};
+use std::alloc::AllocError;
 
 /// What the questions of a depth were answered. Lines are those of the solver's log, from 1.
 #[derive(Clone, Copy, Drop)]
@@ -25,7 +25,6 @@ pub enum Depth {
 
 /// Asks whether a run of depth + 1 states is accepted. Where one is, the solver's values are those of such a run.
 fn refute_accepted(
-    alloc: Global,
     closure: &Closure<'_>,
     solver: &mut Solver,
     depth: u32,
@@ -41,7 +40,7 @@ fn refute_accepted(
     let layout = Layout::of(closure);
     let here = layout.positive(depth, Part::Here);
     let accepted = layout.positive(depth, Part::Accepted);
-    match solver.solve(alloc, &[here, accepted])? {
+    match solver.solve(&[here, accepted])? {
         Answer::Sat => Ok(None),
         Answer::Unsat(line) => Ok(Some(line)),
     }
@@ -49,7 +48,6 @@ fn refute_accepted(
 
 /// Asks whether a run of depth + 1 states is pruned nowhere.
 fn refute_unpruned(
-    alloc: Global,
     closure: &Closure<'_>,
     solver: &mut Solver,
     depth: u32,
@@ -65,19 +63,14 @@ fn refute_unpruned(
     let layout = Layout::of(closure);
     let here = layout.positive(depth, Part::Here);
     let unpruned = layout.may_prune().opposite();
-    match solver.solve(alloc, &[here, unpruned])? {
+    match solver.solve(&[here, unpruned])? {
         Answer::Sat => Ok(None),
         Answer::Unsat(line) => Ok(Some(line)),
     }
 }
 
 /// Asks the two questions in their order, up to the first that settles the formula.
-pub fn ask(
-    alloc: Global,
-    closure: &Closure<'_>,
-    solver: &mut Solver,
-    depth: u32,
-) -> Result<Depth, AllocError>
+pub fn ask(closure: &Closure<'_>, solver: &mut Solver, depth: u32) -> Result<Depth, AllocError>
     requires few { depth ≤ 1000 }
     requires fits { Fits (layout_of closure.now) depth }
     requires through { IsThrough closure.now.formula closure.now.kind depth solver.old }
@@ -85,9 +78,9 @@ pub fn ask(
     ensures longer { IsLonger solver.old.log solver.new.log }
     ensures tells { IfOk result (Tells closure.now.formula closure.now.kind depth solver.new) }
 {
-    match refute_accepted(alloc, closure, solver, depth)? {
+    match refute_accepted(closure, solver, depth)? {
         None => Ok(Depth::Accepted),
-        Some(rejected) => match refute_unpruned(alloc, closure, solver, depth)? {
+        Some(rejected) => match refute_unpruned(closure, solver, depth)? {
             None => Ok(Depth::Open(rejected)),
             Some(pruned) => Ok(Depth::Pruned { rejected, pruned }),
         },

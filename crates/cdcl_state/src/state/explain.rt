@@ -99,9 +99,7 @@ impl State {
                 unmark(&self.log, &learnt, &mut self.marks, &mut self.choices);
                 return Ok(learnt);
             }
-            None => {
-                return Err(AllocError);
-            }
+            None => unreachable!(),
         }
     }
 }

@@ -28,7 +28,7 @@ impl State {
         self.assigned.told();
         self.watches.watching();
         let count = self.names.len();
-        let line = next(self.log.view().lines())?;
+        let line = next(self.log.view().lines());
         store(
             &mut self.watches,
             &mut self.names,
@@ -36,7 +36,7 @@ impl State {
             Hint::Line(line),
         )?;
         match self.log.derive(&learnt.clause, &learnt.hints) {
-            Ok(_) => {}
+            Ok(_number) => {}
             Err(_) => {
                 take_back(&mut self.watches, &mut self.names, count);
                 return Err(AllocError);

@@ -1,5 +1,5 @@
-use Rattle.std.proofs.Common.{◌≡◌, ◌+◌, [], ◌∷◌, take, All, length, sym, ap, ◌∙◌, subst, arith}
-use Rattle.std.proofs.lemmas.List.{take_at}
+use Rattle.std.proofs.Common.{◌≡◌, ◌+◌, [], ◌∷◌, take, All, length, sym, ap, ◌∙◌, subst, arith, ◌<◌}
+use Rattle.std.proofs.lemmas.List.{length_push, take_at}
 use Rattle.cnf_base.specs.declared.literal.Hint.TheVariants.{Clause}
 use Rattle.cnf_base.specs.Known.{IsKnown}
 use Rattle.clause_log.specs.LogValue.{LogValue, with_input}
@@ -23,9 +23,15 @@ invariant_of-self-in-Ok c =
     let letters = c.self.inside.letters in
     let log = c.self.inside.log in
     let clause = c.args.clause.now in
-    let number = c.in_ok-number.number in
+    let number = c.next-number.result in
     let known : All (IsKnown letters) clause = subst (λ (s : StateValue). All (IsKnown s.letters) clause) (sym c.self.view_is) c.requires.known in
-    let count : number ≡ length log.inputs + 1 = c.in_ok-number.ensures ∙ ap (λ n. n + 1) (c.inputs.ensures ∙ ap (λ (l : LogValue). length l.inputs) c.view.ensures.same) in
+    let fits : c.inputs.result < 18446744073709551615 = omega (
+      arith,
+      c.in-Ok.ensures.added.1,
+      c.inputs.ensures ∙ ap (λ (l : LogValue). length l.inputs) c.view.ensures.same,
+      ap (λ (l : LogValue). length l.inputs) c.in-Ok.ensures.added.0 ∙ length_push log.inputs clause,
+    ) in
+    let count : number ≡ length log.inputs + 1 = c.next-number.ensures fits ∙ ap (λ n. n + 1) (c.inputs.ensures ∙ ap (λ (l : LogValue). length l.inputs) c.view.ensures.same) in
     rw (c.in_ok-store.ensures.watches, c.in_ok-store.ensures.names, c.in-Ok.ensures.added.0)
     (state_long letters c.self.inside.assigned c.self.inside.watches c.self.inside.names.items c.self.inside.units.items log (with_input log clause) c.self.inside.head c.self.inside.sure c.self.inside.done c.self.inside.firm (length c.self.inside.marks.stamps)
     (Clause number) clause c.self.invariant (input_more log clause number count) (known_more letters log.inputs clause c.self.invariant.known_inputs known) c.self.invariant.known_lines
@@ -58,5 +64,5 @@ invariant_of-self-in-Err c =
     } in
     let names = c.self.inside.names.items in
     let count : length names ≡ c.len-count.result = omega arith in
-    let same_names : c.take_back.new.names.items ≡ names = c.take_back.ensures.names ∙ ap (take c.len-count.result) c.in_ok-store.ensures.names ∙ take_at names (Clause c.in_ok-number.number ∷ []) c.len-count.result count in
+    let same_names : c.take_back.new.names.items ≡ names = c.take_back.ensures.names ∙ ap (take c.len-count.result) c.in_ok-store.ensures.names ∙ take_at names (Clause c.next-number.result ∷ []) c.len-count.result count in
     rw (c.take_back.ensures.watches c.self.inside.watches added, same_names, c.in-Err.ensures.refused) c.self.invariant

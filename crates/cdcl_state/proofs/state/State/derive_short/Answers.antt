@@ -1,4 +1,5 @@
-use Rattle.std.proofs.Common.{◌≡◌, ◌+◌, All, length, sym, ap, ◌∙◌, subst}
+use Rattle.std.proofs.Common.{◌≡◌, ◌+◌, All, length, sym, ap, ◌∙◌, ◌<◌, subst, arith}
+use Rattle.std.proofs.lemmas.List.{length_push}
 use Rattle.cnf_base.specs.declared.literal.Hint.TheVariants.{Line}
 use Rattle.cnf_base.specs.Known.{IsKnown}
 use Rattle.clause_log.specs.LogValue.{LogValue, with_line}
@@ -12,9 +13,15 @@ invariant_of-self-in-Ok c =
     let letters = c.self.inside.letters in
     let log = c.self.inside.log in
     let clause = c.args.clause.now in
-    let number = c.in_ok-number.number in
+    let number = c.next-number.result in
     let known : All (IsKnown letters) clause = subst (λ (s : StateValue). All (IsKnown s.letters) clause) (sym c.self.view_is) c.requires.known in
-    let count : number ≡ length log.lines + 1 = c.in_ok-number.ensures ∙ ap (λ n. n + 1) (c.lines.ensures ∙ ap (λ (l : LogValue). length l.lines) c.view.ensures.same) in
+    let fits : c.lines.result < 18446744073709551615 = omega (
+      arith,
+      c.in-Ok.ensures.added.1,
+      c.lines.ensures ∙ ap (λ (l : LogValue). length l.lines) c.view.ensures.same,
+      ap (λ (l : LogValue). length l.lines) c.in-Ok.ensures.added.0 ∙ length_push log.lines clause,
+    ) in
+    let count : number ≡ length log.lines + 1 = c.next-number.ensures fits ∙ ap (λ n. n + 1) (c.lines.ensures ∙ ap (λ (l : LogValue). length l.lines) c.view.ensures.same) in
     rw (c.in_ok-push.ensures.items, c.in-Ok.ensures.added.0)
     (state_short letters c.self.inside.assigned c.self.inside.watches c.self.inside.names.items c.self.inside.units.items log (with_line log clause c.args.hints.now) c.self.inside.head c.self.inside.sure c.self.inside.done c.self.inside.firm (length c.self.inside.marks.stamps)
     (Line number) clause c.self.invariant (line_more log clause c.args.hints.now number count) c.self.invariant.known_inputs (known_more letters log.lines clause c.self.invariant.known_lines known) (one_short clause c.args.stored.now c.requires.same c.requires.short))

@@ -1,7 +1,11 @@
-use Rattle.std.proofs.Common.{All, subst}
+use Rattle.std.proofs.Common.{◌≢◌, ℕ, All, sym, ap, ◌∙◌, subst}
+use Rattle.std.proofs.lemmas.List.{get_or_default}
+use Rattle.cnf_base.specs.Literal.{opposite}
 use Rattle.cnf_base.specs.Known.{IsKnown}
 use Rattle.cdcl_state.specs.Trail.{StateValue}
+use Rattle.cdcl_state.specs.Learnt.{blank_entry, literal_at, IsDecision}
 use Rattle.cdcl_state.specs.Analysis.{refuted_at}
+use Rattle.cdcl_state.specs.declared.assigned.Entry.{Entry}
 use Rattle.cdcl_state.proofs.Known.{trail_known, known_from_one, learnt_known, refuted_known}
 use Rattle.cdcl_state.proofs.state.State.explain_false.Goals as goal
 
@@ -24,3 +28,13 @@ returns-in-Some-clause-known c =
     let known = trail_known letters log.inputs log.lines a.trail state.ready.is_trail state.known_inputs state.known_lines state.decided in
     subst (λ (s : StateValue). All (IsKnown s.letters) learnt.clause.items) c.self.view_is
     (learnt_known letters log (refuted_at a.trail place) learnt c.in_ok-learnt-in-Some.ensures.learnt (refuted_known letters a.trail place c.place-place.ensures.within known))
+
+-- a decision at the place would have another literal
+pub unreachable-requires : goal.unreachable-requires
+unreachable-requires c =
+    let trail = c.self.inside.assigned.trail in
+    let place = c.place-place.result in
+    let within = c.place-place.ensures.within in
+    let forced = subst (λ (s : StateValue). (p : ℕ) → IsDecision s.trail p → literal_at s.trail p ≢ opposite c.args.literal) (sym c.self.view_is) c.requires.forced in
+    let free = ap (λ (e : Entry). e.reason) (sym (c.entry.ensures ∙ get_or_default trail place _ blank_entry within)) ∙ c.in-None.is in
+    forced place (record { within = within; free = free }) (c.place-place.ensures.there ∙ c.opposite.ensures)

@@ -1,5 +1,5 @@
-use Rattle.std.proofs.Common.{◌≡◌, ◌+◌, [], ◌∷◌, ◌++◌, Some, take, All, length, get_or, sym, ap, ap₂, ◌∙◌, subst, arith, length-take-le}
-use Rattle.std.proofs.lemmas.List.{take_at, get_or_default}
+use Rattle.std.proofs.Common.{◌≡◌, ◌+◌, [], ◌∷◌, ◌++◌, Some, take, All, length, get_or, sym, ap, ap₂, ◌∙◌, subst, arith, length-take-le, ◌<◌}
+use Rattle.std.proofs.lemmas.List.{length_push, take_at, get_or_default}
 use Rattle.std.proofs.lemmas.List.Elements.{All-contains_itself}
 use Rattle.cnf_base.specs.declared.literal.Hint.TheVariants.{Line}
 use Rattle.cnf_base.specs.Known.{IsKnown}
@@ -61,7 +61,7 @@ invariant_of-self-in-Err c =
     } in
     let names = c.self.inside.names.items in
     let count : length names ≡ c.len-count.result = omega arith in
-    let same_names : c.take_back.new.names.items ≡ names = c.take_back.ensures.names ∙ ap (take c.len-count.result) c.in_ok-store.ensures.names ∙ take_at names (Line c.in_ok-line.line ∷ []) c.len-count.result count in
+    let same_names : c.take_back.new.names.items ≡ names = c.take_back.ensures.names ∙ ap (take c.len-count.result) c.in_ok-store.ensures.names ∙ take_at names (Line c.next-line.result ∷ []) c.len-count.result count in
     rw (c.take_back.ensures.watches w added, same_names, c.in-Err.ensures.refused) c.self.invariant
 
 pub assign-requires-clause-unset : goal.assign-requires-clause-unset
@@ -74,13 +74,19 @@ assign-requires-clause-unset c =
     let b = c.cut.new.self in
     let w = c.self.inside.watches in
     let log = c.self.inside.log in
-    let line = c.in_ok-line.line in
+    let line = c.next-line.result in
     let is : IsLearnt log a.trail learnt = subst (λ (s : StateValue). IsLearnt s.log s.trail learnt) (sym c.self.view_is) c.requires.learnt in
     let known : All (IsKnown letters) clause = subst (λ (s : StateValue). All (IsKnown s.letters) clause) (sym c.self.view_is) c.requires.known in
     let asserting : IsAsserting a.trail places = subst (λ (s : StateValue). IsAsserting s.trail places) (sym c.self.view_is) c.requires.asserting in
     let target : IsTarget a.trail places c.args.level = subst (λ (s : StateValue). IsTarget s.trail places c.args.level) (sym c.self.view_is) c.requires.level in
     let next = with_line log clause learnt.hints.items in
-    let count : line ≡ length log.lines + 1 = c.in_ok-line.ensures ∙ ap (λ n. n + 1) (c.lines.ensures ∙ ap (λ (l : LogValue). length l.lines) c.view.ensures.same) in
+    let fits : c.lines.result < 18446744073709551615 = omega (
+      arith,
+      c.in-Ok.ensures.added.1,
+      c.lines.ensures ∙ ap (λ (l : LogValue). length l.lines) c.view.ensures.same,
+      ap (λ (l : LogValue). length l.lines) c.in-Ok.ensures.added.0 ∙ length_push log.lines c.deref-2.result.now,
+    ) in
+    let count : line ≡ length log.lines + 1 = c.next-line.ensures fits ∙ ap (λ n. n + 1) (c.lines.ensures ∙ ap (λ (l : LogValue). length l.lines) c.view.ensures.same) in
     let more = line_more log clause learnt.hints.items line count in
     let known_lines = known_more letters log.lines clause c.self.invariant.known_lines known in
     let next_is : c.derive.new.self ≡ next = c.in-Ok.ensures.added.0 ∙ ap₂ (with_line log) c.deref-2.ensures.value c.deref-3.ensures.value in
@@ -99,13 +105,19 @@ invariant_of-self-in_err-assign c =
     let b = c.cut.new.self in
     let w = c.self.inside.watches in
     let log = c.self.inside.log in
-    let line = c.in_ok-line.line in
+    let line = c.next-line.result in
     let is : IsLearnt log a.trail learnt = subst (λ (s : StateValue). IsLearnt s.log s.trail learnt) (sym c.self.view_is) c.requires.learnt in
     let known : All (IsKnown letters) clause = subst (λ (s : StateValue). All (IsKnown s.letters) clause) (sym c.self.view_is) c.requires.known in
     let asserting : IsAsserting a.trail places = subst (λ (s : StateValue). IsAsserting s.trail places) (sym c.self.view_is) c.requires.asserting in
     let target : IsTarget a.trail places c.args.level = subst (λ (s : StateValue). IsTarget s.trail places c.args.level) (sym c.self.view_is) c.requires.level in
     let next = with_line log clause learnt.hints.items in
-    let count : line ≡ length log.lines + 1 = c.in_ok-line.ensures ∙ ap (λ n. n + 1) (c.lines.ensures ∙ ap (λ (l : LogValue). length l.lines) c.view.ensures.same) in
+    let fits : c.lines.result < 18446744073709551615 = omega (
+      arith,
+      c.in-Ok.ensures.added.1,
+      c.lines.ensures ∙ ap (λ (l : LogValue). length l.lines) c.view.ensures.same,
+      ap (λ (l : LogValue). length l.lines) c.in-Ok.ensures.added.0 ∙ length_push log.lines c.deref-2.result.now,
+    ) in
+    let count : line ≡ length log.lines + 1 = c.next-line.ensures fits ∙ ap (λ n. n + 1) (c.lines.ensures ∙ ap (λ (l : LogValue). length l.lines) c.view.ensures.same) in
     let more = line_more log clause learnt.hints.items line count in
     let known_lines = known_more letters log.lines clause c.self.invariant.known_lines known in
     let next_is : c.derive.new.self ≡ next = c.in-Ok.ensures.added.0 ∙ ap₂ (with_line log) c.deref-2.ensures.value c.deref-3.ensures.value in
@@ -130,13 +142,19 @@ invariant_of-self-2 c =
     let b = c.cut.new.self in
     let w = c.self.inside.watches in
     let log = c.self.inside.log in
-    let line = c.in_ok-line.line in
+    let line = c.next-line.result in
     let is : IsLearnt log a.trail learnt = subst (λ (s : StateValue). IsLearnt s.log s.trail learnt) (sym c.self.view_is) c.requires.learnt in
     let known : All (IsKnown letters) clause = subst (λ (s : StateValue). All (IsKnown s.letters) clause) (sym c.self.view_is) c.requires.known in
     let asserting : IsAsserting a.trail places = subst (λ (s : StateValue). IsAsserting s.trail places) (sym c.self.view_is) c.requires.asserting in
     let target : IsTarget a.trail places c.args.level = subst (λ (s : StateValue). IsTarget s.trail places c.args.level) (sym c.self.view_is) c.requires.level in
     let next = with_line log clause learnt.hints.items in
-    let count : line ≡ length log.lines + 1 = c.in_ok-line.ensures ∙ ap (λ n. n + 1) (c.lines.ensures ∙ ap (λ (l : LogValue). length l.lines) c.view.ensures.same) in
+    let fits : c.lines.result < 18446744073709551615 = omega (
+      arith,
+      c.in-Ok.ensures.added.1,
+      c.lines.ensures ∙ ap (λ (l : LogValue). length l.lines) c.view.ensures.same,
+      ap (λ (l : LogValue). length l.lines) c.in-Ok.ensures.added.0 ∙ length_push log.lines c.deref-2.result.now,
+    ) in
+    let count : line ≡ length log.lines + 1 = c.next-line.ensures fits ∙ ap (λ n. n + 1) (c.lines.ensures ∙ ap (λ (l : LogValue). length l.lines) c.view.ensures.same) in
     let more = line_more log clause learnt.hints.items line count in
     let known_lines = known_more letters log.lines clause c.self.invariant.known_lines known in
     let next_is : c.derive.new.self ≡ next = c.in-Ok.ensures.added.0 ∙ ap₂ (with_line log) c.deref-2.ensures.value c.deref-3.ensures.value in
@@ -157,13 +175,19 @@ returns-clause-turned c =
     let b = c.cut.new.self in
     let w = c.self.inside.watches in
     let log = c.self.inside.log in
-    let line = c.in_ok-line.line in
+    let line = c.next-line.result in
     let is : IsLearnt log a.trail learnt = subst (λ (s : StateValue). IsLearnt s.log s.trail learnt) (sym c.self.view_is) c.requires.learnt in
     let known : All (IsKnown letters) clause = subst (λ (s : StateValue). All (IsKnown s.letters) clause) (sym c.self.view_is) c.requires.known in
     let asserting : IsAsserting a.trail places = subst (λ (s : StateValue). IsAsserting s.trail places) (sym c.self.view_is) c.requires.asserting in
     let target : IsTarget a.trail places c.args.level = subst (λ (s : StateValue). IsTarget s.trail places c.args.level) (sym c.self.view_is) c.requires.level in
     let next = with_line log clause learnt.hints.items in
-    let count : line ≡ length log.lines + 1 = c.in_ok-line.ensures ∙ ap (λ n. n + 1) (c.lines.ensures ∙ ap (λ (l : LogValue). length l.lines) c.view.ensures.same) in
+    let fits : c.lines.result < 18446744073709551615 = omega (
+      arith,
+      c.in-Ok.ensures.added.1,
+      c.lines.ensures ∙ ap (λ (l : LogValue). length l.lines) c.view.ensures.same,
+      ap (λ (l : LogValue). length l.lines) c.in-Ok.ensures.added.0 ∙ length_push log.lines c.deref-2.result.now,
+    ) in
+    let count : line ≡ length log.lines + 1 = c.next-line.ensures fits ∙ ap (λ n. n + 1) (c.lines.ensures ∙ ap (λ (l : LogValue). length l.lines) c.view.ensures.same) in
     let more = line_more log clause learnt.hints.items line count in
     let known_lines = known_more letters log.lines clause c.self.invariant.known_lines known in
     let next_is : c.derive.new.self ≡ next = c.in-Ok.ensures.added.0 ∙ ap₂ (with_line log) c.deref-2.ensures.value c.deref-3.ensures.value in
