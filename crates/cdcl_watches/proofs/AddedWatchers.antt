@@ -4,7 +4,7 @@ use Rattle.std.proofs.lemmas.List.{get_or_at, length_push}
 use Rattle.cnf_base.specs.declared.literal.Literal.{Literal}
 use Rattle.cdcl_watches.specs.declared.watch_lists.Watcher.{Watcher}
 use Rattle.cdcl_watches.specs.Watching.{code, list_of, AreApart, IsWatching, WatchValue, with_watch, with_clause, IsAdded, blank}
-use Rattle.cdcl_watches.specs.Watchers.{numbers, IsBlocking, AreBlockers, AreWatchers}
+use Rattle.cdcl_watches.specs.Watchers.{numbers, blocker_of, IsBlocking, AreBlockers, AreWatchers}
 use Rattle.cdcl_watches.proofs.Moves.{list_same}
 use Rattle.cdcl_watches.proofs.Added.{added_watching, popped_is, half_is, half_some, first_known, second_known}
 use Rattle.cdcl_watches.proofs.Numbers.{length_at, length_numbers, numbers_push, numbers_pop}
@@ -22,10 +22,10 @@ module _ (clauses : List (List Literal)) (lists half whole : List (List Watcher)
       (ap numbers second ∙ numbers_push half (code (get_or r 1 blank)) two ∙ ap₂ (λ ns n. with_watch ns (get_or r 1 blank) n) half_numbers two_is)
 
   -- a literal of the clause blocks it
-  blocks : (w : Watcher) → w.clause ≡ length clauses → Contains r w.blocker → IsBlocking (clauses ++ r ∷ []) w
-  blocks w is there = subst (λ x. Contains x w.blocker) (sym (get_or_at clauses r [] [] w.clause (sym is))) there
+  blocks : (w : Watcher) → w.clause ≡ length clauses → Contains r (blocker_of w) → IsBlocking (clauses ++ r ∷ []) w
+  blocks w is there = subst (λ x. Contains x (blocker_of w)) (sym (get_or_at clauses r [] [] w.clause (sym is))) there
 
-  pub added_watchers : AreWatchers clauses lists → Contains r one.blocker → Contains r two.blocker → 2 ≤ length r → AreApart r → All (λ l. code l < length (numbers lists)) r → AreWatchers (clauses ++ r ∷ []) whole
+  pub added_watchers : AreWatchers clauses lists → Contains r (blocker_of one) → Contains r (blocker_of two) → 2 ≤ length r → AreApart r → All (λ l. code l < length (numbers lists)) r → AreWatchers (clauses ++ r ∷ []) whole
   added_watchers are in_one in_two long apart fits =
       let more = clauses ++ r ∷ [] in
       let w : WatchValue = record { clauses = clauses; lists = numbers lists } in

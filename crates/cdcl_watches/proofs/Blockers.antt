@@ -1,5 +1,5 @@
 -- Each watcher's blocker stays a literal of its clause.
-use Rattle.std.proofs.Common.{◌≡◌, ℕ, zero, suc, ◌+◌, ◌*◌, ◌<◌, ◌-◌, Bool, true, false, if◌then◌else◌, inl, inr, List, [], ◌∷◌, ◌++◌, take, set, All, Contains, length, get_or, refl, sym, ap, ◌∙◌, subst, arith, get_or-set_same, get_or-set_other}
+use Rattle.std.proofs.Common.{◌≡◌, ℕ, zero, suc, ◌+◌, ◌*◌, ◌/◌, ◌%◌, nat_eq, ◌<◌, ◌-◌, Bool, true, false, if◌then◌else◌, inl, inr, List, [], ◌∷◌, ◌++◌, take, set, All, Contains, length, get_or, refl, sym, ap, ap₂, ◌∙◌, subst, arith, get_or-set_same, get_or-set_other}
 use Rattle.std.specs.List.{swap, swap_remove}
 use Rattle.std.proofs.lemmas.Bool.{cases_lt, cases_eq}
 use Rattle.std.proofs.lemmas.List.{get_or_past, get_or_append_left}
@@ -7,10 +7,33 @@ use Rattle.std.proofs.lemmas.List.Elements.{All-set, All-push, All-take, All-nil
 use Rattle.cnf_base.specs.declared.literal.Literal.{Literal}
 use Rattle.cdcl_watches.specs.declared.watch_lists.Watcher.{Watcher}
 use Rattle.cdcl_watches.specs.Watching.{code, clause_of, IsWatching, blank}
-use Rattle.cdcl_watches.specs.Watchers.{nobody, numbers, IsBlocking, AreBlockers}
+use Rattle.cdcl_watches.specs.Watchers.{nobody, numbers, literal_of, blocker_of, IsBlocking, AreBlockers}
 use Rattle.cdcl_watches.proofs.Moves.{contains_swapped}
 use Rattle.cdcl_watches.proofs.Removed.{place_before, length-removed}
 use Rattle.cdcl_watches.proofs.Numbers.{number_at, length_at}
+
+-- the number of a literal gives it back
+pub literal_code : (l : Literal) → literal_of (code l) ≡ l
+literal_code l = go l.negated refl
+  where
+    make : ℕ → Bool → Literal
+    make x n = record { letter = record { 0 = x }; negated = n }
+
+    go : (b : Bool) → l.negated ≡ b → literal_of (code l) ≡ l
+    go false is =
+        let c : code l ≡ 2 * l.letter.0 = omega (arith, ap (λ n. 2 * l.letter.0 + (if n then 1 else 0)) is) in
+        let half : code l / 2 ≡ l.letter.0 = omega (arith, c) in
+        let odd : code l % 2 ≡ 0 = omega (arith, c) in
+        ap₂ make half (ap (λ n. nat_eq n 1) odd ∙ sym is)
+    go true is =
+        let c : code l ≡ 2 * l.letter.0 + 1 = ap (λ n. 2 * l.letter.0 + (if n then 1 else 0)) is in
+        let half : code l / 2 ≡ l.letter.0 = omega (arith, c) in
+        let odd : code l % 2 ≡ 1 = omega (arith, c) in
+        ap₂ make half (ap (λ n. nat_eq n 1) odd ∙ sym is)
+
+-- the number of a clause's literal is that of a literal of the clause
+pub coded_in : (row : List Literal) (i n : ℕ) (d : Literal) → i < length row → n ≡ code (get_or row i d) → Contains row (literal_of n)
+coded_in row i n d low is = subst (Contains row) (sym (ap literal_of is ∙ literal_code (get_or row i d))) (Contains-get_or row i d low)
 
 -- each watcher of a list
 pub blocking_list : (clauses : List (List Literal)) (lists : List (List Watcher)) (k : ℕ) → AreBlockers clauses lists → All (IsBlocking clauses) (get_or lists k [])
@@ -20,9 +43,9 @@ blocking_list clauses lists k are = elim (cases_lt k (length lists)) [
 ]
 
 pub blocking_at : (clauses : List (List Literal)) (lists : List (List Watcher)) (k i : ℕ) → AreBlockers clauses lists → i < length (get_or (numbers lists) k [])
-    → Contains (clause_of clauses (get_or (get_or (numbers lists) k []) i 0)) (get_or (get_or lists k []) i nobody).blocker
+    → Contains (clause_of clauses (get_or (get_or (numbers lists) k []) i 0)) (blocker_of (get_or (get_or lists k []) i nobody))
 blocking_at clauses lists k i are low =
-    subst (λ c. Contains (clause_of clauses c) (get_or (get_or lists k []) i nobody).blocker) (sym (number_at lists k i))
+    subst (λ c. Contains (clause_of clauses c) (blocker_of (get_or (get_or lists k []) i nobody))) (sym (number_at lists k i))
     (blocking_list clauses lists k are i nobody (omega (arith, low, length_at lists k)))
 
 module _ (clauses : List (List Literal)) (lists : List (List Watcher)) (k : ℕ) (are : AreBlockers clauses lists) where
@@ -54,7 +77,7 @@ module _ (clauses : List (List Literal)) (lists : List (List Watcher)) (k : ℕ)
 pub blockers_kept : (clauses new : List (List Literal)) (lists : List (List Watcher)) → ((c : ℕ) (l : Literal) → Contains (clause_of clauses c) l → Contains (clause_of new c) l) → AreBlockers clauses lists → AreBlockers new lists
 blockers_kept clauses new lists kept are k d low = λ i e below.
     let w = get_or (get_or lists k d) i e in
-    kept w.clause w.blocker (are k d low i e below)
+    kept w.clause (blocker_of w) (are k d low i e below)
 
 -- two literals of a clause change places
 pub blockers_swapped : (clauses : List (List Literal)) (lists : List (List Watcher)) (c a b : ℕ) → c < length clauses → a < length (clause_of clauses c) → b < length (clause_of clauses c)
@@ -110,4 +133,4 @@ blockers_fewer clauses lists r watching are = All-from_get_or (λ ws. All (IsBlo
         let there : Contains (get_or (numbers lists) k []) w.clause = subst (Contains (get_or (numbers lists) k [])) (number_at lists k i) (Contains-get_or (get_or (numbers lists) k []) i 0 (omega (arith, below, length_at lists k))) in
         let named = literal_at k in
         let known = (watching.only w.clause named.0 (subst (λ m. Contains (get_or (numbers lists) m []) w.clause) (sym named.1) there)).0 in
-        subst (λ x. Contains x w.blocker) (get_or_append_left clauses (r ∷ []) [] w.clause known) (are k [] low i nobody below)
+        subst (λ x. Contains x (blocker_of w)) (get_or_append_left clauses (r ∷ []) [] w.clause known) (are k [] low i nobody below)

@@ -1,6 +1,6 @@
 // The clauses' literals, one clause behind the other in one buffer, with spans in order: a clause is a slice of it and has
 // no memory of its own. After Een and Sorensson, An extensible SAT-solver (2003).
-ghost use Rattle.std.specs.Prelude.{◌≡◌, ℕ, ◌+◌, ◌-◌, ◌<◌, ◌≤◌, List, [], ◌∷◌, ◌++◌, length, take, if◌then◌else◌, is_ok, slice_index_or, slice_set};
+ghost use Rattle.std.specs.Prelude.{◌≡◌, ℕ, ◌+◌, ◌-◌, ◌<◌, ◌≤◌, ◌^◌, List, [], ◌∷◌, ◌++◌, length, take, if◌then◌else◌, is_ok, slice_index_or, slice_set};
 ghost use Rattle.std.specs.List.{swap};
 
 use cnf_base::Literal;
@@ -8,7 +8,11 @@ use cnf_base::rows::Place;
 use std::alloc::{AllocError, Global};
 use std::marker::Model;
 
-/// Clauses, their literals one after another in one buffer; two literals of a clause can change places.
+/// As many clauses as there are numbers of 32 bits.
+const MAX_CLAUSES: usize = 4294967296;
+
+/// Clauses, their literals one after another in one buffer; two literals of a clause can change places. There is room
+/// for 4,294,967,296 of them, so many as there are numbers of 32 bits.
 #[derive(Drop)]
 pub struct Arena {
     items: Vec<Literal>,
@@ -16,7 +20,7 @@ pub struct Arena {
 }
 
 impl Model for Arena {
-    ghost use Rattle.std.specs.Prelude.{List, length};
+    ghost use Rattle.std.specs.Prelude.{◌≤◌, ◌^◌, List, length};
     ghost use Rattle.cnf_base.specs.declared.literal.Literal.{Literal};
     ghost use Rattle.cnf_base.specs.RowPieces.{row_pieces, AreFlat};
 
@@ -24,7 +28,7 @@ impl Model for Arena {
 
     ghost view = { λ a. row_pieces a.items.items a.places.items };
 
-    ghost invariant = { λ a. AreFlat (length a.items.items) a.places.items };
+    ghost invariant = { λ a. AreFlat (length a.items.items) a.places.items × (length a.places.items ≤ 2 ^ 32) };
 }
 
 impl Arena {
@@ -45,6 +49,13 @@ impl Arena {
         self.places.len()
     }
 
+    /// Each clause has a number of 32 bits.
+    pub fn few(&self)
+        ensures { length self.now ≤ 2 ^ 32 }
+    {
+        let _ = &self.places;
+    }
+
     /// The clause of this index.
     pub fn row(&self, index: usize) -> &[Literal]
         requires { index < length self.now }
@@ -58,6 +69,9 @@ impl Arena {
     pub fn push(&mut self, row: &[Literal]) -> Result<(), AllocError>
         ensures { self.new ≡ (if is_ok result then self.old ++ row.now ∷ [] else self.old) }
     {
+        if self.places.len() >= MAX_CLAUSES {
+            return Err(AllocError);
+        }
         let from = self.items.len();
         self.items.extend_from_slice(row)?;
         let to = self.items.len();

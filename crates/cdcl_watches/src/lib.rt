@@ -3,5 +3,6 @@
 #![tactic(auto)]
 
 pub mod arena;
+pub mod coded;
 pub mod watch_lists;
 pub mod watches;

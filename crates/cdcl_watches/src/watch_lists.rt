@@ -1,34 +1,54 @@
 // For each literal the list of the clauses that watch it. A watcher carries, beside the number of its clause, a literal of
 // it: where that literal is true the clause need not be looked at, which saves most reads of clauses. After Sorensson and
 // Een, MiniSat 2.1 (2008).
-ghost use Rattle.std.specs.Prelude.{◌≡◌, ℕ, ◌+◌, ◌-◌, ◌<◌, ◌≤◌, List, [], ◌∷◌, ◌++◌, length, take, if◌then◌else◌, is_ok, slice_index_or, slice_set};
+ghost use Rattle.std.specs.Prelude.{◌≡◌, ℕ, ◌+◌, ◌-◌, ◌<◌, ◌≤◌, ◌^◌, List, [], ◌∷◌, ◌++◌, length, take, if◌then◌else◌, is_ok, slice_index_or, slice_set};
 ghost use Rattle.std.specs.List.{swap_remove};
-ghost use Rattle.cdcl_watches.specs.Watchers.{nobody};
+ghost use Rattle.cdcl_watches.specs.Watching.{code};
+ghost use Rattle.cdcl_watches.specs.Watchers.{nobody, blocker_of};
 
+use crate::coded::{Code, encode};
 use cnf_base::Literal;
 use std::alloc::{AllocError, Global};
 use std::marker::Model;
 
-/// A clause that watches a literal, and some literal of that clause.
+/// As many lists as there are numbers of 32 bits.
+const MAX_LISTS: usize = 4294967296;
+
+/// The number of a clause that watches a literal, and some literal of that clause.
 #[derive(Clone, Copy, Drop)]
 pub struct Watcher {
-    pub clause: usize,
-    pub blocker: Literal,
+    pub clause: u32,
+    pub blocker: Code,
 }
 
-/// Lists of watchers, one for each literal.
+/// The clause with this literal of it.
+pub fn watch(clause: usize, blocker: Literal) -> Watcher
+    requires clause { clause < 2 ^ 32 }
+    requires blocker { code blocker < 2 ^ 32 }
+    ensures clause { result.clause ≡ clause }
+    ensures blocker { blocker_of result ≡ blocker }
+{
+    Watcher {
+        clause: clause as u32,
+        blocker: encode(blocker),
+    }
+}
+
+/// Lists of watchers, one for each literal. There is room for 4,294,967,296 of them, so many as there are codes.
 #[derive(Drop)]
 pub struct WatchLists {
     lists: Vec<Vec<Watcher>>,
 }
 
 impl Model for WatchLists {
-    ghost use Rattle.std.specs.Prelude.{List, map};
+    ghost use Rattle.std.specs.Prelude.{◌≤◌, ◌^◌, List, map, length};
     ghost use Rattle.cdcl_watches.specs.declared.watch_lists.Watcher.{Watcher};
 
     ghost Value = { List (List Watcher) };
 
     ghost view = { λ a. map (λ v. v.items) a.lists.items };
+
+    ghost invariant = { λ a. length a.lists.items ≤ 2 ^ 32 };
 }
 
 impl WatchLists {
@@ -45,8 +65,18 @@ impl WatchLists {
     pub fn grow(&mut self, alloc: Global) -> Result<(), AllocError>
         ensures { self.new ≡ (if is_ok result then self.old ++ [] ∷ [] else self.old) }
     {
+        if self.lists.len() >= MAX_LISTS {
+            return Err(AllocError);
+        }
         self.lists.push(Vec::new(alloc))?;
         Ok(())
+    }
+
+    /// Each list has a number of 32 bits.
+    pub fn few(&self)
+        ensures { length self.now ≤ 2 ^ 32 }
+    {
+        let _ = &self.lists;
     }
 
     /// Takes the last list off.

@@ -6,7 +6,8 @@ ghost use Rattle.std.specs.List.{swap, swap_remove};
 ghost use Rattle.cdcl_watches.specs.Watching.{code, list_of, clause_of, IsWatching, AreApart, IsAdded, IsWidened, WatchValue, with_clause, with_lists};
 
 use crate::arena::Arena;
-use crate::watch_lists::{WatchLists, Watcher};
+use crate::coded::{decode, encode};
+use crate::watch_lists::{WatchLists, Watcher, watch};
 use cnf_base::Literal;
 use std::alloc::{AllocError, Global};
 use std::marker::Model;
@@ -66,7 +67,7 @@ impl Watches {
         requires place { place < length (list_of self.now.lists literal) }
         ensures { result ≡ slice_index_or (list_of self.now.lists literal) place 0 }
     {
-        self.lists.get(number(literal), place).clause
+        self.lists.get(number(literal), place).clause as usize
     }
 
     /// A literal of the clause at a place of the literal's list: where it is true, the clause need not be looked at.
@@ -75,7 +76,7 @@ impl Watches {
         requires place { place < length (list_of self.now.lists literal) }
         ensures { Contains (clause_of self.now.clauses (slice_index_or (list_of self.now.lists literal) place 0)) result }
     {
-        self.lists.get(number(literal), place).blocker
+        decode(self.lists.get(number(literal), place).blocker)
     }
 
     /// Takes the clause's literal at `index` as the blocker at a place of the literal's list.
@@ -87,7 +88,8 @@ impl Watches {
     {
         let list = number(literal);
         let clause = self.lists.get(list, place).clause;
-        let blocker = self.arena.row(clause)[index];
+        self.lists.few();
+        let blocker = encode(self.arena.row(clause as usize)[index]);
         self.lists.set(list, place, Watcher { clause, blocker });
     }
 
@@ -120,8 +122,10 @@ impl Watches {
         ensures clauses { self.new.clauses ≡ (if is_ok result then slice_set self.old.clauses clause (swap (clause_of self.old.clauses clause) 1 j) else self.old.clauses) }
         ensures lists { self.new.lists ≡ (if is_ok result then slice_set (slice_set self.old.lists (code other) (list_of self.old.lists other ++ clause ∷ [])) (code second) (swap_remove (list_of self.old.lists second) place 0) else self.old.lists) }
     {
+        self.lists.few();
+        self.arena.few();
         let blocker = self.arena.row(clause)[0];
-        self.lists.push(number(other), Watcher { clause, blocker })?;
+        self.lists.push(number(other), watch(clause, blocker))?;
         self.lists.swap_remove(number(second), place);
         self.arena.swap(clause, 1, j);
         Ok(())
@@ -137,15 +141,11 @@ impl Watches {
         let index = self.arena.len();
         let first = clause[0];
         let second = clause[1];
-        let first_watcher = Watcher {
-            clause: index,
-            blocker: second,
-        };
-        let second_watcher = Watcher {
-            clause: index,
-            blocker: first,
-        };
         self.arena.push(clause)?;
+        self.arena.few();
+        self.lists.few();
+        let first_watcher = watch(index, second);
+        let second_watcher = watch(index, first);
         match self.lists.push(number(first), first_watcher) {
             Ok(()) => {}
             Err(_) => {

@@ -1,4 +1,4 @@
-use Rattle.std.proofs.Common.{◌≡◌, ◌<◌, ◌-◌, length, ap, ◌∙◌, sym, arith, slice_range}
+use Rattle.std.proofs.Common.{◌≡◌, ◌<◌, ◌-◌, length, ap, ◌∙◌, sym, arith, slice_range, length-take-le}
 use Rattle.std.proofs.lemmas.List.{length-map}
 use Rattle.cnf_base.specs.declared.rows.Place.{Place}
 use Rattle.cnf_base.proofs.RowLemmas.{pieces-take, spans_before, flat-take}
@@ -11,7 +11,7 @@ invariant_of-self c =
     let same : length places ≡ length c.args.self.now = sym (length-map places (λ (s : Place). slice_range xs s.from s.to)) ∙ ap length c.self.view_is in
     let some : c.len-count.result - 1 < length places = omega (arith, c.requires, same) in
     rw (c.truncate-2.ensures.items, c.truncate.ensures.items, c.index.ensures)
-    (flat-take _ _ _ _ c.self.invariant some)
+    (flat-take _ _ _ _ c.self.invariant.0 some, omega (arith, c.self.invariant.1, length-take-le (c.len-count.result - 1) places (omega arith)))
 
 pub returns : goal.returns
 returns c =
@@ -21,4 +21,4 @@ returns c =
     let some : c.len-count.result - 1 < length places = omega (arith, c.requires, same) in
     let count : c.len-count.result ≡ length c.args.self.now = omega (arith, same) in
     rw (c.truncate-2.ensures.items, c.truncate.ensures.items, c.index.ensures, ← count, ← c.self.view_is)
-    (pieces-take _ _ _ _ c.self.invariant (spans_before xs _ _ _ c.self.invariant some))
+    (pieces-take _ _ _ _ c.self.invariant.0 (spans_before xs _ _ _ c.self.invariant.0 some))

@@ -10,14 +10,14 @@ pub invariant_of-self-in-Ok-push : goal.invariant_of-self-in-Ok-push
 invariant_of-self-in-Ok-push c =
     let r = c.args.clause.now in
     rw c.in_ok-push.ensures
-    (added_watchers c.self.inside.arena c.self.inside.lists c.push-2.new.self c.push-3.new.self r _ _ c.len-index.ensures c.len-index.ensures
+    (added_watchers c.self.inside.arena c.self.inside.lists c.push-2.new.self c.push-3.new.self r _ _ (c.watch-first_watcher.ensures.clause ∙ c.len-index.ensures) (c.watch-second_watcher.ensures.clause ∙ c.len-index.ensures)
     (rw c.number.ensures at c.in-Ok.ensures) (rw c.number-2.ensures at c.in-Ok-push.ensures) c.self.invariant
-    (Contains-get_or r 1 blank (omega (arith, c.requires.long))) (Contains-get_or r 0 blank (omega (arith, c.requires.long))) c.requires.long c.requires.apart (rw (← c.self.view_is) at c.requires.fits))
+    (rw c.watch-first_watcher.ensures.blocker (Contains-get_or r 1 _ (omega (arith, c.requires.long)))) (rw c.watch-second_watcher.ensures.blocker (Contains-get_or r 0 _ (omega (arith, c.requires.long)))) c.requires.long c.requires.apart (rw (← c.self.view_is) at c.requires.fits))
 
 pub returns-in-Ok-push : goal.returns-in-Ok-push
 returns-in-Ok-push c =
     rw (← c.self.view_is, c.in_ok-push.ensures)
-    (added_is c.self.inside.arena c.self.inside.lists c.push-2.new.self c.push-3.new.self c.args.clause.now _ _ c.len-index.ensures c.len-index.ensures
+    (added_is c.self.inside.arena c.self.inside.lists c.push-2.new.self c.push-3.new.self c.args.clause.now _ _ (c.watch-first_watcher.ensures.clause ∙ c.len-index.ensures) (c.watch-second_watcher.ensures.clause ∙ c.len-index.ensures)
     (rw c.number.ensures at c.in-Ok.ensures) (rw c.number-2.ensures at c.in-Ok-push.ensures))
 
 pub invariant_of-self-in-Err : goal.invariant_of-self-in-Err

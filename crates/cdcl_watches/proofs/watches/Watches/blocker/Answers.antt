@@ -7,5 +7,5 @@ pub returns : goal.returns
 returns c =
     let lists = c.self.inside.lists in
     let same = ap (λ (v : WatchValue). length (list_of v.lists c.args.literal)) c.self.view_is in
-    rw (c.get.ensures, c.number.ensures, ← c.self.view_is)
+    rw (c.decode.ensures, c.get.ensures, c.number.ensures, ← c.self.view_is)
     (blocking_at c.self.inside.arena lists (code c.args.literal) c.args.place c.self.invariant.blockers (omega (arith, same, c.requires.place)))

@@ -1,9 +1,9 @@
 use Rattle.std.proofs.Common.{◌≡◌, length, get_or, ap, ◌∙◌, arith}
-use Rattle.std.proofs.lemmas.List.Elements.{Contains-get_or}
 use Rattle.cdcl_watches.specs.Watching.{WatchValue, clause_of, list_of}
 use Rattle.cdcl_watches.specs.Watchers.{clause_number}
 use Rattle.cdcl_watches.proofs.Numbers.{clause_read, numbers_refreshed}
 use Rattle.cdcl_watches.proofs.Kept.{known_read, refreshed_watchers}
+use Rattle.cdcl_watches.proofs.Blockers.{coded_in}
 use Rattle.cdcl_watches.proofs.watches.Watches.refresh.Goals as goal
 
 pub row-requires : goal.row-requires
@@ -23,7 +23,7 @@ invariant_of-self c =
     ap length c.row.ensures ∙ ap (λ n. length (clause_of clauses n)) read
     ∙ ap (λ (v : WatchValue). length (clause_of v.clauses (get_or (list_of v.lists c.args.literal) c.args.place 0))) c.self.view_is in
     rw c.set.ensures (refreshed_watchers clauses lists c.number-list.result c.args.place _ (ap clause_number c.get-clause.ensures)
-    (rw (← c.row.ensures) (Contains-get_or row c.args.index _ (omega (arith, row_is, c.requires.within))))
+    (rw (← c.row.ensures) (coded_in row c.args.index _ _ (omega (arith, row_is, c.requires.within)) c.encode-blocker.ensures))
     c.self.invariant)
 
 pub returns : goal.returns

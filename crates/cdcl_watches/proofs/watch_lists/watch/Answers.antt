@@ -1,0 +1,7 @@
+use Rattle.std.proofs.Common.{ap, ◌∙◌}
+use Rattle.cdcl_watches.specs.Watchers.{literal_of}
+use Rattle.cdcl_watches.proofs.Blockers.{literal_code}
+use Rattle.cdcl_watches.proofs.watch_lists.watch.Goals as goal
+
+pub returns-clause-blocker : goal.returns-clause-blocker
+returns-clause-blocker c = ap literal_of c.encode.ensures ∙ literal_code c.args.blocker
