@@ -1,7 +1,8 @@
 -- Words and bytes have one answer, but for the trace that is shown with SAT.
 use Rattle.std.proofs.Common.{◌≡◌, ◌∙◌, ℕ, ◌<◌, ◌≤◌, ◌⊎◌, inl, inr, List, Option, Some, Result, Ok, Err, refl, sym, ap, subst, arith}
 use Rattle.ltl_syntax.specs.declared.node.Kind.{Kind}
-use Rattle.ltl_syntax.specs.Formula.{Formula, nodes_in}
+use Rattle.ltl_syntax.specs.Formula.{Formula}
+use Rattle.ltl_syntax.specs.Size.{formula_size}
 use Rattle.ltl_lexer.specs.Tokens.{IsLexicalFault}
 use Rattle.ltl_parser.specs.Text.{ReadsText, IsGrammarFault, IsAccepted}
 use Rattle.ltl_word.specs.declared.trace.Trace.{Trace}
@@ -38,8 +39,8 @@ pub record Laws : Type 0 where
 
 -- ---- the formula part
 
-too_many : (f g : Formula) (count : ℕ) → f ≡ g → count ≡ nodes_in f → 16384 < count → nodes_in g ≤ 16384 → ⊥
-too_many f g count same e many few = let s = ap nodes_in same in absurd (omega (arith, s, e, many, few))
+too_many : (f g : Formula) (count : ℕ) → f ≡ g → count ≡ formula_size f → 16384 < count → formula_size g ≤ 16384 → ⊥
+too_many f g count same e many few = let s = ap formula_size same in absurd (omega (arith, s, e, many, few))
 
 -- a part has one refusal
 one_fault : (part : List ℕ) → TextLaws → (a b : Fault) → RefusesPart part a → RefusesPart part b → a ≡ b
@@ -74,7 +75,7 @@ one_fault part laws (faults.Grammar i) (faults.Nodes j) h k = absurd (laws.gramm
 one_fault part laws (faults.Nodes i) faults.Text h k = let s = h.0 in absurd (omega (arith, k, s))
 one_fault part laws (faults.Nodes i) (faults.Lexical j) h k = absurd (laws.lexical_not_read part j h.1.0 k.1 h.1.1)
 one_fault part laws (faults.Nodes i) (faults.Grammar j) h k = absurd (laws.grammar_not_read part j h.1.0 k.1 h.1.1)
-one_fault part laws (faults.Nodes i) (faults.Nodes j) h k = ap faults.Nodes (h.1.2 ∙ ap nodes_in (laws.one_formula part h.1.0 k.1.0 h.1.1 k.1.1) ∙ sym k.1.2)
+one_fault part laws (faults.Nodes i) (faults.Nodes j) h k = ap faults.Nodes (h.1.2 ∙ ap formula_size (laws.one_formula part h.1.0 k.1.0 h.1.1 k.1.1) ∙ sym k.1.2)
 
 -- a part that is refused is no accepted formula
 pub refused_not_accepted : (part : List ℕ) → TextLaws → (fault : Fault) (f : Formula) → RefusesPart part fault → IsAccepted part f → ⊥

@@ -2,13 +2,14 @@
 use Rattle.std.specs.Prelude.{◌≡◌, ◌≤◌, ◌<◌, ℕ, List, length}
 use Rattle.ltl_lexer.specs.Tokens.{IsLexicalFault}
 use Rattle.ltl_parser.specs.Text.{ReadsText, IsGrammarFault}
-use Rattle.ltl_syntax.specs.Formula.{Formula, nodes_in}
+use Rattle.ltl_syntax.specs.Formula.{Formula}
+use Rattle.ltl_syntax.specs.Size.{formula_size}
 use Rattle.report.specs.declared.fault.Fault.{Fault}
 use Rattle.report.specs.declared.fault.Fault.TheVariants as faults
 
--- the part reads as a formula of so many nodes, which are too many
+-- the part reads as a formula whose nodes have these sizes in all, which are too many
 abbrev pub HasManyNodes : List ℕ → ℕ → Type 0
-HasManyNodes part count = (f : Formula) × ReadsText part f × (count ≡ nodes_in f) × (16384 < count)
+HasManyNodes part count = (f : Formula) × ReadsText part f × (count ≡ formula_size f) × (16384 < count)
 
 -- the part is refused: in the order text, lexical, grammar, nodes
 abbrev pub RefusesPart : List ℕ → Fault → Type 0

@@ -13,6 +13,10 @@ const RECURRING: &[u8] = b"G F p & G !p";
 
 const NINE: &[u8] = b"G F a & G F b & G F c & G F d & G F e & G F f & G F g & G F h & G F i";
 
+const WINDOWS: &[u8] = b"G[0,2] p & F[1,2] !p";
+
+const NO_OPERATOR: &[u8] = b"lexical fault at byte 1\n";
+
 fn list(alloc: Global, words: &str) -> Result<Vec<String>, AllocError> {
     let mut all = Vec::new(alloc);
     for word in words.split_whitespace() {
@@ -388,6 +392,74 @@ fn trace_rows(rt: HostRuntime) -> Result<(), Fail> {
     ];
     for (input, output, status) in &table {
         shows(&rt, alloc, "trace", input, output, *status)?;
+    }
+    Ok(())
+}
+
+/// Each bounded operator as a solver and as an evaluator sees it, and what is none.
+#[test]
+fn bounded_operators(rt: HostRuntime) -> Result<(), Fail> {
+    let alloc = rt.alloc();
+    let mut far = Vec::new(alloc);
+    for _ in 0..65 {
+        far.extend_from_slice(b"X[255] ")?;
+    }
+    far.push(b'p')?;
+    let table: [(&str, &[u8], &[u8], Status); 16] = [
+        ("solve", b"X[2] false", b"UNSAT 2\n", Status::Unsat),
+        ("solve --finite", b"X[2] false", b"UNSAT 2\n", Status::Unsat),
+        ("solve", WINDOWS, b"UNSAT 2\n", Status::Unsat),
+        ("solve --finite", WINDOWS, b"UNSAT 2\n", Status::Unsat),
+        (
+            "solve --finite",
+            b"!p & X[1] p",
+            b"SAT 1\n{\"kind\":\"finite\",\"states\":[[],[\"p\"]]}\n",
+            Status::Sat,
+        ),
+        (
+            "solve",
+            b"X[0] p",
+            b"SAT 0\n{\"kind\":\"infinite\",\"loop\":[[]],\"stem\":[[\"p\"]]}\n",
+            Status::Sat,
+        ),
+        (
+            "trace",
+            b"G[0,5] p\n---\n{\"kind\":\"finite\",\"states\":[[\"p\"],[\"p\"]]}",
+            b"HOLDS\n",
+            Status::Good,
+        ),
+        (
+            "trace",
+            b"F[2,5] p\n---\n{\"kind\":\"finite\",\"states\":[[\"p\"],[\"p\"]]}",
+            b"FAILS\n",
+            Status::Negative,
+        ),
+        (
+            "trace",
+            b"X[1] H[1,3] p\n---\n{\"kind\":\"finite\",\"states\":[[\"p\"],[\"p\"]]}",
+            b"HOLDS\n",
+            Status::Good,
+        ),
+        ("solve", b"X[256] p", NO_OPERATOR, Status::Text),
+        ("solve", b"F[3,2] p", NO_OPERATOR, Status::Text),
+        ("solve", b"X[01] p", NO_OPERATOR, Status::Text),
+        ("solve", b"F[1, 2] p", NO_OPERATOR, Status::Text),
+        ("solve", b"X[] p", NO_OPERATOR, Status::Text),
+        (
+            "solve",
+            b"X [2] p",
+            b"lexical fault at byte 2\n",
+            Status::Text,
+        ),
+        (
+            "solve",
+            &far,
+            b"limit nodes 16384 have 16576\n",
+            Status::Limit,
+        ),
+    ];
+    for (words, input, output, status) in &table {
+        shows(&rt, alloc, words, input, output, *status)?;
     }
     Ok(())
 }
