@@ -15,7 +15,7 @@ use Rattle.black_top.specs.declared.words.Asked.TheVariants as asked
 use Rattle.black_top.specs.Words.{Choice, Finite, Depth, Solve, Trace as TraceWord, Says, SayAll, Once, OfSolve, Asks, kind_of, depth_of}
 use Rattle.black_top.specs.Parts.{IsSeparator, EndsLine, BeginsLine}
 use Rattle.black_top.specs.Reading.{RefusesPart}
-use Rattle.black_top.specs.Answer.{Answer, status_of, text_of}
+use Rattle.black_top.specs.Answer.{Answer, IsSolved, IsParted, IsJudged, status_of, text_of}
 use Rattle.black_top.specs.Run.{AreLeft}
 
 -- the choice that an option of `solve` is
@@ -73,6 +73,21 @@ SaysNothing words = (c : Choice) (front behind : List (List ℕ)) → OfSolve c 
 abbrev pub IsAsked : List (List ℕ) → Asked → Type 0
 IsAsked words (asked.Solve options) = (choices : List Choice) × Asks words (Solve choices) × AreOptions choices options
 IsAsked words asked.Trace = Asks words TraceWord
+
+-- the depth that the words ask for, where they do, is at most 1,000
+abbrev pub IsInBounds : Asked → Type 0
+IsInBounds (asked.Solve options) = IsDepth options.depth
+IsInBounds asked.Trace = Unit {0}
+
+-- the command's answer to the bytes
+abbrev pub Gives : Asked → List ℕ → Answer → Type 0
+Gives (asked.Solve options) bytes answer = IsSolved options.kind options.depth bytes answer
+Gives asked.Trace bytes answer = IsParted IsJudged bytes answer
+
+-- after how many bytes the command reads no further: `solve` knows then that the text is too long
+abbrev pub stop_after : Asked → ℕ
+stop_after (asked.Solve options) = 1048576
+stop_after asked.Trace = 18446744073709551615
 
 -- the text is read as a formula, or refused
 abbrev pub IsPartReading : List ℕ → Reading → Type 0

@@ -1,5 +1,5 @@
 -- What one call of the program did.
-use Rattle.std.specs.Prelude.{◌≡◌, ◌<◌, ℕ, List, Option, Some, None, IfSome, Bool, true, false, Ok}
+use Rattle.std.specs.Prelude.{◌≡◌, ◌⊎◌, ◌+◌, ◌<◌, ◌≤◌, ◌++◌, [], length, ℕ, List, Option, Some, None, IfSome, Bool, true, false, Ok}
 use Rattle.ltl_io.specs.Outside.{Grows, GrowsByFront}
 use Rattle.ltl_syntax.specs.declared.node.Kind.{Kind}
 use Rattle.ltl_syntax.specs.Formula.{Formula}
@@ -27,6 +27,21 @@ is_answer other = true
 -- the bytes are those that the source had left, where it tells them
 abbrev pub AreLeft : Option (List ℕ) → List ℕ → Type 0
 AreLeft rest bytes = IfSome rest (λ told. told ≡ bytes)
+
+-- the status comes after the source was read
+abbrev pub has_read : Status → Bool
+has_read statuses.ReadFault = false
+has_read statuses.NoMemory = false
+has_read other = true
+
+-- a told rest was taken whole, or up to the first read that brought what was taken above the limit. A read brings at most 4,096 bytes
+abbrev pub IsTakenUpTo : ℕ → Option (List ℕ) → Option (List ℕ) → Type 0
+IsTakenUpTo limit before after = IfSome before (λ rest. (bytes left : List ℕ) × (rest ≡ bytes ++ left) × (after ≡ Some left)
+    × (length bytes ≤ limit + 4096) × ((left ≡ []) ⊎ (limit < length bytes)))
+
+-- nothing is left of a told rest
+abbrev pub IsTakenWhole : Option (List ℕ) → Option (List ℕ) → Type 0
+IsTakenWhole before after = IfSome before (λ rest. after ≡ Some [])
 
 -- the answer to these words and to what the source had left
 pub record IsGiven (words : List (List ℕ)) (rest : Option (List ℕ)) (answer : Answer) : Type 0 where

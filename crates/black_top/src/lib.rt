@@ -2,8 +2,7 @@
 #![tactic(auto)]
 
 mod answer;
-mod deciding;
-mod judging;
+mod commands;
 pub mod laws;
 mod options;
 mod output;

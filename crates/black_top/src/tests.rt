@@ -1,6 +1,6 @@
 // What the program shows, over memory. The expected lines are those of the documents, by hand.
 use crate::{Status, run};
-use ltl_io::{MemorySink, MemorySource, NoGate, SureSource};
+use ltl_io::{MemorySink, MemorySource, NoGate, SureSource, read_whole};
 use std::alloc::{AllocError, Global};
 use std::process::Abort;
 use std::test::Fail;
@@ -25,7 +25,7 @@ fn list(alloc: Global, words: &str) -> Result<Vec<String>, AllocError> {
     Ok(all)
 }
 
-/// The status and the output over a source that gives all at once and a sink that takes seven bytes a write.
+/// The status and the output over a source that gives a thousand bytes a read and a sink that takes seven bytes a write.
 fn answer<R: Threads + Sync>(
     rt: &R,
     alloc: Global,
@@ -33,7 +33,7 @@ fn answer<R: Threads + Sync>(
     input: &[u8],
 ) -> Result<(Status, Vec<u8>), AllocError> {
     let words = list(alloc, words)?;
-    let mut source = SureSource::new(input.to_vec(alloc)?);
+    let mut source = MemorySource::new(input.to_vec(alloc)?, 1000, Vec::new(alloc));
     let mut sink = MemorySink::new(alloc, 1024, 7, Vec::new(alloc))?;
     let status = run(rt, alloc, &words, &mut source, &mut sink, &NoGate);
     Ok((status, sink.content().to_vec(alloc)?))
@@ -460,6 +460,25 @@ fn bounded_operators(rt: HostRuntime) -> Result<(), Fail> {
     ];
     for (words, input, output, status) in &table {
         shows(&rt, alloc, words, input, output, *status)?;
+    }
+    Ok(())
+}
+
+/// How many bytes a command leaves in the source.
+#[test]
+fn leaves_the_rest(rt: HostRuntime) -> Result<(), Fail> {
+    let alloc = rt.alloc();
+    let table: [(&str, usize); 3] = [("solve", 7_328), ("trace", 0), ("check", 1_060_000)];
+    for (words, left) in &table {
+        let content = padded(alloc, b' ', 1_060_000, b"")?;
+        let mut source = MemorySource::new(content, 4096, Vec::new(alloc));
+        let mut sink = MemorySink::new(alloc, 1024, 1024, Vec::new(alloc))?;
+        let words = list(alloc, words)?;
+        run(&rt, alloc, &words, &mut source, &mut sink, &NoGate);
+        let Ok(rest) = read_whole(alloc, &mut source, usize::MAX) else {
+            return Err(Fail::new("the rest is not read"));
+        };
+        assert_eq!(rt; rest.len(), *left);
     }
     Ok(())
 }

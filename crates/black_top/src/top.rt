@@ -1,11 +1,12 @@
 // The top call.
 ghost use Rattle.std.specs.Prelude.{◌≡◌, ◌⊎◌, ◌<◌, ℕ, List, Some, map, string_bytes, IsTrue};
 ghost use Rattle.ltl_io.specs.Count.{Rose};
+ghost use Rattle.ltl_io.specs.Outside.{LosesAtMost};
 ghost use Rattle.ltl_syntax.specs.Formula.{Formula};
 ghost use Rattle.ltl_parser.specs.Text.{IsAccepted};
 ghost use Rattle.black_top.specs.declared.status.Status.TheVariants as statuses;
 ghost use Rattle.black_top.specs.Words.{Choice, Solve, Trace as TraceWord, Asks, kind_of, depth_of};
-ghost use Rattle.black_top.specs.Run.{is_answer, IsAnswered, IsCutOff, NeedsNothing, OfFormula, PrintsModel, PrintsNone, PrintsUndecided, AreFewLetters, PrintsVerdict, OfTrace, PrintsHolds, PrintsFails};
+ghost use Rattle.black_top.specs.Run.{is_answer, has_read, IsTakenUpTo, IsTakenWhole, IsAnswered, IsCutOff, NeedsNothing, OfFormula, PrintsModel, PrintsNone, PrintsUndecided, AreFewLetters, PrintsVerdict, OfTrace, PrintsHolds, PrintsFails};
 
 use crate::Status;
 use crate::answer::answer;
@@ -34,6 +35,12 @@ pub fn run<R: Threads + Sync, S: Source, K: Sink, G: Gate + Sync>(
     ensures write_count { K.faults sink.old < K.faults sink.new → result ≡ statuses.WriteFault }
     ensures no_memory { result ≡ statuses.NoMemory → sink.new ≡ sink.old }
     ensures unread { NeedsNothing (map string_bytes words.now) → source.new ≡ source.old }
+    // `solve` takes the whole input, or leaves what stands behind the read that brought it above the limit of a text.
+    ensures solve_most { (choices : List Choice) → Asks (map string_bytes words.now) (Solve choices) → LosesAtMost 1052672 (S.rest source.old) (S.rest source.new) }
+    ensures solve_left { (choices : List Choice) → Asks (map string_bytes words.now) (Solve choices) → IsTrue (has_read result)
+        → IsTakenUpTo 1048576 (S.rest source.old) (S.rest source.new) }
+    // `trace` leaves nothing.
+    ensures trace_left { Asks (map string_bytes words.now) TraceWord → IsTrue (has_read result) → IsTakenWhole (S.rest source.old) (S.rest source.new) }
     // SAT is printed only with a trace of the chosen kind that satisfies the formula.
     ensures sat { (choices : List Choice) → Asks (map string_bytes words.now) (Solve choices) → result ≡ statuses.Sat
         → OfFormula (S.rest source.old) (λ f. PrintsModel (kind_of choices) f (K.content sink.old) (K.content sink.new)) }

@@ -1,35 +1,39 @@
-use Rattle.std.proofs.Common.{map, string_bytes}
+use Rattle.std.proofs.Common.{◌≤◌, List, ℕ, length, map, string_bytes, subst, arith}
 use Rattle.report.specs.declared.fault.Fault.TheVariants as faults
-use Rattle.black_top.specs.Words.{Trace as TraceWord}
-use Rattle.black_top.specs.Answer.{refused, not_taken, asked, IsSolved, IsParted, IsJudged}
-use Rattle.black_top.specs.Inner.{IsLeft}
-use Rattle.black_top.specs.Run.{IsGiven}
-use Rattle.black_top.proofs.Leaving.{some_left, asked_solve, solve_reads}
-use Rattle.black_top.proofs.Showing.{shown_as}
+use Rattle.black_top.specs.Words.{Solve, Trace as TraceWord}
+use Rattle.black_top.specs.Answer.{refused, not_taken}
+use Rattle.black_top.specs.Inner.{Gives, stop_after}
+use Rattle.ltl_io.specs.Outside.{TakesWhole}
+use Rattle.black_top.proofs.Leaving.{some_left, given_left, reads}
 use Rattle.black_top.proofs.answer.answer.Goals as goal
 
-pub returns-in_ok-refusal-in-None-clause-given : goal.returns-in_ok-refusal-in-None-clause-given
-returns-in_ok-refusal-in-None-clause-given g c =
+pub returns-in_default-clause-given : goal.returns-in_default-clause-given
+returns-in_default-clause-given g c =
     let left = some_left (g.S.Source.rest c.args.source.now) in
-    (refused faults.Usage, record { bytes = left.0; left = left.1; lawful = not_taken c.in-None.ensures }, c.in_ok-refusal-in-None.ensures)
+    (refused faults.Usage, record { bytes = left.0; left = left.1; lawful = not_taken c.in_default.ensures }, c.in_ok-refusal.ensures)
 
-pub returns-in-Some-Solve-clause-given : goal.returns-in-Some-Solve-clause-given
-returns-in-Some-Solve-clause-given g c =
+pub returns-in_default-clause-solve_left : goal.returns-in_default-clause-solve_left
+returns-in_default-clause-solve_left g c choices asks = absurd (c.in_default.ensures (Solve choices) asks)
+
+pub returns-in_default-clause-trace_left : goal.returns-in_default-clause-trace_left
+returns-in_default-clause-trace_left g c asks = absurd (c.in_default.ensures TraceWord asks)
+
+pub returns-in_err-bytes-clause-unread : goal.returns-in_err-bytes-clause-unread
+returns-in_err-bytes-clause-unread g c nothing = absurd (reads (map string_bytes c.args.words.now) c.in-Some.asked c.in-Some.ensures nothing)
+
+pub returns-in_err-shown-clause-unread : goal.returns-in_err-shown-clause-unread
+returns-in_err-shown-clause-unread g c nothing = absurd (reads (map string_bytes c.args.words.now) c.in-Some.asked c.in-Some.ensures nothing)
+
+pub returns-clause-unread : goal.returns-clause-unread
+returns-clause-unread g c nothing = absurd (reads (map string_bytes c.args.words.now) c.in-Some.asked c.in-Some.ensures nothing)
+
+pub returns-clause-given : goal.returns-clause-given
+returns-clause-given g c =
     let rest = g.S.Source.rest c.args.source.now in
-    let words = map string_bytes c.args.words.now in
-    let options = c.in-Some-Solve.options in
-    shown_as (IsLeft (IsSolved options.kind options.depth) rest) (IsGiven words rest) c.solve.result
-    (asked_solve words rest options (rw c.in-Some-Solve.field-0-is at c.in-Some-Solve.ensures)) c.solve.ensures.given
-
-pub returns-in-Some-Trace-clause-given : goal.returns-in-Some-Trace-clause-given
-returns-in-Some-Trace-clause-given g c =
-    let rest = g.S.Source.rest c.args.source.now in
-    shown_as (IsLeft (IsParted IsJudged) rest) (IsGiven (map string_bytes c.args.words.now) rest) c.trace.result
-    (λ a h. record { bytes = h.bytes; left = h.left; lawful = asked TraceWord a (rw c.in-Some-Trace.field-0-is at c.in-Some-Trace.ensures) h.lawful }) c.trace.ensures.given
-
-pub returns-in-Some-Solve-clause-unread : goal.returns-in-Some-Solve-clause-unread
-returns-in-Some-Solve-clause-unread g c nothing =
-    absurd (solve_reads (map string_bytes c.args.words.now) c.in-Some-Solve.options (rw c.in-Some-Solve.field-0-is at c.in-Some-Solve.ensures) nothing)
-
-pub returns-in-Some-Trace-clause-unread : goal.returns-in-Some-Trace-clause-unread
-returns-in-Some-Trace-clause-unread g c nothing = absurd (nothing TraceWord (rw c.in-Some-Trace.field-0-is at c.in-Some-Trace.ensures))
+    let after = g.S.Source.rest c.read_whole.new.source in
+    let text = c.in_ok-bytes.bytes.items in
+    let given = c.in_ok-shown.ensures in
+    let taken : TakesWhole (stop_after c.in-Some.asked) text rest after = subst (λ n. TakesWhole n text rest after) c.stop_after.ensures c.in_ok-bytes.ensures.bytes in
+    let fits : length text ≤ 18446744073709551615 = omega (arith, c.in_ok-bytes.bytes.ok, c.in_ok-bytes.bytes.small, c.deref.ensures.len) in
+    let gives : Gives c.in-Some.asked text given.0 = subst (λ (bytes : List ℕ). Gives c.in-Some.asked bytes given.0) c.deref.ensures.value given.1 in
+    (given.0, given_left (map string_bytes c.args.words.now) rest after c.in-Some.asked text given.0 c.in-Some.ensures taken fits gives, given.2)

@@ -4,7 +4,7 @@ use Rattle.report.specs.declared.fault.Fault.TheVariants as faults
 use Rattle.black_top.specs.Answer.{refused, holds, fails, IsJudged, not_json, not_trace, empty_loop, empty_states, many_cells, satisfied, violated}
 use Rattle.black_top.proofs.Written.{read_trace}
 use Rattle.black_top.proofs.Showing.{shown}
-use Rattle.black_top.proofs.judging.judge.Goals as goal
+use Rattle.black_top.proofs.commands.trace.judge.Goals as goal
 
 pub returns-in-Err-NotJson : goal.returns-in-Err-NotJson
 returns-in-Err-NotJson c =

@@ -4,8 +4,8 @@ use Rattle.report.specs.declared.fault.Fault.TheVariants as faults
 use Rattle.black_top.specs.Answer.{refused, IsSettled, IsDecided}
 use Rattle.black_top.proofs.Settling.{in_force, refused_letters, settled_at}
 use Rattle.black_top.proofs.Showing.{shown, shown_as}
-use Rattle.black_top.proofs.deciding.settle.Goals.{else-is_some-via-then-is_some+else-limit-number, else-is_some-via-else-is_some}
-use Rattle.black_top.proofs.deciding.settle.Goals as goal
+use Rattle.black_top.proofs.commands.solve.settle.Goals.{else-is_some-via-then-is_some+else-limit-number, else-is_some-via-else-is_some}
+use Rattle.black_top.proofs.commands.solve.settle.Goals as goal
 
 pub returns-then-limit-number : goal.returns-then-limit-number
 returns-then-limit-number c =

@@ -1,7 +1,7 @@
 use Rattle.ltl_syntax.specs.Table.{tree_at}
 use Rattle.black_top.specs.Answer.{refused, IsSolved, unreadable, settled, IsSettled}
 use Rattle.black_top.proofs.Showing.{shown, shown_as}
-use Rattle.black_top.proofs.answer.solve_text.Goals as goal
+use Rattle.black_top.proofs.commands.solve.solve.Goals as goal
 
 pub returns-in-Refused : goal.returns-in-Refused
 returns-in-Refused c =

@@ -1,23 +1,33 @@
-// Whether a formula holds on the trace of a text.
+// `trace`: whether a formula holds on a trace. The input is both, with a separator line between.
 ghost use Rattle.std.specs.Prelude.{◌<◌, length, IfOk};
 ghost use Rattle.ltl_syntax.specs.Table.{tree_at};
-ghost use Rattle.black_top.specs.Answer.{Answer, IsJudged};
+ghost use Rattle.black_top.specs.Answer.{Answer, IsParted, IsJudged};
 ghost use Rattle.black_top.specs.Inner.{Shows};
 
 use crate::output::{Output, fails, holds, refusal};
+use crate::parts::cut;
+use crate::reading::{Reading, read_formula};
 use lasso_eval::EvalRefused;
 use ltl_syntax::FormulaTable;
 use ltl_word::{Trace, TraceFault};
 use report::Fault;
 use std::alloc::{AllocError, Global};
 
+/// The answer to an input of two parts.
+pub fn trace(alloc: Global, input: &[u8]) -> Result<Output, AllocError>
+    ensures { IfOk result (λ out. (a : Answer) × IsParted IsJudged input.now a × Shows out a) }
+{
+    let Some(parts) = cut(input) else {
+        return refusal(alloc, Fault::NoSeparator);
+    };
+    match read_formula(alloc, parts.formula)? {
+        Reading::Refused(fault) => refusal(alloc, fault),
+        Reading::Formula { table, root } => judge(alloc, &table, root, parts.second),
+    }
+}
+
 /// HOLDS or FAILS, or why the text is no trace or is not evaluated.
-pub fn judge(
-    alloc: Global,
-    table: &FormulaTable,
-    root: u32,
-    text: &[u8],
-) -> Result<Output, AllocError>
+fn judge(alloc: Global, table: &FormulaTable, root: u32, text: &[u8]) -> Result<Output, AllocError>
     requires { root < length table.now.nodes }
     ensures { IfOk result (λ out. (a : Answer) × IsJudged (tree_at table.now root) text.now a × Shows out a) }
 {

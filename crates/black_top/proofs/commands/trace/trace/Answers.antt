@@ -2,7 +2,7 @@ use Rattle.ltl_syntax.specs.Table.{tree_at}
 use Rattle.report.specs.declared.fault.Fault.TheVariants as faults
 use Rattle.black_top.specs.Answer.{refused, IsParted, uncut, unread, accepted, IsJudged}
 use Rattle.black_top.proofs.Showing.{shown, shown_as}
-use Rattle.black_top.proofs.answer.trace_input.Goals as goal
+use Rattle.black_top.proofs.commands.trace.trace.Goals as goal
 
 pub returns-in_default : goal.returns-in_default
 returns-in_default c = shown (IsParted IsJudged c.args.input.now) (refused faults.NoSeparator) c.refusal.result (uncut c.in_default.ensures) c.refusal.ensures

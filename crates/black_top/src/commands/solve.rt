@@ -1,13 +1,14 @@
-// The answer of `solve` to a formula.
+// `solve`: whether a formula has a trace of the kind, by the tableau's verdict at the limit in force.
 ghost use Rattle.std.specs.Prelude.{◌<◌, ◌≤◌, length, IfOk};
 ghost use Rattle.ltl_syntax.specs.Table.{tree_at};
 ghost use Rattle.enc_layout.specs.Letters.{Fits};
 ghost use Rattle.enc_layout.specs.Clauses.{layout_of};
-ghost use Rattle.black_top.specs.Answer.{Answer, IsSettled, IsDecided};
+ghost use Rattle.black_top.specs.Answer.{Answer, IsSolved, IsSettled, IsDecided};
 ghost use Rattle.black_top.specs.Inner.{Shows, IsDepth};
 
 use crate::options::Options;
 use crate::output::{Output, refusal, sat, undecided, unsat};
+use crate::reading::{Reading, read_formula};
 use enc_layout::Layout;
 use ltl_closure::Closure;
 use ltl_syntax::FormulaTable;
@@ -18,8 +19,19 @@ use unravel::Decision;
 /// The depth up to which `solve` goes where none is asked for.
 const DEFAULT_DEPTH: u32 = 64;
 
+/// The answer to the text of a formula. A text that is too long may be a front of the input.
+pub fn solve(alloc: Global, options: Options, text: &[u8]) -> Result<Output, AllocError>
+    requires depth { IsDepth options.depth }
+    ensures { IfOk result (λ out. (a : Answer) × IsSolved options.kind options.depth text.now a × Shows out a) }
+{
+    match read_formula(alloc, text)? {
+        Reading::Refused(fault) => refusal(alloc, fault),
+        Reading::Formula { table, root } => settle(alloc, &table, root, options),
+    }
+}
+
 /// The tableau's verdict, or that the depth that was asked for has too many letters.
-pub fn settle(
+fn settle(
     alloc: Global,
     table: &FormulaTable,
     root: u32,

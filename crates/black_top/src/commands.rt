@@ -1,0 +1,33 @@
+// The commands. Each is one call, from what its words say and the bytes that were read to what is shown.
+ghost use Rattle.std.specs.Prelude.{◌≡◌, IfOk};
+ghost use Rattle.black_top.specs.Answer.{Answer};
+ghost use Rattle.black_top.specs.Inner.{Shows, Gives, IsInBounds, stop_after};
+
+mod solve;
+mod trace;
+
+use crate::output::Output;
+use crate::reading::MOST_BYTES;
+use crate::words::Asked;
+use std::alloc::{AllocError, Global};
+
+/// After how many bytes the source is read no further.
+pub fn stop_after(asked: Asked) -> usize
+    ensures { result ≡ stop_after asked }
+{
+    match asked {
+        Asked::Solve(_) => MOST_BYTES,
+        Asked::Trace => usize::MAX,
+    }
+}
+
+/// What is shown for the bytes.
+pub fn output(alloc: Global, asked: Asked, bytes: &[u8]) -> Result<Output, AllocError>
+    requires { IsInBounds asked }
+    ensures { IfOk result (λ out. (a : Answer) × Gives asked bytes.now a × Shows out a) }
+{
+    match asked {
+        Asked::Solve(options) => solve::solve(alloc, options, bytes),
+        Asked::Trace => trace::trace(alloc, bytes),
+    }
+}
