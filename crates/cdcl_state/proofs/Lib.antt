@@ -1,3 +1,4 @@
+pub mod Told
 pub mod Bridge
 pub mod Assign
 pub mod Places

@@ -1,6 +1,14 @@
 -- Literals and clauses under the values of some letters.
-use Rattle.std.specs.Prelude.{◌≡◌, ℕ, Bool, not, List, Option, Some, None, slice_index_or}
+use Rattle.std.specs.Prelude.{◌≡◌, ℕ, Bool, true, false, not, nat_eq, if◌then◌else◌, List, Option, Some, None, slice_index_or}
 use Rattle.cnf_base.specs.declared.literal.Literal.{Literal}
+
+-- the value that a byte stands for
+abbrev pub told : ℕ → Option Bool
+told n = if nat_eq n 1 then Some true else (if nat_eq n 2 then Some false else None)
+
+-- the byte of a letter whose literal is true, negated or not
+abbrev pub byte_of : Bool → ℕ
+byte_of negated = if negated then 2 else 1
 
 -- the value of a letter, if it has one
 abbrev pub value_at : List (Option Bool) → ℕ → Option Bool

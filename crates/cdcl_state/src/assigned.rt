@@ -4,6 +4,7 @@ ghost use Rattle.std.specs.Prelude.{◌≡◌, ◌≢◌, ℕ, ◌+◌, ◌-◌,
 ghost use Rattle.cdcl_state.specs.Trail.{IsUnset, literals_of, AreValues};
 ghost use Rattle.cdcl_state.specs.Learnt.{blank_entry, literal_at};
 
+use crate::values::Values;
 use cnf_base::{Hint, Literal};
 use std::alloc::{AllocError, Global};
 use std::marker::Model;
@@ -21,7 +22,7 @@ pub struct Entry {
 /// The trail, and the values that it tells.
 #[derive(Drop)]
 pub struct Assigned {
-    values: Vec<Option<bool>>,
+    values: Values,
     trail: Vec<Entry>,
     /// The place of the trail at which a letter was assigned last.
     places: Vec<usize>,
@@ -33,9 +34,9 @@ impl Model for Assigned {
 
     ghost Value = { AssignedValue };
 
-    ghost view = { λ a. record { values = a.values.items; trail = a.trail.items } };
+    ghost view = { λ a. record { values = a.values; trail = a.trail.items } };
 
-    ghost invariant = { λ a. AreValues a.values.items a.trail.items × ArePlaces a.places.items a.values.items a.trail.items };
+    ghost invariant = { λ a. AreValues a.values a.trail.items × ArePlaces a.places.items a.values a.trail.items };
 }
 
 impl Assigned {
@@ -73,10 +74,7 @@ impl Assigned {
         requires { literal.letter.0 < length self.now.values }
         ensures { IsTrue result ↔ Contains (literals_of self.now.trail) literal }
     {
-        match self.values[literal.letter.0 as usize] {
-            Some(value) => value != literal.negated,
-            None => false,
-        }
+        self.values.holds(literal)
     }
 
     /// The place at which the literal stands.
@@ -94,7 +92,7 @@ impl Assigned {
         ensures trail { self.new.trail ≡ self.old.trail }
     {
         self.places.push(0)?;
-        self.values.push(None)?;
+        self.values.push()?;
         Ok(())
     }
 
@@ -115,9 +113,8 @@ impl Assigned {
     {
         let place = self.trail.len();
         self.trail.push(entry)?;
-        let letter = entry.literal.letter.0 as usize;
-        self.places[letter] = place;
-        self.values[letter] = Some(!entry.literal.negated);
+        self.places[entry.literal.letter.0 as usize] = place;
+        self.values.set(entry.literal);
         Ok(())
     }
 
@@ -162,7 +159,7 @@ impl Assigned {
         match self.trail.pop() {
             None => {}
             Some(entry) => {
-                self.values[entry.literal.letter.0 as usize] = None;
+                self.values.clear(entry.literal);
             }
         }
     }
@@ -199,7 +196,7 @@ impl Assigned {
         ensures { result ≡ record { values = []; trail = [] } }
     {
         Assigned {
-            values: Vec::new(alloc),
+            values: Values::new(alloc),
             trail: Vec::new(alloc),
             places: Vec::new(alloc),
         }

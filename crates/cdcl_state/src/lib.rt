@@ -12,5 +12,6 @@ pub mod state;
 pub mod store;
 pub mod units;
 pub mod unmark;
+pub mod values;
 pub mod visit;
 pub mod widen;
