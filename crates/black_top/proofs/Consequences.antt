@@ -1,7 +1,7 @@
 -- What follows from an answer: the headline.
-use Rattle.std.proofs.Common.{◌≡◌, ◌∙◌, ℕ, ◌<◌, inl, inr, Bool, true, false, List, Option, Some, None, Ok, refl, sym, ap, subst, arith}
+use Rattle.std.proofs.Common.{◌≡◌, ◌∙◌, ℕ, ◌<◌, inl, inr, Bool, true, false, List, Option, Some, None, Ok, IsTrue, refl, sym, ap, subst, arith}
 use Rattle.std.proofs.lemmas.Bool.{cases_lt}
-use Rattle.ltl_io.specs.Outside.{Grows}
+use Rattle.ltl_io.specs.Outside.{Grows, LosesAtMost}
 use Rattle.ltl_syntax.specs.declared.node.Kind.{Kind}
 use Rattle.ltl_syntax.specs.Formula.{Formula}
 use Rattle.ltl_parser.specs.Text.{IsAccepted}
@@ -14,14 +14,18 @@ use Rattle.report.specs.declared.fault.Fault.{Fault}
 use Rattle.report.specs.declared.fault.Fault.TheVariants as faults
 use Rattle.black_top.specs.declared.status.Status.{Status}
 use Rattle.black_top.specs.declared.status.Status.TheVariants as statuses
-use Rattle.black_top.specs.Words.{Choice, Command, Solve, Trace as TraceWord, Asks, kind_of, depth_of}
-use Rattle.black_top.specs.Parts.{IsCut}
-use Rattle.black_top.specs.Answer.{Answer, refused, sat, unsat, undecided, holds, fails, IsAnswer, not_taken, asked, Answers, IsInForce, IsReached, number_of, IsDecided, IsSettled, too_deep, decided, IsSolved, unreadable, settled, IsParted, uncut, unread, accepted, IsJudged, not_json, not_trace, empty_loop, empty_states, many_cells, satisfied, violated, status_of, text_of, fault_status}
 use Rattle.black_top.specs.declared.output.Output.{Output}
+use Rattle.black_top.specs.Status.{is_answer, has_read}
+use Rattle.black_top.specs.Words.{Choice, Solve, Trace as TraceWord, Asks, kind_of, depth_of}
+use Rattle.black_top.specs.Parts.{IsCut}
+use Rattle.black_top.specs.Taking.{AreLeft, IsTakenUpTo, IsTakenWhole}
+use Rattle.black_top.specs.Answer.{Answer, undecided, status_of, text_of, fault_status}
+use Rattle.black_top.specs.Reading.{IsParted, uncut, unread, accepted}
+use Rattle.black_top.specs.Solve.{IsInForce, IsReached, number_of, IsDecided, satisfiable, unsatisfiable, undecided_yet, IsSettled, too_deep, decided, IsSolved, unreadable, settled, PrintsModel, PrintsNone, PrintsUndecided, AreFewLetters, PrintsVerdict, OfFormula, SolvePromise}
+use Rattle.black_top.specs.Trace.{IsJudged, not_json, not_trace, empty_loop, empty_states, many_cells, satisfied, violated, PrintsHolds, PrintsFails, OfTrace, TracePromise}
 use Rattle.black_top.specs.Inner.{Shows}
-use Rattle.black_top.specs.Run.{AreLeft, IsGiven, IsAnswered, OfFormula, PrintsModel, PrintsNone, PrintsUndecided, PrintsVerdict, AreFewLetters, OfTrace, PrintsHolds, PrintsFails}
-use Rattle.black_top.proofs.OneCommand.{command_one}
-use Rattle.black_top.proofs.OneAnswer.{TextLaws, refused_not_accepted}
+use Rattle.black_top.specs.Run.{IsGiven, IsAnswered}
+use Rattle.black_top.proofs.OneAnswer.{TextLaws, refused_not_accepted, solve_given, trace_given}
 
 -- ---- no refusal has the status of another answer
 
@@ -62,13 +66,9 @@ answered {words} {rest} {before} {after} {s} out text (a, given, shows) same gro
 
 -- ---- the answer of the command that was asked for
 
-command_given : (words : List (List ℕ)) (bytes : List ℕ) (c : Command) (a : Answer) → IsAnswer words bytes a → Asks words c → Answers c bytes a
-command_given words bytes c a (not_taken n) asks = absurd (n c asks)
-command_given words bytes c a (asked d b asks' h) asks = subst (λ e. Answers e bytes a) (command_one words d c asks'.0 asks.0) h
-
 solved : {words : List (List ℕ)} {rest before after : Option (List ℕ)} {s : Status} (choices : List Choice) → Asks words (Solve choices) → (h : IsAnswered words rest before after s)
     → IsSolved (kind_of choices) (depth_of choices) h.given.bytes h.answer
-solved {words} choices asks h = command_given words h.given.bytes (Solve choices) h.answer h.given.lawful asks
+solved {words} choices asks h = solve_given words h.given.bytes choices h.answer asks h.given.lawful
 
 -- ---- SAT, UNSAT and UNDECIDED
 
@@ -77,21 +77,15 @@ model_of satisfy f kind k t (r, run, close, accepts, gives) = satisfy f kind k r
 
 sat_decided : (f : Formula) (kind : Kind) (limit : ℕ) (before after : Option (List ℕ)) → RunsSatisfy → (a : Answer) → IsDecided f kind limit a → statuses.Sat ≡ status_of a → Grows (text_of a) before after
     → PrintsModel kind f before after
-sat_decided f kind limit before after satisfy (sat k t) h e g = record { depth = k; trace = t; model = model_of satisfy f kind k t h.1; printed = g }
-sat_decided f kind limit before after satisfy (refused fault) h e g = absurd h
-sat_decided f kind limit before after satisfy (unsat k) h e g = absurd (cc)
-sat_decided f kind limit before after satisfy (undecided k) h e g = absurd (cc)
-sat_decided f kind limit before after satisfy holds h e g = absurd h
-sat_decided f kind limit before after satisfy fails h e g = absurd h
+sat_decided f kind limit before after satisfy a (satisfiable k t h r) e g = record { depth = k; trace = t; model = model_of satisfy f kind k t r; printed = g }
+sat_decided f kind limit before after satisfy a (unsatisfiable k h) e g = absurd (cc)
+sat_decided f kind limit before after satisfy a (undecided_yet k h) e g = absurd (cc)
 
 unsat_decided : (f : Formula) (kind : Kind) (limit : ℕ) (before after : Option (List ℕ)) → UnsatIsSound → (a : Answer) → IsDecided f kind limit a → statuses.Unsat ≡ status_of a → Grows (text_of a) before after
     → PrintsNone kind f before after
-unsat_decided f kind limit before after sound (unsat k) h e g = record { depth = k; none = λ t. sound f kind limit k t h; printed = g }
-unsat_decided f kind limit before after sound (refused fault) h e g = absurd h
-unsat_decided f kind limit before after sound (sat k t) h e g = absurd (cc)
-unsat_decided f kind limit before after sound (undecided k) h e g = absurd (cc)
-unsat_decided f kind limit before after sound holds h e g = absurd h
-unsat_decided f kind limit before after sound fails h e g = absurd h
+unsat_decided f kind limit before after sound a (unsatisfiable k h) e g = record { depth = k; none = λ t. sound f kind limit k t h; printed = g }
+unsat_decided f kind limit before after sound a (satisfiable k t h r) e g = absurd (cc)
+unsat_decided f kind limit before after sound a (undecided_yet k h) e g = absurd (cc)
 
 -- an undecided verdict has the limit as its depth
 undecided_at : (f : Formula) (kind : Kind) (limit k : ℕ) → IsVerdict f kind limit (Undecided k) → k ≡ limit
@@ -99,7 +93,7 @@ undecided_at f kind limit k (undecided_run each) = refl
 
 undecided_decided : (f : Formula) (kind : Kind) (wanted : Option ℕ) (limit : ℕ) (before after : Option (List ℕ)) → BoundSettles → IsInForce f kind (number_of wanted) limit → (a : Answer) → IsDecided f kind limit a
     → statuses.Undecided ≡ status_of a → Grows (text_of a) before after → PrintsUndecided kind wanted f before after
-undecided_decided f kind wanted limit before after settles force (undecided k) h e g =
+undecided_decided f kind wanted limit before after settles force a (undecided_yet k h) e g =
     let same = undecided_at f kind limit k h in
     let low : limit < bound f kind = elim (cases_lt limit (bound f kind)) [
       | inl less ↦ less
@@ -112,11 +106,8 @@ undecided_decided f kind wanted limit before after settles force (undecided k) h
       below_bound = low;
       printed = subst (λ d. Grows (text_of (undecided d)) before after) same g;
     }
-undecided_decided f kind wanted limit before after settles force (refused fault) h e g = absurd h
-undecided_decided f kind wanted limit before after settles force (sat k t) h e g = absurd (cc)
-undecided_decided f kind wanted limit before after settles force (unsat k) h e g = absurd (cc)
-undecided_decided f kind wanted limit before after settles force holds h e g = absurd h
-undecided_decided f kind wanted limit before after settles force fails h e g = absurd h
+undecided_decided f kind wanted limit before after settles force a (satisfiable k t h r) e g = absurd (cc)
+undecided_decided f kind wanted limit before after settles force a (unsatisfiable k h) e g = absurd (cc)
 
 -- an answer that is no refusal is a verdict at the limit in force
 abbrev IsVerdictOf : Kind → Option ℕ → List ℕ → Answer → Type 0
@@ -130,19 +121,19 @@ verdict_solved : (kind : Kind) (wanted : Option ℕ) (bytes : List ℕ) (s : Sta
 verdict_solved kind wanted bytes s not a (unreadable fault h) is = absurd (not_refused s fault not is)
 verdict_solved kind wanted bytes s not a (settled f answer read h) is = verdict_settled kind wanted bytes f s read not a h is
 
-pub sat_from : {words : List (List ℕ)} {rest before after : Option (List ℕ)} → RunsSatisfy → (choices : List Choice) → Asks words (Solve choices) → IsAnswered words rest before after statuses.Sat
+sat_from : {words : List (List ℕ)} {rest before after : Option (List ℕ)} → RunsSatisfy → (choices : List Choice) → Asks words (Solve choices) → IsAnswered words rest before after statuses.Sat
     → OfFormula rest (λ f. PrintsModel (kind_of choices) f before after)
 sat_from {words} {rest} {before} {after} satisfy choices asks h =
     let (f, read, limit, force, reached, is) = verdict_solved (kind_of choices) (depth_of choices) h.given.bytes statuses.Sat refl h.answer (solved choices asks h) h.own in
     (h.given.bytes, h.given.left, f, read, sat_decided f (kind_of choices) limit before after satisfy h.answer is h.own h.printed)
 
-pub unsat_from : {words : List (List ℕ)} {rest before after : Option (List ℕ)} → UnsatIsSound → (choices : List Choice) → Asks words (Solve choices) → IsAnswered words rest before after statuses.Unsat
+unsat_from : {words : List (List ℕ)} {rest before after : Option (List ℕ)} → UnsatIsSound → (choices : List Choice) → Asks words (Solve choices) → IsAnswered words rest before after statuses.Unsat
     → OfFormula rest (λ f. PrintsNone (kind_of choices) f before after)
 unsat_from {words} {rest} {before} {after} sound choices asks h =
     let (f, read, limit, force, reached, is) = verdict_solved (kind_of choices) (depth_of choices) h.given.bytes statuses.Unsat refl h.answer (solved choices asks h) h.own in
     (h.given.bytes, h.given.left, f, read, unsat_decided f (kind_of choices) limit before after sound h.answer is h.own h.printed)
 
-pub undecided_from : {words : List (List ℕ)} {rest before after : Option (List ℕ)} → BoundSettles → (choices : List Choice) → Asks words (Solve choices) → IsAnswered words rest before after statuses.Undecided
+undecided_from : {words : List (List ℕ)} {rest before after : Option (List ℕ)} → BoundSettles → (choices : List Choice) → Asks words (Solve choices) → IsAnswered words rest before after statuses.Undecided
     → OfFormula rest (λ f. PrintsUndecided (kind_of choices) (depth_of choices) f before after)
 undecided_from {words} {rest} {before} {after} settles choices asks h =
     let (f, read, limit, force, reached, is) = verdict_solved (kind_of choices) (depth_of choices) h.given.bytes statuses.Undecided refl h.answer (solved choices asks h) h.own in
@@ -172,7 +163,7 @@ told_left : (rest : Option (List ℕ)) (bytes left : List ℕ) → rest ≡ Some
 told_left (Some told) bytes left e is = let same : bytes ≡ told = cc in same ∙ is
 told_left None bytes left e is = absurd (cc)
 
-pub verdict_from : {words : List (List ℕ)} {rest before after : Option (List ℕ)} {s : Status} → TextLaws → (choices : List Choice) (bytes : List ℕ) (f : Formula) → Asks words (Solve choices) → rest ≡ Some bytes → IsAccepted bytes f
+verdict_from : {words : List (List ℕ)} {rest before after : Option (List ℕ)} {s : Status} → TextLaws → (choices : List Choice) (bytes : List ℕ) (f : Formula) → Asks words (Solve choices) → rest ≡ Some bytes → IsAccepted bytes f
     → AreFewLetters (kind_of choices) (depth_of choices) f → IsAnswered words rest before after s → PrintsVerdict (kind_of choices) (depth_of choices) f before after s
 verdict_from {words} {rest} {before} {after} {s} laws choices bytes f asks told read few h =
     let same = told_left rest bytes h.given.bytes told h.given.left in
@@ -208,18 +199,64 @@ traced_parts bytes a s (unread part second fault cut refuses) not e = absurd (no
 traced_parts bytes a s (accepted part second f answer cut read judged) not e = (part, second, f, cut, read, judged)
 
 traced : {words : List (List ℕ)} {rest before after : Option (List ℕ)} {s : Status} → Asks words TraceWord → (h : IsAnswered words rest before after s) → IsParted IsJudged h.given.bytes h.answer
-traced {words} asks h = command_given words h.given.bytes TraceWord h.answer h.given.lawful asks
+traced {words} asks h = trace_given words h.given.bytes h.answer asks h.given.lawful
 
-pub holds_from : {words : List (List ℕ)} {rest before after : Option (List ℕ)} → Asks words TraceWord → IsAnswered words rest before after statuses.Good
+holds_from : {words : List (List ℕ)} {rest before after : Option (List ℕ)} → Asks words TraceWord → IsAnswered words rest before after statuses.Good
     → OfTrace rest (λ f t. PrintsHolds f t before after)
 holds_from {words} {rest} {before} {after} asks h =
     let (part, second, f, cut, read, judged) = traced_parts h.given.bytes h.answer statuses.Good (traced asks h) refl h.own in
     let (t, reading, printed) = judged_holds f second before after h.answer judged h.own h.printed in
     record { bytes = h.given.bytes; left = h.given.left; part = part; second = second; cut = cut; formula = f; accepted = read; trace = t; read = reading; claim = printed }
 
-pub fails_from : {words : List (List ℕ)} {rest before after : Option (List ℕ)} → Asks words TraceWord → IsAnswered words rest before after statuses.Negative
+fails_from : {words : List (List ℕ)} {rest before after : Option (List ℕ)} → Asks words TraceWord → IsAnswered words rest before after statuses.Negative
     → OfTrace rest (λ f t. PrintsFails f t before after)
 fails_from {words} {rest} {before} {after} asks h =
     let (part, second, f, cut, read, judged) = traced_parts h.given.bytes h.answer statuses.Negative (traced asks h) refl h.own in
     let (t, reading, printed) = judged_fails f second before after h.answer judged h.own h.printed in
     record { bytes = h.given.bytes; left = h.given.left; part = part; second = second; cut = cut; formula = f; accepted = read; trace = t; read = reading; claim = printed }
+
+-- ---- the promises
+
+-- a call that gave no answer was not quiet, or there was no memory
+pub record IsBroken (IsQuiet : Type 0) (status : Status) : Type 0 where
+  pub none : is_answer status ≡ false
+  pub cause : IsQuiet → status ≡ statuses.NoMemory
+
+broken_not : (status other : Status) → is_answer status ≡ false → is_answer other ≡ true → status ≡ other → ⊥
+broken_not status other none is same = let e : false ≡ true = sym none ∙ ap is_answer same ∙ is in cc
+
+pub solve_broken : (choices : List Choice) (IsQuiet : Type 0) (rest left before after : Option (List ℕ)) (status : Status) → IsBroken IsQuiet status → LosesAtMost 1052672 rest left
+    → (IsTrue (has_read status) → IsTakenUpTo 1048576 rest left) → SolvePromise choices IsQuiet rest left before after status
+solve_broken choices IsQuiet rest left before after status broken most taken = record {
+  when_sat = λ e. absurd (broken_not status statuses.Sat broken.none refl e);
+  when_unsat = λ e. absurd (broken_not status statuses.Unsat broken.none refl e);
+  when_undecided = λ e. absurd (broken_not status statuses.Undecided broken.none refl e);
+  verdict = λ bytes f told read few quiet. inl (broken.cause quiet);
+  most = most;
+  taken = taken;
+}
+
+pub solve_kept : (choices : List Choice) (IsQuiet : Type 0) (words : List (List ℕ)) (rest left before after : Option (List ℕ)) (status : Status) → RunsSatisfy → UnsatIsSound → BoundSettles → TextLaws → Asks words (Solve choices)
+    → IsAnswered words rest before after status → LosesAtMost 1052672 rest left → IsTakenUpTo 1048576 rest left → SolvePromise choices IsQuiet rest left before after status
+solve_kept choices IsQuiet words rest left before after status satisfy sound settles laws asks answer most taken = record {
+  when_sat = λ e. sat_from satisfy choices asks (subst (IsAnswered words rest before after) e answer);
+  when_unsat = λ e. unsat_from sound choices asks (subst (IsAnswered words rest before after) e answer);
+  when_undecided = λ e. undecided_from settles choices asks (subst (IsAnswered words rest before after) e answer);
+  verdict = λ bytes f told read few quiet. inr (verdict_from laws choices bytes f asks told read few answer);
+  most = most;
+  taken = λ read. taken;
+}
+
+pub trace_broken : (IsQuiet : Type 0) (rest left before after : Option (List ℕ)) (status : Status) → IsBroken IsQuiet status → (IsTrue (has_read status) → IsTakenWhole rest left) → TracePromise rest left before after status
+trace_broken IsQuiet rest left before after status broken taken = record {
+  when_holds = λ e. absurd (broken_not status statuses.Good broken.none refl e);
+  when_fails = λ e. absurd (broken_not status statuses.Negative broken.none refl e);
+  taken = taken;
+}
+
+pub trace_kept : (words : List (List ℕ)) (rest left before after : Option (List ℕ)) (status : Status) → Asks words TraceWord → IsAnswered words rest before after status → IsTakenWhole rest left → TracePromise rest left before after status
+trace_kept words rest left before after status asks answer taken = record {
+  when_holds = λ e. holds_from asks (subst (IsAnswered words rest before after) e answer);
+  when_fails = λ e. fails_from asks (subst (IsAnswered words rest before after) e answer);
+  taken = λ read. taken;
+}

@@ -16,9 +16,12 @@ use Rattle.ltl_closure.specs.Run.{Sat, Unsat, Undecided}
 use Rattle.ltl_run.specs.Laws.{VerdictIsOne}
 use Rattle.report.specs.declared.fault.Fault.{Fault}
 use Rattle.report.specs.declared.fault.Fault.TheVariants as faults
-use Rattle.black_top.specs.Words.{Solve, Check, Trace as TraceWord, Demo, Command, kind_of, depth_of}
-use Rattle.black_top.specs.Reading.{RefusesPart}
-use Rattle.black_top.specs.Answer.{Answer, refused, sat, unsat, undecided, holds, fails, IsInForce, IsReached, number_of, IsDecided, IsSettled, too_deep, decided, IsSolved, unreadable, settled, IsParted, uncut, unread, accepted, IsJudged, not_json, not_trace, empty_loop, empty_states, many_cells, satisfied, violated, Answers, IsAnswer, not_taken, asked, AreAlike}
+use Rattle.black_top.specs.Words.{Choice, Solve, Trace as TraceWord, Asks, kind_of, depth_of}
+use Rattle.black_top.specs.Answer.{Answer, refused, sat, unsat, undecided, holds, fails, AreAlike}
+use Rattle.black_top.specs.Reading.{RefusesPart, too_long, lexical, grammar, many_nodes, IsParted, uncut, unread, accepted}
+use Rattle.black_top.specs.Solve.{IsInForce, IsReached, number_of, IsDecided, satisfiable, unsatisfiable, undecided_yet, IsSettled, too_deep, decided, IsSolved, unreadable, settled}
+use Rattle.black_top.specs.Trace.{IsJudged, not_json, not_trace, empty_loop, empty_states, many_cells, satisfied, violated}
+use Rattle.black_top.specs.Run.{IsAnswer, not_taken, solves, traces}
 use Rattle.black_top.proofs.Cutting.{cut_one, cut_or_none}
 use Rattle.black_top.proofs.OneCommand.{command_one}
 
@@ -44,53 +47,29 @@ too_many f g count same e many few = let s = ap formula_size same in absurd (ome
 
 -- a part has one refusal
 one_fault : (part : List ℕ) → TextLaws → (a b : Fault) → RefusesPart part a → RefusesPart part b → a ≡ b
-one_fault part laws faults.Usage b h k = absurd h
-one_fault part laws faults.NoSeparator b h k = absurd h
-one_fault part laws (faults.Letters i) b h k = absurd h
-one_fault part laws (faults.Cells i) b h k = absurd h
-one_fault part laws faults.NotJson b h k = absurd h
-one_fault part laws faults.NotTrace b h k = absurd h
-one_fault part laws faults.EmptyLoop b h k = absurd h
-one_fault part laws faults.EmptyStates b h k = absurd h
-one_fault part laws a faults.Usage h k = absurd k
-one_fault part laws a faults.NoSeparator h k = absurd k
-one_fault part laws a (faults.Letters j) h k = absurd k
-one_fault part laws a (faults.Cells j) h k = absurd k
-one_fault part laws a faults.NotJson h k = absurd k
-one_fault part laws a faults.NotTrace h k = absurd k
-one_fault part laws a faults.EmptyLoop h k = absurd k
-one_fault part laws a faults.EmptyStates h k = absurd k
-one_fault part laws faults.Text faults.Text h k = refl
-one_fault part laws faults.Text (faults.Lexical j) h k = let s = k.0 in absurd (omega (arith, h, s))
-one_fault part laws faults.Text (faults.Grammar j) h k = let s = k.0 in absurd (omega (arith, h, s))
-one_fault part laws faults.Text (faults.Nodes j) h k = let s = k.0 in absurd (omega (arith, h, s))
-one_fault part laws (faults.Lexical i) faults.Text h k = let s = h.0 in absurd (omega (arith, k, s))
-one_fault part laws (faults.Lexical i) (faults.Lexical j) h k = ap faults.Lexical (laws.one_lexical part i j h.1 k.1)
-one_fault part laws (faults.Lexical i) (faults.Grammar j) h k = absurd (laws.lexical_not_grammar part i j h.1 k.1)
-one_fault part laws (faults.Lexical i) (faults.Nodes j) h k = absurd (laws.lexical_not_read part i k.1.0 h.1 k.1.1)
-one_fault part laws (faults.Grammar i) faults.Text h k = let s = h.0 in absurd (omega (arith, k, s))
-one_fault part laws (faults.Grammar i) (faults.Lexical j) h k = absurd (laws.lexical_not_grammar part j i k.1 h.1)
-one_fault part laws (faults.Grammar i) (faults.Grammar j) h k = ap faults.Grammar (laws.one_grammar part i j h.1 k.1)
-one_fault part laws (faults.Grammar i) (faults.Nodes j) h k = absurd (laws.grammar_not_read part i k.1.0 h.1 k.1.1)
-one_fault part laws (faults.Nodes i) faults.Text h k = let s = h.0 in absurd (omega (arith, k, s))
-one_fault part laws (faults.Nodes i) (faults.Lexical j) h k = absurd (laws.lexical_not_read part j h.1.0 k.1 h.1.1)
-one_fault part laws (faults.Nodes i) (faults.Grammar j) h k = absurd (laws.grammar_not_read part j h.1.0 k.1 h.1.1)
-one_fault part laws (faults.Nodes i) (faults.Nodes j) h k = ap faults.Nodes (h.1.2 ∙ ap formula_size (laws.one_formula part h.1.0 k.1.0 h.1.1 k.1.1) ∙ sym k.1.2)
+one_fault part laws a b (too_long h) (too_long k) = refl
+one_fault part laws a b (too_long h) (lexical j short k) = absurd (omega (arith, h, short))
+one_fault part laws a b (too_long h) (grammar j short k) = absurd (omega (arith, h, short))
+one_fault part laws a b (too_long h) (many_nodes j short k) = absurd (omega (arith, h, short))
+one_fault part laws a b (lexical i short h) (too_long k) = absurd (omega (arith, k, short))
+one_fault part laws a b (lexical i short h) (lexical j short' k) = ap faults.Lexical (laws.one_lexical part i j h k)
+one_fault part laws a b (lexical i short h) (grammar j short' k) = absurd (laws.lexical_not_grammar part i j h k)
+one_fault part laws a b (lexical i short h) (many_nodes j short' k) = absurd (laws.lexical_not_read part i k.0 h k.1)
+one_fault part laws a b (grammar i short h) (too_long k) = absurd (omega (arith, k, short))
+one_fault part laws a b (grammar i short h) (lexical j short' k) = absurd (laws.lexical_not_grammar part j i k h)
+one_fault part laws a b (grammar i short h) (grammar j short' k) = ap faults.Grammar (laws.one_grammar part i j h k)
+one_fault part laws a b (grammar i short h) (many_nodes j short' k) = absurd (laws.grammar_not_read part i k.0 h k.1)
+one_fault part laws a b (many_nodes i short h) (too_long k) = absurd (omega (arith, k, short))
+one_fault part laws a b (many_nodes i short h) (lexical j short' k) = absurd (laws.lexical_not_read part j h.0 k h.1)
+one_fault part laws a b (many_nodes i short h) (grammar j short' k) = absurd (laws.grammar_not_read part j h.0 k h.1)
+one_fault part laws a b (many_nodes i short h) (many_nodes j short' k) = ap faults.Nodes (h.2 ∙ ap formula_size (laws.one_formula part h.0 k.0 h.1 k.1) ∙ sym k.2)
 
 -- a part that is refused is no accepted formula
 pub refused_not_accepted : (part : List ℕ) → TextLaws → (fault : Fault) (f : Formula) → RefusesPart part fault → IsAccepted part f → ⊥
-refused_not_accepted part laws faults.Text f h k = let s = k.short in absurd (omega (arith, h, s))
-refused_not_accepted part laws (faults.Lexical byte) f h k = laws.lexical_not_read part byte f h.1 k.reads
-refused_not_accepted part laws (faults.Grammar byte) f h k = laws.grammar_not_read part byte f h.1 k.reads
-refused_not_accepted part laws (faults.Nodes count) f h k = too_many h.1.0 f count (laws.one_formula part h.1.0 f h.1.1 k.reads) h.1.2 h.1.3 k.few
-refused_not_accepted part laws faults.Usage f h k = h
-refused_not_accepted part laws (faults.Letters depth) f h k = h
-refused_not_accepted part laws faults.NoSeparator f h k = h
-refused_not_accepted part laws faults.NotJson f h k = h
-refused_not_accepted part laws faults.NotTrace f h k = h
-refused_not_accepted part laws faults.EmptyLoop f h k = h
-refused_not_accepted part laws faults.EmptyStates f h k = h
-refused_not_accepted part laws (faults.Cells count) f h k = h
+refused_not_accepted part laws fault f (too_long h) k = let s = k.short in absurd (omega (arith, h, s))
+refused_not_accepted part laws fault f (lexical byte short h) k = laws.lexical_not_read part byte f h k.reads
+refused_not_accepted part laws fault f (grammar byte short h) k = laws.grammar_not_read part byte f h k.reads
+refused_not_accepted part laws fault f (many_nodes count short h) k = too_many h.0 f count (laws.one_formula part h.0 f h.1 k.reads) h.2 h.3 k.few
 
 -- ---- the verdict
 
@@ -110,21 +89,15 @@ undecided_depth : (i j : ℕ) → Undecided i ≡ Undecided j → i ≡ j
 undecided_depth i j e = cc
 
 one_decided : (f : Formula) (kind : Kind) (limit : ℕ) → VerdictIsOne → (a b : Answer) → IsDecided f kind limit a → IsDecided f kind limit b → AreAlike a b
-one_decided f kind limit one (refused fault) b h k = absurd h
-one_decided f kind limit one holds b h k = absurd h
-one_decided f kind limit one fails b h k = absurd h
-one_decided f kind limit one a (refused fault) h k = absurd k
-one_decided f kind limit one a holds h k = absurd k
-one_decided f kind limit one a fails h k = absurd k
-one_decided f kind limit one (sat i t) (sat j u) h k = sat_depth i j (one f kind limit (Sat i) (Sat j) h.0 k.0)
-one_decided f kind limit one (sat i t) (unsat j) h k = let e = one f kind limit (Sat i) (Unsat j) h.0 k in absurd (cc)
-one_decided f kind limit one (sat i t) (undecided j) h k = let e = one f kind limit (Sat i) (Undecided j) h.0 k in absurd (cc)
-one_decided f kind limit one (unsat i) (sat j u) h k = let e = one f kind limit (Unsat i) (Sat j) h k.0 in absurd (cc)
-one_decided f kind limit one (unsat i) (unsat j) h k = ap unsat (unsat_depth i j (one f kind limit (Unsat i) (Unsat j) h k))
-one_decided f kind limit one (unsat i) (undecided j) h k = let e = one f kind limit (Unsat i) (Undecided j) h k in absurd (cc)
-one_decided f kind limit one (undecided i) (sat j u) h k = let e = one f kind limit (Undecided i) (Sat j) h k.0 in absurd (cc)
-one_decided f kind limit one (undecided i) (unsat j) h k = let e = one f kind limit (Undecided i) (Unsat j) h k in absurd (cc)
-one_decided f kind limit one (undecided i) (undecided j) h k = ap undecided (undecided_depth i j (one f kind limit (Undecided i) (Undecided j) h k))
+one_decided f kind limit one a b (satisfiable i t h r) (satisfiable j u k r') = sat_depth i j (one f kind limit (Sat i) (Sat j) h k)
+one_decided f kind limit one a b (satisfiable i t h r) (unsatisfiable j k) = let e = one f kind limit (Sat i) (Unsat j) h k in absurd (cc)
+one_decided f kind limit one a b (satisfiable i t h r) (undecided_yet j k) = let e = one f kind limit (Sat i) (Undecided j) h k in absurd (cc)
+one_decided f kind limit one a b (unsatisfiable i h) (satisfiable j u k r) = let e = one f kind limit (Unsat i) (Sat j) h k in absurd (cc)
+one_decided f kind limit one a b (unsatisfiable i h) (unsatisfiable j k) = ap unsat (unsat_depth i j (one f kind limit (Unsat i) (Unsat j) h k))
+one_decided f kind limit one a b (unsatisfiable i h) (undecided_yet j k) = let e = one f kind limit (Unsat i) (Undecided j) h k in absurd (cc)
+one_decided f kind limit one a b (undecided_yet i h) (satisfiable j u k r) = let e = one f kind limit (Undecided i) (Sat j) h k in absurd (cc)
+one_decided f kind limit one a b (undecided_yet i h) (unsatisfiable j k) = let e = one f kind limit (Undecided i) (Unsat j) h k in absurd (cc)
+one_decided f kind limit one a b (undecided_yet i h) (undecided_yet j k) = ap undecided (undecided_depth i j (one f kind limit (Undecided i) (Undecided j) h k))
 
 -- the depth that was wanted for is not both reached and too deep
 not_too_deep : (kind : Kind) (wanted : Option ℕ) (f : Formula) (n limit reached : ℕ) → wanted ≡ Some n → IsInForce f kind n limit → limit < n
@@ -232,15 +205,29 @@ alike_itself (undecided depth) = refl
 alike_itself holds = refl
 alike_itself fails = refl
 
-answers_alike : (bytes : List ℕ) → Laws → (c : Command) (a b : Answer) → Answers c bytes a → Answers c bytes b → AreAlike a b
-answers_alike bytes laws (Solve choices) a b h k = one_solved (kind_of choices) (depth_of choices) bytes laws a b h k
-answers_alike bytes laws (Check choices) a b h k = absurd h
-answers_alike bytes laws TraceWord a b h k = subst (AreAlike a) (one_parted bytes laws a b h k) (alike_itself a)
-answers_alike bytes laws (Demo n) a b h k = absurd h
+-- ---- the command
+
+-- the words ask for one list of choices of `solve`
+pub same_choices : (words : List (List ℕ)) (choices others : List Choice) → Asks words (Solve choices) → Asks words (Solve others) → choices ≡ others
+same_choices words choices others asks also = let e = command_one words (Solve choices) (Solve others) asks.0 also.0 in cc
+
+pub solve_not_trace : (words : List (List ℕ)) (choices : List Choice) → Asks words (Solve choices) → Asks words TraceWord → ⊥
+solve_not_trace words choices asks also = let e = command_one words (Solve choices) TraceWord asks.0 also.0 in cc
+
+-- the answer of the command that was asked for
+pub solve_given : (words : List (List ℕ)) (bytes : List ℕ) (choices : List Choice) (a : Answer) → Asks words (Solve choices) → IsAnswer words bytes a → IsSolved (kind_of choices) (depth_of choices) bytes a
+solve_given words bytes choices a asks (not_taken n) = absurd (n (Solve choices) asks)
+solve_given words bytes choices a asks (solves others b also h) = subst (λ x. IsSolved (kind_of x) (depth_of x) bytes a) (same_choices words others choices also asks) h
+solve_given words bytes choices a asks (traces b also h) = absurd (solve_not_trace words choices asks also)
+
+pub trace_given : (words : List (List ℕ)) (bytes : List ℕ) (a : Answer) → Asks words TraceWord → IsAnswer words bytes a → IsParted IsJudged bytes a
+trace_given words bytes a asks (not_taken n) = absurd (n TraceWord asks)
+trace_given words bytes a asks (solves choices b also h) = absurd (solve_not_trace words choices also asks)
+trace_given words bytes a asks (traces b also h) = h
 
 pub answer_one : (words : List (List ℕ)) (bytes : List ℕ) → Laws → (a b : Answer) → IsAnswer words bytes a → IsAnswer words bytes b → AreAlike a b
 answer_one words bytes laws a b (not_taken n) (not_taken m) = refl
-answer_one words bytes laws a b (not_taken n) (asked c b' asks h) = absurd (n c asks)
-answer_one words bytes laws a b (asked c a' asks h) (not_taken n) = absurd (n c asks)
-answer_one words bytes laws a b (asked c a' asks h) (asked d b' asks' k) =
-    answers_alike bytes laws c a b h (subst (λ e. Answers e bytes b) (sym (command_one words c d asks.0 asks'.0)) k)
+answer_one words bytes laws a b (not_taken n) (solves choices b' asks h) = absurd (n (Solve choices) asks)
+answer_one words bytes laws a b (not_taken n) (traces b' asks h) = absurd (n TraceWord asks)
+answer_one words bytes laws a b (solves choices a' asks h) k = one_solved (kind_of choices) (depth_of choices) bytes laws a b h (solve_given words bytes choices b asks k)
+answer_one words bytes laws a b (traces a' asks h) k = subst (AreAlike a) (one_parted bytes laws a b h (trace_given words bytes b asks k)) (alike_itself a)

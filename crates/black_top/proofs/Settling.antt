@@ -6,7 +6,8 @@ use Rattle.ltl_closure.specs.Entries.{ClosureValue}
 use Rattle.enc_layout.specs.Letters.{LayoutValue, Fits}
 use Rattle.enc_layout.specs.Clauses.{layout_of}
 use Rattle.report.specs.declared.fault.Fault.TheVariants as faults
-use Rattle.black_top.specs.Answer.{Answer, refused, layout, IsInForce, IsReached, number_of, IsDecided, IsSettled, too_deep, decided}
+use Rattle.black_top.specs.Answer.{Answer, refused}
+use Rattle.black_top.specs.Solve.{layout, IsInForce, IsReached, number_of, IsDecided, IsSettled, too_deep, decided}
 
 same_layout : (c : ClosureValue) (f : Formula) (kind : Kind) → c.formula ≡ f → c.kind ≡ kind → layout_of c ≡ layout f kind
 same_layout c f kind formula is = ap (λ g. layout g c.kind) formula ∙ ap (layout f) is

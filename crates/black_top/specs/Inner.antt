@@ -14,9 +14,11 @@ use Rattle.black_top.specs.declared.words.Asked.{Asked}
 use Rattle.black_top.specs.declared.words.Asked.TheVariants as asked
 use Rattle.black_top.specs.Words.{Choice, Finite, Depth, Solve, Trace as TraceWord, Says, SayAll, Once, OfSolve, Asks, kind_of, depth_of}
 use Rattle.black_top.specs.Parts.{IsSeparator, EndsLine, BeginsLine}
-use Rattle.black_top.specs.Reading.{RefusesPart}
-use Rattle.black_top.specs.Answer.{Answer, IsSolved, IsParted, IsJudged, status_of, text_of}
-use Rattle.black_top.specs.Run.{AreLeft}
+use Rattle.black_top.specs.Taking.{AreLeft}
+use Rattle.black_top.specs.Answer.{Answer, status_of, text_of}
+use Rattle.black_top.specs.Reading.{RefusesPart, IsParted}
+use Rattle.black_top.specs.Solve.{IsSolved}
+use Rattle.black_top.specs.Trace.{IsJudged}
 
 -- the choice that an option of `solve` is
 abbrev pub choice_of : SolveOption → Choice

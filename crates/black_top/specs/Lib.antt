@@ -1,7 +1,10 @@
 pub mod Status
 pub mod Words
 pub mod Parts
-pub mod Reading
+pub mod Taking
 pub mod Answer
+pub mod Reading
+pub mod Solve
+pub mod Trace
 pub mod Inner
 pub mod Run

@@ -7,7 +7,8 @@ ghost use Rattle.ltl_io.specs.declared.source.ReadRefused.TheVariants as read_re
 ghost use Rattle.black_top.specs.Words.{Choice, Solve, Trace as TraceWord, Asks};
 ghost use Rattle.black_top.specs.Answer.{Answer};
 ghost use Rattle.black_top.specs.Inner.{Shows};
-ghost use Rattle.black_top.specs.Run.{IsGiven, NeedsNothing, IsTakenUpTo, IsTakenWhole};
+ghost use Rattle.black_top.specs.Run.{IsGiven, NeedsNothing};
+ghost use Rattle.black_top.specs.Taking.{IsTakenUpTo, IsTakenWhole};
 
 use crate::commands::{output, stop_after};
 use crate::output::{Output, refusal};
@@ -22,16 +23,19 @@ pub fn answer<S: Source>(
     words: &[String],
     source: &mut S,
 ) -> Result<Output, ReadRefused>
-    ensures given { IfOk result (λ out. (a : Answer) × IsGiven (map string_bytes words.now) (S.rest source.old) a × Shows out a) }
+    ensures given { IfOk result (λ out. (a : Answer)
+        × IsGiven (map string_bytes words.now) (S.rest source.old) a × Shows out a) }
     ensures fault { IsErrOf result read_refused.Fault → Rose (S.faults source.old) (S.faults source.new) }
     ensures no_memory { IsErrOf result read_refused.NoMemory → S.faults source.new ≡ S.faults source.old }
     ensures count { OnOk result (S.faults source.new ≡ S.faults source.old) }
     ensures counts { Counts (S.faults source.old) (S.faults source.new) }
     ensures unread { NeedsNothing (map string_bytes words.now) → source.new ≡ source.old }
-    ensures solve_most { (choices : List Choice) → Asks (map string_bytes words.now) (Solve choices) → LosesAtMost 1052672 (S.rest source.old) (S.rest source.new) }
+    ensures solve_most { (choices : List Choice) → Asks (map string_bytes words.now) (Solve choices)
+        → LosesAtMost 1052672 (S.rest source.old) (S.rest source.new) }
     ensures solve_left { (choices : List Choice) → Asks (map string_bytes words.now) (Solve choices)
         → OnOk result (IsTakenUpTo 1048576 (S.rest source.old) (S.rest source.new)) }
-    ensures trace_left { Asks (map string_bytes words.now) TraceWord → OnOk result (IsTakenWhole (S.rest source.old) (S.rest source.new)) }
+    ensures trace_left { Asks (map string_bytes words.now) TraceWord
+        → OnOk result (IsTakenWhole (S.rest source.old) (S.rest source.new)) }
 {
     let Some(asked) = asked_command(words) else {
         return Ok(refusal(alloc, Fault::Usage)?);

@@ -1,7 +1,8 @@
 //! Laws of the definitions: the contract of each function is the law.
 ghost use Rattle.std.specs.Prelude.{◌≡◌, ℕ, List};
 ghost use Rattle.black_top.specs.Words.{Command, Taken};
-ghost use Rattle.black_top.specs.Answer.{Answer, IsAnswer, AreAlike};
+ghost use Rattle.black_top.specs.Answer.{Answer, AreAlike};
+ghost use Rattle.black_top.specs.Run.{IsAnswer};
 
 /// A list of words is taken as one command at most.
 pub fn one_command()

@@ -20,6 +20,7 @@ pub enum Reading {
 }
 
 /// Reads the text of a formula.
+#[tactic(auto, using(crate::proofs::Refusing::refused_text, crate::proofs::Refusing::refused_lexical, crate::proofs::Refusing::refused_grammar))]
 pub fn read_formula(alloc: Global, text: &[u8]) -> Result<Reading, AllocError>
     ensures { IfOk result (IsPartReading text.now) }
 {

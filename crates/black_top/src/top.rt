@@ -1,12 +1,12 @@
-// The top call.
-ghost use Rattle.std.specs.Prelude.{◌≡◌, ◌⊎◌, ◌<◌, ℕ, List, Some, map, string_bytes, IsTrue};
+// The top call. What it ensures is all that a user is promised: first of every call, then command by command.
+ghost use Rattle.std.specs.Prelude.{◌≡◌, ◌⊎◌, ◌<◌, List, map, string_bytes, IsTrue};
 ghost use Rattle.ltl_io.specs.Count.{Rose};
-ghost use Rattle.ltl_io.specs.Outside.{LosesAtMost};
-ghost use Rattle.ltl_syntax.specs.Formula.{Formula};
-ghost use Rattle.ltl_parser.specs.Text.{IsAccepted};
 ghost use Rattle.black_top.specs.declared.status.Status.TheVariants as statuses;
-ghost use Rattle.black_top.specs.Words.{Choice, Solve, Trace as TraceWord, Asks, kind_of, depth_of};
-ghost use Rattle.black_top.specs.Run.{is_answer, has_read, IsTakenUpTo, IsTakenWhole, IsAnswered, IsCutOff, NeedsNothing, OfFormula, PrintsModel, PrintsNone, PrintsUndecided, AreFewLetters, PrintsVerdict, OfTrace, PrintsHolds, PrintsFails};
+ghost use Rattle.black_top.specs.Status.{is_answer};
+ghost use Rattle.black_top.specs.Words.{Choice, Solve, Trace as TraceWord, Asks};
+ghost use Rattle.black_top.specs.Run.{IsAnswered, IsCutOff, NeedsNothing};
+ghost use Rattle.black_top.specs.Solve.{SolvePromise};
+ghost use Rattle.black_top.specs.Trace.{TracePromise};
 
 use crate::Status;
 use crate::answer::answer;
@@ -35,32 +35,12 @@ pub fn run<R: Threads + Sync, S: Source, K: Sink, G: Gate + Sync>(
     ensures write_count { K.faults sink.old < K.faults sink.new → result ≡ statuses.WriteFault }
     ensures no_memory { result ≡ statuses.NoMemory → sink.new ≡ sink.old }
     ensures unread { NeedsNothing (map string_bytes words.now) → source.new ≡ source.old }
-    // `solve` takes the whole input, or leaves what stands behind the read that brought it above the limit of a text.
-    ensures solve_most { (choices : List Choice) → Asks (map string_bytes words.now) (Solve choices) → LosesAtMost 1052672 (S.rest source.old) (S.rest source.new) }
-    ensures solve_left { (choices : List Choice) → Asks (map string_bytes words.now) (Solve choices) → IsTrue (has_read result)
-        → IsTakenUpTo 1048576 (S.rest source.old) (S.rest source.new) }
-    // `trace` leaves nothing.
-    ensures trace_left { Asks (map string_bytes words.now) TraceWord → IsTrue (has_read result) → IsTakenWhole (S.rest source.old) (S.rest source.new) }
-    // SAT is printed only with a trace of the chosen kind that satisfies the formula.
-    ensures sat { (choices : List Choice) → Asks (map string_bytes words.now) (Solve choices) → result ≡ statuses.Sat
-        → OfFormula (S.rest source.old) (λ f. PrintsModel (kind_of choices) f (K.content sink.old) (K.content sink.new)) }
-    // UNSAT is printed only where no trace of the chosen kind satisfies the formula.
-    ensures unsat { (choices : List Choice) → Asks (map string_bytes words.now) (Solve choices) → result ≡ statuses.Unsat
-        → OfFormula (S.rest source.old) (λ f. PrintsNone (kind_of choices) f (K.content sink.old) (K.content sink.new)) }
-    // UNDECIDED is printed only where the tableau's verdict at the limit in force is so, and never where that limit is at least the bound.
-    ensures undecided { (choices : List Choice) → Asks (map string_bytes words.now) (Solve choices) → result ≡ statuses.Undecided
-        → OfFormula (S.rest source.old) (λ f. PrintsUndecided (kind_of choices) (depth_of choices) f (K.content sink.old) (K.content sink.new)) }
-    // An accepted formula whose letters are few enough gets the tableau's verdict, or there was no memory, where neither count rose.
-    ensures decided { (choices : List Choice) (bytes : List ℕ) (f : Formula) → Asks (map string_bytes words.now) (Solve choices)
-        → S.rest source.old ≡ Some bytes → IsAccepted bytes f → AreFewLetters (kind_of choices) (depth_of choices) f
-        → ¬ (Rose (S.faults source.old) (S.faults source.new)) → ¬ (Rose (K.faults sink.old) (K.faults sink.new))
-        → (result ≡ statuses.NoMemory) ⊎ PrintsVerdict (kind_of choices) (depth_of choices) f (K.content sink.old) (K.content sink.new) result }
-    // HOLDS is printed only where the trace satisfies the formula.
-    ensures holds { Asks (map string_bytes words.now) TraceWord → result ≡ statuses.Good
-        → OfTrace (S.rest source.old) (λ f t. PrintsHolds f t (K.content sink.old) (K.content sink.new)) }
-    // FAILS is printed only where it does not.
-    ensures fails { Asks (map string_bytes words.now) TraceWord → result ≡ statuses.Negative
-        → OfTrace (S.rest source.old) (λ f t. PrintsFails f t (K.content sink.old) (K.content sink.new)) }
+    // What each command promises. A call is quiet where neither count rose.
+    ensures solve { (choices : List Choice) → Asks (map string_bytes words.now) (Solve choices)
+        → SolvePromise choices (¬ (Rose (S.faults source.old) (S.faults source.new)) × ¬ (Rose (K.faults sink.old) (K.faults sink.new)))
+        (S.rest source.old) (S.rest source.new) (K.content sink.old) (K.content sink.new) result }
+    ensures trace { Asks (map string_bytes words.now) TraceWord
+        → TracePromise (S.rest source.old) (S.rest source.new) (K.content sink.old) (K.content sink.new) result }
 {
     ltl_parser::laws::one_outcome();
     ltl_run::laws::run_satisfies();

@@ -3,7 +3,8 @@ ghost use Rattle.std.specs.Prelude.{◌<◌, ◌≤◌, length, IfOk};
 ghost use Rattle.ltl_syntax.specs.Table.{tree_at};
 ghost use Rattle.enc_layout.specs.Letters.{Fits};
 ghost use Rattle.enc_layout.specs.Clauses.{layout_of};
-ghost use Rattle.black_top.specs.Answer.{Answer, IsSolved, IsSettled, IsDecided};
+ghost use Rattle.black_top.specs.Answer.{Answer};
+ghost use Rattle.black_top.specs.Solve.{IsSolved, IsSettled, IsDecided};
 ghost use Rattle.black_top.specs.Inner.{Shows, IsDepth};
 
 use crate::options::Options;

@@ -1,7 +1,9 @@
 // `trace`: whether a formula holds on a trace. The input is both, with a separator line between.
 ghost use Rattle.std.specs.Prelude.{◌<◌, length, IfOk};
 ghost use Rattle.ltl_syntax.specs.Table.{tree_at};
-ghost use Rattle.black_top.specs.Answer.{Answer, IsParted, IsJudged};
+ghost use Rattle.black_top.specs.Answer.{Answer};
+ghost use Rattle.black_top.specs.Reading.{IsParted};
+ghost use Rattle.black_top.specs.Trace.{IsJudged};
 ghost use Rattle.black_top.specs.Inner.{Shows};
 
 use crate::output::{Output, fails, holds, refusal};

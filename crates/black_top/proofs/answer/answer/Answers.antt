@@ -1,7 +1,8 @@
 use Rattle.std.proofs.Common.{◌≤◌, List, ℕ, length, map, string_bytes, subst, arith}
 use Rattle.report.specs.declared.fault.Fault.TheVariants as faults
 use Rattle.black_top.specs.Words.{Solve, Trace as TraceWord}
-use Rattle.black_top.specs.Answer.{refused, not_taken}
+use Rattle.black_top.specs.Answer.{refused}
+use Rattle.black_top.specs.Run.{not_taken}
 use Rattle.black_top.specs.Inner.{Gives, stop_after}
 use Rattle.ltl_io.specs.Outside.{TakesWhole}
 use Rattle.black_top.proofs.Leaving.{some_left, given_left, reads}

@@ -1,7 +1,8 @@
 use Rattle.std.proofs.Common.{◌≡◌, ◌∙◌, ◌≤◌, ◌⊎◌, inl, inr, false, is_some, sym}
 use Rattle.ltl_syntax.specs.Table.{tree_at}
 use Rattle.report.specs.declared.fault.Fault.TheVariants as faults
-use Rattle.black_top.specs.Answer.{refused, IsSettled, IsDecided}
+use Rattle.black_top.specs.Answer.{refused}
+use Rattle.black_top.specs.Solve.{IsSettled, IsDecided}
 use Rattle.black_top.proofs.Settling.{in_force, refused_letters, settled_at}
 use Rattle.black_top.proofs.Showing.{shown, shown_as}
 use Rattle.black_top.proofs.commands.solve.settle.Goals.{else-is_some-via-then-is_some+else-limit-number, else-is_some-via-else-is_some}

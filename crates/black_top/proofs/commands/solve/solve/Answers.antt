@@ -1,5 +1,6 @@
 use Rattle.ltl_syntax.specs.Table.{tree_at}
-use Rattle.black_top.specs.Answer.{refused, IsSolved, unreadable, settled, IsSettled}
+use Rattle.black_top.specs.Answer.{refused}
+use Rattle.black_top.specs.Solve.{IsSolved, unreadable, settled, IsSettled}
 use Rattle.black_top.proofs.Showing.{shown, shown_as}
 use Rattle.black_top.proofs.commands.solve.solve.Goals as goal
 

@@ -1,7 +1,8 @@
 use Rattle.ltl_syntax.specs.Table.{tree_at}
 use Rattle.ltl_word.specs.Holds.{Satisfies}
 use Rattle.report.specs.declared.fault.Fault.TheVariants as faults
-use Rattle.black_top.specs.Answer.{refused, holds, fails, IsJudged, not_json, not_trace, empty_loop, empty_states, many_cells, satisfied, violated}
+use Rattle.black_top.specs.Answer.{refused, holds, fails}
+use Rattle.black_top.specs.Trace.{IsJudged, not_json, not_trace, empty_loop, empty_states, many_cells, satisfied, violated}
 use Rattle.black_top.proofs.Written.{read_trace}
 use Rattle.black_top.proofs.Showing.{shown}
 use Rattle.black_top.proofs.commands.trace.judge.Goals as goal

@@ -1,0 +1,114 @@
+-- `solve`: which answer comes where, and what is promised of it.
+use Rattle.std.specs.Prelude.{◌≡◌, ◌⊎◌, ◌<◌, ◌≤◌, ℕ, List, Option, Some, None, IsTrue}
+use Rattle.ltl_io.specs.Outside.{Grows, LosesAtMost}
+use Rattle.ltl_syntax.specs.declared.node.Kind.{Kind}
+use Rattle.ltl_syntax.specs.Formula.{Formula}
+use Rattle.ltl_parser.specs.Text.{IsAccepted}
+use Rattle.ltl_word.specs.declared.trace.Trace.{Trace}
+use Rattle.ltl_closure.specs.Run.{IsVerdict, Sat, Unsat, Undecided, bound}
+use Rattle.enc_layout.specs.Letters.{LayoutValue, Fits}
+use Rattle.enc_layout.specs.Clauses.{counts}
+use Rattle.unravel.specs.Decision.{IsTraceOfRun, IsModel, HasNoTrace}
+use Rattle.report.specs.declared.fault.Fault.{Fault}
+use Rattle.report.specs.declared.fault.Fault.TheVariants as faults
+use Rattle.report.specs.Texts.{sat_text, unsat_text, undecided_text}
+use Rattle.black_top.specs.declared.status.Status.{Status}
+use Rattle.black_top.specs.declared.status.Status.TheVariants as statuses
+use Rattle.black_top.specs.Status.{has_read}
+use Rattle.black_top.specs.Words.{Choice, kind_of, depth_of}
+use Rattle.black_top.specs.Taking.{AreLeft, IsTakenUpTo}
+use Rattle.black_top.specs.Answer.{Answer, refused, sat, unsat, undecided, status_of, text_of}
+use Rattle.black_top.specs.Reading.{RefusesPart}
+
+-- the layout of the letters of a formula's clauses
+abbrev pub layout : Formula → Kind → LayoutValue
+layout f kind = record { kind = kind; counts = counts f }
+
+-- the limit in force: the greatest depth up to n whose letters are within their limit
+pub record IsInForce (f : Formula) (kind : Kind) (n d : ℕ) : Type 0 where
+  pub below : d ≤ n
+  pub fits : Fits (layout f kind) d
+  pub greatest : (e : ℕ) → e ≤ n → Fits (layout f kind) e → e ≤ d
+
+-- the number up to which the limit in force is taken: the depth that was asked for, or 64
+abbrev pub number_of : Option ℕ → ℕ
+number_of (Some n) = n
+number_of None = 64
+
+-- the limit is the depth that was asked for, where one was
+abbrev pub IsReached : Option ℕ → ℕ → Type 0
+IsReached (Some n) d = d ≡ n
+IsReached None d = Unit {0}
+
+-- the answer is the tableau's verdict at the limit, and its trace is that of an accepted run
+pub data IsDecided (f : Formula) (kind : Kind) (limit : ℕ) : Answer → Type 0 where
+  satisfiable : (k : ℕ) (t : Trace) → IsVerdict f kind limit (Sat k) → IsTraceOfRun f kind k t → IsDecided f kind limit (sat k t)
+  unsatisfiable : (k : ℕ) → IsVerdict f kind limit (Unsat k) → IsDecided f kind limit (unsat k)
+  undecided_yet : (k : ℕ) → IsVerdict f kind limit (Undecided k) → IsDecided f kind limit (undecided k)
+
+-- the answer to an accepted formula: the depth that was asked for has too many letters, or the verdict at the limit in force
+pub data IsSettled (kind : Kind) (wanted : Option ℕ) (f : Formula) : Answer → Type 0 where
+  too_deep : (n limit : ℕ) → wanted ≡ Some n → IsInForce f kind n limit → limit < n → IsSettled kind wanted f (refused (faults.Letters limit))
+  decided : (limit : ℕ) (answer : Answer) → IsInForce f kind (number_of wanted) limit → IsReached wanted limit → IsDecided f kind limit answer → IsSettled kind wanted f answer
+
+-- the answer of `solve` to the formula part: the part is refused, or the formula is accepted and its answer comes
+pub data IsSolved (kind : Kind) (wanted : Option ℕ) (part : List ℕ) : Answer → Type 0 where
+  unreadable : (fault : Fault) → RefusesPart part fault → IsSolved kind wanted part (refused fault)
+  settled : (f : Formula) (answer : Answer) → IsAccepted part f → IsSettled kind wanted f answer → IsSolved kind wanted part answer
+
+-- SAT was printed with a trace of the kind that satisfies the formula
+pub record PrintsModel (kind : Kind) (f : Formula) (before after : Option (List ℕ)) : Type 0 where
+  pub depth : ℕ
+  pub trace : Trace
+  pub model : IsModel f kind trace
+  pub printed : Grows (sat_text depth trace) before after
+
+-- UNSAT was printed, and no trace of the kind satisfies the formula
+pub record PrintsNone (kind : Kind) (f : Formula) (before after : Option (List ℕ)) : Type 0 where
+  pub depth : ℕ
+  pub none : HasNoTrace f kind
+  pub printed : Grows (unsat_text depth None None) before after
+
+-- UNDECIDED was printed: the verdict at the limit in force is so, and that limit is below the bound
+pub record PrintsUndecided (kind : Kind) (wanted : Option ℕ) (f : Formula) (before after : Option (List ℕ)) : Type 0 where
+  pub limit : ℕ
+  pub in_force : IsInForce f kind (number_of wanted) limit
+  pub verdict : IsVerdict f kind limit (Undecided limit)
+  pub below_bound : limit < bound f kind
+  pub printed : Grows (undecided_text limit) before after
+
+-- the letters through the depth that was asked for are within their limit
+abbrev pub AreFewLetters : Kind → Option ℕ → Formula → Type 0
+AreFewLetters kind (Some n) f = Fits (layout f kind) n
+AreFewLetters kind None f = Unit {0}
+
+-- the verdict at the limit in force was printed, with its status
+pub record PrintsVerdict (kind : Kind) (wanted : Option ℕ) (f : Formula) (before after : Option (List ℕ)) (status : Status) : Type 0 where
+  pub limit : ℕ
+  pub in_force : IsInForce f kind (number_of wanted) limit
+  pub reached : IsReached wanted limit
+  pub answer : Answer
+  pub decided : IsDecided f kind limit answer
+  pub own : status ≡ status_of answer
+  pub printed : Grows (text_of answer) before after
+
+-- what is claimed of the accepted formula that the source had left
+abbrev pub OfFormula : Option (List ℕ) → (Formula → Type 0) → Type 0
+OfFormula rest Claim = (bytes : List ℕ) × AreLeft rest bytes × (f : Formula) × IsAccepted bytes f × Claim f
+
+-- what `solve` promises of a call: of the rest of the source and the content of the sink, before and after, and of its status.
+-- A call is quiet where neither count of faults rose
+pub record SolvePromise (choices : List Choice) (IsQuiet : Type 0) (rest left before after : Option (List ℕ)) (status : Status) : Type 0 where
+  -- SAT is printed only with a trace of the chosen kind that satisfies the formula
+  pub when_sat : status ≡ statuses.Sat → OfFormula rest (λ f. PrintsModel (kind_of choices) f before after)
+  -- UNSAT is printed only where no trace of the chosen kind satisfies the formula
+  pub when_unsat : status ≡ statuses.Unsat → OfFormula rest (λ f. PrintsNone (kind_of choices) f before after)
+  -- UNDECIDED is printed only where the tableau's verdict at the limit in force is so, and never where that limit is at least the bound
+  pub when_undecided : status ≡ statuses.Undecided → OfFormula rest (λ f. PrintsUndecided (kind_of choices) (depth_of choices) f before after)
+  -- an accepted formula whose letters are few enough gets the tableau's verdict, or there was no memory
+  pub verdict : (bytes : List ℕ) (f : Formula) → rest ≡ Some bytes → IsAccepted bytes f → AreFewLetters (kind_of choices) (depth_of choices) f → IsQuiet
+      → (status ≡ statuses.NoMemory) ⊎ PrintsVerdict (kind_of choices) (depth_of choices) f before after status
+  -- the source is untouched past the first read that brings what was taken above the limit of a text
+  pub most : LosesAtMost 1052672 rest left
+  -- and it is read until then, or to its end
+  pub taken : IsTrue (has_read status) → IsTakenUpTo 1048576 rest left
