@@ -2,7 +2,7 @@ pub mod Told
 pub mod Bridge
 pub mod Assign
 pub mod Places
-pub mod Queue
+pub mod Bits
 pub mod Bound
 pub mod Weight
 pub mod Measure

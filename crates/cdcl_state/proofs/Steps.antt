@@ -1,5 +1,5 @@
 -- The steps of the walk down the trail, said of each trail that is like the one that is read.
-use Rattle.std.proofs.Common.{◌≡◌, ℕ, ◌<◌, ◌≤◌, ◌+◌, ◌^◌, ◌⊎◌, ◌↔◌, inl, inr, Contains, IfSome, List, [], ◌∷◌, ◌++◌, Option, Some, None, take, All, length, get_or, sym, ap, ◌∙◌, subst, arith}
+use Rattle.std.proofs.Common.{◌≡◌, ℕ, ◌<◌, ◌≤◌, ◌+◌, ◌^◌, ◌⊎◌, ◌↔◌, inl, inr, IfSome, List, [], ◌∷◌, ◌++◌, Option, Some, None, take, All, length, get_or, sym, ap, ◌∙◌, subst, arith}
 use Rattle.std.proofs.lemmas.List.Elements.{All-push}
 use Rattle.cnf_base.specs.declared.literal.Literal.{Literal}
 use Rattle.cnf_base.specs.declared.literal.Hint.{Hint}
@@ -8,7 +8,8 @@ use Rattle.cnf_base.specs.Step.{named}
 use Rattle.cdcl_state.specs.Trail.{IsTrail, IsReason, HasLevel, literals_of}
 use Rattle.cdcl_state.specs.Learnt.{blank_entry, literal_at, IsDecision}
 use Rattle.cdcl_state.specs.Analysis.{IsBelow, AreBelow, AreWaiting, IsLike, IsWalk}
-use Rattle.cdcl_state.specs.Marks.{MarksValue, IsMarked, IsNext}
+use Rattle.cdcl_state.specs.Marks.{MarksValue, IsMarked}
+use Rattle.cdcl_state.specs.Waiting.{IsWaiting, IsNext}
 use Rattle.cdcl_state.specs.declared.assigned.Entry.{Entry}
 use Rattle.cdcl_state.proofs.Bridge.{named_has}
 use Rattle.cdcl_state.proofs.Walk.{walk_pass, walk_keep, walk_resolve}
@@ -41,26 +42,22 @@ module _ (trail : List Entry) (end place : ℕ) (old new : MarksValue) (waits : 
         (same _).1 is,
       )) walk
     where
-      below : (j : ℕ) → j < end → (j ≡ place) ⊎ ((j < place) × Contains new.waiting j) → j < place + 1
+      below : (j : ℕ) → j < end → (j ≡ place) ⊎ ((j < place) × IsWaiting new.waiting j) → j < place + 1
       below j low (inl is) = omega (arith, is)
       below j low (inr rest) = omega (arith, rest.0)
 
 -- where nothing waits the walk is at its end
 pub like_ended : (inputs lines : List (List Literal)) (trail t : List Entry) (from end : ℕ) (old new : MarksValue) → IsLike inputs lines trail t from → end ≤ from → from ≤ length trail → AreWaiting trail end old
-    → ((p : ℕ) → Contains old.waiting p → end ≤ p) → (clause : List Literal) (hints : List Hint) (places : List ℕ)
+    → ((p : ℕ) → p < end → ¬ IsWaiting old.waiting p) → (clause : List Literal) (hints : List Hint) (places : List ℕ)
     → IsWalk inputs lines t end (IsMarked old) clause hints places → IsWalk inputs lines t 0 (IsMarked new) clause hints places
 like_ended inputs lines trail t from end old new like fits inside waits none clause hints places walk =
     walk_pass inputs lines t end 0 (IsMarked old) (IsMarked new) clause hints places (omega arith)
-    (λ j low is. absurd (omega (
-      arith,
-      low,
-      none j (waits j low (omega (arith, low, fits, inside))
-          (subst (λ (e : Entry). IsMarked old e.literal.letter.0) (like.same j (omega (arith, low, fits))) is)),
-    ))) walk
+    (λ j low is. absurd (none j low (waits j low (omega (arith, low, fits, inside))
+    (subst (λ (e : Entry). IsMarked old e.literal.letter.0) (like.same j (omega (arith, low, fits))) is)))) walk
 
 -- a letter that is marked anew waits at its place
 pub waiting_marked : (trail : List Entry) (letter place end : ℕ) (old new : MarksValue) → ((k : ℕ) → k < length trail → (literal_at trail k).letter.0 ≡ letter → place ≡ k)
-    → ((x : ℕ) → IsMarked new x → (x ≡ letter) ⊎ IsMarked old x) → ((p : ℕ) → (p ≡ place) ⊎ Contains old.waiting p → Contains new.waiting p) → AreWaiting trail end old → AreWaiting trail end new
+    → ((x : ℕ) → IsMarked new x → (x ≡ letter) ⊎ IsMarked old x) → ((p : ℕ) → (p ≡ place) ⊎ IsWaiting old.waiting p → IsWaiting new.waiting p) → AreWaiting trail end old → AreWaiting trail end new
 waiting_marked trail letter place end old new place_is only more waits j low inside is = elim (only (literal_at trail j).letter.0 is) [
   | inl same ↦ more j (inl (sym (place_is j inside same)))
   | inr was ↦ more j (inr (waits j low inside was))

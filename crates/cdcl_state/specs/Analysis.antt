@@ -8,6 +8,7 @@ use Rattle.clause_log.specs.LogValue.{LogValue, greatest_u32}
 use Rattle.cdcl_state.specs.Trail.{StateValue, IsTrail, AreValues}
 use Rattle.cdcl_state.specs.Learnt.{blank_entry, literal_at, IsInside, IsDecision, IsLearnt}
 use Rattle.cdcl_state.specs.Marks.{MarksValue, IsMarked}
+use Rattle.cdcl_state.specs.Waiting.{IsWaiting}
 use Rattle.cdcl_state.specs.declared.assigned.Entry.{Entry}
 use Rattle.cdcl_state.specs.declared.analyze.Learnt.{Learnt}
 
@@ -25,7 +26,7 @@ AreFromOne trail = All (λ e. 1 ≤ e.literal.letter.0) trail
 
 -- of the trail's first `end` places each whose letter is marked waits
 abbrev pub AreWaiting : List Entry → ℕ → MarksValue → Type 0
-AreWaiting trail end marks = (j : ℕ) → j < end → j < length trail → IsMarked marks (literal_at trail j).letter.0 → Contains marks.waiting j
+AreWaiting trail end marks = (j : ℕ) → j < end → j < length trail → IsMarked marks (literal_at trail j).letter.0 → IsWaiting marks.waiting j
 
 -- m is the opposite of a literal of the trail's first k
 abbrev pub IsUnder : List Entry → ℕ → Literal → Type 0

@@ -3,6 +3,7 @@ pub mod Trail
 pub mod Learnt
 pub mod Assigned
 pub mod Marks
+pub mod Waiting
 pub mod Visit
 pub mod Sure
 pub mod State

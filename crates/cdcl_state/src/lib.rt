@@ -14,4 +14,5 @@ pub mod units;
 pub mod unmark;
 pub mod values;
 pub mod visit;
+pub mod waiting;
 pub mod widen;

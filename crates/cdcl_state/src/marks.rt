@@ -1,11 +1,12 @@
 // The letters that an analysis has come to, and the places of the trail that it has still to go over, the last one first.
 // A letter is marked by the number of the analysis, so that the next one begins with no marks, whatever became of this one.
 // What the analysis found out of other letters is remembered in the same way; nothing is promised of that.
-ghost use Rattle.std.specs.Prelude.{◌≡◌, ℕ, ◌+◌, ◌<◌, ◌≤◌, [], ◌⊎◌, ◌↔◌, All, Contains, length, IsTrue, MatchOption, OnOk};
-ghost use Rattle.cdcl_state.specs.Marks.{IsMarked, IsNext};
+ghost use Rattle.std.specs.Prelude.{◌≡◌, ℕ, ◌+◌, ◌<◌, ◌≤◌, [], ◌⊎◌, ◌↔◌, All, length, IsTrue, MatchOption, OnOk};
+ghost use Rattle.cdcl_state.specs.Marks.{IsMarked};
+ghost use Rattle.cdcl_state.specs.Waiting.{IsWaiting, IsNext};
 
+use crate::waiting::Waiting;
 use std::alloc::{AllocError, Global};
-use std::collections::BinaryHeap;
 use std::marker::Model;
 
 /// What is marked, and what waits.
@@ -16,7 +17,7 @@ pub struct Marks {
     /// The number of this analysis. It is even.
     stamp: u32,
     /// Places of the trail that wait.
-    waiting: BinaryHeap<usize>,
+    waiting: Waiting,
     /// The number of the analysis that asked last whether a letter's value follows, and one more where it does.
     outcomes: Vec<u32>,
     /// The levels on which a marked letter stands, modulo 64, one bit each.
@@ -25,15 +26,13 @@ pub struct Marks {
 
 impl Model for Marks {
     ghost use Rattle.std.specs.Prelude.{◌≤◌, All};
-    ghost use Rattle.std.specs.BinaryHeap.{IsHeap, heap_items};
-    ghost use Rattle.std.specs.Ordering.{nat_cmp};
     ghost use Rattle.cdcl_state.specs.Marks.{MarksValue};
 
     ghost Value = { MarksValue };
 
-    ghost view = { λ a. record { stamps = a.stamps.items; stamp = a.stamp; waiting = heap_items a.waiting } };
+    ghost view = { λ a. record { stamps = a.stamps.items; stamp = a.stamp; waiting = a.waiting } };
 
-    ghost invariant = { λ a. All (λ s. s ≤ a.stamp) a.stamps.items × IsHeap nat_cmp (heap_items a.waiting) };
+    ghost invariant = { λ a. All (λ s. s ≤ a.stamp) a.stamps.items };
 }
 
 impl Marks {
@@ -44,7 +43,7 @@ impl Marks {
         Marks {
             stamps: Vec::new(alloc),
             stamp: 0,
-            waiting: BinaryHeap::new(alloc),
+            waiting: Waiting::new(alloc),
             outcomes: Vec::new(alloc),
             levels: 0,
         }
@@ -97,7 +96,7 @@ impl Marks {
         ensures marked { OnOk result (IsMarked self.new letter) }
         ensures kept { OnOk result ((x : ℕ) → IsMarked self.old x → IsMarked self.new x) }
         ensures only { OnOk result ((x : ℕ) → IsMarked self.new x → (x ≡ letter) ⊎ IsMarked self.old x) }
-        ensures waits { OnOk result ((p : ℕ) → (p ≡ place) ⊎ Contains self.old.waiting p → Contains self.new.waiting p) }
+        ensures waits { OnOk result ((p : ℕ) → (p ≡ place) ⊎ IsWaiting self.old.waiting p → IsWaiting self.new.waiting p) }
     {
         self.waiting.push(place)?;
         self.stamps[letter] = self.stamp;
@@ -152,14 +151,9 @@ impl Marks {
     pub fn pop(&mut self, end: usize) -> Option<usize>
         ensures room { length self.new.stamps ≡ length self.old.stamps }
         ensures marks { (x : ℕ) → IsMarked self.new x ↔ IsMarked self.old x }
-        ensures next { MatchOption result ((p : ℕ) → Contains self.old.waiting p → end ≤ p) (IsNext self.old.waiting self.new.waiting end) }
+        ensures next { MatchOption result ((p : ℕ) → p < end → ¬ IsWaiting self.old.waiting p) (IsNext self.old.waiting self.new.waiting end) }
     {
-        while let Some(place) = self.waiting.pop() {
-            if place < end {
-                return Some(place);
-            }
-        }
-        None
+        self.waiting.pop(end)
     }
 
     /// Takes the mark off the letter, and tells whether it had one.
