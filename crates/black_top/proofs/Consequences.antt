@@ -16,7 +16,7 @@ use Rattle.black_top.specs.declared.status.Status.{Status}
 use Rattle.black_top.specs.declared.status.Status.TheVariants as statuses
 use Rattle.black_top.specs.declared.output.Output.{Output}
 use Rattle.black_top.specs.Status.{is_answer, has_read}
-use Rattle.black_top.specs.Words.{Choice, Solve, Trace as TraceWord, Asks, kind_of, depth_of}
+use Rattle.black_top.specs.Words.{Setting, Solve, Trace as TraceWord, Asks, kind_of, depth_of}
 use Rattle.black_top.specs.Parts.{IsCut}
 use Rattle.black_top.specs.Taking.{AreLeft, IsTakenUpTo, IsTakenWhole}
 use Rattle.black_top.specs.Answer.{Answer, undecided, status_of, text_of, fault_status}
@@ -66,9 +66,9 @@ answered {words} {rest} {before} {after} {s} out text (a, given, shows) same gro
 
 -- ---- the answer of the command that was asked for
 
-solved : {words : List (List ℕ)} {rest before after : Option (List ℕ)} {s : Status} (choices : List Choice) → Asks words (Solve choices) → (h : IsAnswered words rest before after s)
-    → IsSolved (kind_of choices) (depth_of choices) h.given.bytes h.answer
-solved {words} choices asks h = solve_given words h.given.bytes choices h.answer asks h.given.lawful
+solved : {words : List (List ℕ)} {rest before after : Option (List ℕ)} {s : Status} (settings : List Setting) → Asks words (Solve settings) → (h : IsAnswered words rest before after s)
+    → IsSolved (kind_of settings) (depth_of settings) h.given.bytes h.answer
+solved {words} settings asks h = solve_given words h.given.bytes settings h.answer asks h.given.lawful
 
 -- ---- SAT, UNSAT and UNDECIDED
 
@@ -121,23 +121,23 @@ verdict_solved : (kind : Kind) (wanted : Option ℕ) (bytes : List ℕ) (s : Sta
 verdict_solved kind wanted bytes s not a (unreadable fault h) is = absurd (not_refused s fault not is)
 verdict_solved kind wanted bytes s not a (settled f answer read h) is = verdict_settled kind wanted bytes f s read not a h is
 
-sat_from : {words : List (List ℕ)} {rest before after : Option (List ℕ)} → RunsSatisfy → (choices : List Choice) → Asks words (Solve choices) → IsAnswered words rest before after statuses.Sat
-    → OfFormula rest (λ f. PrintsModel (kind_of choices) f before after)
-sat_from {words} {rest} {before} {after} satisfy choices asks h =
-    let (f, read, limit, force, reached, is) = verdict_solved (kind_of choices) (depth_of choices) h.given.bytes statuses.Sat refl h.answer (solved choices asks h) h.own in
-    (h.given.bytes, h.given.left, f, read, sat_decided f (kind_of choices) limit before after satisfy h.answer is h.own h.printed)
+sat_from : {words : List (List ℕ)} {rest before after : Option (List ℕ)} → RunsSatisfy → (settings : List Setting) → Asks words (Solve settings) → IsAnswered words rest before after statuses.Sat
+    → OfFormula rest (λ f. PrintsModel (kind_of settings) f before after)
+sat_from {words} {rest} {before} {after} satisfy settings asks h =
+    let (f, read, limit, force, reached, is) = verdict_solved (kind_of settings) (depth_of settings) h.given.bytes statuses.Sat refl h.answer (solved settings asks h) h.own in
+    (h.given.bytes, h.given.left, f, read, sat_decided f (kind_of settings) limit before after satisfy h.answer is h.own h.printed)
 
-unsat_from : {words : List (List ℕ)} {rest before after : Option (List ℕ)} → UnsatIsSound → (choices : List Choice) → Asks words (Solve choices) → IsAnswered words rest before after statuses.Unsat
-    → OfFormula rest (λ f. PrintsNone (kind_of choices) f before after)
-unsat_from {words} {rest} {before} {after} sound choices asks h =
-    let (f, read, limit, force, reached, is) = verdict_solved (kind_of choices) (depth_of choices) h.given.bytes statuses.Unsat refl h.answer (solved choices asks h) h.own in
-    (h.given.bytes, h.given.left, f, read, unsat_decided f (kind_of choices) limit before after sound h.answer is h.own h.printed)
+unsat_from : {words : List (List ℕ)} {rest before after : Option (List ℕ)} → UnsatIsSound → (settings : List Setting) → Asks words (Solve settings) → IsAnswered words rest before after statuses.Unsat
+    → OfFormula rest (λ f. PrintsNone (kind_of settings) f before after)
+unsat_from {words} {rest} {before} {after} sound settings asks h =
+    let (f, read, limit, force, reached, is) = verdict_solved (kind_of settings) (depth_of settings) h.given.bytes statuses.Unsat refl h.answer (solved settings asks h) h.own in
+    (h.given.bytes, h.given.left, f, read, unsat_decided f (kind_of settings) limit before after sound h.answer is h.own h.printed)
 
-undecided_from : {words : List (List ℕ)} {rest before after : Option (List ℕ)} → BoundSettles → (choices : List Choice) → Asks words (Solve choices) → IsAnswered words rest before after statuses.Undecided
-    → OfFormula rest (λ f. PrintsUndecided (kind_of choices) (depth_of choices) f before after)
-undecided_from {words} {rest} {before} {after} settles choices asks h =
-    let (f, read, limit, force, reached, is) = verdict_solved (kind_of choices) (depth_of choices) h.given.bytes statuses.Undecided refl h.answer (solved choices asks h) h.own in
-    (h.given.bytes, h.given.left, f, read, undecided_decided f (kind_of choices) (depth_of choices) limit before after settles force h.answer is h.own h.printed)
+undecided_from : {words : List (List ℕ)} {rest before after : Option (List ℕ)} → BoundSettles → (settings : List Setting) → Asks words (Solve settings) → IsAnswered words rest before after statuses.Undecided
+    → OfFormula rest (λ f. PrintsUndecided (kind_of settings) (depth_of settings) f before after)
+undecided_from {words} {rest} {before} {after} settles settings asks h =
+    let (f, read, limit, force, reached, is) = verdict_solved (kind_of settings) (depth_of settings) h.given.bytes statuses.Undecided refl h.answer (solved settings asks h) h.own in
+    (h.given.bytes, h.given.left, f, read, undecided_decided f (kind_of settings) (depth_of settings) limit before after settles force h.answer is h.own h.printed)
 
 -- ---- the verdict of an accepted formula whose letters are few
 
@@ -163,11 +163,11 @@ told_left : (rest : Option (List ℕ)) (bytes left : List ℕ) → rest ≡ Some
 told_left (Some told) bytes left e is = let same : bytes ≡ told = cc in same ∙ is
 told_left None bytes left e is = absurd (cc)
 
-verdict_from : {words : List (List ℕ)} {rest before after : Option (List ℕ)} {s : Status} → TextLaws → (choices : List Choice) (bytes : List ℕ) (f : Formula) → Asks words (Solve choices) → rest ≡ Some bytes → IsAccepted bytes f
-    → AreFewLetters (kind_of choices) (depth_of choices) f → IsAnswered words rest before after s → PrintsVerdict (kind_of choices) (depth_of choices) f before after s
-verdict_from {words} {rest} {before} {after} {s} laws choices bytes f asks told read few h =
+verdict_from : {words : List (List ℕ)} {rest before after : Option (List ℕ)} {s : Status} → TextLaws → (settings : List Setting) (bytes : List ℕ) (f : Formula) → Asks words (Solve settings) → rest ≡ Some bytes → IsAccepted bytes f
+    → AreFewLetters (kind_of settings) (depth_of settings) f → IsAnswered words rest before after s → PrintsVerdict (kind_of settings) (depth_of settings) f before after s
+verdict_from {words} {rest} {before} {after} {s} laws settings bytes f asks told read few h =
     let same = told_left rest bytes h.given.bytes told h.given.left in
-    verdict_accepted (kind_of choices) (depth_of choices) h.given.bytes f before after s h.answer laws (subst (λ b. IsAccepted b f) same read) few (solved choices asks h) h.own h.printed
+    verdict_accepted (kind_of settings) (depth_of settings) h.given.bytes f before after s h.answer laws (subst (λ b. IsAccepted b f) same read) few (solved settings asks h) h.own h.printed
 
 -- ---- HOLDS and FAILS
 
@@ -225,9 +225,9 @@ pub record IsBroken (IsQuiet : Type 0) (status : Status) : Type 0 where
 broken_not : (status other : Status) → is_answer status ≡ false → is_answer other ≡ true → status ≡ other → ⊥
 broken_not status other none is same = let e : false ≡ true = sym none ∙ ap is_answer same ∙ is in cc
 
-pub solve_broken : (choices : List Choice) (IsQuiet : Type 0) (rest left before after : Option (List ℕ)) (status : Status) → IsBroken IsQuiet status → LosesAtMost 1052672 rest left
-    → (IsTrue (has_read status) → IsTakenUpTo 1048576 rest left) → SolvePromise choices IsQuiet rest left before after status
-solve_broken choices IsQuiet rest left before after status broken most taken = record {
+pub solve_broken : (settings : List Setting) (IsQuiet : Type 0) (rest left before after : Option (List ℕ)) (status : Status) → IsBroken IsQuiet status → LosesAtMost 1052672 rest left
+    → (IsTrue (has_read status) → IsTakenUpTo 1048576 rest left) → SolvePromise settings IsQuiet rest left before after status
+solve_broken settings IsQuiet rest left before after status broken most taken = record {
   when_sat = λ e. absurd (broken_not status statuses.Sat broken.none refl e);
   when_unsat = λ e. absurd (broken_not status statuses.Unsat broken.none refl e);
   when_undecided = λ e. absurd (broken_not status statuses.Undecided broken.none refl e);
@@ -236,13 +236,13 @@ solve_broken choices IsQuiet rest left before after status broken most taken = r
   taken = taken;
 }
 
-pub solve_kept : (choices : List Choice) (IsQuiet : Type 0) (words : List (List ℕ)) (rest left before after : Option (List ℕ)) (status : Status) → RunsSatisfy → UnsatIsSound → BoundSettles → TextLaws → Asks words (Solve choices)
-    → IsAnswered words rest before after status → LosesAtMost 1052672 rest left → IsTakenUpTo 1048576 rest left → SolvePromise choices IsQuiet rest left before after status
-solve_kept choices IsQuiet words rest left before after status satisfy sound settles laws asks answer most taken = record {
-  when_sat = λ e. sat_from satisfy choices asks (subst (IsAnswered words rest before after) e answer);
-  when_unsat = λ e. unsat_from sound choices asks (subst (IsAnswered words rest before after) e answer);
-  when_undecided = λ e. undecided_from settles choices asks (subst (IsAnswered words rest before after) e answer);
-  verdict = λ bytes f told read few quiet. inr (verdict_from laws choices bytes f asks told read few answer);
+pub solve_kept : (settings : List Setting) (IsQuiet : Type 0) (words : List (List ℕ)) (rest left before after : Option (List ℕ)) (status : Status) → RunsSatisfy → UnsatIsSound → BoundSettles → TextLaws → Asks words (Solve settings)
+    → IsAnswered words rest before after status → LosesAtMost 1052672 rest left → IsTakenUpTo 1048576 rest left → SolvePromise settings IsQuiet rest left before after status
+solve_kept settings IsQuiet words rest left before after status satisfy sound settles laws asks answer most taken = record {
+  when_sat = λ e. sat_from satisfy settings asks (subst (IsAnswered words rest before after) e answer);
+  when_unsat = λ e. unsat_from sound settings asks (subst (IsAnswered words rest before after) e answer);
+  when_undecided = λ e. undecided_from settles settings asks (subst (IsAnswered words rest before after) e answer);
+  verdict = λ bytes f told read few quiet. inr (verdict_from laws settings bytes f asks told read few answer);
   most = most;
   taken = λ read. taken;
 }

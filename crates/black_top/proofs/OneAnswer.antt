@@ -16,14 +16,14 @@ use Rattle.ltl_closure.specs.Run.{Sat, Unsat, Undecided}
 use Rattle.ltl_run.specs.Laws.{VerdictIsOne}
 use Rattle.report.specs.declared.fault.Fault.{Fault}
 use Rattle.report.specs.declared.fault.Fault.TheVariants as faults
-use Rattle.black_top.specs.Words.{Choice, Solve, Trace as TraceWord, Asks, kind_of, depth_of}
+use Rattle.black_top.specs.Words.{Setting, Solve, Trace as TraceWord, Asks, kind_of, depth_of}
 use Rattle.black_top.specs.Answer.{Answer, refused, sat, unsat, undecided, holds, fails, AreAlike}
 use Rattle.black_top.specs.Reading.{RefusesPart, too_long, lexical, grammar, many_nodes, IsParted, uncut, unread, accepted}
 use Rattle.black_top.specs.Solve.{IsInForce, IsReached, number_of, IsDecided, satisfiable, unsatisfiable, undecided_yet, IsSettled, too_deep, decided, IsSolved, unreadable, settled}
 use Rattle.black_top.specs.Trace.{IsJudged, not_json, not_trace, empty_loop, empty_states, many_cells, satisfied, violated}
 use Rattle.black_top.specs.Run.{IsAnswer, not_taken, solves, traces}
 use Rattle.black_top.proofs.Cutting.{cut_one, cut_or_none}
-use Rattle.black_top.proofs.OneCommand.{command_one}
+use Rattle.black_top.proofs.OneCommand.{command_one, not_both}
 
 -- what the parser says of each text
 pub record TextLaws : Type 0 where
@@ -207,27 +207,24 @@ alike_itself fails = refl
 
 -- ---- the command
 
--- the words ask for one list of choices of `solve`
-pub same_choices : (words : List (List ℕ)) (choices others : List Choice) → Asks words (Solve choices) → Asks words (Solve others) → choices ≡ others
-same_choices words choices others asks also = let e = command_one words (Solve choices) (Solve others) asks.0 also.0 in cc
-
-pub solve_not_trace : (words : List (List ℕ)) (choices : List Choice) → Asks words (Solve choices) → Asks words TraceWord → ⊥
-solve_not_trace words choices asks also = let e = command_one words (Solve choices) TraceWord asks.0 also.0 in cc
+-- the words ask for one list of settings of `solve`
+pub same_settings : (words : List (List ℕ)) (settings others : List Setting) → Asks words (Solve settings) → Asks words (Solve others) → settings ≡ others
+same_settings words settings others asks also = let e = command_one words (Solve settings) (Solve others) asks.0 also.0 in cc
 
 -- the answer of the command that was asked for
-pub solve_given : (words : List (List ℕ)) (bytes : List ℕ) (choices : List Choice) (a : Answer) → Asks words (Solve choices) → IsAnswer words bytes a → IsSolved (kind_of choices) (depth_of choices) bytes a
-solve_given words bytes choices a asks (not_taken n) = absurd (n (Solve choices) asks)
-solve_given words bytes choices a asks (solves others b also h) = subst (λ x. IsSolved (kind_of x) (depth_of x) bytes a) (same_choices words others choices also asks) h
-solve_given words bytes choices a asks (traces b also h) = absurd (solve_not_trace words choices asks also)
+pub solve_given : (words : List (List ℕ)) (bytes : List ℕ) (settings : List Setting) (a : Answer) → Asks words (Solve settings) → IsAnswer words bytes a → IsSolved (kind_of settings) (depth_of settings) bytes a
+solve_given words bytes settings a asks (not_taken n) = absurd (n (Solve settings) asks)
+solve_given words bytes settings a asks (solves others b also h) = subst (λ x. IsSolved (kind_of x) (depth_of x) bytes a) (same_settings words others settings also asks) h
+solve_given words bytes settings a asks (traces b also h) = absurd (not_both words (Solve settings) TraceWord refl asks.0 also.0)
 
 pub trace_given : (words : List (List ℕ)) (bytes : List ℕ) (a : Answer) → Asks words TraceWord → IsAnswer words bytes a → IsParted IsJudged bytes a
 trace_given words bytes a asks (not_taken n) = absurd (n TraceWord asks)
-trace_given words bytes a asks (solves choices b also h) = absurd (solve_not_trace words choices also asks)
+trace_given words bytes a asks (solves settings b also h) = absurd (not_both words (Solve settings) TraceWord refl also.0 asks.0)
 trace_given words bytes a asks (traces b also h) = h
 
 pub answer_one : (words : List (List ℕ)) (bytes : List ℕ) → Laws → (a b : Answer) → IsAnswer words bytes a → IsAnswer words bytes b → AreAlike a b
 answer_one words bytes laws a b (not_taken n) (not_taken m) = refl
-answer_one words bytes laws a b (not_taken n) (solves choices b' asks h) = absurd (n (Solve choices) asks)
+answer_one words bytes laws a b (not_taken n) (solves settings b' asks h) = absurd (n (Solve settings) asks)
 answer_one words bytes laws a b (not_taken n) (traces b' asks h) = absurd (n TraceWord asks)
-answer_one words bytes laws a b (solves choices a' asks h) k = one_solved (kind_of choices) (depth_of choices) bytes laws a b h (solve_given words bytes choices b asks k)
+answer_one words bytes laws a b (solves settings a' asks h) k = one_solved (kind_of settings) (depth_of settings) bytes laws a b h (solve_given words bytes settings b asks k)
 answer_one words bytes laws a b (traces a' asks h) k = subst (AreAlike a) (one_parted bytes laws a b h (trace_given words bytes b asks k)) (alike_itself a)

@@ -1,4 +1,4 @@
--- Which choices of `solve` words say, read from the front.
+-- Which settings of `solve` words say, read from the front.
 use Rattle.std.proofs.Common.{◌≡◌, ◌≢◌, ◌∙◌, ℕ, ◌≤◌, inl, inr, List, [], ◌∷◌, ◌++◌, codes, Option, Some, None, All, refl, sym, ap, subst, append_assoc, append-nil, length, get_or, arith, length-append, map, take, drop, take_all, ap₂, ◌-◌, Bool, true, false, ◌==◌}
 use Rattle.std.proofs.lemmas.List.Elements.{All-nil, All-cons, All-head, All-tail, All-push}
 use Rattle.std.proofs.lemmas.List.{get_or_append_left, get_or_at}
@@ -8,19 +8,19 @@ use Rattle.ltl_syntax.specs.declared.node.Kind.TheVariants as kinds
 use Rattle.black_top.specs.declared.options.Options.{Options}
 use Rattle.black_top.specs.declared.options.SolveOption.{SolveOption}
 use Rattle.black_top.specs.declared.options.SolveOption.TheVariants as said
-use Rattle.black_top.specs.Words.{Choice, Finite, Cert, Core, Depth, Workers, Says, SayAll, Once, OfSolve, IsNumber, name, kind_of, depth_of}
-use Rattle.black_top.specs.Inner.{choice_of, options_with, with_finite, with_depth, IsDepth, AreOptions, AreSaid, NoneAreSaid, SaysFirst, SaysNothing}
+use Rattle.black_top.specs.Words.{Setting, Finite, Cert, Core, Depth, Workers, Says, SayAll, Once, OfSolve, IsNumber, name, kind_of, depth_of}
+use Rattle.black_top.specs.Inner.{setting_of, options_with, with_finite, with_depth, IsDepth, AreOptions, AreSaid, NoneAreSaid, SaysFirst, SaysNothing}
 use Rattle.black_top.proofs.OneCommand.{first_one, says_some, apart}
 
--- ---- a further choice
+-- ---- a further setting
 
-said_more : (cs : List Choice) (c : Choice) (front more : List (List ℕ)) → SayAll cs front → Says c more → SayAll (cs ++ c ∷ []) (front ++ more)
+said_more : (cs : List Setting) (c : Setting) (front more : List (List ℕ)) → SayAll cs front → Says c more → SayAll (cs ++ c ∷ []) (front ++ more)
 said_more [] c front more e says = (more, [], ap (λ ws. ws ++ more) e ∙ sym (append-nil more), says, refl)
 said_more (d ∷ ds) c words more (front, back, whole, says, rest) last =
     (front, back ++ more, ap (λ ws. ws ++ more) whole ∙ append_assoc front back more, says, said_more ds c back more rest last)
 
--- what is said behind the words that say these choices
-said_behind : (cs ds : List Choice) (front rest : List (List ℕ)) → SayAll cs front → SayAll ds (front ++ rest) → (es : List Choice) × (ds ≡ cs ++ es) × SayAll es rest
+-- what is said behind the words that say these settings
+said_behind : (cs ds : List Setting) (front rest : List (List ℕ)) → SayAll cs front → SayAll ds (front ++ rest) → (es : List Setting) × (ds ≡ cs ++ es) × SayAll es rest
 said_behind [] ds front rest e all = (ds, refl, let P : List (List ℕ) → Type 0 = λ ws. SayAll ds (ws ++ rest) in subst P e all)
 said_behind (c ∷ cs) [] front rest (first, back, whole, says, more) e = absurd (nothing first (sym (ap (λ ws. ws ++ rest) whole ∙ append_assoc first back rest) ∙ e) says) where
   nothing : (ws : List (List ℕ)) → ws ++ (back ++ rest) ≡ [] → Says c ws → ⊥
@@ -32,7 +32,7 @@ said_behind (c ∷ cs) (d ∷ ds) front rest (first, back, whole, says, more) (f
     let r = said_behind cs ds back rest more (let P : List (List ℕ) → Type 0 = λ ws. SayAll ds ws in subst P (sym one.1) more') in
     (r.0, cc, r.2)
 
--- ---- what the options tell of the choices
+-- ---- what the options tell of the settings
 
 depth_not_finite : (n : ℕ) → name (Depth n) ≢ name Finite
 depth_not_finite n = apart (codes "--depth") (codes "--finite") refl
@@ -40,7 +40,7 @@ depth_not_finite n = apart (codes "--depth") (codes "--finite") refl
 finite_not_depth : (n : ℕ) → name Finite ≢ name (Depth n)
 finite_not_depth n = apart (codes "--finite") (codes "--depth") refl
 
-no_finite : (cs : List Choice) → All OfSolve cs → kind_of cs ≡ kinds.Infinite → All (λ c. name c ≢ name Finite) cs
+no_finite : (cs : List Setting) → All OfSolve cs → kind_of cs ≡ kinds.Infinite → All (λ c. name c ≢ name Finite) cs
 no_finite [] built e = All-nil (λ c. name c ≢ name Finite)
 no_finite (Finite ∷ cs) built e = absurd (cc)
 no_finite (Depth n ∷ cs) built e = All-cons (λ c. name c ≢ name Finite) (Depth n) cs (depth_not_finite n) (no_finite cs (All-tail OfSolve (Depth n) cs built) e)
@@ -48,7 +48,7 @@ no_finite (Cert ∷ cs) built e = absurd (All-head OfSolve Cert cs built)
 no_finite (Core ∷ cs) built e = absurd (All-head OfSolve Core cs built)
 no_finite (Workers n ∷ cs) built e = absurd (All-head OfSolve (Workers n) cs built)
 
-no_depth : (n : ℕ) (cs : List Choice) → All OfSolve cs → depth_of cs ≡ None → All (λ c. name c ≢ name (Depth n)) cs
+no_depth : (n : ℕ) (cs : List Setting) → All OfSolve cs → depth_of cs ≡ None → All (λ c. name c ≢ name (Depth n)) cs
 no_depth n [] built e = All-nil (λ c. name c ≢ name (Depth n))
 no_depth n (Finite ∷ cs) built e = All-cons (λ c. name c ≢ name (Depth n)) Finite cs (finite_not_depth n) (no_depth n cs (All-tail OfSolve Finite cs built) e)
 no_depth n (Depth m ∷ cs) built e = absurd (cc)
@@ -56,7 +56,7 @@ no_depth n (Cert ∷ cs) built e = absurd (All-head OfSolve Cert cs built)
 no_depth n (Core ∷ cs) built e = absurd (All-head OfSolve Core cs built)
 no_depth n (Workers m ∷ cs) built e = absurd (All-head OfSolve (Workers m) cs built)
 
-kind_finite : (cs : List Choice) → kind_of (cs ++ Finite ∷ []) ≡ kinds.Finite
+kind_finite : (cs : List Setting) → kind_of (cs ++ Finite ∷ []) ≡ kinds.Finite
 kind_finite [] = refl
 kind_finite (Finite ∷ cs) = refl
 kind_finite (Depth n ∷ cs) = kind_finite cs
@@ -64,7 +64,7 @@ kind_finite (Cert ∷ cs) = kind_finite cs
 kind_finite (Core ∷ cs) = kind_finite cs
 kind_finite (Workers n ∷ cs) = kind_finite cs
 
-depth_finite : (cs : List Choice) → depth_of (cs ++ Finite ∷ []) ≡ depth_of cs
+depth_finite : (cs : List Setting) → depth_of (cs ++ Finite ∷ []) ≡ depth_of cs
 depth_finite [] = refl
 depth_finite (Finite ∷ cs) = depth_finite cs
 depth_finite (Depth n ∷ cs) = refl
@@ -72,7 +72,7 @@ depth_finite (Cert ∷ cs) = depth_finite cs
 depth_finite (Core ∷ cs) = depth_finite cs
 depth_finite (Workers n ∷ cs) = depth_finite cs
 
-kind_depth : (n : ℕ) (cs : List Choice) → kind_of (cs ++ Depth n ∷ []) ≡ kind_of cs
+kind_depth : (n : ℕ) (cs : List Setting) → kind_of (cs ++ Depth n ∷ []) ≡ kind_of cs
 kind_depth n [] = refl
 kind_depth n (Finite ∷ cs) = refl
 kind_depth n (Depth m ∷ cs) = kind_depth n cs
@@ -80,7 +80,7 @@ kind_depth n (Cert ∷ cs) = kind_depth n cs
 kind_depth n (Core ∷ cs) = kind_depth n cs
 kind_depth n (Workers m ∷ cs) = kind_depth n cs
 
-depth_depth : (n : ℕ) (cs : List Choice) → depth_of cs ≡ None → depth_of (cs ++ Depth n ∷ []) ≡ Some n
+depth_depth : (n : ℕ) (cs : List Setting) → depth_of cs ≡ None → depth_of (cs ++ Depth n ∷ []) ≡ Some n
 depth_depth n [] e = refl
 depth_depth n (Finite ∷ cs) e = depth_depth n cs e
 depth_depth n (Depth m ∷ cs) e = absurd (cc)
@@ -88,7 +88,7 @@ depth_depth n (Cert ∷ cs) e = depth_depth n cs e
 depth_depth n (Core ∷ cs) e = depth_depth n cs e
 depth_depth n (Workers m ∷ cs) e = depth_depth n cs e
 
-once_more : (cs : List Choice) (c : Choice) → Once cs → All (λ d. name d ≢ name c) cs → Once (cs ++ c ∷ [])
+once_more : (cs : List Setting) (c : Setting) → Once cs → All (λ d. name d ≢ name c) cs → Once (cs ++ c ∷ [])
 once_more cs c once new = all_pairs_push (λ a b. name a ≢ name b) cs c once new
 
 -- ---- reading on
@@ -106,19 +106,19 @@ pub said_at_first : (words : List (List ℕ)) (options : Options) → options.ki
 said_at_first words options kind depth = record {
   front = [];
   whole = refl;
-  said = record { choices = []; said = refl; are = record { once = none_once; built = All-nil OfSolve; kind = kind; depth = depth; small = subst IsDepth (sym depth) tt } };
+  said = record { settings = []; said = refl; are = record { once = none_once; built = All-nil OfSolve; kind = kind; depth = depth; small = subst IsDepth (sym depth) tt } };
 }
 
 pub said_at_last : (words rest : List (List ℕ)) (options : Options) → IsSaidBefore words rest options → rest ≡ [] → AreSaid words options
 said_at_last words rest options h e =
     let same : words ≡ h.front = h.whole ∙ ap (λ ws. h.front ++ ws) e ∙ append-nil h.front in
-    record { choices = h.said.choices; said = (let P : List (List ℕ) → Type 0 = λ ws. SayAll h.said.choices ws in subst P (sym same) h.said.said); are = h.said.are }
+    record { settings = h.said.settings; said = (let P : List (List ℕ) → Type 0 = λ ws. SayAll h.said.settings ws in subst P (sym same) h.said.said); are = h.said.are }
 
 small_number : (n : ℕ) (front : List (List ℕ)) → Says (Depth n) front → n ≤ 1000
 small_number n front (digits, is, joined) = is.to
 
-pub options_more : (cs : List Choice) (options more : Options) (option : SolveOption) (front : List (List ℕ)) → AreOptions cs options → Says (choice_of option) front → options_with options option ≡ Some more
-    → AreOptions (cs ++ choice_of option ∷ []) more
+pub options_more : (cs : List Setting) (options more : Options) (option : SolveOption) (front : List (List ℕ)) → AreOptions cs options → Says (setting_of option) front → options_with options option ≡ Some more
+    → AreOptions (cs ++ setting_of option ∷ []) more
 options_more cs options more said.Finite front are says e = finite options.kind refl (let d = e in d) where
   finite : (kind : Kind) → options.kind ≡ kind → with_finite options.kind options.depth ≡ Some more → AreOptions (cs ++ Finite ∷ []) more
   finite kinds.Infinite is e' =
@@ -156,20 +156,20 @@ said_next words rest behind options more option h first e = record {
   front = h.front ++ first.front;
   whole = h.whole ∙ ap (λ ws. h.front ++ ws) first.whole ∙ sym (append_assoc h.front first.front behind);
   said = record {
-    choices = h.said.choices ++ choice_of option ∷ [];
-    said = said_more h.said.choices (choice_of option) h.front first.front h.said.said first.says;
-    are = options_more h.said.choices options more option first.front h.said.are first.says e;
+    settings = h.said.settings ++ setting_of option ∷ [];
+    said = said_more h.said.settings (setting_of option) h.front first.front h.said.said first.says;
+    are = options_more h.said.settings options more option first.front h.said.are first.says e;
   };
 }
 
 -- ---- words that say nothing
 
-all_behind : (P : Choice → Type 0) (cs es : List Choice) → All P (cs ++ es) → All P es
+all_behind : (P : Setting → Type 0) (cs es : List Setting) → All P (cs ++ es) → All P es
 all_behind P [] es all = all
 all_behind P (c ∷ cs) es all = all_behind P cs es (All-tail P c (cs ++ es) all)
 
--- a choice that stands behind these is none of them
-new_behind : (cs es : List Choice) (e : Choice) → Once (cs ++ e ∷ es) → All (λ c. name c ≢ name e) cs
+-- a setting that stands behind these is none of them
+new_behind : (cs es : List Setting) (e : Setting) → Once (cs ++ e ∷ es) → All (λ c. name c ≢ name e) cs
 new_behind cs es e once k d within =
     let place : get_or (cs ++ e ∷ es) k d ≡ get_or cs k d = get_or_append_left cs (e ∷ es) d k within in
     let last : get_or (cs ++ e ∷ es) (length cs) d ≡ e = get_or_at cs e es d (length cs) refl in
@@ -178,14 +178,14 @@ new_behind cs es e once k d within =
     λ same. apart_there (ap name place ∙ same ∙ sym (ap name last))
 
 pub none_behind : (words rest : List (List ℕ)) (options : Options) → IsSaidBefore words rest options → rest ≢ [] → SaysNothing rest → NoneAreSaid words
-none_behind words rest options h some nothing choices all once built =
-    let r = said_behind h.said.choices choices h.front rest h.said.said (let P : List (List ℕ) → Type 0 = λ ws. SayAll choices ws in subst P h.whole all) in
-    stop r.0 r.2 (all_behind OfSolve h.said.choices r.0 (subst (All OfSolve) r.1 built)) where
-      stop : (es : List Choice) → SayAll es rest → All OfSolve es → ⊥
+none_behind words rest options h some nothing settings all once built =
+    let r = said_behind h.said.settings settings h.front rest h.said.said (let P : List (List ℕ) → Type 0 = λ ws. SayAll settings ws in subst P h.whole all) in
+    stop r.0 r.2 (all_behind OfSolve h.said.settings r.0 (subst (All OfSolve) r.1 built)) where
+      stop : (es : List Setting) → SayAll es rest → All OfSolve es → ⊥
       stop [] e b = some e
       stop (c ∷ cs) (front, back, whole, says, more) b = nothing c front back (All-head OfSolve c cs b) says whole
 
-finite_stands : (cs : List Choice) → All OfSolve cs → kind_of cs ≡ kinds.Finite → All (λ c. name c ≢ name Finite) cs → ⊥
+finite_stands : (cs : List Setting) → All OfSolve cs → kind_of cs ≡ kinds.Finite → All (λ c. name c ≢ name Finite) cs → ⊥
 finite_stands [] built e new = absurd (cc)
 finite_stands (Finite ∷ cs) built e new = All-head (λ c. name c ≢ name Finite) Finite cs new refl
 finite_stands (Depth n ∷ cs) built e new = finite_stands cs (All-tail OfSolve (Depth n) cs built) e (All-tail (λ c. name c ≢ name Finite) (Depth n) cs new)
@@ -193,7 +193,7 @@ finite_stands (Cert ∷ cs) built e new = All-head OfSolve Cert cs built
 finite_stands (Core ∷ cs) built e new = All-head OfSolve Core cs built
 finite_stands (Workers n ∷ cs) built e new = All-head OfSolve (Workers n) cs built
 
-depth_stands : (m n : ℕ) (cs : List Choice) → All OfSolve cs → depth_of cs ≡ Some m → All (λ c. name c ≢ name (Depth n)) cs → ⊥
+depth_stands : (m n : ℕ) (cs : List Setting) → All OfSolve cs → depth_of cs ≡ Some m → All (λ c. name c ≢ name (Depth n)) cs → ⊥
 depth_stands m n [] built e new = absurd (cc)
 depth_stands m n (Finite ∷ cs) built e new = depth_stands m n cs (All-tail OfSolve Finite cs built) e (All-tail (λ c. name c ≢ name (Depth n)) Finite cs new)
 depth_stands m n (Depth k ∷ cs) built e new = All-head (λ c. name c ≢ name (Depth n)) (Depth k) cs new refl
@@ -202,7 +202,7 @@ depth_stands m n (Core ∷ cs) built e new = All-head OfSolve Core cs built
 depth_stands m n (Workers k ∷ cs) built e new = All-head OfSolve (Workers k) cs built
 
 -- an option that is not put behind the others stands there already
-stands : (cs : List Choice) (options : Options) (option : SolveOption) → AreOptions cs options → options_with options option ≡ None → All (λ c. name c ≢ name (choice_of option)) cs → ⊥
+stands : (cs : List Setting) (options : Options) (option : SolveOption) → AreOptions cs options → options_with options option ≡ None → All (λ c. name c ≢ name (setting_of option)) cs → ⊥
 stands cs options said.Finite are e new = finite options.kind refl (let d = e in d) where
   finite : (kind : Kind) → options.kind ≡ kind → with_finite options.kind options.depth ≡ None → ⊥
   finite kinds.Finite is e' = finite_stands cs are.built (sym are.kind ∙ is) new
@@ -214,17 +214,17 @@ stands cs options (said.Depth n) are e new = depth options.depth refl (let d = e
 
 pub repeated_behind : (words rest behind : List (List ℕ)) (options : Options) (option : SolveOption) → IsSaidBefore words rest options → SaysFirst rest option behind → options_with options option ≡ None
     → NoneAreSaid words
-repeated_behind words rest behind options option h first e choices all once built =
-    let r = said_behind h.said.choices choices h.front rest h.said.said (let P : List (List ℕ) → Type 0 = λ ws. SayAll choices ws in subst P h.whole all) in
+repeated_behind words rest behind options option h first e settings all once built =
+    let r = said_behind h.said.settings settings h.front rest h.said.said (let P : List (List ℕ) → Type 0 = λ ws. SayAll settings ws in subst P h.whole all) in
     stop r.0 r.2 (subst Once r.1 once) where
-      stop : (es : List Choice) → SayAll es rest → Once (h.said.choices ++ es) → ⊥
-      stop [] is o = says_some (choice_of option) (empty first.front (sym first.whole ∙ is) first.says) where
-        empty : (ws : List (List ℕ)) → ws ++ behind ≡ [] → Says (choice_of option) ws → Says (choice_of option) []
+      stop : (es : List Setting) → SayAll es rest → Once (h.said.settings ++ es) → ⊥
+      stop [] is o = says_some (setting_of option) (empty first.front (sym first.whole ∙ is) first.says) where
+        empty : (ws : List (List ℕ)) → ws ++ behind ≡ [] → Says (setting_of option) ws → Says (setting_of option) []
         empty [] x says = says
         empty (w ∷ ws) x says = absurd (cc)
       stop (c ∷ cs) (front, back, whole, says, more) o =
-          let one = first_one (choice_of option) c first.front behind front back first.says says (sym first.whole ∙ whole) in
-          stands h.said.choices options option h.said.are e (subst (λ d. All (λ x. name x ≢ name d) h.said.choices) (sym one.0) (new_behind h.said.choices cs c o))
+          let one = first_one (setting_of option) c first.front behind front back first.says says (sym first.whole ∙ whole) in
+          stands h.said.settings options option h.said.are e (subst (λ d. All (λ x. name x ≢ name d) h.said.settings) (sym one.0) (new_behind h.said.settings cs c o))
 
 -- ---- the first words
 

@@ -12,7 +12,7 @@ use Rattle.black_top.specs.declared.reading.Reading.{Reading}
 use Rattle.black_top.specs.declared.reading.Reading.TheVariants as readings
 use Rattle.black_top.specs.declared.words.Asked.{Asked}
 use Rattle.black_top.specs.declared.words.Asked.TheVariants as asked
-use Rattle.black_top.specs.Words.{Choice, Finite, Depth, Solve, Trace as TraceWord, Says, SayAll, Once, OfSolve, Asks, kind_of, depth_of}
+use Rattle.black_top.specs.Words.{Setting, Finite, Depth, Solve, Trace as TraceWord, Says, SayAll, Once, OfSolve, Asks, kind_of, depth_of}
 use Rattle.black_top.specs.Parts.{IsSeparator, EndsLine, BeginsLine}
 use Rattle.black_top.specs.Taking.{AreLeft}
 use Rattle.black_top.specs.Answer.{Answer, status_of, text_of}
@@ -20,10 +20,10 @@ use Rattle.black_top.specs.Reading.{RefusesPart, IsParted}
 use Rattle.black_top.specs.Solve.{IsSolved}
 use Rattle.black_top.specs.Trace.{IsJudged}
 
--- the choice that an option of `solve` is
-abbrev pub choice_of : SolveOption → Choice
-choice_of said.Finite = Finite
-choice_of (said.Depth n) = Depth n
+-- the setting that an option of `solve` is
+abbrev pub setting_of : SolveOption → Setting
+setting_of said.Finite = Finite
+setting_of (said.Depth n) = Depth n
 
 -- the options with a further one; none where it stands there already
 abbrev pub with_finite : Kind → Option ℕ → Option Options
@@ -43,37 +43,37 @@ abbrev pub IsDepth : Option ℕ → Type 0
 IsDepth None = Unit {0}
 IsDepth (Some n) = n ≤ 1000
 
--- the options are what the choices of `solve` say
-pub record AreOptions (choices : List Choice) (options : Options) : Type 0 where
-  pub once : Once choices
-  pub built : All OfSolve choices
-  pub kind : options.kind ≡ kind_of choices
-  pub depth : options.depth ≡ depth_of choices
+-- the options are what the settings of `solve` say
+pub record AreOptions (settings : List Setting) (options : Options) : Type 0 where
+  pub once : Once settings
+  pub built : All OfSolve settings
+  pub kind : options.kind ≡ kind_of settings
+  pub depth : options.depth ≡ depth_of settings
   pub small : IsDepth options.depth
 
--- the words say choices of `solve`, which are these options
+-- the words say settings of `solve`, which are these options
 pub record AreSaid (words : List (List ℕ)) (options : Options) : Type 0 where
-  pub choices : List Choice
-  pub said : SayAll choices words
-  pub are : AreOptions choices options
+  pub settings : List Setting
+  pub said : SayAll settings words
+  pub are : AreOptions settings options
 
--- the words say no choices of `solve`
+-- the words say no settings of `solve`
 abbrev pub NoneAreSaid : List (List ℕ) → Type 0
-NoneAreSaid words = (choices : List Choice) → SayAll choices words → Once choices → All OfSolve choices → ⊥
+NoneAreSaid words = (settings : List Setting) → SayAll settings words → Once settings → All OfSolve settings → ⊥
 
--- the first words say a choice of `solve`, and these words stand behind it
+-- the first words say a setting of `solve`, and these words stand behind it
 pub record SaysFirst (words : List (List ℕ)) (option : SolveOption) (behind : List (List ℕ)) : Type 0 where
   pub front : List (List ℕ)
   pub whole : words ≡ front ++ behind
-  pub says : Says (choice_of option) front
+  pub says : Says (setting_of option) front
 
--- no first words say a choice of `solve`
+-- no first words say a setting of `solve`
 abbrev pub SaysNothing : List (List ℕ) → Type 0
-SaysNothing words = (c : Choice) (front behind : List (List ℕ)) → OfSolve c → Says c front → words ≡ front ++ behind → ⊥
+SaysNothing words = (c : Setting) (front behind : List (List ℕ)) → OfSolve c → Says c front → words ≡ front ++ behind → ⊥
 
 -- the words ask for the command
 abbrev pub IsAsked : List (List ℕ) → Asked → Type 0
-IsAsked words (asked.Solve options) = (choices : List Choice) × Asks words (Solve choices) × AreOptions choices options
+IsAsked words (asked.Solve options) = (settings : List Setting) × Asks words (Solve settings) × AreOptions settings options
 IsAsked words asked.Trace = Asks words TraceWord
 
 -- the depth that the words ask for, where they do, is at most 1,000

@@ -3,7 +3,7 @@ use Rattle.std.specs.Prelude.{◌≡◌, ℕ, List, Option}
 use Rattle.ltl_io.specs.Outside.{Grows, GrowsByFront}
 use Rattle.report.specs.declared.fault.Fault.TheVariants as faults
 use Rattle.black_top.specs.declared.status.Status.{Status}
-use Rattle.black_top.specs.Words.{Choice, Command, Solve, Trace as TraceWord, Asks, ReadsNothing, kind_of, depth_of}
+use Rattle.black_top.specs.Words.{Setting, Command, Solve, Trace as TraceWord, Asks, ReadsNothing, kind_of, depth_of}
 use Rattle.black_top.specs.Taking.{AreLeft}
 use Rattle.black_top.specs.Answer.{Answer, refused, status_of, text_of}
 use Rattle.black_top.specs.Reading.{IsParted}
@@ -14,7 +14,7 @@ use Rattle.black_top.specs.Trace.{IsJudged}
 -- its case, and changes no other
 pub data IsAnswer (words : List (List ℕ)) (bytes : List ℕ) : Answer → Type 0 where
   not_taken : ((command : Command) → ¬ (Asks words command)) → IsAnswer words bytes (refused faults.Usage)
-  solves : (choices : List Choice) (answer : Answer) → Asks words (Solve choices) → IsSolved (kind_of choices) (depth_of choices) bytes answer → IsAnswer words bytes answer
+  solves : (settings : List Setting) (answer : Answer) → Asks words (Solve settings) → IsSolved (kind_of settings) (depth_of settings) bytes answer → IsAnswer words bytes answer
   traces : (answer : Answer) → Asks words TraceWord → IsParted IsJudged bytes answer → IsAnswer words bytes answer
 
 -- the answer to these words and to what the source had left

@@ -15,7 +15,7 @@ use Rattle.report.specs.Texts.{sat_text, unsat_text, undecided_text}
 use Rattle.black_top.specs.declared.status.Status.{Status}
 use Rattle.black_top.specs.declared.status.Status.TheVariants as statuses
 use Rattle.black_top.specs.Status.{has_read}
-use Rattle.black_top.specs.Words.{Choice, kind_of, depth_of}
+use Rattle.black_top.specs.Words.{Setting, kind_of, depth_of}
 use Rattle.black_top.specs.Taking.{AreLeft, IsTakenUpTo}
 use Rattle.black_top.specs.Answer.{Answer, refused, sat, unsat, undecided, status_of, text_of}
 use Rattle.black_top.specs.Reading.{RefusesPart}
@@ -98,16 +98,16 @@ OfFormula rest Claim = (bytes : List ℕ) × AreLeft rest bytes × (f : Formula)
 
 -- what `solve` promises of a call: of the rest of the source and the content of the sink, before and after, and of its status.
 -- A call is quiet where neither count of faults rose
-pub record SolvePromise (choices : List Choice) (IsQuiet : Type 0) (rest left before after : Option (List ℕ)) (status : Status) : Type 0 where
+pub record SolvePromise (settings : List Setting) (IsQuiet : Type 0) (rest left before after : Option (List ℕ)) (status : Status) : Type 0 where
   -- SAT is printed only with a trace of the chosen kind that satisfies the formula
-  pub when_sat : status ≡ statuses.Sat → OfFormula rest (λ f. PrintsModel (kind_of choices) f before after)
+  pub when_sat : status ≡ statuses.Sat → OfFormula rest (λ f. PrintsModel (kind_of settings) f before after)
   -- UNSAT is printed only where no trace of the chosen kind satisfies the formula
-  pub when_unsat : status ≡ statuses.Unsat → OfFormula rest (λ f. PrintsNone (kind_of choices) f before after)
+  pub when_unsat : status ≡ statuses.Unsat → OfFormula rest (λ f. PrintsNone (kind_of settings) f before after)
   -- UNDECIDED is printed only where the tableau's verdict at the limit in force is so, and never where that limit is at least the bound
-  pub when_undecided : status ≡ statuses.Undecided → OfFormula rest (λ f. PrintsUndecided (kind_of choices) (depth_of choices) f before after)
+  pub when_undecided : status ≡ statuses.Undecided → OfFormula rest (λ f. PrintsUndecided (kind_of settings) (depth_of settings) f before after)
   -- an accepted formula whose letters are few enough gets the tableau's verdict, or there was no memory
-  pub verdict : (bytes : List ℕ) (f : Formula) → rest ≡ Some bytes → IsAccepted bytes f → AreFewLetters (kind_of choices) (depth_of choices) f → IsQuiet
-      → (status ≡ statuses.NoMemory) ⊎ PrintsVerdict (kind_of choices) (depth_of choices) f before after status
+  pub verdict : (bytes : List ℕ) (f : Formula) → rest ≡ Some bytes → IsAccepted bytes f → AreFewLetters (kind_of settings) (depth_of settings) f → IsQuiet
+      → (status ≡ statuses.NoMemory) ⊎ PrintsVerdict (kind_of settings) (depth_of settings) f before after status
   -- the source is untouched past the first read that brings what was taken above the limit of a text
   pub most : LosesAtMost 1052672 rest left
   -- and it is read until then, or to its end

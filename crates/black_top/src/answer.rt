@@ -1,10 +1,10 @@
-// The answer to words and a source. The source is read once, as far as the command goes, and not at all where the words ask
-// for no command.
+// The answer to words and a source. The source is read once, as far as the command goes, and not at all where
+// the words ask for no command.
 ghost use Rattle.std.specs.Prelude.{◌≡◌, List, map, string_bytes, IfOk, OnOk, IsErrOf};
 ghost use Rattle.ltl_io.specs.Count.{Rose, Counts};
 ghost use Rattle.ltl_io.specs.Outside.{LosesAtMost};
 ghost use Rattle.ltl_io.specs.declared.source.ReadRefused.TheVariants as read_refused;
-ghost use Rattle.black_top.specs.Words.{Choice, Solve, Trace as TraceWord, Asks};
+ghost use Rattle.black_top.specs.Words.{Setting, Solve, Trace as TraceWord, Asks};
 ghost use Rattle.black_top.specs.Answer.{Answer};
 ghost use Rattle.black_top.specs.Inner.{Shows};
 ghost use Rattle.black_top.specs.Run.{IsGiven, NeedsNothing};
@@ -30,9 +30,9 @@ pub fn answer<S: Source>(
     ensures count { OnOk result (S.faults source.new ≡ S.faults source.old) }
     ensures counts { Counts (S.faults source.old) (S.faults source.new) }
     ensures unread { NeedsNothing (map string_bytes words.now) → source.new ≡ source.old }
-    ensures solve_most { (choices : List Choice) → Asks (map string_bytes words.now) (Solve choices)
+    ensures solve_most { (settings : List Setting) → Asks (map string_bytes words.now) (Solve settings)
         → LosesAtMost 1052672 (S.rest source.old) (S.rest source.new) }
-    ensures solve_left { (choices : List Choice) → Asks (map string_bytes words.now) (Solve choices)
+    ensures solve_left { (settings : List Setting) → Asks (map string_bytes words.now) (Solve settings)
         → OnOk result (IsTakenUpTo 1048576 (S.rest source.old) (S.rest source.new)) }
     ensures trace_left { Asks (map string_bytes words.now) TraceWord
         → OnOk result (IsTakenWhole (S.rest source.old) (S.rest source.new)) }

@@ -7,7 +7,7 @@ mod solve;
 mod trace;
 
 use crate::output::Output;
-use crate::reading::MOST_BYTES;
+use crate::reading::MAX_TEXT;
 use crate::words::Asked;
 use std::alloc::{AllocError, Global};
 
@@ -16,7 +16,7 @@ pub fn stop_after(asked: Asked) -> usize
     ensures { result ≡ stop_after asked }
 {
     match asked {
-        Asked::Solve(_) => MOST_BYTES,
+        Asked::Solve(_) => MAX_TEXT,
         Asked::Trace => usize::MAX,
     }
 }

@@ -11,7 +11,8 @@ pub fn one_command()
 
 /// Words and bytes have one answer, but for the trace that is shown with SAT.
 pub fn one_answer()
-    ensures { (words : List (List ℕ)) (bytes : List ℕ) (a b : Answer) → IsAnswer words bytes a → IsAnswer words bytes b → AreAlike a b }
+    ensures { (words : List (List ℕ)) (bytes : List ℕ) (a b : Answer)
+        → IsAnswer words bytes a → IsAnswer words bytes b → AreAlike a b }
 {
     ltl_parser::laws::one_outcome();
     ltl_word::laws::one_reading();

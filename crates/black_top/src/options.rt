@@ -6,7 +6,7 @@ ghost use Rattle.black_top.specs.Inner.{options_with, SaysNothing, SaysFirst, No
 use ltl_syntax::Kind;
 
 /// The greatest depth that may be asked for.
-const MOST_DEPTH: u32 = 1_000;
+const MAX_DEPTH: u32 = 1_000;
 
 /// What the options of `solve` say.
 #[derive(Clone, Copy)]
@@ -25,7 +25,8 @@ enum SolveOption {
 
 /// What the words say as options of `solve`.
 pub fn solve_options(words: &[String]) -> Option<Options>
-    ensures { MatchOption result (NoneAreSaid (map string_bytes words.now)) (AreSaid (map string_bytes words.now)) }
+    ensures { MatchOption result (NoneAreSaid (map string_bytes words.now))
+        (AreSaid (map string_bytes words.now)) }
 {
     let mut options = Options {
         kind: Kind::Infinite,
@@ -59,7 +60,8 @@ fn with_option(options: Options, option: SolveOption) -> Option<Options>
 
 /// The option that the first words say, and the words behind it.
 fn first_option(words: &[String]) -> Option<(SolveOption, &[String])>
-    ensures { MatchOption result (SaysNothing (map string_bytes words.now)) (λ said. SaysFirst (map string_bytes words.now) said.0 (map string_bytes said.1.now)) }
+    ensures { MatchOption result (SaysNothing (map string_bytes words.now))
+        (λ said. SaysFirst (map string_bytes words.now) said.0 (map string_bytes said.1.now)) }
 {
     let [word, more @ ..] = words else {
         return None;
@@ -81,7 +83,8 @@ fn first_option(words: &[String]) -> Option<(SolveOption, &[String])>
 
 /// A number of one to four decimal digits that is a depth.
 fn depth_number(digits: &[u8]) -> Option<u32>
-    ensures { MatchOption result ((n : ℕ) → ¬ (IsNumber 4 0 1000 digits.now n)) (IsNumber 4 0 1000 digits.now) }
+    ensures { MatchOption result ((n : ℕ) → ¬ (IsNumber 4 0 1000 digits.now n))
+        (IsNumber 4 0 1000 digits.now) }
 {
     if digits.is_empty() || digits.len() > 4 {
         return None;
@@ -93,7 +96,7 @@ fn depth_number(digits: &[u8]) -> Option<u32>
         }
         number = 10 * number + (*digit - b'0') as u32;
     }
-    if number > MOST_DEPTH {
+    if number > MAX_DEPTH {
         return None;
     }
     Some(number)

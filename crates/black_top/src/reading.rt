@@ -9,7 +9,7 @@ use report::Fault;
 use std::alloc::{AllocError, Global};
 
 /// The most bytes of a formula part.
-pub const MOST_BYTES: usize = 1_048_576;
+pub const MAX_TEXT: usize = 1_048_576;
 
 /// What a text is read as.
 #[derive(Drop)]
@@ -26,7 +26,7 @@ pub fn read_formula(alloc: Global, text: &[u8]) -> Result<Reading, AllocError>
 {
     ltl_parser::laws::read_without_fault();
     ltl_parser::laws::nodes_of_text();
-    if text.len() > MOST_BYTES {
+    if text.len() > MAX_TEXT {
         return Ok(Reading::Refused(Fault::Text));
     }
     let tokens = match tokens(alloc, text) {

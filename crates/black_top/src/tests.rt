@@ -25,7 +25,8 @@ fn list(alloc: Global, words: &str) -> Result<Vec<String>, AllocError> {
     Ok(all)
 }
 
-/// The status and the output over a source that gives a thousand bytes a read and a sink that takes seven bytes a write.
+/// The status and the output over a source that gives a thousand bytes a read and a sink that takes seven
+/// bytes a write.
 fn answer<R: Threads + Sync>(
     rt: &R,
     alloc: Global,

@@ -3,7 +3,7 @@ ghost use Rattle.std.specs.Prelude.{◌≡◌, ◌⊎◌, ◌<◌, List, map, st
 ghost use Rattle.ltl_io.specs.Count.{Rose};
 ghost use Rattle.black_top.specs.declared.status.Status.TheVariants as statuses;
 ghost use Rattle.black_top.specs.Status.{is_answer};
-ghost use Rattle.black_top.specs.Words.{Choice, Solve, Trace as TraceWord, Asks};
+ghost use Rattle.black_top.specs.Words.{Setting, Solve, Trace as TraceWord, Asks};
 ghost use Rattle.black_top.specs.Run.{IsAnswered, IsCutOff, NeedsNothing};
 ghost use Rattle.black_top.specs.Solve.{SolvePromise};
 ghost use Rattle.black_top.specs.Trace.{TracePromise};
@@ -14,7 +14,8 @@ use ltl_io::{Gate, ReadRefused, Sink, Source, write_whole};
 use std::alloc::Global;
 use std::thread::Threads;
 
-/// Does all that the program does: takes the words, reads the source, writes the whole answer and gives its status.
+/// Does all that the program does: takes the words, reads the source, writes the whole answer and gives its
+/// status.
 pub fn run<R: Threads + Sync, S: Source, K: Sink, G: Gate + Sync>(
     _rt: &R,
     alloc: Global,
@@ -24,23 +25,34 @@ pub fn run<R: Threads + Sync, S: Source, K: Sink, G: Gate + Sync>(
     _gate: &G,
 ) -> Status
     // With every status but those of faults and of want of memory, the answer is printed in full.
-    ensures answered { IsTrue (is_answer result) → IsAnswered (map string_bytes words.now) (S.rest source.old) (K.content sink.old) (K.content sink.new) result }
+    ensures answered { IsTrue (is_answer result)
+        → IsAnswered (map string_bytes words.now) (S.rest source.old)
+        (K.content sink.old) (K.content sink.new) result }
     // Where neither count rose, it is answered, or there was no memory.
-    ensures complete { ¬ (Rose (S.faults source.old) (S.faults source.new)) → ¬ (Rose (K.faults sink.old) (K.faults sink.new))
-        → (result ≡ statuses.NoMemory) ⊎ IsAnswered (map string_bytes words.now) (S.rest source.old) (K.content sink.old) (K.content sink.new) result }
-    ensures read_fault { result ≡ statuses.ReadFault → Rose (S.faults source.old) (S.faults source.new) × (sink.new ≡ sink.old) }
+    ensures complete { ¬ (Rose (S.faults source.old) (S.faults source.new))
+        → ¬ (Rose (K.faults sink.old) (K.faults sink.new))
+        → (result ≡ statuses.NoMemory)
+        ⊎ IsAnswered (map string_bytes words.now) (S.rest source.old)
+        (K.content sink.old) (K.content sink.new) result }
+    ensures read_fault { result ≡ statuses.ReadFault
+        → Rose (S.faults source.old) (S.faults source.new) × (sink.new ≡ sink.old) }
     ensures read_count { S.faults source.old < S.faults source.new → result ≡ statuses.ReadFault }
-    ensures write_fault { result ≡ statuses.WriteFault → Rose (K.faults sink.old) (K.faults sink.new)
-        × IsCutOff (map string_bytes words.now) (S.rest source.old) (K.content sink.old) (K.content sink.new) }
+    ensures write_fault { result ≡ statuses.WriteFault
+        → Rose (K.faults sink.old) (K.faults sink.new)
+        × IsCutOff (map string_bytes words.now) (S.rest source.old)
+        (K.content sink.old) (K.content sink.new) }
     ensures write_count { K.faults sink.old < K.faults sink.new → result ≡ statuses.WriteFault }
     ensures no_memory { result ≡ statuses.NoMemory → sink.new ≡ sink.old }
     ensures unread { NeedsNothing (map string_bytes words.now) → source.new ≡ source.old }
     // What each command promises. A call is quiet where neither count rose.
-    ensures solve { (choices : List Choice) → Asks (map string_bytes words.now) (Solve choices)
-        → SolvePromise choices (¬ (Rose (S.faults source.old) (S.faults source.new)) × ¬ (Rose (K.faults sink.old) (K.faults sink.new)))
+    ensures solve { (settings : List Setting) → Asks (map string_bytes words.now) (Solve settings)
+        → SolvePromise settings
+        (¬ (Rose (S.faults source.old) (S.faults source.new))
+        × ¬ (Rose (K.faults sink.old) (K.faults sink.new)))
         (S.rest source.old) (S.rest source.new) (K.content sink.old) (K.content sink.new) result }
     ensures trace { Asks (map string_bytes words.now) TraceWord
-        → TracePromise (S.rest source.old) (S.rest source.new) (K.content sink.old) (K.content sink.new) result }
+        → TracePromise (S.rest source.old) (S.rest source.new)
+        (K.content sink.old) (K.content sink.new) result }
 {
     ltl_parser::laws::one_outcome();
     ltl_run::laws::run_satisfies();

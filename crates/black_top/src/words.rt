@@ -14,7 +14,8 @@ pub enum Asked {
 
 /// The command that the words ask for.
 pub fn asked_command(words: &[String]) -> Option<Asked>
-    ensures { MatchOption result ((c : Command) → ¬ (Asks (map string_bytes words.now) c)) (IsAsked (map string_bytes words.now)) }
+    ensures { MatchOption result ((c : Command) → ¬ (Asks (map string_bytes words.now) c))
+        (IsAsked (map string_bytes words.now)) }
 {
     let [command, more @ ..] = words else {
         return None;

@@ -1,6 +1,7 @@
 // The refusals.
 
-/// A refusal, with the number that its line shows: a byte of the input from 0, a count of nodes or of cells, or a depth.
+/// A refusal, with the number that its line shows: a byte of the input from 0, a count of nodes or of cells,
+/// or a depth.
 #[derive(Clone, Copy, Debug, PartialEq, Eq)]
 pub enum Fault {
     /// The words are not taken.
@@ -15,7 +16,8 @@ pub enum Fault {
     Grammar(u32),
     /// The formula has so many nodes.
     Nodes(u32),
-    /// The clauses of the depth that was asked for have too many letters. The number is the greatest depth that has not.
+    /// The clauses of the depth that was asked for have too many letters. The number is the greatest depth
+    /// that has not.
     Letters(u32),
     /// The table of truth values has so many cells.
     Cells(u128),

@@ -18,15 +18,16 @@ pub fn sat(alloc: Global, depth: u32, trace: &Trace) -> Result<Vec<u8>, AllocErr
     Ok(text)
 }
 
-/// UNSAT at the depth, with the printed core and the text of the certificate where they are given. The core has no newline,
-/// and the certificate stands as it is.
+/// UNSAT at the depth, with the printed core and the text of the certificate where they are given. The core
+/// has no newline, and the certificate stands as it is.
 pub fn unsat(
     alloc: Global,
     depth: u32,
     core: Option<&[u8]>,
     certificate: Option<&[u8]>,
 ) -> Result<Vec<u8>, AllocError>
-    ensures { IfOk result (λ text. text.items ≡ unsat_text depth (option_copied core.entry) (option_copied certificate.entry)) }
+    ensures { IfOk result (λ text. text.items
+        ≡ unsat_text depth (option_copied core.entry) (option_copied certificate.entry)) }
 {
     let mut text = numbered(alloc, b"UNSAT ", depth.into())?;
     add_core(&mut text, core)?;

@@ -23,7 +23,8 @@ const DEFAULT_DEPTH: u32 = 64;
 /// The answer to the text of a formula. A text that is too long may be a front of the input.
 pub fn solve(alloc: Global, options: Options, text: &[u8]) -> Result<Output, AllocError>
     requires depth { IsDepth options.depth }
-    ensures { IfOk result (λ out. (a : Answer) × IsSolved options.kind options.depth text.now a × Shows out a) }
+    ensures { IfOk result (λ out. (a : Answer)
+        × IsSolved options.kind options.depth text.now a × Shows out a) }
 {
     match read_formula(alloc, text)? {
         Reading::Refused(fault) => refusal(alloc, fault),
@@ -40,7 +41,8 @@ fn settle(
 ) -> Result<Output, AllocError>
     requires root { root < length table.now.nodes }
     requires depth { IsDepth options.depth }
-    ensures { IfOk result (λ out. (a : Answer) × IsSettled options.kind options.depth (tree_at table.now root) a × Shows out a) }
+    ensures { IfOk result (λ out. (a : Answer)
+        × IsSettled options.kind options.depth (tree_at table.now root) a × Shows out a) }
 {
     let closure = Closure::of(alloc, table, root, options.kind)?;
     let layout = Layout::of(&closure);
@@ -56,7 +58,8 @@ fn settle(
 fn decide(alloc: Global, closure: &Closure<'_>, limit: u32) -> Result<Output, AllocError>
     requires few { limit ≤ 1000 }
     requires fits { Fits (layout_of closure.now) limit }
-    ensures { IfOk result (λ out. (a : Answer) × IsDecided closure.now.formula closure.now.kind limit a × Shows out a) }
+    ensures { IfOk result (λ out. (a : Answer)
+        × IsDecided closure.now.formula closure.now.kind limit a × Shows out a) }
 {
     match unravel::decide(alloc, closure, limit)? {
         Decision::Sat { depth, trace } => sat(alloc, depth, &trace),

@@ -14,7 +14,7 @@ returns-in_default-clause-given g c =
     (refused faults.Usage, record { bytes = left.0; left = left.1; lawful = not_taken c.in_default.ensures }, c.in_ok-refusal.ensures)
 
 pub returns-in_default-clause-solve_left : goal.returns-in_default-clause-solve_left
-returns-in_default-clause-solve_left g c choices asks = absurd (c.in_default.ensures (Solve choices) asks)
+returns-in_default-clause-solve_left g c settings asks = absurd (c.in_default.ensures (Solve settings) asks)
 
 pub returns-in_default-clause-trace_left : goal.returns-in_default-clause-trace_left
 returns-in_default-clause-trace_left g c asks = absurd (c.in_default.ensures TraceWord asks)
