@@ -1,0 +1,185 @@
+#!/usr/bin/env python3
+"""Families of formulas that grow with a size.
+
+    families.py                  the names, one a line
+    families.py NAME SIZE        the formula of a family
+    families.py --write FOLDER   the fixed set: a file for each row of SET, with `.finite.` in the name where it is asked
+                                 over finite traces
+"""
+import os
+import sys
+
+
+def all_of(parts):
+    return " & ".join("(%s)" % part for part in parts)
+
+
+def some_of(parts):
+    return " | ".join("(%s)" % part for part in parts)
+
+
+def times(n, operator, formula):
+    """The operator n times over."""
+    return "%s (%s)" % ((operator + " ") * n, formula)
+
+
+def chain(n, join, operator, formula):
+    """The formula now, and joined with it n times over at the operator's place."""
+    return formula if n == 0 else "%s %s %s (%s)" % (formula, join, operator, chain(n - 1, join, operator, formula))
+
+
+def ring(n):
+    """A token goes round a ring of n letters, for ever."""
+    parts = ["p0"]
+    parts += ["G (p%d -> X p%d)" % (i, (i + 1) % n) for i in range(n)]
+    parts += ["G F p%d" % i for i in range(n)]
+    parts += ["G !(p%d & p%d)" % (i, j) for i in range(n) for j in range(i + 1, n)]
+    return " & ".join(parts)
+
+
+def counting(n):
+    """n bits, all of them false at first, that count up at each step."""
+    parts = ["!b%d" % i for i in range(n)] + ["G (b0 <-> X !b0)"]
+    for i in range(1, n):
+        low = " & ".join("b%d" % j for j in range(i))
+        parts.append("G ((%s) -> (b%d <-> X !b%d))" % (low, i, i))
+        parts.append("G (!(%s) -> (b%d <-> X b%d))" % (low, i, i))
+    return parts
+
+
+def counter(n):
+    """The bits come to all ones."""
+    return all_of(counting(n) + ["F (%s)" % " & ".join("b%d" % i for i in range(n))])
+
+
+def stuck(n):
+    """The bits never come to all ones, which they do."""
+    return all_of(counting(n) + ["G !(%s)" % " & ".join("b%d" % i for i in range(n))])
+
+
+def period(n):
+    """Four bits that count, and a letter that comes back after n steps exactly, for ever."""
+    return all_of(counting(4) + ["q", "G (q -> %s)" % times(n, "X", "q"), "G (q -> X (%s))" % chain(n - 2, "&", "X", "!q")])
+
+
+def responses(n):
+    """n requests that recur are answered."""
+    return all_of(["G (r%d -> F g%d)" % (i, i) for i in range(n)] + ["G F r%d" % i for i in range(n)])
+
+
+def exclusive(n):
+    """n requests that recur are answered, one at a time, and an answer needs a request."""
+    parts = ["G (r%d -> F g%d)" % (i, i) for i in range(n)] + ["G (g%d -> O r%d)" % (i, i) for i in range(n)]
+    parts += ["G !(g%d & g%d)" % (i, j) for i in range(n) for j in range(i + 1, n)]
+    return all_of(parts + ["G F r%d" % i for i in range(n)])
+
+
+def arbiter(n):
+    """n clients: a request stays up to its grant, a grant needs one, grants are alone, and each client asks after its grant."""
+    parts = ["G (r%d -> (r%d U g%d))" % (i, i, i) for i in range(n)] + ["G (g%d -> r%d)" % (i, i) for i in range(n)]
+    parts += ["G !(g%d & g%d)" % (i, j) for i in range(n) for j in range(i + 1, n)]
+    parts += ["G (g%d -> X (!g%d U r%d))" % (i, i, i) for i in range(n)] + ["G (g%d -> X !r%d)" % (i, i) for i in range(n)]
+    return all_of(parts + ["G F g%d" % i for i in range(n)])
+
+
+def buffer(n):
+    """n places that pass on what came in at the first; what goes out came in, and each comes out in the end."""
+    parts = ["G (f%d -> (f%d W (f%d & !f%d)))" % (i, i, i + 1, i) for i in range(n - 1)]
+    parts += ["G ((f%d & Y !f%d) -> Y f%d)" % (i + 1, i + 1, i) for i in range(n - 1)]
+    parts += ["G !(f%d & Y !f%d & X !f%d)" % (i, i, i) for i in range(n)]
+    return all_of(["!f%d" % i for i in range(n)] + parts + ["G F f0", "G F f%d" % (n - 1), "G F !f%d" % (n - 1)])
+
+
+def starved(n):
+    """n requests, one of which is never answered once it has come."""
+    parts = ["G (r%d -> F g%d)" % (i, i) for i in range(n)]
+    return all_of(parts + ["G F r0", "G (!g0 | Y !r0) & G (r0 -> X G !g0)"])
+
+
+def sinces(n):
+    parts = ["G (q%d <-> (q%d S p%d))" % (i, (i + 1) % n, i) for i in range(n)]
+    return all_of(parts + ["F G (%s)" % " & ".join("!p%d" % i for i in range(n))])
+
+
+def yesterdays(n):
+    return "F (" + " & ".join("%s p%d" % ("Y " * i, i) for i in range(1, n + 1)) + ") & G !(p1 & p2)"
+
+
+def history(n):
+    """Letters that came one after the other, each once, and a state that remembers all of them twice over."""
+    seen = "p0"
+    for i in range(1, n):
+        seen = "(p%d & Y O (%s))" % (i, seen)
+    parts = ["G (p%d -> Y H !p%d)" % (i, i) for i in range(n)] + ["F (%s)" % seen]
+    return all_of(parts + ["G (p%d -> Y Y (%s))" % (i, chain(2 * n, "|", "Y", "p%d" % (i - 1))) for i in range(1, n)])
+
+
+def alternation(n):
+    """n letters that alternate with a common one, as the past tells."""
+    parts = ["G (a%d -> Z (!a%d S (b & !a%d) | H !a%d))" % (i, i, i, i) for i in range(n)]
+    parts += ["G !(a%d & a%d)" % (i, j) for i in range(n) for j in range(i + 1, n)]
+    parts += ["G (b -> Z (!b S (%s) | H !b))" % some_of("a%d" % i for i in range(n))]
+    return all_of(parts + ["G F a%d" % i for i in range(n)] + ["G !(b & (%s))" % some_of("a%d" % i for i in range(n))])
+
+
+def declare(n):
+    """A process of n tasks over finite traces: chains of response and precedence, and no two at once."""
+    parts = ["G (t%d -> F t%d)" % (i, i + 1) for i in range(n - 1)]
+    parts += ["(!t%d W t%d)" % (i + 1, i) for i in range(n - 1)]
+    parts += ["G (t%d -> wX G !t%d)" % (i, i) for i in range(n)]
+    parts += ["G !(t%d & t%d)" % (i, j) for i in range(n) for j in range(i + 1, n)]
+    return all_of(parts + ["F t0", "F (t%d & X F t0)" % (n - 1)])
+
+
+def conflict(n):
+    """n letters recur, and from some point on one of them is false; each stays once it came."""
+    parts = ["G F p%d" % i for i in range(n)] + ["F G (%s)" % " | ".join("!p%d" % i for i in range(n))]
+    return all_of(parts + ["G (p%d -> X G p%d)" % (i, i) for i in range(n)])
+
+
+def untils(n):
+    return " U ".join("p%d" % i for i in range(n)) + " & G !p%d" % (n - 1)
+
+
+def pigeons(n):
+    """n + 1 letters, each true once in the first n states, no two at once."""
+    parts = ["(%s)" % some_of(times(k, "X", "p%d" % i) for k in range(n)) for i in range(n + 1)]
+    return all_of(parts + ["G !(p%d & p%d)" % (i, j) for i in range(n + 1) for j in range(i + 1, n + 1)])
+
+
+def deadlines(n):
+    """Requests every n steps, answers within n that are at least two steps apart from each other."""
+    parts = ["r", "G (r -> %s)" % times(n, "X", "r"), "G (r -> X (%s))" % chain(n - 1, "|", "X", "g")]
+    parts += ["G (g -> X (!g & X !g))", "G (g -> Y (%s))" % chain(n - 1, "|", "Y", "r")]
+    return all_of(parts + ["G (r -> X (%s))" % chain(n - 2, "&", "X", "!r")])
+
+
+FAMILIES = {f.__name__: f for f in (
+    ring, counter, stuck, period, responses, exclusive, arbiter, buffer, starved, sinces, yesterdays, history,
+    alternation, declare, conflict, untils, pigeons, deadlines)}
+
+SET = [
+    ("ring", 8), ("ring", 16), ("ring", 32), ("counter", 4), ("counter", 5), ("stuck", 3), ("stuck", 4), ("stuck", 5),
+    ("period", 12), ("period", 24), ("responses", 16), ("responses", 64), ("exclusive", 4), ("exclusive", 8),
+    ("arbiter", 4), ("arbiter", 6), ("arbiter", 8), ("buffer", 6), ("buffer", 12), ("buffer", 20), ("starved", 1),
+    ("starved", 2), ("starved", 3), ("sinces", 16), ("sinces", 64), ("yesterdays", 8), ("yesterdays", 16),
+    ("yesterdays", 24), ("history", 3), ("history", 4), ("history", 5), ("alternation", 3), ("alternation", 4),
+    ("alternation", 5), ("declare.finite", 6), ("declare.finite", 10), ("declare.finite", 14), ("conflict", 4),
+    ("conflict", 5), ("conflict", 6), ("untils", 4), ("untils", 6), ("untils", 8), ("pigeons", 4), ("pigeons", 5),
+    ("pigeons", 6), ("deadlines", 5), ("deadlines", 20)]
+
+
+def main(words):
+    if not words:
+        print("\n".join(FAMILIES))
+    elif words[0] == "--write":
+        os.makedirs(words[1], exist_ok=True)
+        for name, size in SET:
+            with open("%s/%s" % (words[1], name.replace(".", "-%d." % size) + "." if "." in name else "%s-%d" % (name, size)), "w") as out:
+                out.write(FAMILIES[name.split(".")[0]](size))
+    else:
+        print(FAMILIES[words[0]](int(words[1])))
+
+
+if __name__ == "__main__":
+    main(sys.argv[1:])

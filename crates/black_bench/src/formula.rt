@@ -1,0 +1,27 @@
+// A formula from a source, or the status with which the program ends where there is none.
+ghost use Rattle.std.specs.Prelude.{◌<◌, length, IfOk};
+
+use ltl_io::{Source, read_whole};
+use ltl_lexer::tokens;
+use ltl_parser::parse;
+use ltl_syntax::FormulaTable;
+use std::alloc::Global;
+
+/// Reads the source to its end, and the formula that its text spells.
+pub fn read_formula<S: Source>(alloc: Global, source: &mut S) -> Result<(FormulaTable, u32), u8>
+    ensures { IfOk result (λ r. r.1 < length r.0.nodes) }
+{
+    let Ok(text) = read_whole(alloc, source, 1_048_576) else {
+        return Err(5);
+    };
+    if text.len() > 1_048_576 {
+        return Err(4);
+    }
+    let Ok(found) = tokens(alloc, &text) else {
+        return Err(3);
+    };
+    match parse(alloc, &text, &found) {
+        Ok((table, root)) => Ok((table, root)),
+        Err(_) => Err(3),
+    }
+}

@@ -1,0 +1,44 @@
+// What the tableau says of a formula, with what an UNSAT hands out: how many lines the solver learnt, how many literals and how
+// many hints they have.
+ghost use Rattle.std.specs.Prelude.{◌≤◌};
+
+use crate::status;
+use clause_log::LogView;
+use enc_layout::Layout;
+use ltl_closure::Closure;
+use std::alloc::Global;
+use unravel::{Decision, decide};
+
+/// Prints the answer, the depth, and of UNSAT the lines, literals and hints.
+pub fn decide_formula(rt: &HostRuntime, alloc: Global, closure: &Closure<'_>, depth: u32) -> u8
+    requires { depth ≤ 1000 }
+{
+    let limit = Layout::of(closure).greatest_depth(depth);
+    let Ok(decision) = decide(alloc, closure, limit) else {
+        return 7;
+    };
+    let written = match decision {
+        Decision::Sat { depth, .. } => println!(rt; "SAT {}", depth).is_ok(),
+        Decision::Unsat { depth, log, .. } => print_unsat(rt, depth, &log.view()),
+        Decision::Undecided { depth } => println!(rt; "UNDECIDED {}", depth).is_ok(),
+    };
+    status(written)
+}
+
+fn print_unsat(rt: &HostRuntime, depth: u32, view: &LogView<'_>) -> bool {
+    let mut literals: u64 = 0;
+    let mut hints: u64 = 0;
+    for index in 0..view.lines() {
+        literals = literals.saturating_add(view.literals(index + 1).len() as u64);
+        hints = hints.saturating_add(view.hints(index + 1).len() as u64);
+    }
+    println!(rt;
+        "UNSAT {} {} {} {} {}",
+        depth,
+        view.inputs(),
+        view.lines(),
+        literals,
+        hints
+    )
+    .is_ok()
+}
