@@ -1,3 +1,4 @@
 pub mod Count
 pub mod Outside
 pub mod Memory
+pub mod Adapted

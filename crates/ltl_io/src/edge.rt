@@ -1,6 +1,9 @@
-// The adapters over the standard streams. No contract can say what a file, a pipe or a terminal
-// gives or takes, so they tell no bytes: contracts see each as its count of faults alone.
-ghost use Rattle.std.specs.Prelude.{◌≡◌, ℕ, None};
+// The adapters over readers and writers. They tell the bytes that the reader or the writer tells. A
+// file, a pipe and a terminal tell none, since no contract can say what those give or take: of them
+// contracts see the count of faults alone.
+ghost use Rattle.std.specs.Prelude.{◌≡◌, ◌≤◌, length, take, IfOk, OnErr};
+ghost use Rattle.ltl_io.specs.Adapted.{Adapted};
+ghost use Rattle.ltl_io.specs.Outside.{Grows, GrowsByFront};
 
 use crate::{Failed, Sink, Source};
 use std::io::{Read, Write};
@@ -14,24 +17,27 @@ pub struct StdSource<R> {
 }
 
 impl<R> Model for StdSource<R> {
-    ghost Value = { ℕ };
+    ghost use Rattle.ltl_io.specs.Adapted.{Adapted};
 
-    ghost view = { λ s. s.faults };
+    ghost Value = { Adapted R };
+
+    ghost view = { λ s. record { inner = s.inner; faults = s.faults } };
 }
 
 impl<R: Read> StdSource<R> {
     pub fn new(inner: R) -> StdSource<R>
-        ensures { result ≡ 0 }
+        ensures { result ≡ record { inner = inner; faults = 0 } }
     {
         StdSource { inner, faults: 0 }
     }
 }
 
 impl<R: Read> Source for StdSource<R> {
-    ghost rest = { λ _. None };
+    ghost rest = { λ s. R.remaining s.inner };
 
-    ghost faults = { λ count. count };
+    ghost faults = { λ s. s.faults };
 
+    #[tactic(auto, using(crate::proofs::Adapters::consumed_gives, crate::proofs::Adapters::kept_stays))]
     fn read(&mut self, into: &mut [u8]) -> Result<usize, Failed> {
         match self.inner.read(into) {
             Ok(n) => Ok(n),
@@ -53,31 +59,51 @@ pub struct StdSink<W> {
 }
 
 impl<W> Model for StdSink<W> {
-    ghost Value = { ℕ };
+    ghost use Rattle.ltl_io.specs.Adapted.{Adapted};
 
-    ghost view = { λ s. s.faults };
+    ghost Value = { Adapted W };
+
+    ghost view = { λ s. record { inner = s.inner; faults = s.faults } };
 }
 
 impl<W: Write> StdSink<W> {
     pub fn new(inner: W) -> StdSink<W>
-        ensures { result ≡ 0 }
+        ensures { result ≡ record { inner = inner; faults = 0 } }
     {
         StdSink { inner, faults: 0 }
     }
 }
 
 impl<W: Write> Sink for StdSink<W> {
-    ghost content = { λ _. None };
+    ghost content = { λ s. W.contents s.inner };
 
-    ghost faults = { λ count. count };
+    ghost faults = { λ s. s.faults };
 
     fn write(&mut self, piece: &[u8]) -> Result<usize, Failed> {
-        if let Ok(n) = self.inner.write(piece) {
-            if n > 0 && self.inner.flush().is_ok() {
-                return Ok(n);
-            }
+        let written = write_out(&mut self.inner, piece);
+        if written.is_err() {
+            self.faults = self.faults.saturating_add(1);
         }
-        self.faults = self.faults.saturating_add(1);
-        Err(Failed)
+        written
+    }
+}
+
+// Writes once, and flushes where some byte was taken.
+#[tactic(auto, using(crate::proofs::Adapters::flushed_grows, crate::proofs::Adapters::unflushed_front, crate::proofs::Adapters::written_front, crate::proofs::Adapters::kept_front))]
+fn write_out<W: Write>(inner: &mut W, piece: &[u8]) -> Result<usize, Failed>
+    ensures length { IfOk result (λ n. n ≤ length piece.now) }
+    ensures progress { IfOk result (λ n. 1 ≤ n) }
+    ensures taken { IfOk result (λ n. Grows (take n piece.now) (W.contents inner.old) (W.contents inner.new)) }
+    ensures err { OnErr result (GrowsByFront piece.now (W.contents inner.old) (W.contents inner.new)) }
+{
+    let Ok(n) = inner.write(piece) else {
+        return Err(Failed);
+    };
+    if n == 0 {
+        return Err(Failed);
+    }
+    match inner.flush() {
+        Ok(()) => Ok(n),
+        Err(_) => Err(Failed),
     }
 }

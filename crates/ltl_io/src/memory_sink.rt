@@ -1,7 +1,7 @@
 // A sink over memory, whose writes can be short, run out of room, and be made to fail.
 ghost use Rattle.std.specs.Prelude.{◌≡◌, ◌<◌, ◌≤◌, ◌↔◌, Some, [], take, length, vec_capacity, IfOk, OnOk, OnErr, IsErr, IsTrue};
 ghost use Rattle.ltl_io.specs.Count.{next_count, Rose, Counts};
-ghost use Rattle.ltl_io.specs.Outside.{Grows, Stays};
+ghost use Rattle.ltl_io.specs.Outside.{Grows, GrowsByFront};
 ghost use Rattle.ltl_io.specs.Memory.{MemoryOutput, refuses_write, amount_taken};
 
 use crate::{Failed, Sink};
@@ -63,19 +63,21 @@ impl Sink for MemorySink {
 
     ghost faults = { λ s. s.faults };
 
+    #[tactic(auto, using(crate::proofs::Growth::stayed_front))]
     fn write(&mut self, piece: &[u8]) -> Result<usize, Failed>
         requires { 0 < length piece.now }
         // As every sink.
         ensures length { IfOk result (λ n. n ≤ length piece.now) }
         ensures progress { IfOk result (λ n. 1 ≤ n) }
         ensures taken { IfOk result (λ n. Grows (take n piece.now) (Some self.old.content) (Some self.new.content)) }
-        ensures err { OnErr result (Stays (Some self.old.content) (Some self.new.content)) }
+        ensures err { OnErr result (GrowsByFront piece.now (Some self.old.content) (Some self.new.content)) }
         ensures cause { OnErr result (Rose self.old.faults self.new.faults) }
         ensures count { OnOk result (self.new.faults ≡ self.old.faults) }
         ensures counts { Counts self.old.faults self.new.faults }
 
-        // Which calls fail, and how much the others take.
+        // Which calls fail, and how much the others take. A call that fails takes nothing.
         ensures refused { IsErr result ↔ IsTrue (refuses_write self.old) }
+        ensures stays { OnErr result (self.new.content ≡ self.old.content) }
         ensures amount { IfOk result (λ n. n ≡ amount_taken self.old (length piece.now)) }
         ensures fault { OnErr result (self.new.faults ≡ next_count self.old.faults) }
         ensures number { self.new.calls ≡ next_count self.old.calls }

@@ -1,7 +1,7 @@
 // Where bytes go.
 ghost use Rattle.std.specs.Prelude.{◌≡◌, ◌<◌, ◌≤◌, Option, List, ℕ, [], length, take, IfOk, OnOk, OnErr, IsOk};
 ghost use Rattle.ltl_io.specs.Count.{Rose, Counts};
-ghost use Rattle.ltl_io.specs.Outside.{Stays, Grows, GrowsByFront};
+ghost use Rattle.ltl_io.specs.Outside.{Grows, GrowsByFront};
 
 use crate::Failed;
 
@@ -17,13 +17,14 @@ pub trait Sink {
     /// How often it has failed.
     ghost faults: { Self → ℕ };
 
-    /// Takes bytes from the front of `piece`, at least one, and answers how many.
+    /// Takes bytes from the front of `piece`, at least one, and answers how many. A call that
+    /// fails may have taken some too, as where what was written is not flushed.
     fn write(&mut self, piece: &[u8]) -> Result<usize, Failed>
         requires { 0 < length piece.now }
         ensures length { IfOk result (λ n. n ≤ length piece.now) }
         ensures progress { IfOk result (λ n. 1 ≤ n) }
         ensures taken { IfOk result (λ n. Grows (take n piece.now) (content self.old) (content self.new)) }
-        ensures err { OnErr result (Stays (content self.old) (content self.new)) }
+        ensures err { OnErr result (GrowsByFront piece.now (content self.old) (content self.new)) }
         ensures cause { OnErr result (Rose (faults self.old) (faults self.new)) }
         ensures count { OnOk result (faults self.new ≡ faults self.old) }
         ensures counts { Counts (faults self.old) (faults self.new) };

@@ -73,6 +73,16 @@ fn reads_to_the_end_or_past_the_stop(rt: HostRuntime) -> Result<(), Fail> {
             _ => panic!(rt; "of {text}"),
         }
     }
+    // No read is made behind the one that met the end: the call that fails is still to come.
+    let mut ended = MemorySource::new(b"ab".to_vec(rt.alloc())?, 64, [3].to_vec(rt.alloc())?);
+    assert_eq!(rt;
+        read_whole(rt.alloc(), &mut ended, 9)?.as_slice(),
+        b"ab".as_slice()
+    );
+    assert_eq!(rt;
+        read_whole(rt.alloc(), &mut ended, 9),
+        Err(ReadRefused::Fault)
+    );
     let mut halves = MemorySource::new(b"abcdef".to_vec(rt.alloc())?, 2, Vec::new(rt.alloc()));
     for wanted in ["abcd", "ef", ""] {
         let bytes = read_whole(rt.alloc(), &mut halves, 3)?;
