@@ -25,6 +25,13 @@ fn push(rt: &impl Abort, table: &mut FormulaTable, node: Node) -> u32 {
     table.push(node).expect(rt, "a place")
 }
 
+/// Pushes the letter of this number, which gets a name of its own.
+fn push_letter(rt: &impl Abort, alloc: Global, table: &mut FormulaTable, number: u32) -> u32 {
+    let text = format!(in alloc; "p{number}").expect(rt, "memory");
+    let letter = name(rt, table, &text);
+    push(rt, table, Node::Letter(letter))
+}
+
 /// A formula, the last node of the list, and what its closure is.
 struct Row<'a> {
     nodes: &'a [Node],
@@ -337,6 +344,21 @@ fn equivalences_share_what_both_sides_have(rt: HostRuntime) {
             eventualities: &[],
         },
     );
+}
+
+// 40 equivalences, each the right operand of the one before. Each of the 41 letters stands there and negated; each equivalence has
+// three entries and its negation three more, but for the first, whose negation is not there. Were a node walked once for each of
+// its occurrences in the normal form, this would take 2 ^ 40 steps.
+#[test]
+fn equivalences_are_walked_once(rt: HostRuntime) {
+    let mut table = FormulaTable::new(rt.alloc());
+    let mut root = push_letter(&rt, rt.alloc(), &mut table, 0);
+    for number in 1..41 {
+        let letter = push_letter(&rt, rt.alloc(), &mut table, number);
+        root = push(&rt, &mut table, Node::Binary(BinaryOp::Iff, letter, root));
+    }
+    let closure = closure_of(&rt, rt.alloc(), &table, root, Kind::Infinite);
+    assert!(rt; closure.entries().len() == 41 * 2 + 39 * 6 + 3);
 }
 
 #[test]
