@@ -1,9 +1,9 @@
 // Which literal is decided next: of the letters without a value one that stood in many recent conflicts, with the
 // value that it had last. Activities are whole numbers; those that wait are kept as a binary heap. After Een and Sorensson,
 // MiniSat (2003). Which one comes first is not promised: who asks for a letter tests whether it has a value.
-ghost use Rattle.std.specs.Prelude.{◌≡◌, ◌≢◌, ◌↔◌, ◌⊎◌, ℕ, ◌/◌, ◌<◌, [], length, MatchOption};
+ghost use Rattle.std.specs.Prelude.{◌≡◌, ◌≢◌, ◌↔◌, ◌⊎◌, ℕ, ◌^◌, ◌+◌, ◌/◌, ◌<◌, ◌≤◌, [], length, MatchOption, OnOk, OnErr};
 ghost use Rattle.cdcl_activity.specs.Order.{IsWaiting};
-ghost use Rattle.cdcl_activity.specs.Choices.{IsOffered};
+ghost use Rattle.cdcl_activity.specs.Choices.{IsOffered, IsNew};
 
 use crate::order::Order;
 use cnf_base::{Letter, Literal};
@@ -45,7 +45,13 @@ impl Choices {
     }
 
     /// Makes the next letter known, and lets it wait. There is no letter 0, and none behind the greatest number.
-    pub fn letter(&mut self) -> Result<(), AllocError> {
+    pub fn letter(&mut self) -> Result<(), AllocError>
+        ensures size { OnOk result (length self.old.order.places < 2 ^ 32 → length self.new.order.places ≡ length self.old.order.places + 1) }
+        ensures held { self.new.held ≡ self.old.held }
+        ensures waiting { OnOk result (length self.old.order.places < 2 ^ 32 → (x : ℕ) → IsWaiting self.new.order x ↔ (IsNew self.old x ⊎ IsWaiting self.old.order x)) }
+        ensures full { 2 ^ 32 ≤ length self.old.order.places → self.new ≡ self.old }
+        ensures refused { OnErr result (self.new ≡ self.old) }
+    {
         let letter = self.order.letters();
         if letter > 4294967295 {
             return Ok(());

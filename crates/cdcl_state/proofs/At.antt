@@ -53,6 +53,17 @@ faced_lists w v c l faced = elim faced.same [
   | inr turned ↦ turned.1
 ]
 
+-- the clause that is faced by its place in a list
+module _ (w v : WatchValue) (c : ℕ) (l : Literal) (i : ℕ) (c_is : c ≡ get_or (list_of w.lists l) i 0) (faced : IsFaced w v (get_or (list_of w.lists l) i 0) l) where
+  pub faced_at : IsFaced w v c l
+  faced_at = subst (λ n. IsFaced w v n l) (sym c_is) faced
+
+  pub faced_number : get_or (list_of v.lists l) i 0 ≡ c
+  faced_number = ap (λ ls. get_or (list_of ls l) i 0) (faced_lists w v (get_or (list_of w.lists l) i 0) l faced) ∙ sym c_is
+
+  pub faced_clause : clause_of v.clauses (get_or (list_of v.lists l) i 0) ≡ clause_of v.clauses c
+  faced_clause = ap (clause_of v.clauses) faced_number
+
 -- and so their lengths
 pub list_length_same : (t : List Entry) (k : ℕ) (w v : WatchValue) → v.lists ≡ w.lists → list_length t v k ≡ list_length t w k
 list_length_same t k w v is = ap (λ ls. length (list_of ls (false_at t k))) is

@@ -2,6 +2,7 @@ pub mod Values
 pub mod Trail
 pub mod Learnt
 pub mod Assigned
+pub mod Entries
 pub mod Marks
 pub mod Waiting
 pub mod Visit

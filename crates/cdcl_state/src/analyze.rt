@@ -15,6 +15,7 @@ ghost use Rattle.cdcl_state.specs.declared.analyze.Cut.TheVariants.{Decisions};
 use crate::assigned::{Assigned, Entry};
 use crate::marks::Marks;
 use crate::minimize::is_covered;
+use cdcl_activity::choices::Choices;
 use clause_log::{Log, LogView};
 use cnf_base::{Hint, Literal};
 use std::alloc::{AllocError, Global};
@@ -60,12 +61,13 @@ fn count(cut: Cut, reached: usize, open: &mut usize) {
     }
 }
 
-/// Marks the letter, and lets its place wait if it had no mark.
+/// Marks the letter, lets its place wait, and makes it more active, if it had no mark.
 fn mark_letter(
     assigned: &Assigned,
     cut: Cut,
-    letter: usize,
+    letter: u32,
     marks: &mut Marks,
+    choices: &mut Choices,
     open: &mut usize,
 ) -> Result<(), AllocError>
     requires known { letter < length assigned.now.values }
@@ -75,14 +77,15 @@ fn mark_letter(
     ensures marked { OnOk result (IsMarked marks.new letter) }
     ensures waiting { OnOk result ((end : ℕ) → AreWaiting assigned.now.trail end marks.old → AreWaiting assigned.now.trail end marks.new) }
 {
-    if marks.has(letter) {
+    if marks.has(letter as usize) {
         return Ok(());
     }
-    let place = assigned.place_of(letter);
+    let place = assigned.place_of(letter as usize);
     let level = assigned.level_at(place);
     count(cut, level, open);
     marks.join(level);
-    marks.mark(letter, place)?;
+    marks.mark(letter as usize, place)?;
+    choices.bump(letter);
     Ok(())
 }
 
@@ -92,6 +95,7 @@ fn mark(
     cut: Cut,
     clause: &[Literal],
     marks: &mut Marks,
+    choices: &mut Choices,
     open: &mut usize,
 ) -> Result<(), AllocError>
     requires known { All (IsBelow (length assigned.now.values)) clause.now }
@@ -102,7 +106,7 @@ fn mark(
     ensures waiting { OnOk result ((end : ℕ) → AreWaiting assigned.now.trail end marks.old → AreWaiting assigned.now.trail end marks.new) }
 {
     for literal in clause {
-        mark_letter(assigned, cut, literal.letter.0 as usize, marks, open)?;
+        mark_letter(assigned, cut, literal.letter.0, marks, choices, open)?;
     }
     Ok(())
 }
@@ -167,6 +171,7 @@ fn walk(
     cut: Cut,
     from: usize,
     marks: &mut Marks,
+    choices: &mut Choices,
     open: &mut usize,
     learnt: &mut Learnt,
 ) -> Result<(), AllocError>
@@ -191,7 +196,7 @@ fn walk(
             Some(hint) => {
                 if resolves(assigned, &view, cut, entry, hint, marks, open) {
                     cite(learnt, hint)?;
-                    mark(assigned, cut, clause_of(&view, hint), marks, open)?;
+                    mark(assigned, cut, clause_of(&view, hint), marks, choices, open)?;
                     continue 'down;
                 }
                 keep(learnt, entry.literal.opposite(), place)?;
@@ -213,6 +218,7 @@ pub fn explain(
     log: &Log,
     cut: Cut,
     marks: &mut Marks,
+    choices: &mut Choices,
     conflict: Hint,
 ) -> Result<Learnt, AllocError>
     requires is_trail { IsTrail log.now.inputs log.now.lines assigned.now.trail }
@@ -236,13 +242,21 @@ pub fn explain(
         places: Vec::new(alloc),
     };
     cite(&mut learnt, conflict)?;
-    mark(assigned, cut, clause_of(&view, conflict), marks, &mut open)?;
+    mark(
+        assigned,
+        cut,
+        clause_of(&view, conflict),
+        marks,
+        choices,
+        &mut open,
+    )?;
     walk(
         assigned,
         log,
         cut,
         assigned.len(),
         marks,
+        choices,
         &mut open,
         &mut learnt,
     )?;
@@ -256,6 +270,7 @@ pub fn explain_forced(
     assigned: &Assigned,
     log: &Log,
     marks: &mut Marks,
+    choices: &mut Choices,
     place: usize,
     hint: Hint,
 ) -> Result<Learnt, AllocError>
@@ -287,6 +302,7 @@ pub fn explain_forced(
         Cut::Decisions,
         clause_of(&view, hint),
         marks,
+        choices,
         &mut open,
     )?;
     walk(
@@ -295,6 +311,7 @@ pub fn explain_forced(
         Cut::Decisions,
         place,
         marks,
+        choices,
         &mut open,
         &mut learnt,
     )?;

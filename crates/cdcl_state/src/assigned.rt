@@ -4,6 +4,7 @@ ghost use Rattle.std.specs.Prelude.{◌≡◌, ◌≢◌, ℕ, ◌+◌, ◌-◌,
 ghost use Rattle.cdcl_state.specs.Trail.{IsUnset, literals_of, AreValues};
 ghost use Rattle.cdcl_state.specs.Learnt.{blank_entry, literal_at};
 
+use crate::entries::Entries;
 use crate::values::Values;
 use cnf_base::{Hint, Literal};
 use std::alloc::{AllocError, Global};
@@ -23,7 +24,7 @@ pub struct Entry {
 #[derive(Drop)]
 pub struct Assigned {
     values: Values,
-    trail: Vec<Entry>,
+    trail: Entries,
     /// The place of the trail at which a letter was assigned last.
     places: Vec<usize>,
 }
@@ -34,9 +35,9 @@ impl Model for Assigned {
 
     ghost Value = { AssignedValue };
 
-    ghost view = { λ a. record { values = a.values; trail = a.trail.items } };
+    ghost view = { λ a. record { values = a.values; trail = a.trail } };
 
-    ghost invariant = { λ a. AreValues a.values a.trail.items × ArePlaces a.places.items a.values a.trail.items };
+    ghost invariant = { λ a. AreValues a.values a.trail × ArePlaces a.places.items a.values a.trail };
 }
 
 impl Assigned {
@@ -66,7 +67,7 @@ impl Assigned {
         requires { place < length self.now.trail }
         ensures { result ≡ slice_index_or self.now.trail place result }
     {
-        self.trail[place]
+        self.trail.get(place)
     }
 
     /// Whether the literal is true.
@@ -101,7 +102,7 @@ impl Assigned {
         requires { 0 < length self.now.trail }
         ensures { result ≡ (slice_index_or self.now.trail (length self.now.trail - 1) blank_entry).level }
     {
-        self.trail[self.trail.len() - 1].level
+        self.trail.get(self.trail.len() - 1).level
     }
 
     /// Puts the entry on the trail.
@@ -128,10 +129,7 @@ impl Assigned {
 
     /// Why the letter has its value, if it stands on the trail and was forced; nothing is promised.
     pub fn reason_of(&self, letter: usize) -> Option<Hint> {
-        match self.trail.get(*self.places.get(letter)?) {
-            None => None,
-            Some(entry) => entry.reason,
-        }
+        self.trail.reason(*self.places.get(letter)?)
     }
 
     /// The level of the letter, if it stands on the trail; nothing is promised.
@@ -144,10 +142,7 @@ impl Assigned {
 
     /// The level of the entry at a place, if there is one; nothing is promised.
     pub fn level_at(&self, place: usize) -> usize {
-        match self.trail.get(place) {
-            Some(entry) => entry.level,
-            None => 0,
-        }
+        self.trail.level(place)
     }
 
     /// Takes the last entry off the trail.
@@ -156,12 +151,10 @@ impl Assigned {
         ensures trail { self.new.trail ≡ take (length self.old.trail - 1) self.old.trail }
         ensures letters { length self.new.values ≡ length self.old.values }
     {
-        match self.trail.pop() {
-            None => {}
-            Some(entry) => {
-                self.values.clear(entry.literal);
-            }
-        }
+        let count = self.trail.len() - 1;
+        let literal = self.trail.get(count).literal;
+        self.trail.truncate(count);
+        self.values.clear(literal);
     }
 
     /// How many entries stand before the first of those at the end that are above the level.
@@ -172,7 +165,7 @@ impl Assigned {
     {
         let mut count = self.trail.len();
         'down: while count > 0 {
-            if self.trail[count - 1].level <= level {
+            if self.trail.get(count - 1).level <= level {
                 return count;
             }
             count -= 1;
@@ -197,7 +190,7 @@ impl Assigned {
     {
         Assigned {
             values: Values::new(alloc),
-            trail: Vec::new(alloc),
+            trail: Entries::new(alloc),
             places: Vec::new(alloc),
         }
     }

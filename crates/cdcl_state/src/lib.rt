@@ -4,14 +4,16 @@
 pub mod analyze;
 pub mod assigned;
 pub mod decide;
+pub mod entries;
+pub mod hints;
 pub mod marks;
 pub mod minimize;
+pub mod names;
 pub mod propagate;
 pub mod repeats;
 pub mod state;
 pub mod store;
 pub mod units;
-pub mod unmark;
 pub mod values;
 pub mod visit;
 pub mod waiting;

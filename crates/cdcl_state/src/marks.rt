@@ -155,20 +155,6 @@ impl Marks {
     {
         self.waiting.pop(end)
     }
-
-    /// Takes the mark off the letter, and tells whether it had one.
-    pub fn unmark(&mut self, letter: usize) -> bool
-        ensures { length self.new.stamps ≡ length self.old.stamps }
-    {
-        if letter >= self.stamps.len() {
-            return false;
-        }
-        if self.stamps[letter] != self.stamp {
-            return false;
-        }
-        self.stamps[letter] = 0;
-        true
-    }
 }
 
 /// Sets all numbers to 0, so that analyses can be counted from the beginning.

@@ -6,12 +6,29 @@ ghost use Rattle.std.specs.Prelude.{◌≡◌};
 
 use crate::assigned::Assigned;
 use crate::marks::Marks;
-use crate::unmark::clause_at;
 use clause_log::LogView;
 use cnf_base::{Hint, Literal};
 
 /// How many reasons deep a letter may follow.
 const STEPS: u32 = 1000;
+
+/// The clause that the hint names, if there is one.
+fn clause_at<'a>(view: &LogView<'a>, hint: Hint) -> Option<&'a [Literal]> {
+    match hint {
+        Hint::Clause(number) => {
+            if number < 1 || view.inputs() < number {
+                return None;
+            }
+            Some(view.input(number))
+        }
+        Hint::Line(number) => {
+            if number < 1 || view.lines() < number {
+                return None;
+            }
+            Some(view.literals(number))
+        }
+    }
+}
 
 /// Whether each literal of the reason but that of the letter is marked, or follows from literals that are.
 pub fn is_covered(

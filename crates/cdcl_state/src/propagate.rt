@@ -8,7 +8,8 @@ ghost use Rattle.cdcl_state.specs.Sure.{IsSure};
 ghost use Rattle.cdcl_state.specs.Visit.{IsVisiting, IsGrown, IsReady, false_at};
 
 use crate::assigned::Assigned;
-use crate::visit::{Visited, visit};
+use crate::names::Names;
+use crate::visit::{Visited, skip, visit};
 use cdcl_watches::watches::Watches;
 use clause_log::Log;
 use cnf_base::Hint;
@@ -18,7 +19,7 @@ use std::alloc::AllocError;
 pub fn visit_list(
     assigned: &mut Assigned,
     watches: &mut Watches,
-    names: &[Hint],
+    names: &Names,
     log: &Log,
     place: usize,
 ) -> Result<Option<Hint>, AllocError>
@@ -32,14 +33,15 @@ pub fn visit_list(
 {
     assigned.told();
     let falsified = assigned.entry(place).literal.opposite();
-    let mut i = 0;
+    let mut i = skip(assigned, watches, falsified, 0);
     'along: while i < watches.watchers(falsified) {
         match visit(assigned, watches, names, log, place, i)? {
             Visited::Stays => {
-                i += 1;
+                i = skip(assigned, watches, falsified, i + 1);
                 continue 'along;
             }
             Visited::Moved => {
+                i = skip(assigned, watches, falsified, i);
                 continue 'along;
             }
             Visited::Conflict(hint) => return Ok(Some(hint)),
@@ -53,7 +55,7 @@ pub fn visit_list(
 fn extend(
     assigned: &Assigned,
     watches: &Watches,
-    names: &[Hint],
+    names: &Names,
     log: &Log,
     head: usize,
     sure: &mut usize,
@@ -78,7 +80,7 @@ fn extend(
 pub fn propagate(
     assigned: &mut Assigned,
     watches: &mut Watches,
-    names: &[Hint],
+    names: &Names,
     log: &Log,
     head: &mut usize,
     sure: &mut usize,

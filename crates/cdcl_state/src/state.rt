@@ -11,6 +11,7 @@ ghost use Rattle.cdcl_state.specs.Learnt.{IsDecided};
 use crate::assigned::{Assigned, Entry};
 use crate::decide::offer;
 use crate::marks::Marks;
+use crate::names::Names;
 use crate::propagate::propagate;
 use crate::state::backjump::settle;
 use crate::store::{distinct, is_ready, lead, rewind, store, take_back};
@@ -36,7 +37,7 @@ pub struct State {
     log: Log,
     // The clauses of at least two literals, and the hint that names each in the log.
     watches: Watches,
-    names: Vec<Hint>,
+    names: Names,
     /// The lists of what became false before this place of the trail were visited.
     head: usize,
     /// Of those, the ones that a way back need not visit again.
@@ -60,7 +61,7 @@ impl Model for State {
 
     ghost view = { λ a. record { letters = a.letters; trail = a.assigned.trail; log = a.log } };
 
-    ghost invariant = { λ a. IsState a.letters a.assigned a.watches a.names.items a.units.items a.log a.head a.sure a.done a.firm (length a.marks.stamps) };
+    ghost invariant = { λ a. IsState a.letters a.assigned a.watches a.names a.units.items a.log a.head a.sure a.done a.firm (length a.marks.stamps) };
 }
 
 impl State {
@@ -73,7 +74,7 @@ impl State {
             assigned: Assigned::new(alloc),
             log: Log::new(alloc),
             watches: Watches::new(alloc),
-            names: Vec::new(alloc),
+            names: Names::new(alloc),
             head: 0,
             sure: 0,
             units: Vec::new(alloc),

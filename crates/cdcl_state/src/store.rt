@@ -7,6 +7,7 @@ ghost use Rattle.cdcl_state.specs.Visit.{HaveSame, IsRewound};
 
 use crate::assigned::Assigned;
 use crate::marks::Marks;
+use crate::names::Names;
 use crate::repeats::repeats;
 use cdcl_watches::watches::Watches;
 use cnf_base::{Hint, Literal};
@@ -104,7 +105,7 @@ pub fn is_ready(assigned: &Assigned, marks: &mut Marks, clause: &[Literal]) -> b
 /// Puts the clause among the watched ones, under its name.
 pub fn store(
     watches: &mut Watches,
-    names: &mut Vec<Hint>,
+    names: &mut Names,
     clause: &[Literal],
     hint: Hint,
 ) -> Result<(), AllocError>
@@ -112,7 +113,7 @@ pub fn store(
     requires apart { AreApart clause.now }
     requires fits { All (λ l. code l < length watches.old.lists) clause.now }
     ensures watches { watches.new ≡ (if is_ok result then with_clause watches.old clause.now else watches.old) }
-    ensures names { names.new.items ≡ (if is_ok result then names.old.items ++ hint ∷ [] else names.old.items) }
+    ensures names { names.new ≡ (if is_ok result then names.old ++ hint ∷ [] else names.old) }
 {
     let count = names.len();
     names.push(hint)?;
@@ -128,10 +129,10 @@ pub fn store(
 }
 
 /// Takes back the clause that was stored last, where `count` were before it.
-pub fn take_back(watches: &mut Watches, names: &mut Vec<Hint>, count: usize)
+pub fn take_back(watches: &mut Watches, names: &mut Names, count: usize)
     requires { (before : WatchValue) × IsAdded before watches.old }
     ensures watches { (before : WatchValue) → IsAdded before watches.old → watches.new ≡ before }
-    ensures names { names.new.items ≡ take count names.old.items }
+    ensures names { names.new ≡ take count names.old }
 {
     watches.take_back();
     names.truncate(count);

@@ -1,17 +1,20 @@
 // A clause that watches a literal that became false: its blocker is true, or the other watched literal is, or another
 // literal is watched in its place, or the other is forced, or the clause is false. A blocker is a literal of the clause
-// that the list holds beside it: most clauses are true already, and a true blocker spares loading them. After Sorensson
+// that the list holds beside it: most clauses are true already, and a true blocker spares loading them. They are passed
+// in a loop of their own, which changes nothing. After Sorensson
 // and Een, MiniSat 2.1 (2008).
 ghost use Rattle.std.specs.Prelude.{◌≡◌, ◌≢◌, ℕ, ◌+◌, ◌-◌, ◌*◌, ◌<◌, ◌≤◌, List, [], ◌∷◌, ◌++◌, ◌⊎◌, All, Contains, length, Option, Some, None, MatchOption, IfOk, IsTrue, slice_index_or, slice_set};
 ghost use Rattle.std.specs.List.{swap};
 ghost use Rattle.cnf_base.specs.Literal.{opposite};
 ghost use Rattle.cdcl_state.specs.Trail.{literals_of, IsConflict};
 ghost use Rattle.cdcl_state.specs.Learnt.{blank_entry};
-ghost use Rattle.cdcl_watches.specs.Watching.{code, clause_of, list_of, IsWatch};
+ghost use Rattle.cdcl_watches.specs.Watching.{code, clause_of, list_of};
 ghost use Rattle.cdcl_state.specs.Sure.{IsSure};
 ghost use Rattle.cdcl_state.specs.Visit.{HasTrue, IsVisiting, IsVisited, IsGrown, IsFaced, IsReplacement, AreFalseFrom, false_at, list_length, watcher_at};
 
 use crate::assigned::{Assigned, Entry};
+use crate::names::Names;
+use cdcl_watches::clause::Clause;
 use cdcl_watches::watches::{Watches, number};
 use clause_log::Log;
 use cnf_base::{Hint, Literal};
@@ -29,29 +32,29 @@ pub enum Visited {
 }
 
 /// The place of a literal behind the first two that is not false.
-pub fn find(assigned: &Assigned, clause: &[Literal]) -> Option<usize>
+pub fn find(assigned: &Assigned, clause: &Clause<'_>) -> Option<usize>
     requires { All (λ l. l.letter.0 < length assigned.now.values) clause.now }
     ensures { MatchOption result (AreFalseFrom assigned.now.trail clause.now 2 (length clause.now)) (IsReplacement assigned.now.trail clause.now) }
 {
     for j in 2..clause.len() {
-        if !assigned.holds(clause[j].opposite()) {
+        if !assigned.holds(clause.get(j).opposite()) {
             return Some(j);
         }
     }
     None
 }
 
-/// Makes the literal, one of the first two, the second.
-pub fn face(watches: &mut Watches, clause: usize, literal: Literal)
-    requires known { clause < length watches.old.clauses }
-    requires watch { IsWatch (clause_of watches.old.clauses clause) literal }
-    ensures { IsFaced watches.old watches.new clause literal }
+/// Makes the literal the second of the clause at a place of its list.
+pub fn face(watches: &mut Watches, literal: Literal, place: usize)
+    requires known { code literal < length watches.old.lists }
+    requires place { place < length (list_of watches.old.lists literal) }
+    ensures { IsFaced watches.old watches.new (slice_index_or (list_of watches.old.lists literal) place 0) literal }
 {
     watches.watching();
-    if number(watches.clause(clause)[1]) == number(literal) {
+    if number(watches.clause(literal, place).get(1)) == number(literal) {
         return;
     }
-    watches.turn(clause);
+    watches.turn(literal, place);
 }
 
 /// Whether the blocker at a place of the literal's list is true.
@@ -65,11 +68,28 @@ fn blocker_holds(assigned: &Assigned, watches: &Watches, literal: Literal, place
     assigned.holds(watches.blocker(literal, place))
 }
 
+/// The first place from this one on of the literal's list whose blocker is not true, or the end of the list.
+pub fn skip(assigned: &Assigned, watches: &Watches, literal: Literal, from: usize) -> usize
+    requires known { code literal < length watches.now.lists }
+    requires sized { length watches.now.lists ≡ 2 * length assigned.now.values }
+    ensures on { from ≤ result }
+    ensures passed { (j : ℕ) → from ≤ j → j < result → HasTrue (literals_of assigned.now.trail) (watcher_at watches.now literal j) }
+{
+    let mut i = from;
+    'along: while i < watches.watchers(literal) {
+        if !blocker_holds(assigned, watches, literal, i) {
+            return i;
+        }
+        i += 1;
+    }
+    i
+}
+
 /// Visits the clause at a place of the list of the literal that became false.
 pub fn visit(
     assigned: &mut Assigned,
     watches: &mut Watches,
-    names: &[Hint],
+    names: &Names,
     log: &Log,
     place: usize,
     i: usize,
@@ -84,26 +104,23 @@ pub fn visit(
 {
     watches.watching();
     let falsified = assigned.entry(place).literal.opposite();
-    if blocker_holds(assigned, watches, falsified, i) {
-        return Ok(Visited::Stays);
-    }
     let clause = watches.watcher(falsified, i);
-    face(watches, clause, falsified);
+    face(watches, falsified, i);
     watches.watching();
-    let other = watches.clause(clause)[0];
+    let other = watches.clause(falsified, i).get(0);
     if assigned.holds(other) {
         watches.refresh(falsified, i, 0);
         return Ok(Visited::Stays);
     }
-    match find(assigned, watches.clause(clause)) {
+    match find(assigned, &watches.clause(falsified, i)) {
         Some(j) => {
-            let replacement = watches.clause(clause)[j];
-            watches.rewatch(clause, falsified, i, replacement, j)?;
+            let replacement = watches.clause(falsified, i).get(j);
+            watches.rewatch(falsified, i, replacement, j)?;
             return Ok(Visited::Moved);
         }
         None => {}
     }
-    let hint = names[clause];
+    let hint = names.get(clause);
     if assigned.holds(other.opposite()) {
         return Ok(Visited::Conflict(hint));
     }

@@ -6,55 +6,76 @@ use Rattle.std.proofs.lemmas.List.Elements.{All-push, All-take, All-nil, Contain
 use Rattle.cnf_base.specs.declared.literal.Literal.{Literal}
 use Rattle.cdcl_watches.specs.declared.watch_lists.Watcher.{Watcher}
 use Rattle.cdcl_watches.specs.Watching.{code, list_of, clause_of, IsWatching, IsWidened, WatchValue, blank}
-use Rattle.cdcl_watches.specs.Watchers.{nobody, numbers, IsBlocking, AreBlockers, AreWatchers}
+use Rattle.cdcl_watches.specs.Watchers.{nobody, clause_number, numbers, blocker_of, IsBlocking, AreBlockers, AreWatchers}
+use Rattle.cdcl_watches.specs.Heads.{number_of}
 use Rattle.cdcl_watches.proofs.Moves.{turn_watching}
 use Rattle.cdcl_watches.proofs.Added.{letter_watching, take_back_is}
-use Rattle.cdcl_watches.proofs.Numbers.{clause_read, length_numbers, numbers_refreshed, numbers_two, numbers_shrink}
-use Rattle.cdcl_watches.proofs.Blockers.{blockers_set, blockers_swapped}
+use Rattle.cdcl_watches.proofs.Numbers.{clause_read, length_at, length_numbers, numbers_refreshed, numbers_two, numbers_shrink}
+use Rattle.cdcl_watches.proofs.Blockers.{blockers_set, blockers_swapped, blocking_list}
 
 -- the first two literals of a clause change places
-pub turned_watchers : (clauses : List (List Literal)) (lists : List (List Watcher)) (c : ℕ) → c < length clauses → 2 ≤ length (clause_of clauses c) → AreWatchers clauses lists → AreWatchers (set clauses c (swap (clause_of clauses c) 0 1)) lists
-turned_watchers clauses lists c known long are = record {
-  watching = turn_watching clauses (numbers lists) c are.watching known blank long;
-  blockers = blockers_swapped clauses lists c 0 1 known (omega arith) (omega arith) are.blockers;
+pub turned_watchers : (heads : List ℕ) (clauses : List (List Literal)) (lists : List (List Watcher)) (c : ℕ) → c < length clauses → 2 ≤ length (clause_of clauses c) → AreWatchers heads clauses lists → AreWatchers heads (set clauses c (swap (clause_of clauses c) 0 1)) lists
+turned_watchers heads clauses lists c known long are = record {
+  none = are.none;
+  watching = turn_watching clauses (numbers heads lists) c are.watching known blank long;
+  blockers = blockers_swapped heads clauses lists c 0 1 known (omega arith) (omega arith) are.blockers;
 }
 
 -- what is read at a place of a literal's list is a clause
-pub known_read : (clauses : List (List Literal)) (lists : List (List Watcher)) (l : Literal) (i k : ℕ) (w : Watcher) → k ≡ code l → w ≡ get_or (get_or lists k []) i nobody
-    → AreWatchers clauses lists → i < length (list_of (numbers lists) l) → w.clause < length clauses
-known_read clauses lists l i k w k_is w_is are low =
-    (are.watching.only w.clause l (subst (Contains (list_of (numbers lists) l)) (sym (clause_read lists l i k w k_is w_is)) (Contains-get_or (list_of (numbers lists) l) i 0 low))).0
+pub known_read : (heads : List ℕ) (clauses : List (List Literal)) (lists : List (List Watcher)) (l : Literal) (i k : ℕ) (w : Watcher) → k ≡ code l → w ≡ get_or (get_or lists k []) i nobody
+    → AreWatchers heads clauses lists → i < length (list_of (numbers heads lists) l) → clause_number heads w < length clauses
+known_read heads clauses lists l i k w k_is w_is are low =
+    (are.watching.only (clause_number heads w) l (subst (Contains (list_of (numbers heads lists) l)) (sym (clause_read heads are.none lists l i k w k_is w_is)) (Contains-get_or (list_of (numbers heads lists) l) i 0 low))).0
 
 -- a watcher of the same clause is put at a place
-pub refreshed_watchers : (clauses : List (List Literal)) (lists : List (List Watcher)) (k i : ℕ) (w : Watcher) → w.clause ≡ (get_or (get_or lists k []) i nobody).clause → IsBlocking clauses w
-    → AreWatchers clauses lists → AreWatchers clauses (set lists k (set (get_or lists k []) i w))
-refreshed_watchers clauses lists k i w same is are = record {
-  watching = subst (IsWatching clauses) (sym (numbers_refreshed lists k i w same)) are.watching;
-  blockers = blockers_set clauses lists k are.blockers i w is;
+pub refreshed_watchers : (heads : List ℕ) (clauses : List (List Literal)) (lists : List (List Watcher)) (k i : ℕ) (w : Watcher) → clause_number heads w ≡ clause_number heads (get_or (get_or lists k []) i nobody) → IsBlocking heads clauses w
+    → AreWatchers heads clauses lists → AreWatchers heads clauses (set lists k (set (get_or lists k []) i w))
+refreshed_watchers heads clauses lists k i w same is are = record {
+  none = are.none;
+  watching = subst (IsWatching clauses) (sym (numbers_refreshed heads are.none lists k i w same)) are.watching;
+  blockers = blockers_set heads clauses lists k are.blockers i w is;
 }
 
 -- two lists more
-pub letter_watchers : (clauses : List (List Literal)) (lists : List (List Watcher)) → AreWatchers clauses lists → AreWatchers clauses ((lists ++ [] ∷ []) ++ [] ∷ [])
-letter_watchers clauses lists are = record {
-  watching = subst (IsWatching clauses) (sym (numbers_two lists)) (letter_watching clauses (numbers lists) are.watching);
-  blockers = All-push (All (IsBlocking clauses)) (lists ++ [] ∷ []) [] (All-push (All (IsBlocking clauses)) lists [] are.blockers (All-nil (IsBlocking clauses))) (All-nil (IsBlocking clauses));
+pub letter_watchers : (heads : List ℕ) (clauses : List (List Literal)) (lists : List (List Watcher)) → AreWatchers heads clauses lists → AreWatchers heads clauses ((lists ++ [] ∷ []) ++ [] ∷ [])
+letter_watchers heads clauses lists are = record {
+  none = are.none;
+  watching = subst (IsWatching clauses) (sym (numbers_two heads are.none lists)) (letter_watching clauses (numbers heads lists) are.watching);
+  blockers = All-push (All (IsBlocking heads clauses)) (lists ++ [] ∷ []) [] (All-push (All (IsBlocking heads clauses)) lists [] are.blockers (All-nil (IsBlocking heads clauses))) (All-nil (IsBlocking heads clauses));
 }
 
 -- two lists fewer
-module _ (w : WatchValue) (clauses : List (List Literal)) (lists mid new : List (List Watcher)) (widened : IsWidened w (record { clauses = clauses; lists = numbers lists })) (first : mid ≡ take (length lists - 1) lists) where
-  pub mid_numbers : numbers mid ≡ w.lists ++ [] ∷ []
-  mid_numbers = take_back_is (w.lists ++ [] ∷ []) (numbers lists) (numbers mid) [] (numbers_shrink lists mid first) (ap (λ (v : WatchValue). v.lists) widened.is ∙ sym (append_assoc w.lists ([] ∷ []) ([] ∷ [])))
+module _ (w : WatchValue) (heads : List ℕ) (none : clause_number heads nobody ≡ 0) (clauses : List (List Literal)) (lists mid new : List (List Watcher)) (widened : IsWidened w (record { clauses = clauses; lists = numbers heads lists })) (first : mid ≡ take (length lists - 1) lists) where
+  pub mid_numbers : numbers heads mid ≡ w.lists ++ [] ∷ []
+  mid_numbers = take_back_is (w.lists ++ [] ∷ []) (numbers heads lists) (numbers heads mid) [] (numbers_shrink heads none lists mid first) (ap (λ (v : WatchValue). v.lists) widened.is ∙ sym (append_assoc w.lists ([] ∷ []) ([] ∷ [])))
 
   pub mid_some : 0 < length mid
-  mid_some = omega (arith, length_numbers mid, ap length mid_numbers, length_push w.lists [])
+  mid_some = omega (arith, length_numbers heads none mid, ap length mid_numbers, length_push w.lists [])
 
   module _ (second : new ≡ take (length mid - 1) mid) where
-    pub narrowed_is : (let v : WatchValue = record { clauses = clauses; lists = numbers new } in v) ≡ w
+    pub narrowed_is : (let v : WatchValue = record { clauses = clauses; lists = numbers heads new } in v) ≡ w
     narrowed_is = ap₂ (λ cs ls. let v : WatchValue = record { clauses = cs; lists = ls } in v) (ap (λ (v : WatchValue). v.clauses) widened.is)
-        (take_back_is w.lists (numbers mid) (numbers new) [] (numbers_shrink mid new second) mid_numbers)
+        (take_back_is w.lists (numbers heads mid) (numbers heads new) [] (numbers_shrink heads none mid new second) mid_numbers)
 
-    pub narrowed_watchers : AreWatchers clauses lists → AreWatchers clauses new
+    pub narrowed_watchers : AreWatchers heads clauses lists → AreWatchers heads clauses new
     narrowed_watchers are = record {
+      none = none;
       watching = subst (λ (v : WatchValue). IsWatching v.clauses v.lists) (sym narrowed_is) widened.watching;
-      blockers = subst (AreBlockers clauses) (sym second) (All-take (All (IsBlocking clauses)) (length mid - 1) mid (subst (AreBlockers clauses) (sym first) (All-take (All (IsBlocking clauses)) (length lists - 1) lists are.blockers)));
+      blockers = subst (AreBlockers heads clauses) (sym second) (All-take (All (IsBlocking heads clauses)) (length mid - 1) mid (subst (AreBlockers heads clauses) (sym first) (All-take (All (IsBlocking heads clauses)) (length lists - 1) lists are.blockers)));
     }
+
+-- what is read at a place of a literal's list has the head of a clause
+pub standing_read : (heads : List ℕ) (clauses : List (List Literal)) (lists : List (List Watcher)) (l : Literal) (i k : ℕ) (w : Watcher) → k ≡ code l → w ≡ get_or (get_or lists k []) i nobody
+    → AreWatchers heads clauses lists → i < length (list_of (numbers heads lists) l) → Contains heads w.head
+standing_read heads clauses lists l i k w k_is w_is are low =
+    subst (λ (v : Watcher). Contains heads v.head) (sym (w_is ∙ ap (λ n. get_or (get_or lists n []) i nobody) k_is))
+    (blocking_list heads clauses lists (code l) are.blockers i nobody (omega (arith, low, length_at heads are.none lists (code l)))).stands
+
+-- a watcher with a literal of its clause
+pub blocking_from : (heads : List ℕ) (clauses : List (List Literal)) (row : List Literal) (head k : ℕ) (l : Literal) (w : Watcher) → w.head ≡ head → blocker_of w ≡ l → l ≡ get_or row k blank
+    → row ≡ clause_of clauses (number_of heads head) → k < length row → Contains heads head → IsBlocking heads clauses w
+blocking_from heads clauses row head k l w head_is blocker_is l_is row_is low there = record {
+  stands = subst (Contains heads) (sym head_is) there;
+  blocks = subst (λ h. Contains (clause_of clauses (number_of heads h)) (blocker_of w)) (sym head_is)
+      (subst (λ r. Contains r (blocker_of w)) row_is (subst (Contains row) (sym (blocker_is ∙ l_is)) (Contains-get_or row k blank low)));
+}

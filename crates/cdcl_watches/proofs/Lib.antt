@@ -1,3 +1,6 @@
+pub mod Codes
+pub mod Buffer
+pub mod HeadNumbers
 pub mod Removed
 pub mod Moves
 pub mod ListEdits

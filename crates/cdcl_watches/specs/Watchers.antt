@@ -1,38 +1,37 @@
--- Watchers: the number of a clause, and a literal of it.
-use Rattle.std.specs.Prelude.{ℕ, ◌/◌, ◌%◌, nat_eq, List, map, All, Contains}
+-- Watchers: where a clause stands, and a literal of it.
+use Rattle.std.specs.Prelude.{◌≡◌, ℕ, List, map, All, Contains}
 use Rattle.cnf_base.specs.declared.literal.Literal.{Literal}
 use Rattle.cdcl_watches.specs.declared.watch_lists.Watcher.{Watcher}
-use Rattle.cdcl_watches.specs.Watching.{clause_of, IsWatching}
+use Rattle.cdcl_watches.specs.Watching.{literal_of, clause_of, IsWatching}
+use Rattle.cdcl_watches.specs.Heads.{number_of}
 
 -- what a read past the end would give
 abbrev pub nobody : Watcher
-nobody = record { clause = 0; blocker = record { 0 = 0 } }
-
--- the literal of a number: its letter is half of it, and it is negated where the number is odd
-abbrev pub literal_of : ℕ → Literal
-literal_of n = record { letter = record { 0 = n / 2 }; negated = nat_eq (n % 2) 1 }
+nobody = record { head = 0; blocker = record { 0 = 0 } }
 
 -- the literal that a watcher carries
 abbrev pub blocker_of : Watcher → Literal
 blocker_of w = literal_of w.blocker.0
 
 -- the number of a watcher's clause
-abbrev pub clause_number : Watcher → ℕ
-clause_number w = w.clause
+abbrev pub clause_number : List ℕ → Watcher → ℕ
+clause_number heads w = number_of heads w.head
 
 -- lists of watchers, as lists of the numbers of their clauses
-abbrev pub numbers : List (List Watcher) → List (List ℕ)
-numbers lists = map (λ ws. map clause_number ws) lists
+abbrev pub numbers : List ℕ → List (List Watcher) → List (List ℕ)
+numbers heads lists = map (λ ws. map (clause_number heads) ws) lists
 
--- the watcher's blocker is a literal of its clause
-abbrev pub IsBlocking : List (List Literal) → Watcher → Type 0
-IsBlocking clauses w = Contains (clause_of clauses w.clause) (blocker_of w)
+-- the watcher has the head of a clause, and its blocker is a literal of that clause
+pub record IsBlocking (heads : List ℕ) (clauses : List (List Literal)) (w : Watcher) : Type 0 where
+  pub stands : Contains heads w.head
+  pub blocks : Contains (clause_of clauses (clause_number heads w)) (blocker_of w)
 
 -- each watcher's is
-abbrev pub AreBlockers : List (List Literal) → List (List Watcher) → Type 0
-AreBlockers clauses lists = All (λ ws. All (IsBlocking clauses) ws) lists
+abbrev pub AreBlockers : List ℕ → List (List Literal) → List (List Watcher) → Type 0
+AreBlockers heads clauses lists = All (λ ws. All (IsBlocking heads clauses) ws) lists
 
 -- the clauses are watched by the lists, and each blocker is a literal of its clause
-pub record AreWatchers (clauses : List (List Literal)) (lists : List (List Watcher)) : Type 0 where
-  pub watching : IsWatching clauses (numbers lists)
-  pub blockers : AreBlockers clauses lists
+pub record AreWatchers (heads : List ℕ) (clauses : List (List Literal)) (lists : List (List Watcher)) : Type 0 where
+  pub none : clause_number heads nobody ≡ 0
+  pub watching : IsWatching clauses (numbers heads lists)
+  pub blockers : AreBlockers heads clauses lists

@@ -1,10 +1,14 @@
 -- Clauses and the lists of those that watch a literal.
-use Rattle.std.specs.Prelude.{◌≡◌, ◌≢◌, ℕ, ◌+◌, ◌*◌, ◌<◌, ◌≤◌, ◌⊎◌, false, List, [], ◌∷◌, ◌++◌, length, All, AllPairs, Contains, slice_index_or, slice_set, if◌then◌else◌}
+use Rattle.std.specs.Prelude.{◌≡◌, ◌≢◌, ℕ, ◌+◌, ◌*◌, ◌/◌, ◌%◌, nat_eq, ◌<◌, ◌≤◌, ◌⊎◌, false, List, [], ◌∷◌, ◌++◌, length, All, AllPairs, Contains, slice_index_or, slice_set, if◌then◌else◌}
 use Rattle.cnf_base.specs.declared.literal.Literal.{Literal}
 
 -- the number of a literal
 abbrev pub code : Literal → ℕ
 code l = 2 * l.letter.0 + (if l.negated then 1 else 0)
+
+-- the literal of a number: its letter is half of it, and it is negated where the number is odd
+abbrev pub literal_of : ℕ → Literal
+literal_of n = record { letter = record { 0 = n / 2 }; negated = nat_eq (n % 2) 1 }
 
 -- the list of a literal
 abbrev pub list_of : List (List ℕ) → Literal → List ℕ

@@ -1,8 +1,7 @@
 // Literals by their numbers: twice the letter, and one more where it is negated. A number takes half the memory of a
 // literal, and lists of watchers are mostly memory that is read. After Een and Sorensson, An extensible SAT-solver (2003).
 ghost use Rattle.std.specs.Prelude.{◌≡◌, ◌<◌, ◌^◌};
-ghost use Rattle.cdcl_watches.specs.Watching.{code};
-ghost use Rattle.cdcl_watches.specs.Watchers.{literal_of};
+ghost use Rattle.cdcl_watches.specs.Watching.{code, literal_of};
 
 use cnf_base::{Letter, Literal};
 

@@ -3,6 +3,7 @@
 #![tactic(auto)]
 
 pub mod arena;
+pub mod clause;
 pub mod coded;
 pub mod watch_lists;
 pub mod watches;

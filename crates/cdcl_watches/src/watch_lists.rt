@@ -1,6 +1,6 @@
-// For each literal the list of the clauses that watch it. A watcher carries, beside the number of its clause, a literal of
-// it: where that literal is true the clause need not be looked at, which saves most reads of clauses. After Sorensson and
-// Een, MiniSat 2.1 (2008).
+// For each literal the list of the clauses that watch it. A watcher carries, beside the place of its clause, a literal
+// of it: where that literal is true the clause need not be looked at, which saves most reads of clauses. After
+// Sorensson and Een, MiniSat 2.1 (2008).
 ghost use Rattle.std.specs.Prelude.{◌≡◌, ℕ, ◌+◌, ◌-◌, ◌<◌, ◌≤◌, ◌^◌, List, [], ◌∷◌, ◌++◌, length, take, if◌then◌else◌, is_ok, slice_index_or, slice_set};
 ghost use Rattle.std.specs.List.{swap_remove};
 ghost use Rattle.cdcl_watches.specs.Watching.{code};
@@ -14,22 +14,21 @@ use std::marker::Model;
 /// As many lists as there are numbers of 32 bits.
 const MAX_LISTS: usize = 4294967296;
 
-/// The number of a clause that watches a literal, and some literal of that clause.
+/// The head of a clause that watches a literal, and some literal of that clause.
 #[derive(Clone, Copy, Drop)]
 pub struct Watcher {
-    pub clause: u32,
+    pub head: u32,
     pub blocker: Code,
 }
 
-/// The clause with this literal of it.
-pub fn watch(clause: usize, blocker: Literal) -> Watcher
-    requires clause { clause < 2 ^ 32 }
-    requires blocker { code blocker < 2 ^ 32 }
-    ensures clause { result.clause ≡ clause }
+/// The clause of this head with this literal of it.
+pub fn watch(head: u32, blocker: Literal) -> Watcher
+    requires { code blocker < 2 ^ 32 }
+    ensures head { result.head ≡ head }
     ensures blocker { blocker_of result ≡ blocker }
 {
     Watcher {
-        clause: clause as u32,
+        head,
         blocker: encode(blocker),
     }
 }

@@ -6,8 +6,9 @@ ghost use Rattle.std.specs.List.{swap, swap_remove};
 ghost use Rattle.cdcl_watches.specs.Watching.{code, list_of, clause_of, IsWatching, AreApart, IsAdded, IsWidened, WatchValue, with_clause, with_lists};
 
 use crate::arena::Arena;
-use crate::coded::{decode, encode};
-use crate::watch_lists::{WatchLists, Watcher, watch};
+use crate::clause::Clause;
+use crate::coded::decode;
+use crate::watch_lists::{WatchLists, watch};
 use cnf_base::Literal;
 use std::alloc::{AllocError, Global};
 use std::marker::Model;
@@ -25,9 +26,9 @@ impl Model for Watches {
 
     ghost Value = { WatchValue };
 
-    ghost view = { λ a. record { clauses = a.arena; lists = numbers a.lists } };
+    ghost view = { λ a. record { clauses = a.arena.clauses; lists = numbers a.arena.heads a.lists } };
 
-    ghost invariant = { λ a. AreWatchers a.arena a.lists };
+    ghost invariant = { λ a. AreWatchers a.arena.heads a.arena.clauses a.lists };
 }
 
 /// The number of a literal.
@@ -45,14 +46,6 @@ impl Watches {
         let _ = &self.arena;
     }
 
-    /// The clause of this index.
-    pub fn clause(&self, index: usize) -> &[Literal]
-        requires { index < length self.now.clauses }
-        ensures { result.now ≡ clause_of self.now.clauses index }
-    {
-        self.arena.row(index)
-    }
-
     /// How many clauses watch the literal.
     pub fn watchers(&self, literal: Literal) -> usize
         requires { code literal < length self.now.lists }
@@ -61,13 +54,24 @@ impl Watches {
         self.lists.len(number(literal))
     }
 
-    /// The clause at a place of the literal's list.
+    /// The number of the clause at a place of the literal's list.
     pub fn watcher(&self, literal: Literal, place: usize) -> usize
         requires known { code literal < length self.now.lists }
         requires place { place < length (list_of self.now.lists literal) }
         ensures { result ≡ slice_index_or (list_of self.now.lists literal) place 0 }
     {
-        self.lists.get(number(literal), place).clause as usize
+        self.arena
+            .number(self.lists.get(number(literal), place).head)
+    }
+
+    /// The clause at a place of the literal's list.
+    pub fn clause(&self, literal: Literal, place: usize) -> Clause<'_>
+        requires known { code literal < length self.now.lists }
+        requires place { place < length (list_of self.now.lists literal) }
+        ensures { result ≡ clause_of self.now.clauses (slice_index_or (list_of self.now.lists literal) place 0) }
+    {
+        self.arena
+            .clause(self.lists.get(number(literal), place).head)
     }
 
     /// A literal of the clause at a place of the literal's list: where it is true, the clause need not be looked at.
@@ -87,47 +91,47 @@ impl Watches {
         ensures { self.new ≡ self.old }
     {
         let list = number(literal);
-        let clause = self.lists.get(list, place).clause;
+        let head = self.lists.get(list, place).head;
         self.lists.few();
-        let blocker = encode(self.arena.row(clause as usize)[index]);
-        self.lists.set(list, place, Watcher { clause, blocker });
+        let blocker = self.arena.clause(head).get(index);
+        self.lists.set(list, place, watch(head, blocker));
     }
 
-    /// The clause's first two literals change places.
-    pub fn turn(&mut self, clause: usize)
-        requires known { clause < length self.old.clauses }
-        requires long { 2 ≤ length (clause_of self.old.clauses clause) }
-        ensures clauses { self.new.clauses ≡ slice_set self.old.clauses clause (swap (clause_of self.old.clauses clause) 0 1) }
+    /// The first two literals of the clause at a place of the literal's list change places.
+    pub fn turn(&mut self, literal: Literal, place: usize)
+        requires known { code literal < length self.old.lists }
+        requires place { place < length (list_of self.old.lists literal) }
+        requires long { 2 ≤ length (clause_of self.old.clauses (slice_index_or (list_of self.old.lists literal) place 0)) }
+        ensures clauses { self.new.clauses ≡ slice_set self.old.clauses (slice_index_or (list_of self.old.lists literal) place 0) (swap (clause_of self.old.clauses (slice_index_or (list_of self.old.lists literal) place 0)) 0 1) }
         ensures lists { self.new.lists ≡ self.old.lists }
     {
-        self.arena.swap(clause, 0, 1);
+        let head = self.lists.get(number(literal), place).head;
+        self.arena.swap(head, 0, 1);
     }
 
     /// Watches the literal at `j` in place of the second, in whose list the clause stands at `place`.
     pub fn rewatch(
         &mut self,
-        clause: usize,
         second: Literal,
         place: usize,
         other: Literal,
         j: usize,
     ) -> Result<(), AllocError>
-        requires known { clause < length self.old.clauses }
-        requires high { 2 ≤ j }
-        requires within { j < length (clause_of self.old.clauses clause) }
-        requires second { second ≡ slice_index_or (clause_of self.old.clauses clause) 1 second }
-        requires other { other ≡ slice_index_or (clause_of self.old.clauses clause) j other }
+        requires known { code second < length self.old.lists }
         requires place { place < length (list_of self.old.lists second) }
-        requires there { slice_index_or (list_of self.old.lists second) place 0 ≡ clause }
-        ensures clauses { self.new.clauses ≡ (if is_ok result then slice_set self.old.clauses clause (swap (clause_of self.old.clauses clause) 1 j) else self.old.clauses) }
-        ensures lists { self.new.lists ≡ (if is_ok result then slice_set (slice_set self.old.lists (code other) (list_of self.old.lists other ++ clause ∷ [])) (code second) (swap_remove (list_of self.old.lists second) place 0) else self.old.lists) }
+        requires high { 2 ≤ j }
+        requires within { j < length (clause_of self.old.clauses (slice_index_or (list_of self.old.lists second) place 0)) }
+        requires second { second ≡ slice_index_or (clause_of self.old.clauses (slice_index_or (list_of self.old.lists second) place 0)) 1 second }
+        requires other { other ≡ slice_index_or (clause_of self.old.clauses (slice_index_or (list_of self.old.lists second) place 0)) j other }
+        ensures clauses { self.new.clauses ≡ (if is_ok result then slice_set self.old.clauses (slice_index_or (list_of self.old.lists second) place 0) (swap (clause_of self.old.clauses (slice_index_or (list_of self.old.lists second) place 0)) 1 j) else self.old.clauses) }
+        ensures lists { self.new.lists ≡ (if is_ok result then slice_set (slice_set self.old.lists (code other) (list_of self.old.lists other ++ slice_index_or (list_of self.old.lists second) place 0 ∷ [])) (code second) (swap_remove (list_of self.old.lists second) place 0) else self.old.lists) }
     {
         self.lists.few();
-        self.arena.few();
-        let blocker = self.arena.row(clause)[0];
-        self.lists.push(number(other), watch(clause, blocker))?;
+        let head = self.lists.get(number(second), place).head;
+        let blocker = self.arena.clause(head).get(0);
+        self.lists.push(number(other), watch(head, blocker))?;
         self.lists.swap_remove(number(second), place);
-        self.arena.swap(clause, 1, j);
+        self.arena.swap(head, 1, j);
         Ok(())
     }
 
@@ -138,14 +142,13 @@ impl Watches {
         requires fits { All (λ l. code l < length self.old.lists) clause.now }
         ensures { self.new ≡ (if is_ok result then with_clause self.old clause.now else self.old) }
     {
-        let index = self.arena.len();
         let first = clause[0];
         let second = clause[1];
-        self.arena.push(clause)?;
-        self.arena.few();
         self.lists.few();
-        let first_watcher = watch(index, second);
-        let second_watcher = watch(index, first);
+        let head = self.arena.push(clause)?;
+        self.arena.told();
+        let first_watcher = watch(head, second);
+        let second_watcher = watch(head, first);
         match self.lists.push(number(first), first_watcher) {
             Ok(()) => {}
             Err(_) => {
@@ -170,9 +173,10 @@ impl Watches {
         requires { (before : WatchValue) × IsAdded before self.old }
         ensures { (before : WatchValue) → IsAdded before self.old → self.new ≡ before }
     {
-        let index = self.arena.len() - 1;
-        let first = number(self.arena.row(index)[0]);
-        let second = number(self.arena.row(index)[1]);
+        self.arena.told();
+        let head = self.arena.last();
+        let first = number(self.arena.clause(head).get(0));
+        let second = number(self.arena.clause(head).get(1));
         self.lists.pop(second);
         self.lists.pop(first);
         self.arena.pop();

@@ -11,7 +11,6 @@ ghost use Rattle.cdcl_state.specs.declared.analyze.Cut.TheVariants.{Decisions};
 
 use crate::analyze::{Cut, Learnt, explain, explain_forced};
 use crate::state::State;
-use crate::unmark::unmark;
 use cnf_base::{Hint, Literal};
 use std::alloc::{AllocError, Global};
 
@@ -30,9 +29,10 @@ impl State {
             &self.log,
             cut,
             &mut self.marks,
+            &mut self.choices,
             conflict,
         )?;
-        unmark(&self.log, &learnt, &mut self.marks, &mut self.choices);
+        self.choices.decay();
         Ok(learnt)
     }
 
@@ -93,10 +93,11 @@ impl State {
                     &self.assigned,
                     &self.log,
                     &mut self.marks,
+                    &mut self.choices,
                     place,
                     hint,
                 )?;
-                unmark(&self.log, &learnt, &mut self.marks, &mut self.choices);
+                self.choices.decay();
                 return Ok(learnt);
             }
             None => unreachable!(),

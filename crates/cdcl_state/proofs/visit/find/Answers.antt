@@ -1,4 +1,4 @@
-use Rattle.std.proofs.Common.{◌≡◌, inl, inr, Contains, get_or, sym, ◌∙◌, subst, arith}
+use Rattle.std.proofs.Common.{◌≡◌, inl, inr, Contains, get_or, sym, ap, ◌∙◌, subst, arith}
 use mathlib.Core.Bool.{false≢true}
 use Rattle.std.proofs.lemmas.Bool.{cases_lt}
 use Rattle.cnf_base.specs.Literal.{opposite}
@@ -12,12 +12,12 @@ loop-j-preserved c = λ j from below. elim (cases_lt j c.loop-j.j) [
   | inr high ↦
       let same : j ≡ c.loop-j.j = omega arith in
       subst (λ n. Contains (literals_of c.args.assigned.now.trail) (opposite (get_or c.args.clause.now n blank))) (sym same)
-      (subst (Contains (literals_of c.args.assigned.now.trail)) c.opposite.ensures (c.holds.ensures.0 c.if-not-holds.false))
+      (subst (Contains (literals_of c.args.assigned.now.trail)) (c.opposite.ensures ∙ ap opposite c.get.ensures) (c.holds.ensures.0 c.if-not-holds.false))
 ]
 
 pub returns-then-not-holds : goal.returns-then-not-holds
 returns-then-not-holds c = record {
   behind = c.loop-j.auto.j;
-  within = c.loop-j-test.true;
-  not_false = λ there. false≢true (sym c.if-not-holds.true ∙ c.holds.ensures.1 (subst (Contains (literals_of c.args.assigned.now.trail)) (sym c.opposite.ensures) there));
+  within = omega (arith, c.loop-j-test.true, c.len-j-end.ensures);
+  not_false = λ there. false≢true (sym c.if-not-holds.true ∙ c.holds.ensures.1 (subst (Contains (literals_of c.args.assigned.now.trail)) (sym (c.opposite.ensures ∙ ap opposite c.get.ensures)) there));
 }

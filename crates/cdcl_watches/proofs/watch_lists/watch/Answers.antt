@@ -1,6 +1,6 @@
 use Rattle.std.proofs.Common.{ap, ◌∙◌}
-use Rattle.cdcl_watches.specs.Watchers.{literal_of}
-use Rattle.cdcl_watches.proofs.Blockers.{literal_code}
+use Rattle.cdcl_watches.specs.Watching.{literal_of}
+use Rattle.cdcl_watches.proofs.Codes.{literal_code}
 use Rattle.cdcl_watches.proofs.watch_lists.watch.Goals as goal
 
 pub returns-clause-blocker : goal.returns-clause-blocker

@@ -10,5 +10,5 @@ returns c =
     let l = c.args.literal in
     subst (λ (v : AssignedValue). (c.holds.result ≡ true) ↔ Contains (literals_of v.trail) l) c.self.view_is (
       (λ yes. are.on_trail l (c.holds.ensures.0 yes)),
-      (λ there. c.holds.ensures.1 (true_value c.self.inside.values c.self.inside.trail.items are l there)),
+      (λ there. c.holds.ensures.1 (true_value c.self.inside.values c.self.inside.trail are l there)),
     )

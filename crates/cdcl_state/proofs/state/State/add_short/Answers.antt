@@ -23,5 +23,5 @@ invariant_of-self-in-Ok c =
     ) in
     let count : number ≡ length log.inputs + 1 = c.next-number.ensures fits ∙ ap (λ n. n + 1) (c.inputs.ensures ∙ ap (λ (l : LogValue). length l.inputs) c.view.ensures.same) in
     rw (c.in_ok-push.ensures.items, c.in-Ok.ensures.added.0)
-    (state_short letters c.self.inside.assigned c.self.inside.watches c.self.inside.names.items c.self.inside.units.items log (with_input log clause) c.self.inside.head c.self.inside.sure c.self.inside.done c.self.inside.firm (length c.self.inside.marks.stamps)
+    (state_short letters c.self.inside.assigned c.self.inside.watches c.self.inside.names c.self.inside.units.items log (with_input log clause) c.self.inside.head c.self.inside.sure c.self.inside.done c.self.inside.firm (length c.self.inside.marks.stamps)
     (Clause number) clause c.self.invariant (input_more log clause number count) (known_more letters log.inputs clause c.self.invariant.known_inputs known) c.self.invariant.known_lines (one_short clause c.args.stored.now c.requires.same c.requires.short))

@@ -33,7 +33,7 @@ invariant_of-self-in-Ok c =
     ) in
     let count : number ≡ length log.lines + 1 = c.next-number.ensures fits ∙ ap (λ n. n + 1) (c.lines.ensures ∙ ap (λ (l : LogValue). length l.lines) c.view.ensures.same) in
     rw (c.in_ok-store.ensures.watches, c.in_ok-store.ensures.names, c.in-Ok.ensures.added.0)
-    (state_long letters c.self.inside.assigned c.self.inside.watches c.self.inside.names.items c.self.inside.units.items log (with_line log clause c.args.hints.now) c.self.inside.head c.self.inside.sure c.self.inside.done c.self.inside.firm (length c.self.inside.marks.stamps)
+    (state_long letters c.self.inside.assigned c.self.inside.watches c.self.inside.names c.self.inside.units.items log (with_line log clause c.args.hints.now) c.self.inside.head c.self.inside.sure c.self.inside.done c.self.inside.firm (length c.self.inside.marks.stamps)
     (Line number) clause c.self.invariant (line_more log clause c.args.hints.now number count) c.self.invariant.known_inputs (known_more letters log.lines clause c.self.invariant.known_lines known)
     c.args.stored.now c.rewind.new.head c.rewind.new.sure c.requires.same c.requires.long c.requires.apart c.rewind.ensures)
 
@@ -62,7 +62,7 @@ invariant_of-self-in-Err c =
       fits = stored_fits c.self.inside.letters c.self.inside.assigned c.self.inside.watches.lists c.args.clause.now c.args.stored.now c.self.invariant.room c.self.invariant.ready.sized known c.requires.same;
       is = c.in_ok-store.ensures.watches;
     } in
-    let names = c.self.inside.names.items in
+    let names = c.self.inside.names in
     let count : length names ≡ c.len-count.result = omega arith in
-    let same_names : c.take_back.new.names.items ≡ names = c.take_back.ensures.names ∙ ap (take c.len-count.result) c.in_ok-store.ensures.names ∙ take_at names (Line c.next-number.result ∷ []) c.len-count.result count in
+    let same_names : c.take_back.new.names ≡ names = c.take_back.ensures.names ∙ ap (take c.len-count.result) c.in_ok-store.ensures.names ∙ take_at names (Line c.next-number.result ∷ []) c.len-count.result count in
     rw (c.take_back.ensures.watches c.self.inside.watches added, same_names, c.in-Err.ensures.refused) c.self.invariant

@@ -23,5 +23,5 @@ invariant_of-self-in-Ok c =
     ) in
     let count : number ≡ length log.lines + 1 = c.next-number.ensures fits ∙ ap (λ n. n + 1) (c.lines.ensures ∙ ap (λ (l : LogValue). length l.lines) c.view.ensures.same) in
     rw (c.in_ok-push.ensures.items, c.in-Ok.ensures.added.0)
-    (state_short letters c.self.inside.assigned c.self.inside.watches c.self.inside.names.items c.self.inside.units.items log (with_line log clause c.args.hints.now) c.self.inside.head c.self.inside.sure c.self.inside.done c.self.inside.firm (length c.self.inside.marks.stamps)
+    (state_short letters c.self.inside.assigned c.self.inside.watches c.self.inside.names c.self.inside.units.items log (with_line log clause c.args.hints.now) c.self.inside.head c.self.inside.sure c.self.inside.done c.self.inside.firm (length c.self.inside.marks.stamps)
     (Line number) clause c.self.invariant (line_more log clause c.args.hints.now number count) c.self.invariant.known_inputs (known_more letters log.lines clause c.self.invariant.known_lines known) (one_short clause c.args.stored.now c.requires.same c.requires.short))

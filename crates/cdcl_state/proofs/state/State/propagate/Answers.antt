@@ -19,24 +19,24 @@ visit_units-requires-clause-firm c =
 
 pub invariant_of-self : goal.invariant_of-self
 invariant_of-self c =
-    state_visited c.self.inside.letters c.self.inside.assigned c.visit_units.new.assigned c.self.inside.watches c.self.inside.names.items c.self.inside.units.items c.self.inside.log c.self.inside.head c.self.inside.sure c.self.inside.done c.self.inside.firm (length c.self.inside.marks.stamps)
+    state_visited c.self.inside.letters c.self.inside.assigned c.visit_units.new.assigned c.self.inside.watches c.self.inside.names c.self.inside.units.items c.self.inside.log c.self.inside.head c.self.inside.sure c.self.inside.done c.self.inside.firm (length c.self.inside.marks.stamps)
     c.self.invariant c.in_err-hint.ensures.grown c.in_err-hint.ensures.is_trail c.in_err-hint.ensures.letters
 
 pub invariant_of-self-in-Some : goal.invariant_of-self-in-Some
 invariant_of-self-in-Some c =
-    state_visited c.self.inside.letters c.self.inside.assigned c.visit_units.new.assigned c.self.inside.watches c.self.inside.names.items c.self.inside.units.items c.self.inside.log c.self.inside.head c.self.inside.sure c.self.inside.done c.self.inside.firm (length c.self.inside.marks.stamps)
+    state_visited c.self.inside.letters c.self.inside.assigned c.visit_units.new.assigned c.self.inside.watches c.self.inside.names c.self.inside.units.items c.self.inside.log c.self.inside.head c.self.inside.sure c.self.inside.done c.self.inside.firm (length c.self.inside.marks.stamps)
     c.self.invariant c.in_ok-hint.ensures.grown c.in_ok-hint.ensures.is_trail c.in_ok-hint.ensures.letters
 
 pub propagate-requires-clause-sure : goal.propagate-requires-clause-sure
 propagate-requires-clause-sure c =
-    (state_visited c.self.inside.letters c.self.inside.assigned c.visit_units.new.assigned c.self.inside.watches c.self.inside.names.items c.self.inside.units.items c.self.inside.log c.self.inside.head c.self.inside.sure c.self.inside.done c.self.inside.firm (length c.self.inside.marks.stamps)
+    (state_visited c.self.inside.letters c.self.inside.assigned c.visit_units.new.assigned c.self.inside.watches c.self.inside.names c.self.inside.units.items c.self.inside.log c.self.inside.head c.self.inside.sure c.self.inside.done c.self.inside.firm (length c.self.inside.marks.stamps)
     c.self.invariant c.in_ok-hint.ensures.grown c.in_ok-hint.ensures.is_trail c.in_ok-hint.ensures.letters).is_sure
 
 pub propagate-requires-clause-ready : goal.propagate-requires-clause-ready
 propagate-requires-clause-ready c =
-    let state = state_visited c.self.inside.letters c.self.inside.assigned c.visit_units.new.assigned c.self.inside.watches c.self.inside.names.items c.self.inside.units.items c.self.inside.log c.self.inside.head c.self.inside.sure c.self.inside.done c.self.inside.firm (length c.self.inside.marks.stamps)
+    let state = state_visited c.self.inside.letters c.self.inside.assigned c.visit_units.new.assigned c.self.inside.watches c.self.inside.names c.self.inside.units.items c.self.inside.log c.self.inside.head c.self.inside.sure c.self.inside.done c.self.inside.firm (length c.self.inside.marks.stamps)
     c.self.invariant c.in_ok-hint.ensures.grown c.in_ok-hint.ensures.is_trail c.in_ok-hint.ensures.letters in
-    subst (λ ns. IsReady c.self.inside.log.inputs c.self.inside.log.lines ns c.self.inside.head c.visit_units.new.assigned c.self.inside.watches) (sym c.deref-2.ensures.value) state.ready
+    state.ready
 
 abbrev IsSettle : ℕ → ℕ → ℕ → ℕ → ℕ → ℕ → Type 0
 IsSettle count done still solid firm len = ((count ≤ done) × (still ≡ done) × (solid ≡ firm)) ⊎ ((still ≡ count) × (solid ≡ len))
@@ -45,7 +45,7 @@ pub invariant_of-self-in_err-found : goal.invariant_of-self-in_err-found
 invariant_of-self-in_err-found c =
     let letters = c.self.inside.letters in
     let log = c.self.inside.log in
-    let names = c.self.inside.names.items in
+    let names = c.self.inside.names in
     let units = c.self.inside.units.items in
     let w = c.self.inside.watches in
     let b = c.visit_units.new.assigned in
@@ -60,7 +60,7 @@ invariant_of-self-in_err-found c =
     let firm = state_firm letters b w names units log c.self.inside.head c.self.inside.sure done solid c.settle.new.done c.settle.new.firm marked state true_units cases in
     let whole = state_grown letters b c.propagate.new.assigned w c.propagate.new.watches names units log c.self.inside.head c.self.inside.sure c.settle.new.done c.settle.new.firm c.propagate.new.head c.propagate.new.sure marked firm
     c.in_err-found.ensures.grown c.in_err-found.ensures.letters c.in_err-found.ensures.low c.in_err-found.ensures.sure
-    (subst (λ ns. IsReady log.inputs log.lines ns c.propagate.new.head c.propagate.new.assigned c.propagate.new.watches) c.deref-2.ensures.value c.in_err-found.ensures.kept) in
+    c.in_err-found.ensures.kept in
     whole
 
 pub returns-in_err-found-clause-grown : goal.returns-in_err-found-clause-grown
@@ -77,7 +77,7 @@ pub invariant_of-self-2 : goal.invariant_of-self-2
 invariant_of-self-2 c =
     let letters = c.self.inside.letters in
     let log = c.self.inside.log in
-    let names = c.self.inside.names.items in
+    let names = c.self.inside.names in
     let units = c.self.inside.units.items in
     let w = c.self.inside.watches in
     let b = c.visit_units.new.assigned in
@@ -92,7 +92,7 @@ invariant_of-self-2 c =
     let firm = state_firm letters b w names units log c.self.inside.head c.self.inside.sure done solid c.settle.new.done c.settle.new.firm marked state true_units cases in
     let whole = state_grown letters b c.propagate.new.assigned w c.propagate.new.watches names units log c.self.inside.head c.self.inside.sure c.settle.new.done c.settle.new.firm c.propagate.new.head c.propagate.new.sure marked firm
     c.in_ok-found.ensures.grown c.in_ok-found.ensures.letters c.in_ok-found.ensures.low c.in_ok-found.ensures.sure
-    (subst (λ ns. IsReady log.inputs log.lines ns c.propagate.new.head c.propagate.new.assigned c.propagate.new.watches) c.deref-2.ensures.value c.in_ok-found.ensures.kept) in
+    c.in_ok-found.ensures.kept in
     whole
 
 pub returns-clause-grown : goal.returns-clause-grown
@@ -113,7 +113,7 @@ pub returns-clause-found : goal.returns-clause-found
 returns-clause-found c =
     let letters = c.self.inside.letters in
     let log = c.self.inside.log in
-    let names = c.self.inside.names.items in
+    let names = c.self.inside.names in
     let units = c.self.inside.units.items in
     let w = c.self.inside.watches in
     let b = c.visit_units.new.assigned in
@@ -128,7 +128,7 @@ returns-clause-found c =
     let firm = state_firm letters b w names units log c.self.inside.head c.self.inside.sure done solid c.settle.new.done c.settle.new.firm marked state true_units cases in
     let whole = state_grown letters b c.propagate.new.assigned w c.propagate.new.watches names units log c.self.inside.head c.self.inside.sure c.settle.new.done c.settle.new.firm c.propagate.new.head c.propagate.new.sure marked firm
     c.in_ok-found.ensures.grown c.in_ok-found.ensures.letters c.in_ok-found.ensures.low c.in_ok-found.ensures.sure
-    (subst (λ ns. IsReady log.inputs log.lines ns c.propagate.new.head c.propagate.new.assigned c.propagate.new.watches) c.deref-2.ensures.value c.in_ok-found.ensures.kept) in
+    c.in_ok-found.ensures.kept in
     let d = c.propagate.new.assigned in
     let finish = finished (length units) done c.settle.new.done c.settle.new.firm solid (length b.trail) c.self.invariant.done_in cases in
     found_weaker (c.propagate.new.head ≡ length d.trail) (IsSettled (state_of letters d.trail log)) (IsConflict log.inputs log.lines (literals_of d.trail)) c.in_ok-found.found

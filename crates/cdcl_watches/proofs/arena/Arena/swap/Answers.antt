@@ -1,15 +1,40 @@
-use Rattle.std.proofs.Common.{◌<◌, [], length, get_or, slice_range, sym, ap, arith, subst}
-use Rattle.std.proofs.lemmas.List.{length-map}
-use Rattle.cdcl_watches.proofs.Pieces.{set_set_row}
+use Rattle.std.proofs.Common.{◌+◌, arith, length-set}
+use Rattle.cdcl_watches.proofs.Buffer.{literal_inside, swapped_heads, swapped_clauses}
 use Rattle.cdcl_watches.proofs.arena.Arena.swap.Goals as goal
 
-pub returns : goal.returns
-returns c =
-    let xs = c.self.inside.items.items in
-    let places = c.self.inside.places.items in
-    let p = c.index-place.result.now in
-    let n = c.args.index in
-    let n_low : n < length places = omega (arith, c.requires.index, length-map places (λ s. slice_range xs s.from s.to), ap length c.self.view_is) in
-    rw (← c.self.view_is) (set_set_row xs places c.self.invariant.0 p n c.args.i c.args.j c.index-a.result.now c.index-b.result.now n_low c.index-place.ensures
-    (subst (λ ls. c.args.i < length (get_or ls n [])) (sym c.self.view_is) c.requires.first) (subst (λ ls. c.args.j < length (get_or ls n [])) (sym c.self.view_is) c.requires.second)
-    c.index-a.ensures c.index-b.ensures)
+pub overflow_add-from-2 : goal.overflow_add-from-2
+overflow_add-from-2 c = omega (arith, literal_inside c.self.inside.items.items c.self.inside.heads.items c.self.invariant c.args.head (rw (← c.self.view_is) at c.requires.known) c.args.i (rw (← c.self.view_is) at c.requires.first), c.self.invariant.few)
+
+pub index-a-requires : goal.index-a-requires
+index-a-requires c = omega (arith, literal_inside c.self.inside.items.items c.self.inside.heads.items c.self.invariant c.args.head (rw (← c.self.view_is) at c.requires.known) c.args.i (rw (← c.self.view_is) at c.requires.first))
+
+pub overflow_add-from-3 : goal.overflow_add-from-3
+overflow_add-from-3 c = omega (arith, literal_inside c.self.inside.items.items c.self.inside.heads.items c.self.invariant c.args.head (rw (← c.self.view_is) at c.requires.known) c.args.j (rw (← c.self.view_is) at c.requires.second), c.self.invariant.few)
+
+pub index-b-requires : goal.index-b-requires
+index-b-requires c = omega (arith, literal_inside c.self.inside.items.items c.self.inside.heads.items c.self.invariant c.args.head (rw (← c.self.view_is) at c.requires.known) c.args.j (rw (← c.self.view_is) at c.requires.second))
+
+pub invariant_of-self : goal.invariant_of-self
+invariant_of-self c =
+    swapped_heads c.self.inside.items.items c.self.inside.heads.items c.self.invariant c.args.head (rw (← c.self.view_is) at c.requires.known) c.args.i c.args.j c.index-a.result.now c.index-b.result.now
+    (rw (← c.self.view_is) at c.requires.first) (rw (← c.self.view_is) at c.requires.second) c.index-a.ensures c.index-b.ensures
+
+pub returns-clause-clauses : goal.returns-clause-clauses
+returns-clause-clauses c =
+    rw (← c.self.view_is)
+    (swapped_clauses c.self.inside.items.items c.self.inside.heads.items c.self.invariant c.args.head (rw (← c.self.view_is) at c.requires.known) c.args.i c.args.j c.index-a.result.now c.index-b.result.now
+    (rw (← c.self.view_is) at c.requires.first) (rw (← c.self.view_is) at c.requires.second) c.index-a.ensures c.index-b.ensures)
+
+pub overflow_add-from-4 : goal.overflow_add-from-4
+overflow_add-from-4 c = omega (arith, literal_inside c.self.inside.items.items c.self.inside.heads.items c.self.invariant c.args.head (rw (← c.self.view_is) at c.requires.known) c.args.i (rw (← c.self.view_is) at c.requires.first), c.self.invariant.few)
+
+pub index_mut-requires : goal.index_mut-requires
+index_mut-requires c = omega (arith, literal_inside c.self.inside.items.items c.self.inside.heads.items c.self.invariant c.args.head (rw (← c.self.view_is) at c.requires.known) c.args.i (rw (← c.self.view_is) at c.requires.first))
+
+pub overflow_add-from-5 : goal.overflow_add-from-5
+overflow_add-from-5 c = omega (arith, literal_inside c.self.inside.items.items c.self.inside.heads.items c.self.invariant c.args.head (rw (← c.self.view_is) at c.requires.known) c.args.j (rw (← c.self.view_is) at c.requires.second), c.self.invariant.few)
+
+pub index_mut-requires-2 : goal.index_mut-requires-2
+index_mut-requires-2 c =
+    let inside = literal_inside c.self.inside.items.items c.self.inside.heads.items c.self.invariant c.args.head (rw (← c.self.view_is) at c.requires.known) c.args.j (rw (← c.self.view_is) at c.requires.second) in
+    omega (arith, inside, length-set c.self.inside.items.items (c.args.head + 2 + c.args.i) c.index-b.result.now)

@@ -1,47 +1,58 @@
-use Rattle.std.proofs.Common.{◌<◌, length, get_or, ◌∙◌, arith}
+use Rattle.std.proofs.Common.{◌≡◌, ◌<◌, [], ◌∷◌, ◌++◌, length, get_or, sym, ap, ap₂, ◌∙◌, subst, arith}
 use Rattle.std.proofs.lemmas.List.Elements.{Contains-get_or}
-use Rattle.cdcl_watches.specs.Watching.{code, blank}
-use Rattle.cdcl_watches.proofs.Added.{take_back_is, unpushed_is}
-use Rattle.cdcl_watches.proofs.AddedWatchers.{added_is, added_watchers}
+use Rattle.cdcl_watches.specs.Watching.{code, blank, AreApart, WatchValue}
+use Rattle.cdcl_watches.specs.Heads.{ArenaValue, number_of}
+use Rattle.cdcl_watches.specs.Watchers.{numbers, AreWatchers}
+use Rattle.cdcl_watches.proofs.Added.{unpushed_is}
+use Rattle.cdcl_watches.proofs.AddedWatchers.{stored_is, stored_watchers, popped_arena}
 use Rattle.cdcl_watches.proofs.Numbers.{length_numbers}
 use Rattle.cdcl_watches.proofs.watches.Watches.add.Goals as goal
 
 pub invariant_of-self-in-Ok-push : goal.invariant_of-self-in-Ok-push
 invariant_of-self-in-Ok-push c =
+    let heads = c.self.inside.arena.heads in
+    let clauses = c.self.inside.arena.clauses in
     let r = c.args.clause.now in
-    rw c.in_ok-push.ensures
-    (added_watchers c.self.inside.arena c.self.inside.lists c.push-2.new.self c.push-3.new.self r _ _ (c.watch-first_watcher.ensures.clause ∙ c.len-index.ensures) (c.watch-second_watcher.ensures.clause ∙ c.len-index.ensures)
+    let h = c.in_ok-head.head in
+    let pushed : c.push.new.self ≡ record { clauses = clauses ++ r ∷ []; heads = heads ++ h ∷ [] } = c.in_ok-head.ensures.pushed in
+    let none = subst (λ (v : ArenaValue). number_of v.heads 0 ≡ 0) pushed c.told.ensures.first in
+    let apart = subst (λ (v : ArenaValue). AreApart v.heads) pushed c.told.ensures.apart in
+    let paired = subst (λ (v : ArenaValue). length v.heads ≡ length v.clauses) pushed c.told.ensures.paired in
+    subst (λ (v : ArenaValue). AreWatchers v.heads v.clauses c.push-3.new.self) (sym pushed)
+    (stored_watchers heads h none apart clauses c.self.inside.lists c.push-2.new.self c.push-3.new.self r _ _ paired c.watch-first_watcher.ensures.head c.watch-second_watcher.ensures.head
     (rw c.number.ensures at c.in-Ok.ensures) (rw c.number-2.ensures at c.in-Ok-push.ensures) c.self.invariant
     (rw c.watch-first_watcher.ensures.blocker (Contains-get_or r 1 _ (omega (arith, c.requires.long)))) (rw c.watch-second_watcher.ensures.blocker (Contains-get_or r 0 _ (omega (arith, c.requires.long)))) c.requires.long c.requires.apart (rw (← c.self.view_is) at c.requires.fits))
 
 pub returns-in-Ok-push : goal.returns-in-Ok-push
 returns-in-Ok-push c =
-    rw (← c.self.view_is, c.in_ok-push.ensures)
-    (added_is c.self.inside.arena c.self.inside.lists c.push-2.new.self c.push-3.new.self c.args.clause.now _ _ (c.watch-first_watcher.ensures.clause ∙ c.len-index.ensures) (c.watch-second_watcher.ensures.clause ∙ c.len-index.ensures)
-    (rw c.number.ensures at c.in-Ok.ensures) (rw c.number-2.ensures at c.in-Ok-push.ensures))
-
-pub invariant_of-self-in-Err : goal.invariant_of-self-in-Err
-invariant_of-self-in-Err c =
-    rw (take_back_is c.self.inside.arena c.push.new.self c.pop.new.self c.args.clause.now c.pop.ensures c.in_ok-push.ensures, c.in-Err.ensures) c.self.invariant
+    let heads = c.self.inside.arena.heads in
+    let clauses = c.self.inside.arena.clauses in
+    let r = c.args.clause.now in
+    let h = c.in_ok-head.head in
+    let pushed : c.push.new.self ≡ record { clauses = clauses ++ r ∷ []; heads = heads ++ h ∷ [] } = c.in_ok-head.ensures.pushed in
+    let none = subst (λ (v : ArenaValue). number_of v.heads 0 ≡ 0) pushed c.told.ensures.first in
+    let apart = subst (λ (v : ArenaValue). AreApart v.heads) pushed c.told.ensures.apart in
+    let paired = subst (λ (v : ArenaValue). length v.heads ≡ length v.clauses) pushed c.told.ensures.paired in
+    rw (← c.self.view_is)
+    (ap (λ (v : ArenaValue). let u : WatchValue = record { clauses = v.clauses; lists = numbers v.heads c.push-3.new.self } in u) pushed
+    ∙ stored_is heads h none apart clauses c.self.inside.lists c.push-2.new.self c.push-3.new.self r _ _ paired c.watch-first_watcher.ensures.head c.watch-second_watcher.ensures.head
+    (rw c.number.ensures at c.in-Ok.ensures) (rw c.number-2.ensures at c.in-Ok-push.ensures) c.self.invariant)
 
 pub invariant_of-self-in-Err-push : goal.invariant_of-self-in-Err-push
 invariant_of-self-in-Err-push c =
     let lists = c.self.inside.lists in
     let k = code (get_or c.args.clause.now 0 blank) in
-    let known : k < length lists = omega (arith, length_numbers lists, (rw (← c.self.view_is) at c.requires.fits) 0 blank (omega (arith, c.requires.long))) in
-    rw (
-      take_back_is c.self.inside.arena c.push.new.self c.pop-in-Err-push-2.new.self c.args.clause.now c.pop-in-Err-push-2.ensures c.in_ok-push.ensures,
-      unpushed_is lists c.push-3.new.self c.pop-in-Err-push.new.self k _ known (c.in-Err-push.ensures ∙ (rw c.number.ensures at c.in-Ok.ensures)) (rw c.number-in-Err-push.ensures at c.pop-in-Err-push.ensures),
-    )
-    c.self.invariant
+    let known : k < length lists = omega (arith, length_numbers c.self.inside.arena.heads c.self.invariant.none lists, (rw (← c.self.view_is) at c.requires.fits) 0 blank (omega (arith, c.requires.long))) in
+    let arena = popped_arena c.self.inside.arena c.push.new.self c.pop-in-Err-push-2.new.self c.args.clause.now c.in_ok-head.head c.told.ensures.paired c.in_ok-head.ensures.pushed c.pop-in-Err-push-2.ensures in
+    let unpushed = unpushed_is lists c.push-3.new.self c.pop-in-Err-push.new.self k _ known (c.in-Err-push.ensures ∙ (rw c.number.ensures at c.in-Ok.ensures)) (rw c.number-in-Err-push.ensures at c.pop-in-Err-push.ensures) in
+    subst (λ (v : ArenaValue). AreWatchers v.heads v.clauses c.pop-in-Err-push.new.self) (sym arena)
+    (subst (AreWatchers c.self.inside.arena.heads c.self.inside.arena.clauses) (sym unpushed) c.self.invariant)
 
 pub returns-in-Err-push : goal.returns-in-Err-push
 returns-in-Err-push c =
     let lists = c.self.inside.lists in
     let k = code (get_or c.args.clause.now 0 blank) in
-    let known : k < length lists = omega (arith, length_numbers lists, (rw (← c.self.view_is) at c.requires.fits) 0 blank (omega (arith, c.requires.long))) in
-    rw (
-      take_back_is c.self.inside.arena c.push.new.self c.pop-in-Err-push-2.new.self c.args.clause.now c.pop-in-Err-push-2.ensures c.in_ok-push.ensures,
-      unpushed_is lists c.push-3.new.self c.pop-in-Err-push.new.self k _ known (c.in-Err-push.ensures ∙ (rw c.number.ensures at c.in-Ok.ensures)) (rw c.number-in-Err-push.ensures at c.pop-in-Err-push.ensures),
-    )
-    c.self.view_is
+    let known : k < length lists = omega (arith, length_numbers c.self.inside.arena.heads c.self.invariant.none lists, (rw (← c.self.view_is) at c.requires.fits) 0 blank (omega (arith, c.requires.long))) in
+    let arena = popped_arena c.self.inside.arena c.push.new.self c.pop-in-Err-push-2.new.self c.args.clause.now c.in_ok-head.head c.told.ensures.paired c.in_ok-head.ensures.pushed c.pop-in-Err-push-2.ensures in
+    let unpushed = unpushed_is lists c.push-3.new.self c.pop-in-Err-push.new.self k _ known (c.in-Err-push.ensures ∙ (rw c.number.ensures at c.in-Ok.ensures)) (rw c.number-in-Err-push.ensures at c.pop-in-Err-push.ensures) in
+    ap₂ (λ (v : ArenaValue) ls. let u : WatchValue = record { clauses = v.clauses; lists = numbers v.heads ls } in u) arena unpushed ∙ c.self.view_is

@@ -8,4 +8,4 @@ returns c =
     let lists = c.self.inside.lists in
     let same = ap (λ (v : WatchValue). length (list_of v.lists c.args.literal)) c.self.view_is in
     rw (c.decode.ensures, c.get.ensures, c.number.ensures, ← c.self.view_is)
-    (blocking_at c.self.inside.arena lists (code c.args.literal) c.args.place c.self.invariant.blockers (omega (arith, same, c.requires.place)))
+    (blocking_at c.self.inside.arena.heads c.self.invariant.none c.self.inside.arena.clauses lists (code c.args.literal) c.args.place c.self.invariant.blockers (omega (arith, same, c.requires.place)))

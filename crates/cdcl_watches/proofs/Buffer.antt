@@ -1,0 +1,349 @@
+-- Clauses in one buffer: one is read, put behind the others, taken off, and two literals of one change places.
+use Rattle.std.proofs.Common.{◌≡◌, ◌≢◌, ℕ, zero, suc, ◌+◌, ◌-◌, ◌*◌, ◌<◌, ◌≤◌, ◌^◌, ◌⊎◌, inl, inr, List, [], ◌∷◌, ◌++◌, map, take, drop, set, length, get_or, slice_range, All, Contains, refl, sym, ap, ap₂, ◌∙◌, subst, arith, length-set, length-append, length-drop, length-take-le, get_or-set_other}
+use Rattle.std.specs.List.{swap}
+use Rattle.std.proofs.lemmas.Bool.{cases_lt}
+use Rattle.std.proofs.lemmas.List.{same_lists, get_or-take, get_or-drop, get_or-map, get_or_default, get_or_append_left, get_or-append_right, get_or_at, get_or_past, length-map, length_push, map-append, map-set, take-map, drop-take, drop-drop}
+use Rattle.std.proofs.lemmas.List.Edits.{swap_is}
+use Rattle.cnf_base.specs.declared.literal.Literal.{Literal}
+use Rattle.cnf_base.specs.declared.rows.Place.{Place}
+use Rattle.cnf_base.specs.RowPieces.{row_pieces, IsPlace, AreFlat}
+use Rattle.cnf_base.proofs.RowLemmas.{pieces-push, pieces-take, spans_before}
+use Rattle.cdcl_watches.specs.Watching.{code, literal_of, clause_of, AreApart}
+use Rattle.cdcl_watches.specs.Heads.{place_at, decoded, clauses_at, number_of, AreHeads}
+use Rattle.cdcl_watches.proofs.Codes.{literals_code}
+use Rattle.cdcl_watches.proofs.HeadNumbers.{number_low}
+use Rattle.cdcl_watches.proofs.Pieces.{set_set_row, length_range}
+
+-- the places of heads that hold the same lengths
+places_same : (new items heads : List ℕ) → ((c : ℕ) → c < length heads → get_or new (get_or heads c 0) 0 ≡ get_or items (get_or heads c 0) 0)
+    → map (place_at new) heads ≡ map (place_at items) heads
+places_same new items heads same =
+    same_lists (map (place_at new) heads) (map (place_at items) heads) (length-map heads (place_at new) ∙ sym (length-map heads (place_at items)))
+    (λ k d low.
+    let k_low : k < length heads = omega (arith, low, length-map heads (place_at new)) in
+    get_or-map (place_at new) heads k 0 d k_low
+    ∙ ap (λ n. let p : Place = record { from = get_or heads k 0; to = get_or heads k 0 + 2 + n } in p) (same k k_low)
+    ∙ sym (get_or-map (place_at items) heads k 0 d k_low))
+
+module _ (items heads : List ℕ) (are : AreHeads items heads) where
+  pub heads_flat : AreFlat (length items) (map (place_at items) heads)
+  heads_flat = record {
+    each = λ k d low.
+        let k_low : k < length heads = omega (arith, low, length-map heads (place_at items)) in
+        subst (IsPlace (length items)) (sym (get_or-map (place_at items) heads k 0 d k_low)) (record { forward = omega arith; inside = are.inside k k_low });
+    ordered = λ i j d earlier low.
+        let j_low : j < length heads = omega (arith, low, length-map heads (place_at items)) in
+        let at_i = get_or-map (place_at items) heads i 0 d (omega arith) in
+        let at_j = get_or-map (place_at items) heads j 0 d j_low in
+        subst (λ (p : Place). p.to ≤ (get_or (map (place_at items) heads) j d).from) (sym at_i) (subst (λ (p : Place). get_or heads i 0 + 2 + get_or items (get_or heads i 0) 0 ≤ p.from) (sym at_j) (are.ordered i j earlier j_low));
+  }
+
+  pub length_clauses : length (clauses_at items heads) ≡ length heads
+  length_clauses = length-map (row_pieces items (map (place_at items) heads)) decoded ∙ length-map (map (place_at items) heads) (λ s. slice_range items s.from s.to) ∙ length-map heads (place_at items)
+
+  -- each clause takes two numbers at least
+  pub heads_rise : (c : ℕ) → c < length heads → 2 * c ≤ get_or heads c 0
+  heads_rise zero low = omega arith
+  heads_rise (suc c) low = omega (arith, heads_rise c (omega arith), are.ordered c (suc c) (omega arith) low)
+
+  pub heads_few : length heads < 2 ^ 32
+  heads_few = elim (cases_lt 0 (length heads)) [
+    | inl some ↦ let last = length heads - 1 in omega (arith, heads_rise last (omega arith), are.inside last (omega arith), are.few)
+    | inr none ↦ omega (arith, are.few)
+  ]
+
+  pub heads_apart : AreApart heads
+  heads_apart j k d earlier low same =
+      omega (arith, are.ordered j k earlier low, get_or_default heads j d 0 (omega arith), get_or_default heads k d 0 low, same)
+
+  -- a clause of the buffer, by its head
+  module _ (c : ℕ) (known : c < length heads) where
+    row_at : get_or (row_pieces items (map (place_at items) heads)) c [] ≡ slice_range items (get_or heads c 0) (get_or heads c 0 + 2 + get_or items (get_or heads c 0) 0)
+    row_at =
+        let p = place_at items (get_or heads c 0) in
+        get_or-map (λ (s : Place). slice_range items s.from s.to) (map (place_at items) heads) c p [] (omega (arith, length-map heads (place_at items)))
+        ∙ ap (λ (s : Place). slice_range items s.from s.to) (get_or-map (place_at items) heads c 0 p known)
+
+    row_length : length (get_or (row_pieces items (map (place_at items) heads)) c []) ≡ 2 + get_or items (get_or heads c 0) 0
+    row_length =
+        let h = get_or heads c 0 in
+        ap length row_at ∙ length_range items h (h + 2 + get_or items h 0) (omega arith) (are.inside c known) ∙ omega (arith)
+
+    clause_row : clause_of (clauses_at items heads) c ≡ decoded (get_or (row_pieces items (map (place_at items) heads)) c [])
+    clause_row = get_or-map decoded (row_pieces items (map (place_at items) heads)) c [] [] (omega (arith, known, length_rows))
+      where
+        length_rows : length (row_pieces items (map (place_at items) heads)) ≡ length heads
+        length_rows = length-map (map (place_at items) heads) (λ s. slice_range items s.from s.to) ∙ length-map heads (place_at items)
+
+    pub clause_length : length (clause_of (clauses_at items heads) c) ≡ get_or items (get_or heads c 0) 0
+    clause_length =
+        let row = get_or (row_pieces items (map (place_at items) heads)) c [] in
+        ap length clause_row ∙ length-map (drop 2 row) literal_of ∙ length-drop 2 row ∙ omega (arith, row_length)
+
+    pub clause_range : map literal_of (slice_range items (get_or heads c 0 + 2) (get_or heads c 0 + 2 + get_or items (get_or heads c 0) 0)) ≡ clause_of (clauses_at items heads) c
+    clause_range =
+        let h = get_or heads c 0 in
+        let n = get_or items h 0 in
+        let whole : (h + 2 + n) - h ≡ 2 + n = omega arith in
+        let rest : (h + 2 + n) - (h + 2) ≡ n = omega arith in
+        ap (λ m. map literal_of (take m (drop (h + 2) items))) rest
+        ∙ ap (λ xs. map literal_of (take n xs)) (sym (drop-drop 2 h items))
+        ∙ ap (map literal_of) (sym (drop-take 2 n (drop h items)))
+        ∙ ap (λ m. map literal_of (drop 2 (take m (drop h items)))) (sym whole)
+        ∙ ap decoded (sym row_at) ∙ sym clause_row
+
+-- a clause is put behind the others
+module _ (items heads : List ℕ) (are : AreHeads items heads) (row : List Literal) where
+  abbrev more : List ℕ
+  more = items ++ length row ∷ length heads ∷ map code row
+
+  item_kept : (p : ℕ) → p < length items → get_or more p 0 ≡ get_or items p 0
+  item_kept p low = get_or_append_left items (length row ∷ length heads ∷ map code row) 0 p low
+
+  head_kept : (c : ℕ) → c < length heads → get_or (heads ++ length items ∷ []) c 0 ≡ get_or heads c 0
+  head_kept c low = get_or_append_left heads (length items ∷ []) 0 c low
+
+  head_new : get_or (heads ++ length items ∷ []) (length heads) 0 ≡ length items
+  head_new = get_or_at heads (length items) [] 0 (length heads) refl
+
+  length_new : get_or more (length items) 0 ≡ length row
+  length_new = get_or_at items (length row) (length heads ∷ map code row) 0 (length items) refl
+
+  number_new : get_or more (length items + 1) 0 ≡ length heads
+  number_new = get_or-append_right items (length row ∷ length heads ∷ map code row) (length items) (length items + 1) 0 refl (omega arith) ∙ ap (λ n. get_or (length row ∷ length heads ∷ map code row) n 0) one
+    where
+      one : length items + 1 - length items ≡ 1
+      one = omega arith
+
+  pub length_more : length more ≡ length items + 2 + length row
+  length_more = length-append items (length row ∷ length heads ∷ map code row) ∙ omega (arith, length-map row code)
+
+  places_more : map (place_at more) (heads ++ length items ∷ []) ≡ map (place_at items) heads ++ (let p : Place = record { from = length items; to = length items + (2 + length row) } in p) ∷ []
+  places_more =
+      map-append (place_at more) heads (length items ∷ [])
+      ∙ ap₂ (λ (ps : List Place) (n : ℕ). ps ++ (let p : Place = record { from = length items; to = n } in p) ∷ [])
+      (places_same more items heads (λ c low. item_kept (get_or heads c 0) (omega (arith, are.inside c low))))
+      (omega (arith, length_new))
+
+  pub clauses_more : clauses_at more (heads ++ length items ∷ []) ≡ clauses_at items heads ++ row ∷ []
+  clauses_more =
+      let tail = length row ∷ length heads ∷ map code row in
+      let span : Place = record { from = length items; to = length items + (2 + length row) } in
+      let rows = row_pieces items (map (place_at items) heads) in
+      ap (λ ps. map decoded (row_pieces more ps)) places_more
+      ∙ ap (map decoded) (pieces-push items tail (map (place_at items) heads) span (heads_flat items heads are) refl (omega (arith, length-map row code)))
+      ∙ map-append decoded rows (tail ∷ [])
+      ∙ ap (λ r. map decoded rows ++ r ∷ []) (literals_code row)
+
+  pub are_more : length more < 2 ^ 32 → AreHeads more (heads ++ length items ∷ [])
+  are_more short =
+      let heads' = heads ++ length items ∷ [] in
+      let longer = length_push heads (length items) in
+      let which : (c : ℕ) → c < length heads' → (c < length heads) ⊎ (c ≡ length heads) = λ c low. elim (cases_lt c (length heads)) [ inl lt ↦ inl lt | inr ge ↦ inr (omega arith) ] in
+      let end_old : (c : ℕ) → c < length heads → get_or heads' c 0 + 2 + get_or more (get_or heads' c 0) 0 ≤ length items = λ c low.
+      omega (arith, head_kept c low, ap (λ h. get_or more h 0) (head_kept c low), item_kept (get_or heads c 0) (omega (arith, are.inside c low)), are.inside c low) in
+      record {
+        inside = λ c low. elim (which c low) [
+          | inl lt ↦ omega (arith, end_old c lt, length_more)
+          | inr e ↦ omega (arith, ap (λ n. get_or heads' n 0) e, head_new, ap (λ n. get_or more (get_or heads' n 0) 0) e, ap (λ h. get_or more h 0) head_new, length_new, length_more)
+        ];
+        ordered = λ c d earlier low. elim (which d low) [
+          | inl lt ↦
+              let c_low : c < length heads = omega (arith, earlier, lt) in
+              omega (arith, head_kept c c_low, ap (λ h. get_or more h 0) (head_kept c c_low), item_kept (get_or heads c 0) (omega (arith, are.inside c c_low)), head_kept d lt, are.ordered c d earlier lt)
+          | inr e ↦ omega (arith, end_old c (omega (arith, earlier, e)), ap (λ n. get_or heads' n 0) e, head_new)
+        ];
+        numbered = λ c low. elim (which c low) [
+          | inl lt ↦ ap (λ h. get_or more (h + 1) 0) (head_kept c lt) ∙ item_kept (get_or heads c 0 + 1) (omega (arith, are.inside c lt)) ∙ are.numbered c lt
+          | inr e ↦ ap (λ n. get_or more (get_or heads' n 0 + 1) 0) e ∙ ap (λ h. get_or more (h + 1) 0) head_new ∙ number_new ∙ sym e
+        ];
+        first = elim (cases_lt 0 (length heads)) [
+          | inl some ↦ head_kept 0 some ∙ are.first
+          | inr empty ↦
+              let is : 0 ≡ length heads = omega arith in
+              ap (λ n. get_or heads' n 0) is ∙ head_new ∙ are.none (sym is)
+        ];
+        none = λ e. omega (arith, e, longer);
+        few = short;
+      }
+
+-- the last clause is taken off
+module _ (items heads : List ℕ) (are : AreHeads items heads) (some : 0 < length heads) where
+  abbrev last : ℕ
+  last = length heads - 1
+
+  abbrev end : ℕ
+  end = get_or heads last 0
+
+  before_end : (c : ℕ) → c < last → get_or heads c 0 + 2 + get_or items (get_or heads c 0) 0 ≤ end
+  before_end c low = are.ordered c last low (omega arith)
+
+  places_fewer : map (place_at (take end items)) (take last heads) ≡ take last (map (place_at items) heads)
+  places_fewer =
+      places_same (take end items) items (take last heads)
+      (λ c low.
+      let c_low : c < last = omega (arith, low, length-take-le last heads (omega arith)) in
+      let head : get_or (take last heads) c 0 ≡ get_or heads c 0 = get_or-take last heads c 0 c_low in
+      get_or-take end items (get_or (take last heads) c 0) 0 (omega (arith, before_end c c_low, head)))
+      ∙ sym (take-map (place_at items) last heads)
+
+  pub clauses_fewer : clauses_at (take end items) (take last heads) ≡ take last (clauses_at items heads)
+  clauses_fewer =
+      let ps = map (place_at items) heads in
+      let low : last < length ps = omega (arith, length-map heads (place_at items)) in
+      let d = place_at items 0 in
+      let from : (get_or ps last d).from ≡ end = ap (λ (p : Place). p.from) (get_or-map (place_at items) heads last 0 d (omega arith)) in
+      ap (λ qs. map decoded (row_pieces (take end items) qs)) places_fewer
+      ∙ ap (map decoded) (pieces-take items ps last end (heads_flat items heads are) (subst (λ e. All (λ (s : Place). s.to ≤ e) (take last ps)) from (spans_before items ps last d (heads_flat items heads are) low)))
+      ∙ sym (take-map decoded last (row_pieces items ps))
+
+  pub are_fewer : AreHeads (take end items) (take last heads)
+  are_fewer =
+      let shorter : length (take last heads) ≡ last = length-take-le last heads (omega arith) in
+      let cut : length (take end items) ≡ end = length-take-le end items (omega (arith, are.inside last (omega arith))) in
+      let head : (c : ℕ) → c < last → get_or (take last heads) c 0 ≡ get_or heads c 0 = λ c low. get_or-take last heads c 0 low in
+      let item : (p : ℕ) → p < end → get_or (take end items) p 0 ≡ get_or items p 0 = λ p low. get_or-take end items p 0 low in
+      let len : (c : ℕ) → c < last → get_or (take last heads) c 0 + 2 + get_or (take end items) (get_or (take last heads) c 0) 0 ≡ get_or heads c 0 + 2 + get_or items (get_or heads c 0) 0 = λ c low.
+      omega (arith, head c low, ap (λ h. get_or (take end items) h 0) (head c low), item (get_or heads c 0) (omega (arith, before_end c low))) in
+      record {
+        inside = λ c low. let c_low : c < last = omega (arith, low, shorter) in omega (arith, len c c_low, before_end c c_low, cut);
+        ordered = λ c d earlier low.
+            let d_low : d < last = omega (arith, low, shorter) in
+            omega (arith, len c (omega arith), head d d_low, are.ordered c d earlier (omega arith));
+        numbered = λ c low.
+            let c_low : c < last = omega (arith, low, shorter) in
+            ap (λ h. get_or (take end items) (h + 1) 0) (head c c_low) ∙ item (get_or heads c 0 + 1) (omega (arith, before_end c c_low)) ∙ are.numbered c (omega arith);
+        first = elim (cases_lt 0 last) [
+          | inl some_left ↦ head 0 some_left ∙ are.first
+          | inr empty ↦ get_or_past (take last heads) 0 0 (omega (arith, shorter))
+        ];
+        none = λ e. omega (arith, cut, are.first, ap (λ n. get_or heads n 0) (last_is e shorter));
+        few = omega (arith, cut, are.inside last (omega arith), are.few);
+      }
+    where
+      last_is : length (take last heads) ≡ 0 → length (take last heads) ≡ last → last ≡ 0
+      last_is e is = omega (arith, e, is)
+
+-- an item of the literals is changed
+set_decoded : (row : List ℕ) (i x : ℕ) → decoded (set row (suc (suc i)) x) ≡ set (decoded row) i (literal_of x)
+set_decoded [] i x = refl
+set_decoded (a ∷ []) i x = refl
+set_decoded (a ∷ b ∷ row) i x = map-set literal_of row i x
+
+-- two literals change places
+swap_decoded : (row : List ℕ) (i j : ℕ) → i + 2 < length row → j + 2 < length row → decoded (swap row (suc (suc i)) (suc (suc j))) ≡ swap (decoded row) i j
+swap_decoded row i j i_low j_low =
+    let len : length (decoded row) ≡ length row - 2 = length-map (drop 2 row) literal_of ∙ length-drop 2 row in
+    let at : (k : ℕ) → k + 2 < length row → literal_of (get_or row (suc (suc k)) 0) ≡ get_or (decoded row) k (literal_of 0) = λ k low.
+    let two : 2 + k ≡ suc (suc k) = omega arith in
+    ap literal_of (ap (λ n. get_or row n 0) (sym two) ∙ sym (get_or-drop 2 row k 0)) ∙ sym (get_or-map literal_of (drop 2 row) k 0 (literal_of 0) (omega (arith, length-drop 2 row))) in
+    ap decoded (sym (swap_is row (suc (suc i)) (suc (suc j)) 0 (omega arith) (omega arith)))
+    ∙ set_decoded (set row (suc (suc i)) (get_or row (suc (suc j)) 0)) j (get_or row (suc (suc i)) 0)
+    ∙ ap (λ ls. set ls j (literal_of (get_or row (suc (suc i)) 0))) (set_decoded row i (get_or row (suc (suc j)) 0))
+    ∙ ap₂ (λ x y. set (set (decoded row) i x) j y) (at j j_low) (at i i_low)
+    ∙ swap_is (decoded row) i j (literal_of 0) (omega (arith, len)) (omega (arith, len))
+
+module _ (items heads : List ℕ) (are : AreHeads items heads) (c : ℕ) (known : c < length heads) (i j a b : ℕ)
+    (i_low : i < get_or items (get_or heads c 0) 0) (j_low : j < get_or items (get_or heads c 0) 0)
+    (a_is : a ≡ get_or items (get_or heads c 0 + 2 + i) a) (b_is : b ≡ get_or items (get_or heads c 0 + 2 + j) b) where
+  abbrev head : ℕ
+  head = get_or heads c 0
+
+  abbrev new : List ℕ
+  new = set (set items (head + 2 + i) b) (head + 2 + j) a
+
+  elsewhere : (p : ℕ) → p ≢ head + 2 + i → p ≢ head + 2 + j → get_or new p 0 ≡ get_or items p 0
+  elsewhere p not_i not_j = get_or-set_other (set items (head + 2 + i) b) (head + 2 + j) p a 0 not_j ∙ get_or-set_other items (head + 2 + i) p b 0 not_i
+
+  -- no head has one of the two
+  heads_other : (d q k : ℕ) → d < length heads → q < 2 → k < get_or items head 0 → get_or heads d 0 + q ≢ head + 2 + k
+  heads_other d q k d_low q_low k_low same = elim (cases_lt d c) [
+    | inl lt ↦ omega (arith, are.ordered d c lt known, same, q_low)
+    | inr ge ↦ elim (cases_lt c d) [
+      | inl gt ↦ omega (arith, are.ordered c d gt d_low, same, k_low)
+      | inr le ↦ omega (arith, ap (λ n. get_or heads n 0) (both d c ge le), same, q_low)
+    ]
+  ]
+    where
+      both : (m n : ℕ) → n ≤ m → m ≤ n → m ≡ n
+      both m n low high = omega arith
+
+  head_item : (d q : ℕ) → d < length heads → q < 2 → get_or new (get_or heads d 0 + q) 0 ≡ get_or items (get_or heads d 0 + q) 0
+  head_item d q d_low q_low = elsewhere (get_or heads d 0 + q) (heads_other d q i d_low q_low i_low) (heads_other d q j d_low q_low j_low)
+
+  length_item : (d : ℕ) → d < length heads → get_or new (get_or heads d 0) 0 ≡ get_or items (get_or heads d 0) 0
+  length_item d d_low =
+      let plain : get_or heads d 0 + 0 ≡ get_or heads d 0 = omega arith in
+      subst (λ p. get_or new p 0 ≡ get_or items p 0) plain (head_item d 0 d_low (omega arith))
+
+  length_same : length new ≡ length items
+  length_same = length-set (set items (head + 2 + i) b) (head + 2 + j) a ∙ length-set items (head + 2 + i) b
+
+  pub are_swapped : AreHeads new heads
+  are_swapped = record {
+    inside = λ d low. omega (arith, length_item d low, are.inside d low, length_same);
+    ordered = λ d e earlier low. omega (arith, length_item d (omega arith), are.ordered d e earlier low);
+    numbered = λ d low. head_item d 1 low (omega arith) ∙ are.numbered d low;
+    first = are.first;
+    none = λ e. length_same ∙ are.none e;
+    few = omega (arith, length_same, are.few);
+  }
+
+  pub clauses_swapped : clauses_at new heads ≡ set (clauses_at items heads) c (swap (clause_of (clauses_at items heads) c) i j)
+  clauses_swapped =
+      let ps = map (place_at items) heads in
+      let rows = row_pieces items ps in
+      let row = get_or rows c [] in
+      let p = place_at items head in
+      let i_at : head + 2 + i ≡ head + suc (suc i) = omega arith in
+      let j_at : head + 2 + j ≡ head + suc (suc j) = omega arith in
+      let len = row_length items heads are c known in
+      ap (λ qs. map decoded (row_pieces new qs)) (places_same new items heads length_item)
+      ∙ ap₂ (λ m n. map decoded (row_pieces (set (set items m b) n a) ps)) i_at j_at
+      ∙ ap (map decoded) (set_set_row items ps (heads_flat items heads are) p c (suc (suc i)) (suc (suc j)) a b (omega (arith, length-map heads (place_at items)))
+      (sym (get_or-map (place_at items) heads c 0 p known)) (omega (arith, len, i_low)) (omega (arith, len, j_low)) (a_is ∙ ap (λ n. get_or items n a) i_at) (b_is ∙ ap (λ n. get_or items n b) j_at))
+      ∙ map-set decoded rows c (swap row (suc (suc i)) (suc (suc j)))
+      ∙ ap (set (map decoded rows) c) (swap_decoded row i j (omega (arith, len, i_low)) (omega (arith, len, j_low)) ∙ ap (λ ls. swap ls i j) (sym (clause_row items heads are c known)))
+
+-- the clause that is read at a head
+pub clause_at_head : (items heads : List ℕ) → AreHeads items heads → (head n : ℕ) → n ≡ get_or items head n → Contains heads head
+    → map literal_of (slice_range items (head + 2) (head + 2 + n)) ≡ clause_of (clauses_at items heads) (number_of heads head)
+clause_at_head items heads are head n n_is there =
+    let r = number_low heads head there in
+    let c = number_of heads head in
+    let low : head < length items = omega (arith, are.inside c r.0, r.1) in
+    let len : n ≡ get_or items head 0 = n_is ∙ get_or_default items head n 0 low in
+    ap (λ m. map literal_of (slice_range items (head + 2) (head + 2 + m))) len
+    ∙ ap (λ h. map literal_of (slice_range items (h + 2) (h + 2 + get_or items h 0))) (sym r.1)
+    ∙ clause_range items heads are c r.0
+
+-- two literals of the clause at a head change places
+module _ (items heads : List ℕ) (are : AreHeads items heads) (h : ℕ) (there : Contains heads h) where
+  -- a literal stands in the buffer
+  pub literal_inside : (i : ℕ) → i < length (clause_of (clauses_at items heads) (number_of heads h)) → h + 2 + i < length items
+  literal_inside i low =
+      let r = number_low heads h there in
+      let c = number_of heads h in
+      omega (arith, are.inside c r.0, r.1, clause_length items heads are c r.0, low)
+
+  module _ (i j a b : ℕ) (i_low : i < length (clause_of (clauses_at items heads) (number_of heads h))) (j_low : j < length (clause_of (clauses_at items heads) (number_of heads h)))
+      (a_is : a ≡ get_or items (h + 2 + i) a) (b_is : b ≡ get_or items (h + 2 + j) b) where
+    at_head : get_or heads (number_of heads h) 0 ≡ h
+    at_head = (number_low heads h there).1
+
+    known_head : number_of heads h < length heads
+    known_head = (number_low heads h there).0
+
+    low_at : (k : ℕ) → k < length (clause_of (clauses_at items heads) (number_of heads h)) → k < get_or items (get_or heads (number_of heads h) 0) 0
+    low_at k low = omega (arith, low, clause_length items heads are (number_of heads h) known_head)
+
+    pub swapped_heads : AreHeads (set (set items (h + 2 + i) b) (h + 2 + j) a) heads
+    swapped_heads = subst (λ m. AreHeads (set (set items (m + 2 + i) b) (m + 2 + j) a) heads) at_head
+        (are_swapped items heads are (number_of heads h) known_head i j a b (low_at i i_low) (low_at j j_low)
+        (a_is ∙ ap (λ m. get_or items (m + 2 + i) a) (sym at_head)) (b_is ∙ ap (λ m. get_or items (m + 2 + j) b) (sym at_head)))
+
+    pub swapped_clauses : clauses_at (set (set items (h + 2 + i) b) (h + 2 + j) a) heads ≡ set (clauses_at items heads) (number_of heads h) (swap (clause_of (clauses_at items heads) (number_of heads h)) i j)
+    swapped_clauses =
+        ap (λ m. clauses_at (set (set items (m + 2 + i) b) (m + 2 + j) a) heads) (sym at_head)
+        ∙ clauses_swapped items heads are (number_of heads h) known_head i j a b (low_at i i_low) (low_at j j_low)
+        (a_is ∙ ap (λ m. get_or items (m + 2 + i) a) (sym at_head)) (b_is ∙ ap (λ m. get_or items (m + 2 + j) b) (sym at_head))
