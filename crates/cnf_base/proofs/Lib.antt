@@ -6,3 +6,4 @@ pub mod RowLemmas
 pub mod RowSwaps
 pub mod Lengthened
 mod RowTiles
+pub mod Among

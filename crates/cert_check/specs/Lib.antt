@@ -1,0 +1,5 @@
+pub mod Limit
+pub mod Lawful
+pub mod Answer
+pub mod Walk
+pub mod Trimmed

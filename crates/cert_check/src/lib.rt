@@ -1,0 +1,14 @@
+//! A certificate against a formula.
+#![tactic(auto)]
+
+mod alone;
+mod checking;
+pub mod laws;
+mod targets;
+#[cfg(test)]
+mod tests;
+mod together;
+pub mod verdict;
+
+pub use checking::check;
+pub use verdict::{CheckRefused, Reason, Verdict};

@@ -1,0 +1,162 @@
+-- Where a byte, and the 0 behind some literals, stand in a text.
+use Rattle.std.proofs.Common.{◌≡◌, ℕ, ◌+◌, ◌-◌, ◌/◌, ◌%◌, ◌<◌, ◌≤◌, inl, inr, Bool, true, false, List, [], ◌∷◌, ◌++◌, length, get_or, All, refl, sym, ap, ◌∙◌, arith, append_assoc, length-append}
+use Rattle.std.specs.Prelude.{codes, decimal}
+use Rattle.std.specs.List.{flat_map}
+use Rattle.std.proofs.Math.Seq.{get_or-append_seam}
+use Rattle.std.proofs.lemmas.Bool.{cases_order}
+use Rattle.std.proofs.lemmas.Fmt.{decimal_by_steps, decimal_nonempty}
+use Rattle.std.proofs.lemmas.List.{get_or_append_left, get_or-append-add}
+use Rattle.std.proofs.lemmas.List.Elements.{All-nil, All-head, All-tail, All-push, All-append}
+use Rattle.cnf_base.specs.declared.literal.Literal.{Literal}
+use Rattle.cert_text.specs.Text.{greatest_u64, IsLiteral, sign_text, literal_text}
+use Rattle.cert_text.proofs.Sound.{apart}
+use Rattle.cert_text.proofs.Slices.{digits_high}
+
+-- the byte does not stand from here up to there
+pub record HasSought (bytes : List ℕ) (at byte end : ℕ) : Type 0 where
+  pub low : at ≤ end
+  pub high : end ≤ length bytes
+  pub none : (k : ℕ) → at ≤ k → k < end → get_or bytes k 0 ≡ byte → ⊥
+
+pub sought_none : (bytes : List ℕ) (at byte : ℕ) → at ≤ length bytes → HasSought bytes at byte at
+sought_none bytes at byte within = record { low = omega arith; high = within; none = λ k low below. absurd (omega (arith, low, below)) }
+
+pub sought_more : (bytes : List ℕ) (at byte end : ℕ) → HasSought bytes at byte end → end < length bytes → (get_or bytes end 0 ≡ byte → ⊥) → HasSought bytes at byte (end + 1)
+sought_more bytes at byte end has within other = record {
+  low = omega (arith, has.low);
+  high = omega (arith, within);
+  none = λ k low below. elim (cases_order k end) [
+    | inl e ↦ λ is. other (ap (λ i. get_or bytes i 0) (sym e) ∙ is)
+    | inr (inl less) ↦ has.none k low less
+    | inr (inr more) ↦ absurd (omega (arith, below, more))
+  ];
+}
+
+-- behind a word without the byte it stands first
+pub sought_is : (bytes : List ℕ) (at byte end : ℕ) → HasSought bytes at byte end → (end < length bytes → get_or bytes end 0 ≡ byte)
+    → (before word more : List ℕ) → All (λ b. b ≡ byte → ⊥) word → bytes ≡ before ++ (word ++ byte ∷ more) → length before ≡ at → end ≡ at + length word
+sought_is bytes at byte end has stops before word more other is place =
+    let one = length-append before (word ++ byte ∷ more) in
+    let two = length-append word (byte ∷ more) in
+    let whole = ap length is in
+    elim (cases_order end (at + length word)) [
+      | inl e ↦ e
+      | inr (inl early) ↦ absurd (
+          let i : ℕ = end - at in
+          let here : end ≡ length before + i = omega (arith, has.low, place) in
+          let inside : i < length word = omega (arith, has.low, early) in
+          let same : get_or bytes end 0 ≡ get_or word i 0 =
+          ap (λ x. get_or x end 0) is ∙ ap (λ k. get_or (before ++ (word ++ byte ∷ more)) k 0) here ∙ get_or-append-add before (word ++ byte ∷ more) i 0
+          ∙ get_or_append_left word (byte ∷ more) 0 i inside in
+          other i 0 inside (sym same ∙ stops (omega (arith, one, two, whole, early, place))))
+      | inr (inr late) ↦ absurd (has.none (at + length word) (omega arith) late (
+          ap (λ x. get_or x (at + length word) 0) is
+          ∙ ap (λ k. get_or (before ++ (word ++ byte ∷ more)) (k + length word) 0) (sym place)
+          ∙ get_or-append-add before (word ++ byte ∷ more) (length word) 0
+          ∙ get_or-append_seam word byte more 0))
+    ]
+
+-- a literal without the space behind it
+abbrev pub word_of : Literal → List ℕ
+word_of l = sign_text l.negated ++ decimal l.letter.0
+
+-- no digit and no sign is a space or a newline, and the first one of a number that is not 0 is no 0
+sign_high : (negated : Bool) → All (λ b. 44 < b) (sign_text negated)
+sign_high true = All-push (λ b. 44 < b) [] 45 (All-nil (λ b. 44 < b)) (omega arith)
+sign_high false = All-nil (λ b. 44 < b)
+
+pub word_high : (l : Literal) → IsLiteral l → All (λ b. 44 < b) (word_of l)
+word_high l is = All-append (λ b. 44 < b) (sign_text l.negated) (decimal l.letter.0) (sign_high l.negated)
+    (λ k d low. (let high = digits_high l.letter.0 (omega (arith, is)) k d low in omega (arith, high)))
+
+first_positive : (n : ℕ) → 1 ≤ n → n ≤ greatest_u64 → 48 < get_or (decimal n) 0 0
+first_positive n some few = decimal_by_steps P one more n (omega (arith, few)) some few
+  where
+    P : ℕ → List ℕ → Type 0
+    P n ds = 1 ≤ n → n ≤ greatest_u64 → 48 < get_or ds 0 0
+
+    one : (n : ℕ) → n < 10 → P n ((48 + n) ∷ [])
+    one n small some few = omega (arith, some)
+
+    more : (n : ℕ) (ds : List ℕ) → 10 ≤ n → P (n / 10) ds → P n (ds ++ ((48 + n % 10) ∷ []))
+    more n [] big before some few = absurd (let low = before (omega (arith, big)) (omega (arith, few)) in omega (arith, low))
+    more n (d ∷ ds) big before some few = before (omega (arith, big)) (omega (arith, few))
+
+word_first : (l : Literal) (more : List ℕ) → IsLiteral l → get_or (word_of l ++ more) 0 0 ≡ 48 → ⊥
+word_first l more is = go l.negated
+  where
+    go : (negated : Bool) → get_or ((sign_text negated ++ decimal l.letter.0) ++ more) 0 0 ≡ 48 → ⊥
+    go true e = omega (arith, e)
+    go false e =
+        let some = decimal_nonempty l.letter.0 (omega (arith, is)) in
+        let left = get_or_append_left (decimal l.letter.0) more 0 0 some in
+        let high = first_positive l.letter.0 is.0 (omega (arith, is)) in
+        omega (arith, left, high, e)
+
+-- literals stand from here on, and then the 0 behind them, at the place `nought`
+pub record Remaining (bytes : List ℕ) (at nought : ℕ) : Type 0 where
+  pub before : List ℕ
+  pub literals : List Literal
+  pub more : List ℕ
+  pub all : All IsLiteral literals
+  pub spelled : bytes ≡ before ++ (flat_map literal_text literals ++ 48 ∷ more)
+  pub place : length before ≡ at
+  pub behind : at + length (flat_map literal_text literals) ≡ nought
+
+word_spelled : (l : Literal) (ls : List Literal) (more : List ℕ) → flat_map literal_text (l ∷ ls) ++ 48 ∷ more ≡ word_of l ++ 32 ∷ (flat_map literal_text ls ++ 48 ∷ more)
+word_spelled l ls more =
+    append_assoc (literal_text l) (flat_map literal_text ls) (48 ∷ more)
+    ∙ apart (sign_text l.negated) (decimal l.letter.0) (codes " ") (flat_map literal_text ls ++ 48 ∷ more)
+    ∙ sym (append_assoc (sign_text l.negated) (decimal l.letter.0) (32 ∷ (flat_map literal_text ls ++ 48 ∷ more)))
+
+-- one literal further
+pub remaining_more : (bytes : List ℕ) (at nought end : ℕ) → at < length bytes → (get_or bytes at 0 ≡ 48 → ⊥)
+    → ((before word more : List ℕ) → All (λ b. b ≡ 32 → ⊥) word → bytes ≡ before ++ (word ++ 32 ∷ more) → length before ≡ at → end ≡ at + length word)
+    → Remaining bytes at nought → Remaining bytes (end + 1) nought
+remaining_more bytes at nought end low other found it = go it.literals it.all it.spelled it.behind
+  where
+    go : (ls : List Literal) → All IsLiteral ls → bytes ≡ it.before ++ (flat_map literal_text ls ++ 48 ∷ it.more) → at + length (flat_map literal_text ls) ≡ nought → Remaining bytes (end + 1) nought
+    go [] all is zero_at = absurd (other (
+        ap (λ x. get_or x at 0) is ∙ ap (λ k. get_or (it.before ++ 48 ∷ it.more) k 0) (sym it.place) ∙ get_or-append_seam it.before 48 it.more 0))
+    go (l ∷ ls) all is zero_at =
+        let rest : List ℕ = flat_map literal_text ls ++ 48 ∷ it.more in
+        let word = word_of l in
+        let high = word_high l (All-head IsLiteral l ls all) in
+        let apart_is : bytes ≡ it.before ++ (word ++ 32 ∷ rest) = is ∙ ap (λ x. it.before ++ x) (word_spelled l ls it.more) in
+        let end_is : end ≡ at + length word = found it.before word rest (λ k d inside. λ e. (let h = high k d inside in omega (arith, h, e))) apart_is it.place in
+        let long : length (flat_map literal_text (l ∷ ls)) ≡ length word + 1 + length (flat_map literal_text ls) =
+        (let one = ap length (word_spelled l ls it.more) in
+        let two = length-append (flat_map literal_text (l ∷ ls)) (48 ∷ it.more) in
+        let three = length-append word (32 ∷ rest) in
+        let four = length-append (flat_map literal_text ls) (48 ∷ it.more) in
+        omega (arith, one, two, three, four)) in record {
+          before = it.before ++ (word ++ 32 ∷ []);
+          literals = ls;
+          more = it.more;
+          all = All-tail IsLiteral l ls all;
+          spelled = apart_is ∙ ap (λ x. it.before ++ x) (sym (append_assoc word (32 ∷ []) rest)) ∙ sym (append_assoc it.before (word ++ 32 ∷ []) rest);
+          place = (let one = length-append it.before (word ++ 32 ∷ []) in let two = length-append word (32 ∷ []) in omega (arith, one, two, end_is, it.place));
+          behind = omega (arith, end_is, long, zero_at);
+        }
+
+-- at the 0
+pub remaining_none : (bytes : List ℕ) (at nought : ℕ) → (at < length bytes → get_or bytes at 0 ≡ 48) → Remaining bytes at nought → at ≡ nought
+remaining_none bytes at nought stops it = go it.literals it.all it.spelled it.behind
+  where
+    go : (ls : List Literal) → All IsLiteral ls → bytes ≡ it.before ++ (flat_map literal_text ls ++ 48 ∷ it.more) → at + length (flat_map literal_text ls) ≡ nought → at ≡ nought
+    go [] all is zero_at = omega (arith, zero_at)
+    go (l ∷ ls) all is zero_at =
+        let rest : List ℕ = flat_map literal_text ls ++ 48 ∷ it.more in
+        let apart_is : bytes ≡ it.before ++ (word_of l ++ 32 ∷ rest) = is ∙ ap (λ x. it.before ++ x) (word_spelled l ls it.more) in
+        let one = length-append it.before (word_of l ++ 32 ∷ rest) in
+        let two = length-append (word_of l) (32 ∷ rest) in
+        let here = stops (omega (arith, one, two, ap length apart_is, it.place)) in
+        let same : get_or bytes at 0 ≡ get_or (word_of l ++ 32 ∷ rest) 0 0 =
+        ap (λ x. get_or x at 0) apart_is ∙ ap (λ k. get_or (it.before ++ (word_of l ++ 32 ∷ rest)) k 0) (let e : at ≡ length it.before + 0 = omega (arith, it.place) in e)
+        ∙ get_or-append-add it.before (word_of l ++ 32 ∷ rest) 0 0 in
+        absurd (word_first l (32 ∷ rest) (All-head IsLiteral l ls all) (sym same ∙ here))
+
+-- before the first one
+pub remaining_all : (line : List ℕ) (literals : List Literal) (more : List ℕ) → All IsLiteral literals → line ≡ flat_map literal_text literals ++ 48 ∷ more
+    → Remaining line 0 (length (flat_map literal_text literals))
+remaining_all line literals more all is = record { before = []; literals = literals; more = more; all = all; spelled = is; place = refl; behind = omega arith }

@@ -1,0 +1,10 @@
+pub mod Text
+pub mod Scan
+pub mod Laws
+pub mod Live
+pub mod Writing
+pub mod Shape
+pub mod Worked
+pub mod Reading
+pub mod Items
+pub mod View

@@ -1,0 +1,29 @@
+//! The text of a certificate: reading it whole or item by item, writing it, and which of its lines are live
+//! where.
+#![tactic(auto)]
+
+mod finding;
+pub mod glance;
+pub mod item;
+pub mod laws;
+mod marks;
+mod printing;
+pub mod reader;
+pub mod refused;
+mod scanning;
+mod shared;
+pub mod spelled;
+#[cfg(test)]
+mod tests;
+mod uses;
+pub mod view;
+pub mod writing;
+
+pub use glance::Form;
+pub use item::Item;
+pub use reader::Items;
+pub use refused::CertRefused;
+pub use scanning::form;
+pub use spelled::{Hints, Literals, Targets};
+pub use view::CertView;
+pub use writing::write;

@@ -1,0 +1,129 @@
+// The text of a certificate: its numbers, its lines with what is deleted behind each, and the close.
+ghost use Rattle.std.specs.Prelude.{◌≡◌, ℕ, ◌++◌, OnOk, decimal, codes};
+ghost use Rattle.std.specs.List.{flat_map};
+ghost use Rattle.cert_text.specs.Text.{literal_text, hint_text, target_text, part_text, kind_text, close_text};
+ghost use Rattle.cert_text.specs.Text as text;
+ghost use Rattle.cert_text.specs.Writing.{delete_of};
+
+use cnf_base::{Hint, Literal};
+use itoa::Buffer;
+use ltl_syntax::Kind;
+use std::alloc::AllocError;
+
+fn push_number(out: &mut Vec<u8>, number: u64) -> Result<(), AllocError>
+    ensures { OnOk result (out.new.items ≡ out.old.items ++ decimal number) }
+{
+    let mut buffer = Buffer::new();
+    out.extend_from_slice(buffer.format(number).as_bytes())
+}
+
+fn push_literal(out: &mut Vec<u8>, literal: Literal) -> Result<(), AllocError>
+    ensures { OnOk result (out.new.items ≡ out.old.items ++ literal_text literal) }
+{
+    if literal.negated {
+        out.push(b'-')?;
+    }
+    push_number(out, literal.letter.0 as u64)?;
+    out.push(b' ')?;
+    Ok(())
+}
+
+fn push_hint(out: &mut Vec<u8>, hint: Hint) -> Result<(), AllocError>
+    ensures { OnOk result (out.new.items ≡ out.old.items ++ hint_text hint) }
+{
+    match hint {
+        Hint::Clause(number) => push_number(out, number)?,
+        Hint::Line(number) => {
+            out.push(b'-')?;
+            push_number(out, number)?;
+        }
+    }
+    out.push(b' ')?;
+    Ok(())
+}
+
+fn push_literals(out: &mut Vec<u8>, literals: &[Literal]) -> Result<(), AllocError>
+    ensures { OnOk result (out.new.items ≡ out.old.items ++ flat_map literal_text literals.now) }
+{
+    for literal in literals {
+        push_literal(out, *literal)?;
+    }
+    Ok(())
+}
+
+fn push_hints(out: &mut Vec<u8>, hints: &[Hint]) -> Result<(), AllocError>
+    ensures { OnOk result (out.new.items ≡ out.old.items ++ flat_map hint_text hints.now) }
+{
+    for hint in hints {
+        push_hint(out, *hint)?;
+    }
+    Ok(())
+}
+
+fn push_target(out: &mut Vec<u8>, target: u64) -> Result<(), AllocError>
+    ensures { OnOk result (out.new.items ≡ out.old.items ++ target_text target) }
+{
+    out.push(b' ')?;
+    push_number(out, target)
+}
+
+fn push_targets(out: &mut Vec<u8>, targets: &[u64]) -> Result<(), AllocError>
+    ensures { OnOk result (out.new.items ≡ out.old.items ++ flat_map target_text targets.now) }
+{
+    for target in targets {
+        push_target(out, *target)?;
+    }
+    Ok(())
+}
+
+pub fn push_line(out: &mut Vec<u8>, literals: &[Literal], hints: &[Hint]) -> Result<(), AllocError>
+    ensures { OnOk result (out.new.items ≡ out.old.items ++ part_text (text.Line literals.now hints.now)) }
+{
+    push_literals(out, literals)?;
+    out.extend_from_slice(b"0 ")?;
+    push_hints(out, hints)?;
+    out.extend_from_slice(b"0\n")?;
+    Ok(())
+}
+
+/// A delete that names these lines, where there are any.
+pub fn push_delete(out: &mut Vec<u8>, lines: &[u64]) -> Result<(), AllocError>
+    ensures { OnOk result (out.new.items ≡ out.old.items ++ flat_map part_text (delete_of lines.now)) }
+{
+    if lines.is_empty() {
+        return Ok(());
+    }
+    out.push(b'd')?;
+    push_targets(out, lines)?;
+    out.push(b'\n')?;
+    Ok(())
+}
+
+pub fn push_close(out: &mut Vec<u8>, targets: &[u64]) -> Result<(), AllocError>
+    ensures { OnOk result (out.new.items ≡ out.old.items ++ close_text targets.now) }
+{
+    out.extend_from_slice(b"close")?;
+    push_targets(out, targets)?;
+    out.push(b'\n')?;
+    Ok(())
+}
+
+fn kind_bytes(kind: Kind) -> &'static [u8]
+    ensures { result.now ≡ kind_text kind }
+{
+    match kind {
+        Kind::Infinite => b"infinite",
+        Kind::Finite => b"finite",
+    }
+}
+
+pub fn push_header(out: &mut Vec<u8>, kind: Kind, depth: u32) -> Result<(), AllocError>
+    ensures { OnOk result (out.new.items ≡ out.old.items ++ (codes "ltlcert 2 " ++ (kind_text kind ++ (codes " " ++ (decimal depth ++ codes "\n"))))) }
+{
+    out.extend_from_slice(b"ltlcert 2 ")?;
+    out.extend_from_slice(kind_bytes(kind))?;
+    out.push(b' ')?;
+    push_number(out, depth as u64)?;
+    out.push(b'\n')?;
+    Ok(())
+}

@@ -1,0 +1,135 @@
+// The text of the lines of a log, each deleted after its last use.
+ghost use Rattle.std.specs.Prelude.{◌≡◌, ℕ, ◌+◌, ◌<◌, ◌≤◌, [], ◌∷◌, ◌++◌, List, length, filter, slice_index_or, Contains, IfOk, OnOk, if◌then◌else◌};
+ghost use Rattle.std.specs.List.{flat_map};
+ghost use Rattle.cnf_base.specs.declared.literal.Hint.{Hint as SomeHint};
+ghost use Rattle.cnf_base.specs.declared.literal.Hint.TheVariants as hint_kinds;
+ghost use Rattle.clause_log.specs.LogValue.{IsLog};
+ghost use Rattle.cert_text.specs.Text.{part_text, text_of};
+ghost use Rattle.cert_text.specs.Text as text;
+ghost use Rattle.cert_text.specs.Writing.{is_ended, named_lines, ended_at, delete_of, written, AreLast};
+
+use crate::printing::{push_close, push_delete, push_header, push_line};
+use crate::uses::last_uses;
+use clause_log::LogView;
+use cnf_base::Hint;
+use ltl_syntax::Kind;
+use std::alloc::{AllocError, Global};
+
+/// Puts the line behind the others, where this line is its last use and it is no target.
+fn push_ended(
+    found: &mut Vec<u64>,
+    number: u64,
+    last: &[u64],
+    targets: &[u64],
+    line: u64,
+) -> Result<(), AllocError>
+    ensures { OnOk result (found.new.items ≡ found.old.items ++ (if is_ended last.now targets.now line number then number ∷ [] else [])) }
+{
+    if number > 0
+        && number <= last.len() as u64
+        && last[(number - 1) as usize] == line
+        && !targets.contains(&number)
+    {
+        found.push(number)?;
+    }
+    Ok(())
+}
+
+/// The line that the hint names, if it names one, where this line is its last use and it is no target.
+fn push_hinted(
+    found: &mut Vec<u64>,
+    hint: Hint,
+    last: &[u64],
+    targets: &[u64],
+    line: u64,
+) -> Result<(), AllocError>
+    ensures { OnOk result (found.new.items ≡ found.old.items ++ filter (is_ended last.now targets.now line) (named_lines (hint ∷ []))) }
+{
+    match hint {
+        Hint::Clause(_) => Ok(()),
+        Hint::Line(number) => push_ended(found, number, last, targets, line),
+    }
+}
+
+/// The lines whose last use is this one, in the order of the hints and with repeats, in place of what was
+/// there.
+fn ended_by(
+    found: &mut Vec<u64>,
+    hints: &[Hint],
+    last: &[u64],
+    targets: &[u64],
+    line: u64,
+) -> Result<(), AllocError>
+    ensures { OnOk result (found.new.items ≡ filter (is_ended last.now targets.now line) (line ∷ named_lines hints.now)) }
+{
+    found.clear();
+    push_ended(found, line, last, targets, line)?;
+    for hint in hints {
+        push_hinted(found, *hint, last, targets, line)?;
+    }
+    Ok(())
+}
+
+/// The lines whose last use is this one, ascending, in place of what was there.
+fn ended(
+    found: &mut Vec<u64>,
+    hints: &[Hint],
+    last: &[u64],
+    targets: &[u64],
+    line: u64,
+) -> Result<(), AllocError>
+    ensures { OnOk result ((hss : List (List SomeHint)) (k : ℕ) → AreLast hss (length hss) last.now → k < length hss → line ≡ k + 1 → hints.now ≡ slice_index_or hss k []
+        → ((m : ℕ) → Contains hints.now (hint_kinds.Line m) → m ≤ k) → found.new.items ≡ ended_at hss targets.now line) }
+{
+    ended_by(found, hints, last, targets, line)?;
+    found.sort()?;
+    found.dedup();
+    Ok(())
+}
+
+/// One line of the log, and the delete behind it. What is deleted is gathered in `found`.
+fn push_step(
+    found: &mut Vec<u64>,
+    out: &mut Vec<u8>,
+    view: &LogView<'_>,
+    last: &[u64],
+    targets: &[u64],
+    index: u64,
+) -> Result<(), AllocError>
+    requires log { IsLog view.now }
+    requires last { AreLast view.now.hints (length view.now.hints) last.now }
+    requires low { index < length view.now.lines }
+    ensures { OnOk result (out.new.items ≡ out.old.items ++ (part_text (text.Line (slice_index_or view.now.lines index []) (slice_index_or view.now.hints index [])) ++ flat_map part_text (delete_of (ended_at view.now.hints targets.now (index + 1))))) }
+{
+    let line = index + 1;
+    let hints = view.hints(line);
+    push_line(out, view.literals(line), hints)?;
+    ended(found, hints, last, targets, line)?;
+    push_delete(out, found)?;
+    Ok(())
+}
+
+/// The certificate text, of version 2, of the log's lines and of the targets. Behind each line that is the
+/// last use of some lines which are no targets stands one delete that names these, ascending. It is a text
+/// where the depth is at most 1,000, there are as many targets as the depth plus 2, each target is a number
+/// from 1, and each letter of a line is from 1 to 16,777,216.
+pub fn write(
+    alloc: Global,
+    kind: Kind,
+    depth: u32,
+    view: &LogView<'_>,
+    targets: &[u64],
+) -> Result<Vec<u8>, AllocError>
+    requires log { IsLog view.now }
+    ensures { IfOk result (λ whole. whole.items ≡ text_of (written kind depth view.now.lines view.now.hints targets.now)) }
+{
+    let last = last_uses(alloc, view)?;
+    let mut found = Vec::new(alloc);
+    let mut out = Vec::new(alloc);
+    push_header(&mut out, kind, depth)?;
+    for index in 0..view.lines() {
+        push_step(&mut found, &mut out, view, &last, targets, index)?;
+    }
+    push_close(&mut out, targets)?;
+    Ok(out)
+}

@@ -1,0 +1,13 @@
+mod Evenly
+mod Rows
+mod Sizing
+mod Linked
+mod Picks
+mod Gates
+mod Links
+mod Runs
+mod Pairs
+mod Strong
+mod Prunes
+mod Listing
+mod Sampling

@@ -1,0 +1,13 @@
+pub mod Ranges
+pub mod Taken
+pub mod OneHint
+pub mod Setting
+pub mod Falses
+pub mod Outcomes
+pub mod Named
+pub mod Assuming
+pub mod Refuting
+pub mod Entries
+pub mod Starts
+pub mod AtLine
+pub mod Whole

@@ -1,0 +1,5 @@
+pub mod Values
+pub mod Judging
+pub mod Kept
+pub mod Pieces
+pub mod Laws

@@ -1,0 +1,30 @@
+-- How the lines are cut into consecutive pieces, and what each worker answers.
+use Rattle.std.specs.Prelude.{◌≡◌, ℕ, suc, ◌+◌, ◌*◌, ◌/◌, ◌%◌, ◌<◌, ◌≤◌, nat_lt, if◌then◌else◌, List, length, take, slice_index_or, All, Some, None}
+use Rattle.cnf_base.specs.declared.literal.Literal.{Literal}
+use Rattle.cert_text.specs.Text.{Part}
+use Rattle.cert_text.specs.Live.{lines_of, IsGoodLine}
+use Rattle.log_checker.specs.Values.{letters_in}
+use Rattle.log_checker.specs.Judging.{IsFirstBad}
+use Rattle.log_checker.specs.declared.lines.Lines.{Lines}
+use Rattle.log_checker.specs.declared.lines.Lines.TheVariants.{AllGood, FirstBad}
+use Rattle.log_checker.specs.declared.pieces.Area.{Area}
+
+-- where a piece begins: each has as many lines as another, or one more where it is one of the first
+abbrev pub start_at : ℕ → ℕ → ℕ → ℕ
+start_at lines workers piece = (lines / workers) * piece + (if nat_lt piece (lines % workers) then piece else lines % workers)
+
+-- a worker leaves the first bad line of its piece in its area, which keeps its size
+pub record IsJudged (clauses : List (List Literal)) (parts : List Part) (workers piece : ℕ) (old new : Area) : Type 0 where
+  pub first : IsFirstBad (IsGoodLine clauses (letters_in old.assignment) parts) (start_at (length (lines_of parts)) workers piece) (start_at (length (lines_of parts)) workers (piece + 1)) new.first_bad
+  pub size : length new.assignment ≡ length old.assignment
+
+-- the answer of the first area that has one
+abbrev pub IsFirstOf : List Area → Lines → Type 0
+IsFirstOf areas AllGood = All (λ area. area.first_bad ≡ None) areas
+IsFirstOf areas (FirstBad n) = (i : ℕ) × (k : ℕ) × (i < length areas) × (n ≡ suc k) × ((d : Area) → (slice_index_or areas i d).first_bad ≡ Some k) × All (λ area. area.first_bad ≡ None) (take i areas)
+
+-- the areas of a scratch are of one size, from 1 to 16
+pub record IsScratch (letters : ℕ) (areas : List Area) : Type 0 where
+  pub some : 1 ≤ length areas
+  pub few : length areas ≤ 16
+  pub sizes : All (λ area. length area.assignment ≡ letters + 1) areas

@@ -1,0 +1,176 @@
+// Whether one line is a hinted step. Its literals are made false; then each hint but the last has to name a
+// clause with one literal that is not false and has no value, which is made true, and the last one a clause
+// that is false.
+ghost use Rattle.std.specs.Prelude.{◌≡◌, ℕ, ◌<◌, ◌≤◌, ◌↔◌, IsTrue, List, [], ◌∷◌, ◌++◌, length, All};
+ghost use Rattle.std.specs.Prelude.{Contains, replicate, take};
+ghost use Rattle.cnf_base.specs.declared.literal.Literal.{Literal};
+ghost use Rattle.cnf_base.specs.Known.{IsKnown, AreKnown};
+ghost use Rattle.cnf_base.specs.Step.{clause_at};
+ghost use Rattle.cnf_base.specs.Among.{RefutesAmong, IsStepAmong};
+ghost use Rattle.log_checker.specs.Values.{letters_in, falses_in};
+ghost use Rattle.log_checker.specs.Judging.{IsOutcome, IsLineOutcome, IsHintOutcome, IsAssumed};
+
+use crate::Outcome;
+use crate::assignment::{Assignment, Truth};
+use cert_text::{Hints, Literals};
+use cnf_base::{Clauses, Hint, Literal};
+
+/// The lines that hints may name.
+pub trait NamedLines {
+    ghost use Rattle.std.specs.Prelude.{◌≡◌, ℕ, List, Option, Some, None, MatchOption};
+    ghost use Rattle.cnf_base.specs.declared.literal.Literal.{Literal};
+
+    ghost lines: { Self → ℕ → Option (List Literal) };
+
+    /// The literals of the line of this number, where it may be named.
+    fn find(&self, number: u64) -> Option<Literals<'_>>
+        ensures { MatchOption result (lines self.now number ≡ None)
+            (λ literals. lines self.now number ≡ Some literals) };
+}
+
+/// Whether the line with these literals and hints is a hinted step. Nothing is asked of the values before,
+/// and they are no answer behind; no memory is taken.
+pub fn judge<C: Clauses, L: NamedLines>(
+    assignment: &mut Assignment,
+    clauses: &C,
+    lines: &L,
+    literals: Literals<'_>,
+    hints: Hints<'_>,
+) -> bool
+    requires { AreKnown (letters_in assignment.old) (C.clauses clauses.now) }
+    ensures judged { IsTrue result ↔ IsStepAmong (C.clauses clauses.now) (L.lines lines.now)
+        (letters_in assignment.old) literals.entry hints.entry }
+    ensures size { length assignment.new ≡ length assignment.old }
+{
+    assignment.clear();
+    if !assume(assignment, literals) {
+        return false;
+    }
+    refute(assignment, clauses, lines, hints)
+}
+
+/// Makes the literals false, unless there is a complementary pair or a letter that is not known.
+fn assume(assignment: &mut Assignment, literals: Literals<'_>) -> bool
+    requires { falses_in assignment.old ≡ [] }
+    ensures assumed { IsAssumed (letters_in assignment.old) literals.entry (falses_in assignment.new) result }
+    ensures size { length assignment.new ≡ length assignment.old }
+{
+    let mut rest = literals;
+    'literals: while let Some(literal) = rest.next() {
+        if !assignment.knows(literal) {
+            return false;
+        }
+        match assignment.value(literal) {
+            Truth::True => return false,
+            Truth::False => {}
+            Truth::Unset => assignment.falsify(literal),
+        }
+    }
+    true
+}
+
+/// Whether the hints lead to a false clause.
+fn refute<C: Clauses, L: NamedLines>(
+    assignment: &mut Assignment,
+    clauses: &C,
+    lines: &L,
+    hints: Hints<'_>,
+) -> bool
+    requires { AreKnown (letters_in assignment.old) (C.clauses clauses.now) }
+    ensures refuted { IsTrue result ↔ RefutesAmong (C.clauses clauses.now) (L.lines lines.now)
+        (letters_in assignment.old) (falses_in assignment.old) hints.entry }
+    ensures size { length assignment.new ≡ length assignment.old }
+{
+    let mut rest = hints;
+    'hints: while let Some(hint) = rest.next() {
+        match of_hint(assignment, clauses, lines, hint) {
+            Outcome::AllFalse => return rest.next().is_none(),
+            Outcome::Forces(literal) => assignment.falsify(literal.opposite()),
+            Outcome::Neither => return false,
+        }
+    }
+    false
+}
+
+/// What the clause is that the hint names.
+fn of_hint<C: Clauses, L: NamedLines>(
+    assignment: &Assignment,
+    clauses: &C,
+    lines: &L,
+    hint: Hint,
+) -> Outcome
+    requires { AreKnown (letters_in assignment.now) (C.clauses clauses.now) }
+    ensures { IsHintOutcome (C.clauses clauses.now) (L.lines lines.now) (letters_in assignment.now)
+        (falses_in assignment.now) hint result }
+{
+    match hint {
+        Hint::Clause(number) => {
+            if number < 1 || number > clauses.count() {
+                return Outcome::Neither;
+            }
+            of_clause(assignment, clauses, number)
+        }
+        Hint::Line(number) => match lines.find(number) {
+            None => Outcome::Neither,
+            Some(literals) => of_line(assignment, literals),
+        },
+    }
+}
+
+/// What the clause of this number is.
+fn of_clause<C: Clauses>(assignment: &Assignment, clauses: &C, number: u64) -> Outcome
+    requires from_one { 1 ≤ number }
+    requires in_list { number ≤ length (C.clauses clauses.now) }
+    requires known { AreKnown (letters_in assignment.now) (C.clauses clauses.now) }
+    ensures { IsOutcome (falses_in assignment.now) (clause_at (C.clauses clauses.now) number) result }
+{
+    let mut outcome = Outcome::AllFalse;
+    'places: for place in 0..clauses.len(number) {
+        outcome = with_literal(assignment, outcome, clauses.literal(number, place));
+        if let Outcome::Neither = outcome {
+            return Outcome::Neither;
+        }
+    }
+    outcome
+}
+
+/// What a named line is, whose letters are not known yet to be within the greatest.
+fn of_line(assignment: &Assignment, literals: Literals<'_>) -> Outcome
+    ensures { IsLineOutcome (letters_in assignment.now) (falses_in assignment.now) literals.entry result }
+{
+    let mut outcome = Outcome::AllFalse;
+    let mut rest = literals;
+    'literals: while let Some(literal) = rest.next() {
+        if !assignment.knows(literal) {
+            return Outcome::Neither;
+        }
+        outcome = with_literal(assignment, outcome, literal);
+        if let Outcome::Neither = outcome {
+            return Outcome::Neither;
+        }
+    }
+    outcome
+}
+
+/// What a clause is with one more literal.
+fn with_literal(assignment: &Assignment, outcome: Outcome, literal: Literal) -> Outcome
+    requires { literal.letter.0 < length assignment.now }
+    ensures { (clause : List Literal) → IsOutcome (falses_in assignment.now) clause outcome →
+        IsOutcome (falses_in assignment.now) (clause ++ literal ∷ []) result }
+{
+    match assignment.value(literal) {
+        Truth::False => outcome,
+        Truth::True => Outcome::Neither,
+        Truth::Unset => match outcome {
+            Outcome::AllFalse => Outcome::Forces(literal),
+            Outcome::Forces(other) => {
+                if other == literal {
+                    outcome
+                } else {
+                    Outcome::Neither
+                }
+            }
+            Outcome::Neither => outcome,
+        },
+    }
+}

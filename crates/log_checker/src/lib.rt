@@ -1,0 +1,18 @@
+//! Lines of a certificate, judged one by one.
+#![tactic(auto)]
+
+mod assignment;
+mod judge;
+mod kept;
+pub mod laws;
+pub mod lines;
+pub mod live;
+mod outcome;
+mod pieces;
+mod shared;
+#[cfg(test)]
+mod tests;
+
+pub use lines::{Lines, Scratch, check_lines};
+pub use live::LiveChecker;
+pub use outcome::Outcome;

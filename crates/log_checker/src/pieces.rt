@@ -1,0 +1,130 @@
+// A piece of the lines, judged by one worker in an area of its own. A line may name earlier lines whether
+// these are hinted steps or not, so nothing of one piece is asked in another.
+ghost use Rattle.std.specs.Prelude.{◌≡◌, ℕ, ◌+◌, ◌-◌, ◌<◌, ◌≤◌, ◌↔◌, IsTrue, length};
+ghost use Rattle.cnf_base.specs.Known.{AreKnown};
+ghost use Rattle.cert_text.specs.Live.{lines_of, live_at, IsGoodLine};
+ghost use Rattle.log_checker.specs.Values.{letters_in};
+ghost use Rattle.log_checker.specs.Judging.{IsFirstBad};
+ghost use Rattle.log_checker.specs.Pieces.{start_at, IsJudged};
+
+use crate::assignment::Assignment;
+use crate::judge::{NamedLines, judge};
+use cert_text::{CertView, Literals};
+use cnf_base::Clauses;
+use ltl_io::Gate;
+
+/// What one worker works in, and what it answers.
+#[derive(Drop)]
+pub struct Area {
+    pub assignment: Assignment,
+    /// The first line of the piece that is no hinted step, counted from 0.
+    pub first_bad: Option<u64>,
+}
+
+/// The lines that are live at a line.
+#[derive(Drop)]
+struct LinesAt<'v, 't> {
+    view: &'v CertView<'t>,
+    line: u64,
+    ghost from_one: { 1 ≤ line },
+    ghost within: { line ≤ length (lines_of view.now.parts) },
+}
+
+impl<'v, 't> NamedLines for LinesAt<'v, 't> {
+    ghost use Rattle.std.specs.Prelude.{◌-◌};
+    ghost use Rattle.cert_text.specs.Live.{live_at};
+
+    ghost lines = { λ at number. live_at at.view.now.parts (at.line - 1) number };
+
+    fn find(&self, number: u64) -> Option<Literals<'_>> {
+        if number < 1 {
+            return None;
+        }
+        if number >= self.line {
+            return None;
+        }
+        if self.view.last_user(number) < self.line {
+            return None;
+        }
+        Some(self.view.literals(number))
+    }
+}
+
+/// Where a piece begins; the one behind the last begins behind the last line.
+fn start_of(lines: u64, workers: u64, piece: u64) -> u64
+    requires some { 1 ≤ workers }
+    requires within { piece ≤ workers }
+    ensures { result ≡ start_at lines workers piece }
+{
+    let rest = lines % workers;
+    let extra = if piece < rest { piece } else { rest };
+    lines / workers * piece + extra
+}
+
+/// The first of these lines that is no hinted step. Lines are counted from 0 here.
+fn first_bad<C: Clauses>(
+    assignment: &mut Assignment,
+    view: &CertView<'_>,
+    clauses: &C,
+    from: u64,
+    to: u64,
+) -> Option<u64>
+    requires known { AreKnown (letters_in assignment.old) (C.clauses clauses.now) }
+    requires order { from ≤ to }
+    requires within { to ≤ length (lines_of view.now.parts) }
+    ensures first { IsFirstBad (IsGoodLine (C.clauses clauses.now)
+        (letters_in assignment.old) view.now.parts) from to result }
+    ensures size { length assignment.new ≡ length assignment.old }
+{
+    'lines: for index in from..to {
+        if !is_good(assignment, view, clauses, index + 1) {
+            return Some(index);
+        }
+    }
+    None
+}
+
+/// Whether the line is a hinted step over the lines that are live at it.
+fn is_good<C: Clauses>(
+    assignment: &mut Assignment,
+    view: &CertView<'_>,
+    clauses: &C,
+    line: u64,
+) -> bool
+    requires known { AreKnown (letters_in assignment.old) (C.clauses clauses.now) }
+    requires from_one { 1 ≤ line }
+    requires within { line ≤ length (lines_of view.now.parts) }
+    ensures good { IsTrue result ↔ IsGoodLine (C.clauses clauses.now)
+        (letters_in assignment.old) view.now.parts (line - 1) }
+    ensures size { length assignment.new ≡ length assignment.old }
+{
+    let lines = LinesAt { view, line };
+    judge(
+        assignment,
+        clauses,
+        &lines,
+        view.literals(line),
+        view.hints(line),
+    )
+}
+
+/// Judges the lines of one of so many pieces, and leaves the answer in the area.
+pub fn judge_piece<C: Clauses, G: Gate>(
+    view: &CertView<'_>,
+    clauses: &C,
+    gate: &G,
+    area: &mut Area,
+    piece: usize,
+    workers: usize,
+)
+    requires known { AreKnown (letters_in area.old.assignment) (C.clauses clauses.now) }
+    requires piece { piece < workers }
+    requires few { workers ≤ 16 }
+    ensures { IsJudged (C.clauses clauses.now) view.now.parts workers piece area.old area.new }
+{
+    gate.begin(piece as u32);
+    let lines = view.lines();
+    let from = start_of(lines, workers as u64, piece as u64);
+    let to = start_of(lines, workers as u64, piece as u64 + 1);
+    area.first_bad = first_bad(&mut area.assignment, view, clauses, from, to);
+}

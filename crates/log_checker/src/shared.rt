@@ -1,0 +1,13 @@
+// Checkers and what workers work in may stand in any thread. These calls stand only where the types are
+// Send and Sync.
+
+use crate::{Lines, LiveChecker, Outcome, Scratch};
+
+fn is_shared<T: Send + Sync>(_value: &T) {}
+
+fn are_shared(checker: &LiveChecker<'_>, scratch: &Scratch, lines: &Lines, outcome: &Outcome) {
+    is_shared(checker);
+    is_shared(scratch);
+    is_shared(lines);
+    is_shared(outcome);
+}

@@ -1,0 +1,48 @@
+//! Laws of the log of the lines that some lines of a log stand on. Each function is empty: its contract is
+//! the law, and a proof cites it by a call.
+ghost use Rattle.log_trim.specs.Laws.{TrimmedIsLog, TrimmedKeeps, TargetsKeep, TrimmedIsKnown, TrimmedAreLines, TrimmedIsShorter, PushingStarts, PushingMay, PushingGoesOn, PushingSkips, PushingEnds, TableGoesOn, TableHas, SettingMarks, TargetIsMarked, MarkingStarts, NoHintsAdd, HintIsMarked, ClauseIsPassed, LineIsVisited, LineIsPassed, MarkingEnds, HintsAreEarlier, HintIsThere, NeededAreLines};
+
+/// The marked lines are a log, where what they name is marked.
+pub fn trimming()
+    ensures log { TrimmedIsLog }
+    ensures keeps { TrimmedKeeps }
+    ensures targets { TargetsKeep }
+    ensures within { TrimmedIsKnown }
+    ensures lines { TrimmedAreLines }
+    ensures shorter { TrimmedIsShorter }
+{}
+
+/// How a loop forwards pushes the marked lines.
+pub fn pushing()
+    ensures starts { PushingStarts }
+    ensures may { PushingMay }
+    ensures on { PushingGoesOn }
+    ensures skips { PushingSkips }
+    ensures ends { PushingEnds }
+{}
+
+/// How it keeps the new numbers.
+pub fn numbering()
+    ensures on { TableGoesOn }
+    ensures has { TableHas }
+{}
+
+/// How a loop backwards marks what is needed.
+pub fn marking()
+    ensures sets { SettingMarks }
+    ensures target { TargetIsMarked }
+    ensures starts { MarkingStarts }
+    ensures none { NoHintsAdd }
+    ensures hint { HintIsMarked }
+    ensures clause { ClauseIsPassed }
+    ensures line { LineIsVisited }
+    ensures passed { LineIsPassed }
+    ensures ends { MarkingEnds }
+{}
+
+/// Where hints and needed lines lie.
+pub fn earlier()
+    ensures there { HintIsThere }
+    ensures hints { HintsAreEarlier }
+    ensures needed { NeededAreLines }
+{}

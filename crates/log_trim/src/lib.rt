@@ -1,0 +1,9 @@
+//! The log of just the lines that some lines of a log stand on.
+#![tactic(auto)]
+
+pub mod laws;
+#[cfg(test)]
+mod tests;
+mod trimming;
+
+pub use trimming::trim;
