@@ -16,16 +16,19 @@ use Rattle.black_top.specs.declared.status.Status.{Status}
 use Rattle.black_top.specs.declared.status.Status.TheVariants as statuses
 use Rattle.black_top.specs.declared.output.Output.{Output}
 use Rattle.black_top.specs.Status.{is_answer, has_read}
-use Rattle.black_top.specs.Words.{Setting, Solve, Trace as TraceWord, Asks, kind_of, depth_of}
+use Rattle.black_top.specs.Words.{Setting, Solve, Trace as TraceWord, Demo, Asks, ReadsNothing, kind_of, depth_of}
 use Rattle.black_top.specs.Parts.{IsCut}
 use Rattle.black_top.specs.Taking.{AreLeft, IsTakenUpTo, IsTakenWhole}
 use Rattle.black_top.specs.Answer.{Answer, undecided, status_of, text_of, fault_status}
 use Rattle.black_top.specs.Reading.{IsParted, uncut, unread, accepted}
 use Rattle.black_top.specs.Solve.{IsInForce, IsReached, number_of, IsDecided, satisfiable, unsatisfiable, undecided_yet, IsSettled, too_deep, decided, IsSolved, unreadable, settled, PrintsModel, PrintsNone, PrintsUndecided, AreFewLetters, PrintsVerdict, OfFormula, SolvePromise}
 use Rattle.black_top.specs.Trace.{IsJudged, not_json, not_trace, empty_loop, empty_states, many_cells, satisfied, violated, PrintsHolds, PrintsFails, OfTrace, TracePromise}
+use Rattle.black_top.specs.Demo.{PrintsSummary, DemoPromise}
 use Rattle.black_top.specs.Inner.{Shows}
-use Rattle.black_top.specs.Run.{IsGiven, IsAnswered}
-use Rattle.black_top.proofs.OneAnswer.{TextLaws, refused_not_accepted, solve_given, trace_given}
+use Rattle.black_top.specs.Run.{IsGiven, IsAnswered, NeedsNothing}
+use Rattle.black_top.proofs.OneCommand.{command_one}
+use Rattle.black_top.proofs.OneText.{TextLaws, refused_not_accepted}
+use Rattle.black_top.proofs.OneAnswer.{command_given}
 
 -- ---- no refusal has the status of another answer
 
@@ -68,7 +71,7 @@ answered {words} {rest} {before} {after} {s} out text (a, given, shows) same gro
 
 solved : {words : List (List ℕ)} {rest before after : Option (List ℕ)} {s : Status} (settings : List Setting) → Asks words (Solve settings) → (h : IsAnswered words rest before after s)
     → IsSolved (kind_of settings) (depth_of settings) h.given.bytes h.answer
-solved {words} settings asks h = solve_given words h.given.bytes settings h.answer asks h.given.lawful
+solved {words} settings asks h = command_given words h.given.bytes (Solve settings) h.answer asks h.given.lawful
 
 -- ---- SAT, UNSAT and UNDECIDED
 
@@ -199,7 +202,7 @@ traced_parts bytes a s (unread part second fault cut refuses) not e = absurd (no
 traced_parts bytes a s (accepted part second f answer cut read judged) not e = (part, second, f, cut, read, judged)
 
 traced : {words : List (List ℕ)} {rest before after : Option (List ℕ)} {s : Status} → Asks words TraceWord → (h : IsAnswered words rest before after s) → IsParted IsJudged h.given.bytes h.answer
-traced {words} asks h = trace_given words h.given.bytes h.answer asks h.given.lawful
+traced {words} asks h = command_given words h.given.bytes TraceWord h.answer asks h.given.lawful
 
 holds_from : {words : List (List ℕ)} {rest before after : Option (List ℕ)} → Asks words TraceWord → IsAnswered words rest before after statuses.Good
     → OfTrace rest (λ f t. PrintsHolds f t before after)
@@ -260,3 +263,29 @@ trace_kept words rest left before after status asks answer taken = record {
   when_fails = λ e. fails_from asks (subst (IsAnswered words rest before after) e answer);
   taken = λ read. taken;
 }
+
+pub demo_broken : (n : ℕ) (IsQuiet : Type 0) (rest left before after : Option (List ℕ)) (status : Status) → IsBroken IsQuiet status → left ≡ rest → DemoPromise n IsQuiet rest left before after status
+demo_broken n IsQuiet rest left before after status broken same = record {
+  when_answered = λ is. absurd (broken_not status status broken.none is refl);
+  summary = λ quiet. inl (broken.cause quiet);
+  unread = same;
+}
+
+-- the summary that was printed
+summary_from : (n : ℕ) (words : List (List ℕ)) (rest before after : Option (List ℕ)) (status : Status) → Asks words (Demo n) → IsAnswered words rest before after status → PrintsSummary n before after status
+summary_from n words rest before after status asks h =
+    record { answer = h.answer; shows = command_given words h.given.bytes (Demo n) h.answer asks h.given.lawful; own = h.own; printed = h.printed }
+
+pub demo_kept : (n : ℕ) (IsQuiet : Type 0) (words : List (List ℕ)) (rest left before after : Option (List ℕ)) (status : Status) → Asks words (Demo n) → IsAnswered words rest before after status → left ≡ rest
+    → DemoPromise n IsQuiet rest left before after status
+demo_kept n IsQuiet words rest left before after status asks answer same = record {
+  when_answered = λ is. summary_from n words rest before after status asks answer;
+  summary = λ quiet. inr (summary_from n words rest before after status asks answer);
+  unread = same;
+}
+
+-- `demo` needs nothing of the source
+pub demo_needs_nothing : (n : ℕ) (words : List (List ℕ)) → Asks words (Demo n) → NeedsNothing words
+demo_needs_nothing n words asks c also =
+    let e : Demo n ≡ c = command_one words (Demo n) c asks.0 also.0 in
+    subst ReadsNothing e refl

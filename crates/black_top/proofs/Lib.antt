@@ -3,9 +3,16 @@ pub mod Leaving
 pub mod OneCommand
 pub mod Saying
 pub mod Numbers
+pub mod Walking
+pub mod Matched
 pub mod Settling
 pub mod Refusing
 pub mod Cutting
 pub mod Written
 pub mod Showing
+pub mod OneText
 pub mod OneAnswer
+pub mod Joining
+pub mod RingFormula
+pub mod Summing
+mod RingExamples

@@ -38,12 +38,12 @@ small_value ds i all short =
     let high : 10 ^ length (take i ds) ≤ 10 ^ 3 = pow-le-pow_right (omega arith) short in
     omega (arith, low, high)
 
-pub no_digit : (ds : List ℕ) (i n : ℕ) (tested : Bool) → i < length ds → MatchBool tested (IsAsciiDigit (get_or ds i 0)) (IsNotAsciiDigit (get_or ds i 0)) → tested ≡ false → IsNumber 4 0 1000 ds n → ⊥
-no_digit ds i n true within cases is number = cc
-no_digit ds i n false within cases is number = outside cases (digit_from_value (get_or ds i 0) (digit_at ds i number.numeral.1 within)) where
+pub no_digit : (ds : List ℕ) (most low high i n : ℕ) (tested : Bool) → i < length ds → MatchBool tested (IsAsciiDigit (get_or ds i 0)) (IsNotAsciiDigit (get_or ds i 0)) → tested ≡ false → IsNumber most low high ds n → ⊥
+no_digit ds most low high i n true within cases is number = cc
+no_digit ds most low high i n false within cases is number = outside cases (digit_from_value (get_or ds i 0) (digit_at ds i number.numeral.1 within)) where
   outside : IsNotAsciiDigit (get_or ds i 0) → IsInRange 48 57 (get_or ds i 0) → ⊥
-  outside (inl low) range = absurd (omega (arith, low, range.0))
-  outside (inr high) range = absurd (omega (arith, high, range.1))
+  outside (inl less) range = absurd (omega (arith, less, range.0))
+  outside (inr more) range = absurd (omega (arith, more, range.1))
 
 pub is_digit : (d : ℕ) (tested : Bool) → MatchBool tested (IsAsciiDigit d) (IsNotAsciiDigit d) → tested ≡ true → IsInRange 48 57 d
 is_digit d true cases is = cases

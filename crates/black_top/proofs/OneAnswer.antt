@@ -2,9 +2,7 @@
 use Rattle.std.proofs.Common.{◌≡◌, ◌∙◌, ℕ, ◌<◌, ◌≤◌, ◌⊎◌, inl, inr, List, Option, Some, Result, Ok, Err, refl, sym, ap, subst, arith}
 use Rattle.ltl_syntax.specs.declared.node.Kind.{Kind}
 use Rattle.ltl_syntax.specs.Formula.{Formula}
-use Rattle.ltl_syntax.specs.Size.{formula_size}
-use Rattle.ltl_lexer.specs.Tokens.{IsLexicalFault}
-use Rattle.ltl_parser.specs.Text.{ReadsText, IsGrammarFault, IsAccepted}
+use Rattle.ltl_parser.specs.Text.{IsAccepted}
 use Rattle.ltl_word.specs.declared.trace.Trace.{Trace}
 use Rattle.ltl_word.specs.declared.json.TraceFault.{TraceFault}
 use Rattle.ltl_word.specs.declared.json.TraceFault.TheVariants as trace_faults
@@ -14,62 +12,23 @@ use Rattle.ltl_word.specs.Laws.{IsOneReading}
 use Rattle.lasso_eval.specs.Cells.{cells, max_cells, AreTooMany}
 use Rattle.ltl_closure.specs.Run.{Sat, Unsat, Undecided}
 use Rattle.ltl_run.specs.Laws.{VerdictIsOne}
-use Rattle.report.specs.declared.fault.Fault.{Fault}
 use Rattle.report.specs.declared.fault.Fault.TheVariants as faults
-use Rattle.black_top.specs.Words.{Setting, Solve, Trace as TraceWord, Asks, kind_of, depth_of}
-use Rattle.black_top.specs.Answer.{Answer, refused, sat, unsat, undecided, holds, fails, AreAlike}
-use Rattle.black_top.specs.Reading.{RefusesPart, too_long, lexical, grammar, many_nodes, IsParted, uncut, unread, accepted}
+use Rattle.black_top.specs.Words.{Command, Solve, Check, Trace as TraceWord, Demo, Asks, kind_of, depth_of}
+use Rattle.black_top.specs.Answer.{Answer, refused, sat, unsat, undecided, holds, fails, summary, AreAlike}
+use Rattle.black_top.specs.Reading.{RefusesPart, IsParted, uncut, unread, accepted}
 use Rattle.black_top.specs.Solve.{IsInForce, IsReached, number_of, IsDecided, satisfiable, unsatisfiable, undecided_yet, IsSettled, too_deep, decided, IsSolved, unreadable, settled}
 use Rattle.black_top.specs.Trace.{IsJudged, not_json, not_trace, empty_loop, empty_states, many_cells, satisfied, violated}
-use Rattle.black_top.specs.Run.{IsAnswer, not_taken, solves, traces}
+use Rattle.black_top.specs.Run.{Answers, IsAnswer, not_taken, taken}
 use Rattle.black_top.proofs.Cutting.{cut_one, cut_or_none}
-use Rattle.black_top.proofs.OneCommand.{command_one, not_both}
-
--- what the parser says of each text
-pub record TextLaws : Type 0 where
-  pub one_lexical : (text : List ℕ) (a b : ℕ) → IsLexicalFault text a → IsLexicalFault text b → a ≡ b
-  pub one_grammar : (text : List ℕ) (a b : ℕ) → IsGrammarFault text a → IsGrammarFault text b → a ≡ b
-  pub one_formula : (text : List ℕ) (f g : Formula) → ReadsText text f → ReadsText text g → f ≡ g
-  pub lexical_not_grammar : (text : List ℕ) (a b : ℕ) → IsLexicalFault text a → IsGrammarFault text b → ⊥
-  pub lexical_not_read : (text : List ℕ) (a : ℕ) (f : Formula) → IsLexicalFault text a → ReadsText text f → ⊥
-  pub grammar_not_read : (text : List ℕ) (a : ℕ) (f : Formula) → IsGrammarFault text a → ReadsText text f → ⊥
+use Rattle.black_top.proofs.OneText.{TextLaws, one_fault, refused_not_accepted}
+use Rattle.black_top.proofs.OneCommand.{command_one}
+use Rattle.black_top.proofs.Summing.{one_shown}
 
 -- what the crates below say of texts, traces and verdicts
 pub record Laws : Type 0 where
   pub text : TextLaws
   pub one_reading : IsOneReading
   pub one_verdict : VerdictIsOne
-
--- ---- the formula part
-
-too_many : (f g : Formula) (count : ℕ) → f ≡ g → count ≡ formula_size f → 16384 < count → formula_size g ≤ 16384 → ⊥
-too_many f g count same e many few = let s = ap formula_size same in absurd (omega (arith, s, e, many, few))
-
--- a part has one refusal
-one_fault : (part : List ℕ) → TextLaws → (a b : Fault) → RefusesPart part a → RefusesPart part b → a ≡ b
-one_fault part laws a b (too_long h) (too_long k) = refl
-one_fault part laws a b (too_long h) (lexical j short k) = absurd (omega (arith, h, short))
-one_fault part laws a b (too_long h) (grammar j short k) = absurd (omega (arith, h, short))
-one_fault part laws a b (too_long h) (many_nodes j short k) = absurd (omega (arith, h, short))
-one_fault part laws a b (lexical i short h) (too_long k) = absurd (omega (arith, k, short))
-one_fault part laws a b (lexical i short h) (lexical j short' k) = ap faults.Lexical (laws.one_lexical part i j h k)
-one_fault part laws a b (lexical i short h) (grammar j short' k) = absurd (laws.lexical_not_grammar part i j h k)
-one_fault part laws a b (lexical i short h) (many_nodes j short' k) = absurd (laws.lexical_not_read part i k.0 h k.1)
-one_fault part laws a b (grammar i short h) (too_long k) = absurd (omega (arith, k, short))
-one_fault part laws a b (grammar i short h) (lexical j short' k) = absurd (laws.lexical_not_grammar part j i k h)
-one_fault part laws a b (grammar i short h) (grammar j short' k) = ap faults.Grammar (laws.one_grammar part i j h k)
-one_fault part laws a b (grammar i short h) (many_nodes j short' k) = absurd (laws.grammar_not_read part i k.0 h k.1)
-one_fault part laws a b (many_nodes i short h) (too_long k) = absurd (omega (arith, k, short))
-one_fault part laws a b (many_nodes i short h) (lexical j short' k) = absurd (laws.lexical_not_read part j h.0 k h.1)
-one_fault part laws a b (many_nodes i short h) (grammar j short' k) = absurd (laws.grammar_not_read part j h.0 k h.1)
-one_fault part laws a b (many_nodes i short h) (many_nodes j short' k) = ap faults.Nodes (h.2 ∙ ap formula_size (laws.one_formula part h.0 k.0 h.1 k.1) ∙ sym k.2)
-
--- a part that is refused is no accepted formula
-pub refused_not_accepted : (part : List ℕ) → TextLaws → (fault : Fault) (f : Formula) → RefusesPart part fault → IsAccepted part f → ⊥
-refused_not_accepted part laws fault f (too_long h) k = let s = k.short in absurd (omega (arith, h, s))
-refused_not_accepted part laws fault f (lexical byte short h) k = laws.lexical_not_read part byte f h k.reads
-refused_not_accepted part laws fault f (grammar byte short h) k = laws.grammar_not_read part byte f h k.reads
-refused_not_accepted part laws fault f (many_nodes count short h) k = too_many h.0 f count (laws.one_formula part h.0 f h.1 k.reads) h.2 h.3 k.few
 
 -- ---- the verdict
 
@@ -204,27 +163,23 @@ alike_itself (unsat depth) = refl
 alike_itself (undecided depth) = refl
 alike_itself holds = refl
 alike_itself fails = refl
+alike_itself (summary s) = refl
 
 -- ---- the command
 
--- the words ask for one list of settings of `solve`
-pub same_settings : (words : List (List ℕ)) (settings others : List Setting) → Asks words (Solve settings) → Asks words (Solve others) → settings ≡ others
-same_settings words settings others asks also = let e = command_one words (Solve settings) (Solve others) asks.0 also.0 in cc
-
 -- the answer of the command that was asked for
-pub solve_given : (words : List (List ℕ)) (bytes : List ℕ) (settings : List Setting) (a : Answer) → Asks words (Solve settings) → IsAnswer words bytes a → IsSolved (kind_of settings) (depth_of settings) bytes a
-solve_given words bytes settings a asks (not_taken n) = absurd (n (Solve settings) asks)
-solve_given words bytes settings a asks (solves others b also h) = subst (λ x. IsSolved (kind_of x) (depth_of x) bytes a) (same_settings words others settings also asks) h
-solve_given words bytes settings a asks (traces b also h) = absurd (not_both words (Solve settings) TraceWord refl asks.0 also.0)
+pub command_given : (words : List (List ℕ)) (bytes : List ℕ) (c : Command) (a : Answer) → Asks words c → IsAnswer words bytes a → Answers c bytes a
+command_given words bytes c a asks (not_taken n) = absurd (n c asks)
+command_given words bytes c a asks (taken d b also h) = subst (λ x. Answers x bytes a) (command_one words d c also.0 asks.0) h
 
-pub trace_given : (words : List (List ℕ)) (bytes : List ℕ) (a : Answer) → Asks words TraceWord → IsAnswer words bytes a → IsParted IsJudged bytes a
-trace_given words bytes a asks (not_taken n) = absurd (n TraceWord asks)
-trace_given words bytes a asks (solves settings b also h) = absurd (not_both words (Solve settings) TraceWord refl also.0 asks.0)
-trace_given words bytes a asks (traces b also h) = h
+-- a command has one answer
+one_answer_of : (bytes : List ℕ) → Laws → (c : Command) (a b : Answer) → Answers c bytes a → Answers c bytes b → AreAlike a b
+one_answer_of bytes laws (Solve settings) a b h k = one_solved (kind_of settings) (depth_of settings) bytes laws a b h k
+one_answer_of bytes laws (Check settings) a b h k = absurd h
+one_answer_of bytes laws TraceWord a b h k = subst (AreAlike a) (one_parted bytes laws a b h k) (alike_itself a)
+one_answer_of bytes laws (Demo n) a b h k = subst (AreAlike a) (one_shown n laws.one_verdict a b h k) (alike_itself a)
 
 pub answer_one : (words : List (List ℕ)) (bytes : List ℕ) → Laws → (a b : Answer) → IsAnswer words bytes a → IsAnswer words bytes b → AreAlike a b
 answer_one words bytes laws a b (not_taken n) (not_taken m) = refl
-answer_one words bytes laws a b (not_taken n) (solves settings b' asks h) = absurd (n (Solve settings) asks)
-answer_one words bytes laws a b (not_taken n) (traces b' asks h) = absurd (n TraceWord asks)
-answer_one words bytes laws a b (solves settings a' asks h) k = one_solved (kind_of settings) (depth_of settings) bytes laws a b h (solve_given words bytes settings b asks k)
-answer_one words bytes laws a b (traces a' asks h) k = subst (AreAlike a) (one_parted bytes laws a b h (trace_given words bytes b asks k)) (alike_itself a)
+answer_one words bytes laws a b (not_taken n) (taken c b' asks h) = absurd (n c asks)
+answer_one words bytes laws a b (taken c a' asks h) k = one_answer_of bytes laws c a b h (command_given words bytes c b asks k)

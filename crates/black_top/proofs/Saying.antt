@@ -8,9 +8,11 @@ use Rattle.ltl_syntax.specs.declared.node.Kind.TheVariants as kinds
 use Rattle.black_top.specs.declared.options.Options.{Options}
 use Rattle.black_top.specs.declared.options.SolveOption.{SolveOption}
 use Rattle.black_top.specs.declared.options.SolveOption.TheVariants as said
-use Rattle.black_top.specs.Words.{Setting, Finite, Cert, Core, Depth, Workers, Says, SayAll, Once, OfSolve, IsNumber, name, kind_of, depth_of}
-use Rattle.black_top.specs.Inner.{setting_of, options_with, with_finite, with_depth, IsDepth, AreOptions, AreSaid, NoneAreSaid, SaysFirst, SaysNothing}
-use Rattle.black_top.proofs.OneCommand.{first_one, says_some, apart}
+use Rattle.report.specs.Commands.{solve_command, demo_command}
+use Rattle.black_top.specs.declared.words.Asked.TheVariants as asked
+use Rattle.black_top.specs.Words.{Setting, Finite, Cert, Core, Depth, Workers, Command, Demo, Asks, Says, SayAll, Once, OfSolve, IsAmong, IsNumber, name, kind_of, depth_of}
+use Rattle.black_top.specs.Said.{setting_of, options_with, with_finite, with_depth, IsDepth, AreOptions, AreSaid, NoneAreSaid, SaysFirst, SaysNothing, AreNumber, AreNoNumber, IsAsked}
+use Rattle.black_top.proofs.OneCommand.{first_one, says_some, apart, not_first, false_not_true}
 
 -- ---- a further setting
 
@@ -44,17 +46,17 @@ no_finite : (cs : List Setting) → All OfSolve cs → kind_of cs ≡ kinds.Infi
 no_finite [] built e = All-nil (λ c. name c ≢ name Finite)
 no_finite (Finite ∷ cs) built e = absurd (cc)
 no_finite (Depth n ∷ cs) built e = All-cons (λ c. name c ≢ name Finite) (Depth n) cs (depth_not_finite n) (no_finite cs (All-tail OfSolve (Depth n) cs built) e)
-no_finite (Cert ∷ cs) built e = absurd (All-head OfSolve Cert cs built)
-no_finite (Core ∷ cs) built e = absurd (All-head OfSolve Core cs built)
-no_finite (Workers n ∷ cs) built e = absurd (All-head OfSolve (Workers n) cs built)
+no_finite (Cert ∷ cs) built e = absurd (false_not_true (All-head OfSolve Cert cs built))
+no_finite (Core ∷ cs) built e = absurd (false_not_true (All-head OfSolve Core cs built))
+no_finite (Workers n ∷ cs) built e = absurd (false_not_true (All-head OfSolve (Workers n) cs built))
 
 no_depth : (n : ℕ) (cs : List Setting) → All OfSolve cs → depth_of cs ≡ None → All (λ c. name c ≢ name (Depth n)) cs
 no_depth n [] built e = All-nil (λ c. name c ≢ name (Depth n))
 no_depth n (Finite ∷ cs) built e = All-cons (λ c. name c ≢ name (Depth n)) Finite cs (finite_not_depth n) (no_depth n cs (All-tail OfSolve Finite cs built) e)
 no_depth n (Depth m ∷ cs) built e = absurd (cc)
-no_depth n (Cert ∷ cs) built e = absurd (All-head OfSolve Cert cs built)
-no_depth n (Core ∷ cs) built e = absurd (All-head OfSolve Core cs built)
-no_depth n (Workers m ∷ cs) built e = absurd (All-head OfSolve (Workers m) cs built)
+no_depth n (Cert ∷ cs) built e = absurd (false_not_true (All-head OfSolve Cert cs built))
+no_depth n (Core ∷ cs) built e = absurd (false_not_true (All-head OfSolve Core cs built))
+no_depth n (Workers m ∷ cs) built e = absurd (false_not_true (All-head OfSolve (Workers m) cs built))
 
 kind_finite : (cs : List Setting) → kind_of (cs ++ Finite ∷ []) ≡ kinds.Finite
 kind_finite [] = refl
@@ -126,7 +128,7 @@ options_more cs options more said.Finite front are says e = finite options.kind 
       let same : record { kind = kinds.Finite; depth = options.depth } ≡ more = cc in
       subst (AreOptions (cs ++ Finite ∷ [])) same (record {
         once = once_more cs Finite are.once (no_finite cs are.built (sym are.kind ∙ is));
-        built = All-push OfSolve cs Finite are.built tt;
+        built = All-push OfSolve cs Finite are.built refl;
         kind = sym (kind_finite cs);
         depth = are.depth ∙ sym (depth_finite cs);
         small = are.small;
@@ -141,7 +143,7 @@ options_more cs options more (said.Depth n) front are says e = depth options.dep
       let same : record { kind = options.kind; depth = Some n } ≡ more = cc in
       subst (AreOptions (cs ++ Depth n ∷ [])) same (record {
         once = once_more cs (Depth n) are.once (no_depth n cs are.built (sym are.depth ∙ is));
-        built = All-push OfSolve cs (Depth n) are.built tt;
+        built = All-push OfSolve cs (Depth n) are.built refl;
         kind = are.kind ∙ sym (kind_depth n cs);
         depth = sym (depth_depth n cs (sym are.depth ∙ is));
         small = small_number n front says;
@@ -169,7 +171,7 @@ all_behind P [] es all = all
 all_behind P (c ∷ cs) es all = all_behind P cs es (All-tail P c (cs ++ es) all)
 
 -- a setting that stands behind these is none of them
-new_behind : (cs es : List Setting) (e : Setting) → Once (cs ++ e ∷ es) → All (λ c. name c ≢ name e) cs
+pub new_behind : (cs es : List Setting) (e : Setting) → Once (cs ++ e ∷ es) → All (λ c. name c ≢ name e) cs
 new_behind cs es e once k d within =
     let place : get_or (cs ++ e ∷ es) k d ≡ get_or cs k d = get_or_append_left cs (e ∷ es) d k within in
     let last : get_or (cs ++ e ∷ es) (length cs) d ≡ e = get_or_at cs e es d (length cs) refl in
@@ -189,17 +191,17 @@ finite_stands : (cs : List Setting) → All OfSolve cs → kind_of cs ≡ kinds.
 finite_stands [] built e new = absurd (cc)
 finite_stands (Finite ∷ cs) built e new = All-head (λ c. name c ≢ name Finite) Finite cs new refl
 finite_stands (Depth n ∷ cs) built e new = finite_stands cs (All-tail OfSolve (Depth n) cs built) e (All-tail (λ c. name c ≢ name Finite) (Depth n) cs new)
-finite_stands (Cert ∷ cs) built e new = All-head OfSolve Cert cs built
-finite_stands (Core ∷ cs) built e new = All-head OfSolve Core cs built
-finite_stands (Workers n ∷ cs) built e new = All-head OfSolve (Workers n) cs built
+finite_stands (Cert ∷ cs) built e new = false_not_true (All-head OfSolve Cert cs built)
+finite_stands (Core ∷ cs) built e new = false_not_true (All-head OfSolve Core cs built)
+finite_stands (Workers n ∷ cs) built e new = false_not_true (All-head OfSolve (Workers n) cs built)
 
 depth_stands : (m n : ℕ) (cs : List Setting) → All OfSolve cs → depth_of cs ≡ Some m → All (λ c. name c ≢ name (Depth n)) cs → ⊥
 depth_stands m n [] built e new = absurd (cc)
 depth_stands m n (Finite ∷ cs) built e new = depth_stands m n cs (All-tail OfSolve Finite cs built) e (All-tail (λ c. name c ≢ name (Depth n)) Finite cs new)
 depth_stands m n (Depth k ∷ cs) built e new = All-head (λ c. name c ≢ name (Depth n)) (Depth k) cs new refl
-depth_stands m n (Cert ∷ cs) built e new = All-head OfSolve Cert cs built
-depth_stands m n (Core ∷ cs) built e new = All-head OfSolve Core cs built
-depth_stands m n (Workers k ∷ cs) built e new = All-head OfSolve (Workers k) cs built
+depth_stands m n (Cert ∷ cs) built e new = false_not_true (All-head OfSolve Cert cs built)
+depth_stands m n (Core ∷ cs) built e new = false_not_true (All-head OfSolve Core cs built)
+depth_stands m n (Workers k ∷ cs) built e new = false_not_true (All-head OfSolve (Workers k) cs built)
 
 -- an option that is not put behind the others stands there already
 stands : (cs : List Setting) (options : Options) (option : SolveOption) → AreOptions cs options → options_with options option ≡ None → All (λ c. name c ≢ name (setting_of option)) cs → ⊥
@@ -242,9 +244,9 @@ says_nothing word more not_finite not_two not_one (Depth n) front behind of (dig
     let s : word ∷ more ≡ codes "--depth" ∷ digits ∷ behind = whole ∙ ap (λ ws. ws ++ behind) e in not_two (cc) digits behind n (cc) is
 says_nothing word more not_finite not_two not_one (Depth n) front behind of (digits, is, inr e) whole =
     let s : word ∷ more ≡ (codes "--depth=" ++ digits) ∷ behind = whole ∙ ap (λ ws. ws ++ behind) e in not_one digits n (cc) is
-says_nothing word more not_finite not_two not_one Cert front behind of e whole = of
-says_nothing word more not_finite not_two not_one Core front behind of e whole = of
-says_nothing word more not_finite not_two not_one (Workers n) front behind of e whole = of
+says_nothing word more not_finite not_two not_one Cert front behind of e whole = false_not_true of
+says_nothing word more not_finite not_two not_one Core front behind of e whole = false_not_true of
+says_nothing word more not_finite not_two not_one (Workers n) front behind of e whole = false_not_true of
 
 pub says_finite : (more : List (List ℕ)) → SaysFirst (codes "--finite" ∷ more) said.Finite more
 says_finite more = record { front = codes "--finite" ∷ []; whole = refl; says = refl }
@@ -254,6 +256,32 @@ says_depth digits n more is = record { front = codes "--depth" ∷ digits ∷ []
 
 pub says_joined : (digits : List ℕ) (n : ℕ) (more : List (List ℕ)) → IsNumber 4 0 1000 digits n → SaysFirst ((codes "--depth=" ++ digits) ∷ more) (said.Depth n) more
 says_joined digits n more is = record { front = (codes "--depth=" ++ digits) ∷ []; whole = refl; says = (digits, is, inr refl) }
+
+-- each setting is one of an option of `solve`
+of_options : (setting : Setting) → IsAmong solve_command.options setting
+of_options Finite = refl
+of_options Cert = refl
+of_options Core = refl
+of_options (Depth n) = refl
+of_options (Workers n) = refl
+
+all_options : (settings : List Setting) → All (IsAmong solve_command.options) settings
+all_options [] = All-nil (IsAmong solve_command.options)
+all_options (s ∷ more) = All-cons (IsAmong solve_command.options) s more (of_options s) (all_options more)
+
+-- `solve` and what is said behind it ask for `solve`
+pub asks_solve : (words more : List (List ℕ)) (options : Options) → words ≡ codes "solve" ∷ more → AreSaid more options → IsAsked words (asked.Solve options)
+asks_solve words more options e said = (said.settings, ((more, e, said.said, said.are.once, all_options said.settings), (refl, said.are.built)), said.are)
+
+-- `demo` and a number behind it ask for `demo`
+pub asks_demo : (words more : List (List ℕ)) (n : ℕ) → words ≡ codes "demo" ∷ more → AreNumber demo_command more n → IsAsked words (asked.Demo n)
+asks_demo words more n e (digits, is, whole) = ((digits, is, e ∙ ap (λ m. codes "demo" ∷ m) whole), refl)
+
+-- `demo` and no number behind it ask for nothing
+pub asks_no_demo : (words more : List (List ℕ)) → words ≡ codes "demo" ∷ more → AreNoNumber demo_command more → (c : Command) → Asks words c → ⊥
+asks_no_demo words more e none (Demo n) ((digits, is, whole), offered) =
+    let same : codes "demo" ∷ more ≡ codes "demo" ∷ digits ∷ [] = sym e ∙ whole in none n (digits, is, cc)
+asks_no_demo words more e none c asks = not_first words more (codes "demo") c e refl asks.0
 
 -- a first word, and the words behind it
 pub first_word : {X : Type 0} (bytes : X → List ℕ) (words : List X) (w : X) → 1 ≤ length words → w ≡ get_or words 0 w → map bytes words ≡ bytes w ∷ map bytes (take (length words - 1) (drop 1 words))

@@ -3,11 +3,15 @@ use Rattle.std.specs.Prelude.{◌≡◌, ℕ, List, None, true, false}
 use Rattle.ltl_word.specs.declared.trace.Trace.{Trace}
 use Rattle.report.specs.declared.fault.Fault.{Fault}
 use Rattle.report.specs.declared.fault.Fault.TheVariants as faults
+use Rattle.report.specs.declared.summary.Summary.{Summary}
+use Rattle.report.specs.declared.summary.Shown.{Shown}
+use Rattle.report.specs.declared.summary.Shown.TheVariants as verdicts
 use Rattle.report.specs.Texts.{sat_text, unsat_text, undecided_text, traced_text, refused_text}
+use Rattle.report.specs.Summary.{summary_text}
 use Rattle.black_top.specs.declared.status.Status.{Status}
 use Rattle.black_top.specs.declared.status.Status.TheVariants as statuses
 
--- a refusal; SAT at a depth with a trace; UNSAT at a depth; UNDECIDED up to a depth; HOLDS; FAILS
+-- a refusal; SAT at a depth with a trace; UNSAT at a depth; UNDECIDED up to a depth; HOLDS; FAILS; the summary of a demo
 pub data Answer : Type 0 where
   refused : Fault → Answer
   sat : ℕ → Trace → Answer
@@ -15,6 +19,7 @@ pub data Answer : Type 0 where
   undecided : ℕ → Answer
   holds : Answer
   fails : Answer
+  summary : Summary → Answer
 
 -- the status of a refusal
 abbrev pub fault_status : Fault → Status
@@ -31,6 +36,12 @@ fault_status faults.EmptyLoop = statuses.Text
 fault_status faults.EmptyStates = statuses.Text
 fault_status (faults.Cells count) = statuses.Limit
 
+-- the status of a verdict that is shown without a trace
+abbrev pub shown_status : Shown → Status
+shown_status (verdicts.Sat depth) = statuses.Sat
+shown_status (verdicts.Unsat depth) = statuses.Unsat
+shown_status (verdicts.Undecided depth) = statuses.Undecided
+
 -- the status of an answer
 abbrev pub status_of : Answer → Status
 status_of (refused fault) = fault_status fault
@@ -39,6 +50,7 @@ status_of (unsat depth) = statuses.Unsat
 status_of (undecided depth) = statuses.Undecided
 status_of holds = statuses.Good
 status_of fails = statuses.Negative
+status_of (summary s) = shown_status s.verdict
 
 -- the text of an answer
 abbrev pub text_of : Answer → List ℕ
@@ -48,6 +60,7 @@ text_of (unsat depth) = unsat_text depth None None
 text_of (undecided depth) = undecided_text depth
 text_of holds = traced_text true
 text_of fails = traced_text false
+text_of (summary s) = summary_text s
 
 -- the answers are the same, but for the trace
 abbrev pub AreAlike : Answer → Answer → Type 0

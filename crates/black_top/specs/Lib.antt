@@ -1,10 +1,14 @@
 pub mod Status
 pub mod Words
+pub mod Said
+pub mod Matching
 pub mod Parts
 pub mod Taking
 pub mod Answer
 pub mod Reading
 pub mod Solve
 pub mod Trace
+pub mod Demo
+pub mod Ring
 pub mod Inner
 pub mod Run

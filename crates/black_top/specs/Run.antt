@@ -3,19 +3,26 @@ use Rattle.std.specs.Prelude.{◌≡◌, ℕ, List, Option}
 use Rattle.ltl_io.specs.Outside.{Grows, GrowsByFront}
 use Rattle.report.specs.declared.fault.Fault.TheVariants as faults
 use Rattle.black_top.specs.declared.status.Status.{Status}
-use Rattle.black_top.specs.Words.{Setting, Command, Solve, Trace as TraceWord, Asks, ReadsNothing, kind_of, depth_of}
+use Rattle.black_top.specs.Words.{Command, Solve, Check, Trace, Demo, Asks, ReadsNothing, kind_of, depth_of}
 use Rattle.black_top.specs.Taking.{AreLeft}
 use Rattle.black_top.specs.Answer.{Answer, refused, status_of, text_of}
 use Rattle.black_top.specs.Reading.{IsParted}
 use Rattle.black_top.specs.Solve.{IsSolved}
 use Rattle.black_top.specs.Trace.{IsJudged}
+use Rattle.black_top.specs.Demo.{IsShown}
 
--- the answer to these words and bytes: usage where the words ask for no command, and else the command's. A further command adds
--- its case, and changes no other
+-- the answer of a command to the bytes. A command that is not built has none
+abbrev pub Answers : Command → List ℕ → Answer → Type 0
+Answers (Solve settings) bytes answer = IsSolved (kind_of settings) (depth_of settings) bytes answer
+Answers (Check settings) bytes answer = ⊥
+Answers Trace bytes answer = IsParted IsJudged bytes answer
+Answers (Demo n) bytes answer = IsShown n answer
+
+-- the answer to these words and bytes: usage where the words ask for no command, and else the answer of the command that they
+-- ask for
 pub data IsAnswer (words : List (List ℕ)) (bytes : List ℕ) : Answer → Type 0 where
   not_taken : ((command : Command) → ¬ (Asks words command)) → IsAnswer words bytes (refused faults.Usage)
-  solves : (settings : List Setting) (answer : Answer) → Asks words (Solve settings) → IsSolved (kind_of settings) (depth_of settings) bytes answer → IsAnswer words bytes answer
-  traces : (answer : Answer) → Asks words TraceWord → IsParted IsJudged bytes answer → IsAnswer words bytes answer
+  taken : (command : Command) (answer : Answer) → Asks words command → Answers command bytes answer → IsAnswer words bytes answer
 
 -- the answer to these words and to what the source had left
 pub record IsGiven (words : List (List ℕ)) (rest : Option (List ℕ)) (answer : Answer) : Type 0 where

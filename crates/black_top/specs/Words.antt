@@ -1,6 +1,8 @@
 -- The lists of words that are taken, and what they say.
-use Rattle.std.specs.Prelude.{◌≡◌, ◌≢◌, ◌≤◌, ◌⊎◌, ◌++◌, ℕ, List, [], ◌∷◌, length, codes, AllPairs, All, Option, Some, None}
+use Rattle.std.specs.Prelude.{◌≡◌, ◌≢◌, ◌≤◌, ◌⊎◌, ◌++◌, ℕ, List, [], ◌∷◌, length, codes, AllPairs, All, Option, Some, None, false, IsTrue, bytes_eq}
+use Rattle.std.specs.List.{list_any}
 use Rattle.std.specs.Str.Parse.{IsNumeral, digits_value}
+use Rattle.report.specs.Commands.{Range, OptionRow, CommandRow, finite_option, depth_option, cert_option, core_option, workers_option, solve_command, check_command, trace_command, demo_command}
 use Rattle.ltl_syntax.specs.declared.node.Kind.{Kind}
 use Rattle.ltl_syntax.specs.declared.node.Kind.TheVariants as kinds
 
@@ -26,24 +28,42 @@ pub record IsNumber (most low high : ℕ) (digits : List ℕ) (n : ℕ) : Type 0
   pub from : low ≤ n
   pub to : n ≤ high
 
+-- the digits are a number of the range
+abbrev pub IsNumberOf : Option Range → List ℕ → ℕ → Type 0
+IsNumberOf None digits n = ⊥
+IsNumberOf (Some range) digits n = IsNumber range.digits range.low range.high digits n
+
 -- an option with a number is two words, or one word with = between
 abbrev pub Joined : List ℕ → List ℕ → List (List ℕ) → Type 0
 Joined option digits words = (words ≡ option ∷ digits ∷ []) ⊎ (words ≡ (option ++ codes "=" ++ digits) ∷ [])
 
+-- the row of an option
+abbrev pub option_of : Setting → OptionRow
+option_of Finite = finite_option
+option_of Cert = cert_option
+option_of Core = core_option
+option_of (Depth n) = depth_option
+option_of (Workers n) = workers_option
+
+-- the word of the option
 abbrev pub name : Setting → List ℕ
-name Finite = codes "--finite"
-name Cert = codes "--cert"
-name Core = codes "--core"
-name (Depth n) = codes "--depth"
-name (Workers n) = codes "--workers"
+name setting = (option_of setting).word
+
+-- the words say an option without a number
+abbrev pub SaysAlone : OptionRow → List (List ℕ) → Type 0
+SaysAlone row words = words ≡ row.word ∷ []
+
+-- the words say an option with this number
+abbrev pub SaysNumber : OptionRow → ℕ → List (List ℕ) → Type 0
+SaysNumber row n words = (digits : List ℕ) × IsNumberOf row.number digits n × Joined row.word digits words
 
 -- the words that say one setting
 abbrev pub Says : Setting → List (List ℕ) → Type 0
-Says Finite words = words ≡ name Finite ∷ []
-Says Cert words = words ≡ name Cert ∷ []
-Says Core words = words ≡ name Core ∷ []
-Says (Depth n) words = (digits : List ℕ) × IsNumber 4 0 1000 digits n × Joined (name (Depth n)) digits words
-Says (Workers n) words = (digits : List ℕ) × IsNumber 2 1 16 digits n × Joined (name (Workers n)) digits words
+Says Finite words = SaysAlone finite_option words
+Says Cert words = SaysAlone cert_option words
+Says Core words = SaysAlone core_option words
+Says (Depth n) words = SaysNumber depth_option n words
+Says (Workers n) words = SaysNumber workers_option n words
 
 -- the words say these settings, one after another
 abbrev pub SayAll : List Setting → List (List ℕ) → Type 0
@@ -54,35 +74,50 @@ SayAll (c ∷ cs) words = (front : List (List ℕ)) × (back : List (List ℕ)) 
 abbrev pub Once : List Setting → Type 0
 Once settings = AllPairs (λ a b. name a ≢ name b) settings
 
--- the options of solve that are built so far
+-- the rows have this option
+abbrev pub IsAmong : List OptionRow → Setting → Type 0
+IsAmong rows setting = IsTrue (list_any (λ row. bytes_eq row.word (name setting)) rows)
+
+-- the setting is of an option of `solve` that is built
 abbrev pub OfSolve : Setting → Type 0
-OfSolve Finite = Unit {0}
-OfSolve (Depth n) = Unit {0}
-OfSolve Cert = ⊥
-OfSolve Core = ⊥
-OfSolve (Workers n) = ⊥
+OfSolve setting = IsAmong solve_command.built_options setting
 
--- the options of check
-abbrev pub OfCheck : Setting → Type 0
-OfCheck Finite = Unit {0}
-OfCheck (Workers n) = Unit {0}
-OfCheck Cert = ⊥
-OfCheck Core = ⊥
-OfCheck (Depth n) = ⊥
+-- the row of a command
+abbrev pub row_of : Command → CommandRow
+row_of (Solve settings) = solve_command
+row_of (Check settings) = check_command
+row_of Trace = trace_command
+row_of (Demo n) = demo_command
 
--- the table of the commands
+-- the first word of a command
+abbrev pub command_word : Command → List ℕ
+command_word command = (row_of command).word
+
+-- the words are a command's word and settings of its options
+abbrev pub TakesSettings : CommandRow → List Setting → List (List ℕ) → Type 0
+TakesSettings row settings words = (more : List (List ℕ)) × (words ≡ row.word ∷ more) × SayAll settings more × Once settings × All (IsAmong row.options) settings
+
+-- the words are a command's word and its number
+abbrev pub TakesNumber : CommandRow → ℕ → List (List ℕ) → Type 0
+TakesNumber row n words = (digits : List ℕ) × IsNumberOf row.number digits n × (words ≡ row.word ∷ digits ∷ [])
+
+-- the words that each command takes
 abbrev pub Taken : List (List ℕ) → Command → Type 0
-Taken words (Solve settings) = (more : List (List ℕ)) × (words ≡ codes "solve" ∷ more) × SayAll settings more × Once settings
-Taken words (Check settings) = (more : List (List ℕ)) × (words ≡ codes "check" ∷ more) × SayAll settings more × Once settings × All OfCheck settings
-Taken words Trace = words ≡ codes "trace" ∷ []
-Taken words (Demo n) = (digits : List ℕ) × IsNumber 2 2 64 digits n × (words ≡ codes "demo" ∷ digits ∷ [])
+Taken words (Solve settings) = TakesSettings solve_command settings words
+Taken words (Check settings) = TakesSettings check_command settings words
+Taken words Trace = words ≡ trace_command.word ∷ []
+Taken words (Demo n) = TakesNumber demo_command n words
 
--- what is built of the table so far; a further command or option takes its line out of the ⊥
+-- what is built of a command's row
+abbrev pub Offers : CommandRow → List Setting → Type 0
+Offers row settings = IsTrue row.built × All (IsAmong row.built_options) settings
+
+-- the command is built, with the options that it has
 abbrev pub IsOffered : Command → Type 0
-IsOffered (Solve settings) = All OfSolve settings
-IsOffered (Check settings) = ⊥
-IsOffered Trace = Unit {0}
-IsOffered (Demo n) = ⊥
+IsOffered (Solve settings) = Offers solve_command settings
+IsOffered (Check settings) = Offers check_command settings
+IsOffered Trace = IsTrue trace_command.built
+IsOffered (Demo n) = IsTrue demo_command.built
 
 -- the words are taken as this command
 abbrev pub Asks : List (List ℕ) → Command → Type 0
@@ -100,9 +135,6 @@ depth_of [] = None
 depth_of (Depth n ∷ cs) = Some n
 depth_of (c ∷ cs) = depth_of cs
 
--- whether a command reads the source
+-- the command reads nothing of the source
 abbrev pub ReadsNothing : Command → Type 0
-ReadsNothing (Solve settings) = ⊥
-ReadsNothing (Check settings) = ⊥
-ReadsNothing Trace = ⊥
-ReadsNothing (Demo n) = Unit {0}
+ReadsNothing command = (row_of command).reads ≡ false

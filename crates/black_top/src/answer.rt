@@ -1,5 +1,5 @@
 // The answer to words and a source. The source is read once, as far as the command goes, and not at all where
-// the words ask for no command.
+// the words ask for no command, or for one that needs nothing of it.
 ghost use Rattle.std.specs.Prelude.{◌≡◌, List, map, string_bytes, IfOk, OnOk, IsErrOf};
 ghost use Rattle.ltl_io.specs.Count.{Rose, Counts};
 ghost use Rattle.ltl_io.specs.Outside.{LosesAtMost};
@@ -37,10 +37,13 @@ pub fn answer<S: Source>(
     ensures trace_left { Asks (map string_bytes words.now) TraceWord
         → OnOk result (IsTakenWhole (S.rest source.old) (S.rest source.new)) }
 {
-    let Some(asked) = asked_command(words) else {
+    let Some(asked) = asked_command(alloc, words)? else {
         return Ok(refusal(alloc, Fault::Usage)?);
     };
-    let bytes = read_whole(alloc, source, stop_after(asked))?;
+    let Some(most) = stop_after(asked) else {
+        return Ok(output(alloc, asked, b"")?);
+    };
+    let bytes = read_whole(alloc, source, most)?;
     let shown = output(alloc, asked, &bytes)?;
     Ok(shown)
 }

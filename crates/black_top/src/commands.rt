@@ -3,6 +3,7 @@ ghost use Rattle.std.specs.Prelude.{◌≡◌, IfOk};
 ghost use Rattle.black_top.specs.Answer.{Answer};
 ghost use Rattle.black_top.specs.Inner.{Shows, Gives, IsInBounds, stop_after};
 
+mod demo;
 mod solve;
 mod trace;
 
@@ -11,13 +12,14 @@ use crate::reading::MAX_TEXT;
 use crate::words::Asked;
 use std::alloc::{AllocError, Global};
 
-/// After how many bytes the source is read no further.
-pub fn stop_after(asked: Asked) -> usize
+/// After how many bytes the source is read no further. None where it is not read.
+pub fn stop_after(asked: Asked) -> Option<usize>
     ensures { result ≡ stop_after asked }
 {
     match asked {
-        Asked::Solve(_) => MAX_TEXT,
-        Asked::Trace => usize::MAX,
+        Asked::Solve(_) => Some(MAX_TEXT),
+        Asked::Trace => Some(usize::MAX),
+        Asked::Demo(_) => None,
     }
 }
 
@@ -29,5 +31,6 @@ pub fn output(alloc: Global, asked: Asked, bytes: &[u8]) -> Result<Output, Alloc
     match asked {
         Asked::Solve(options) => solve::solve(alloc, options, bytes),
         Asked::Trace => trace::trace(alloc, bytes),
+        Asked::Demo(number) => demo::demo(alloc, number),
     }
 }

@@ -3,16 +3,20 @@
 
 mod answer;
 mod commands;
+mod decimal;
 pub mod laws;
+mod matching;
 mod options;
 mod output;
 mod parts;
 mod reading;
+mod ring;
 mod status;
 #[cfg(test)]
 mod tests;
 mod top;
 mod words;
 
+pub use ring::demo_text;
 pub use status::Status;
 pub use top::run;

@@ -1,12 +1,16 @@
-// The options of `solve`: each at most once, in any order.
-ghost use Rattle.std.specs.Prelude.{◌≡◌, ℕ, ◌<◌, map, string_bytes, length, MatchOption};
-ghost use Rattle.black_top.specs.Words.{IsNumber};
-ghost use Rattle.black_top.specs.Inner.{options_with, SaysNothing, SaysFirst, NoneAreSaid, AreSaid};
+// The options of `solve`: each at most once, in any order. Whether words are taken is found here; which
+// options stand there, and with which texts, is then what `clap` matches.
+ghost use Rattle.std.specs.Prelude.{◌≡◌, ℕ, ◌<◌, map, string_bytes, length, MatchOption, MatchBool, IfOk};
+ghost use Rattle.report.specs.Commands.{depth_option};
+ghost use Rattle.black_top.specs.Words.{IsNumberOf};
+ghost use Rattle.black_top.specs.Said.{options_with, SaysNothing, SaysFirst};
+ghost use Rattle.black_top.specs.Said.{NoneAreSaid, SomeAreSaid, AreSaid};
 
+use crate::decimal::decimal_number;
+use crate::matching::option_matches;
 use ltl_syntax::Kind;
-
-/// The greatest depth that may be asked for.
-const MAX_DEPTH: u32 = 1_000;
+use report::commands::{DEPTH, DEPTH_IS, DEPTH_NUMBER, FINITE};
+use std::alloc::{AllocError, Global};
 
 /// What the options of `solve` say.
 #[derive(Clone, Copy)]
@@ -23,10 +27,21 @@ enum SolveOption {
     Depth(u32),
 }
 
-/// What the words say as options of `solve`.
-pub fn solve_options(words: &[String]) -> Option<Options>
-    ensures { MatchOption result (NoneAreSaid (map string_bytes words.now))
-        (AreSaid (map string_bytes words.now)) }
+/// What the words say as options of `solve`. None where they are not taken.
+pub fn solve_options(alloc: Global, words: &[String]) -> Result<Option<Options>, AllocError>
+    ensures { IfOk result (λ said. MatchOption said (NoneAreSaid (map string_bytes words.now))
+        (AreSaid (map string_bytes words.now))) }
+{
+    if !are_taken(words) {
+        return Ok(None);
+    }
+    Ok(Some(matched_options(alloc, words)?))
+}
+
+/// Whether the words are options of `solve`, each at most once.
+fn are_taken(words: &[String]) -> bool
+    ensures { MatchBool result (SomeAreSaid (map string_bytes words.now))
+        (NoneAreSaid (map string_bytes words.now)) }
 {
     let mut options = Options {
         kind: Kind::Infinite,
@@ -34,11 +49,34 @@ pub fn solve_options(words: &[String]) -> Option<Options>
     };
     let mut rest = words;
     'words: while !rest.is_empty() {
-        let (option, behind) = first_option(rest)?;
-        options = with_option(options, option)?;
+        let Some((option, behind)) = first_option(rest) else {
+            return false;
+        };
+        let Some(more) = with_option(options, option) else {
+            return false;
+        };
+        options = more;
         rest = behind;
     }
-    Some(options)
+    true
+}
+
+/// What `clap` matches of words that are taken.
+fn matched_options(alloc: Global, words: &[String]) -> Result<Options, AllocError>
+    requires { SomeAreSaid (map string_bytes words.now) }
+    ensures { IfOk result (AreSaid (map string_bytes words.now)) }
+{
+    let matches = option_matches(alloc, words)?;
+    let kind = if matches.get_flag("finite") {
+        Kind::Finite
+    } else {
+        Kind::Infinite
+    };
+    let depth = match matches.get_str("depth") {
+        Some(digits) => depth_number(digits.as_bytes()),
+        None => None,
+    };
+    Ok(Options { kind, depth })
 }
 
 /// The options with a further one. None where it stands there already.
@@ -67,37 +105,24 @@ fn first_option(words: &[String]) -> Option<(SolveOption, &[String])>
         return None;
     };
     match word.as_str() {
-        "--finite" => Some((SolveOption::Finite, more)),
-        "--depth" => {
+        FINITE => Some((SolveOption::Finite, more)),
+        DEPTH => {
             let [digits, more @ ..] = more else {
                 return None;
             };
             Some((SolveOption::Depth(depth_number(digits.as_bytes())?), more))
         }
         word => {
-            let digits = word.as_bytes().strip_prefix(b"--depth=")?;
+            let digits = word.as_bytes().strip_prefix(DEPTH_IS)?;
             Some((SolveOption::Depth(depth_number(digits)?), more))
         }
     }
 }
 
-/// A number of one to four decimal digits that is a depth.
+/// A number that is a depth.
 fn depth_number(digits: &[u8]) -> Option<u32>
-    ensures { MatchOption result ((n : ℕ) → ¬ (IsNumber 4 0 1000 digits.now n))
-        (IsNumber 4 0 1000 digits.now) }
+    ensures { MatchOption result ((n : ℕ) → ¬ (IsNumberOf depth_option.number digits.now n))
+        (IsNumberOf depth_option.number digits.now) }
 {
-    if digits.is_empty() || digits.len() > 4 {
-        return None;
-    }
-    let mut number = 0;
-    for digit in digits {
-        if !digit.is_ascii_digit() {
-            return None;
-        }
-        number = 10 * number + (*digit - b'0') as u32;
-    }
-    if number > MAX_DEPTH {
-        return None;
-    }
-    Some(number)
+    decimal_number(digits, DEPTH_NUMBER)
 }

@@ -1,11 +1,12 @@
 // The text and the status of each answer.
 ghost use Rattle.std.specs.Prelude.{◌≡◌, true, false, IfOk};
-ghost use Rattle.black_top.specs.Answer.{refused, sat, unsat, undecided, holds, fails, fault_status};
+ghost use Rattle.black_top.specs.Answer.{refused, sat, unsat, undecided, holds, fails, summary};
+ghost use Rattle.black_top.specs.Answer.{fault_status, shown_status};
 ghost use Rattle.black_top.specs.Inner.{Shows};
 
 use crate::Status;
 use ltl_word::Trace;
-use report::Fault;
+use report::{Fault, Shown, Summary};
 use std::alloc::{AllocError, Global};
 
 /// What is shown of an answer.
@@ -63,6 +64,26 @@ pub fn fails(alloc: Global) -> Result<Output, AllocError>
         status: Status::Negative,
         text: report::traced(alloc, false)?,
     })
+}
+
+/// The summary of a demo.
+pub fn summary(alloc: Global, about: &Summary) -> Result<Output, AllocError>
+    ensures { IfOk result (λ out. Shows out (summary about.now)) }
+{
+    Ok(Output {
+        status: shown_status(about.verdict),
+        text: report::demo(alloc, about)?,
+    })
+}
+
+fn shown_status(verdict: Shown) -> Status
+    ensures { result ≡ shown_status verdict }
+{
+    match verdict {
+        Shown::Sat(_) => Status::Sat,
+        Shown::Unsat(_) => Status::Unsat,
+        Shown::Undecided(_) => Status::Undecided,
+    }
 }
 
 /// A refusal with its line, or the usage.

@@ -212,24 +212,48 @@ fn options(rt: HostRuntime) -> Result<(), Fail> {
 #[test]
 fn refused_words(rt: HostRuntime) -> Result<(), Fail> {
     let alloc = rt.alloc();
-    let table: [&str; 14] = [
-        "solve --depth 1001",
-        "solve --finite --finite",
-        "solve --dep 3",
+    let table: [&str; 19] = [
+        "solve --",
         "solve --depth",
         "solve --depth=",
+        "solve --depth -1",
+        "solve --depth 1001",
         "solve --depth 00001",
-        "solve --depth +1",
         "solve --depth=1 --depth 2",
+        "solve --finite --finite",
+        "solve --dep 3",
         "solve --cert",
         "solve p",
         "trace --finite",
         "check",
+        "demo",
         "demo 1",
+        "demo 65",
+        "demo 004",
+        "demo 4 4",
         "",
     ];
     for words in &table {
         shows(&rt, alloc, words, b"p", USAGE, Status::Usage)?;
+    }
+    Ok(())
+}
+
+/// The token rings of 2 and of 4 places.
+#[test]
+fn demos(rt: HostRuntime) -> Result<(), Fail> {
+    let alloc = rt.alloc();
+    let four = b"demo 4\nnodes 77\nentries 74\nletters 731\nSAT 4\n".as_slice();
+    let table: [(&str, &[u8]); 3] = [
+        (
+            "demo 2",
+            b"demo 2\nnodes 27\nentries 30\nletters 154\nSAT 2\n",
+        ),
+        ("demo 4", four),
+        ("demo 04", four),
+    ];
+    for (words, output) in &table {
+        shows(&rt, alloc, words, b"p", output, Status::Sat)?;
     }
     Ok(())
 }
@@ -469,7 +493,12 @@ fn bounded_operators(rt: HostRuntime) -> Result<(), Fail> {
 #[test]
 fn leaves_the_rest(rt: HostRuntime) -> Result<(), Fail> {
     let alloc = rt.alloc();
-    let table: [(&str, usize); 3] = [("solve", 7_328), ("trace", 0), ("check", 1_060_000)];
+    let table: [(&str, usize); 4] = [
+        ("solve", 7_328),
+        ("trace", 0),
+        ("demo 2", 1_060_000),
+        ("check", 1_060_000),
+    ];
     for (words, left) in &table {
         let content = padded(alloc, b' ', 1_060_000, b"")?;
         let mut source = MemorySource::new(content, 4096, Vec::new(alloc));

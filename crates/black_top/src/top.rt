@@ -1,12 +1,13 @@
 // The top call. What it ensures is all that a user is promised: first of every call, then command by command.
-ghost use Rattle.std.specs.Prelude.{◌≡◌, ◌⊎◌, ◌<◌, List, map, string_bytes, IsTrue};
+ghost use Rattle.std.specs.Prelude.{◌≡◌, ◌⊎◌, ◌<◌, ℕ, List, map, string_bytes, IsTrue};
 ghost use Rattle.ltl_io.specs.Count.{Rose};
 ghost use Rattle.black_top.specs.declared.status.Status.TheVariants as statuses;
 ghost use Rattle.black_top.specs.Status.{is_answer};
-ghost use Rattle.black_top.specs.Words.{Setting, Solve, Trace as TraceWord, Asks};
+ghost use Rattle.black_top.specs.Words.{Setting, Solve, Trace as TraceWord, Demo, Asks};
 ghost use Rattle.black_top.specs.Run.{IsAnswered, IsCutOff, NeedsNothing};
 ghost use Rattle.black_top.specs.Solve.{SolvePromise};
 ghost use Rattle.black_top.specs.Trace.{TracePromise};
+ghost use Rattle.black_top.specs.Demo.{DemoPromise};
 
 use crate::Status;
 use crate::answer::answer;
@@ -53,6 +54,11 @@ pub fn run<R: Threads + Sync, S: Source, K: Sink, G: Gate + Sync>(
     ensures trace { Asks (map string_bytes words.now) TraceWord
         → TracePromise (S.rest source.old) (S.rest source.new)
         (K.content sink.old) (K.content sink.new) result }
+    ensures demo { (number : ℕ) → Asks (map string_bytes words.now) (Demo number)
+        → DemoPromise number
+        (¬ (Rose (S.faults source.old) (S.faults source.new))
+        × ¬ (Rose (K.faults sink.old) (K.faults sink.new)))
+        (S.rest source.old) (S.rest source.new) (K.content sink.old) (K.content sink.new) result }
 {
     ltl_parser::laws::one_outcome();
     ltl_run::laws::run_satisfies();

@@ -1,7 +1,8 @@
 // The texts of the refusals.
 ghost use Rattle.std.specs.Prelude.{◌≡◌, IfOk};
-ghost use Rattle.report.specs.Texts.{usage_text, refused_text};
+ghost use Rattle.report.specs.Texts.{refused_text};
 
+use crate::commands::usage;
 use crate::fault::Fault;
 use crate::line::{line, numbered};
 use std::alloc::{AllocError, Global};
@@ -28,17 +29,4 @@ pub fn refused(alloc: Global, fault: &Fault) -> Result<Vec<u8>, AllocError>
         Fault::EmptyLoop => line(alloc, b"trace fault: loop is empty"),
         Fault::EmptyStates => line(alloc, b"trace fault: states is empty"),
     }
-}
-
-fn usage(alloc: Global) -> Result<Vec<u8>, AllocError>
-    ensures { IfOk result (λ text. text.items ≡ usage_text) }
-{
-    let mut text = Vec::new(alloc);
-    text.extend_from_slice(
-        b"usage: black solve [--finite] [--depth N] [--cert] [--core] [--workers N]\n",
-    )?;
-    text.extend_from_slice(b"usage: black check [--finite] [--workers N]\n")?;
-    text.extend_from_slice(b"usage: black trace\n")?;
-    text.extend_from_slice(b"usage: black demo N\n")?;
-    Ok(text)
 }

@@ -1,5 +1,5 @@
 // The texts letter by letter. The expected lines are those of the documents.
-use crate::{Fault, refused, sat, traced, undecided, unsat};
+use crate::{Fault, Shown, Summary, demo, refused, sat, traced, undecided, unsat};
 use ltl_word::Trace;
 use std::alloc::{AllocError, Global};
 use std::process::Abort;
@@ -66,4 +66,38 @@ fn verdicts(rt: HostRuntime) -> Result<(), Fail> {
     is(&rt, undecided(alloc, 1000), b"UNDECIDED 1000\n")?;
     is(&rt, traced(alloc, true), b"HOLDS\n")?;
     is(&rt, traced(alloc, false), b"FAILS\n")
+}
+
+#[test]
+fn demos(rt: HostRuntime) -> Result<(), Fail> {
+    let alloc = rt.alloc();
+    let small = Summary {
+        number: 2,
+        nodes: 27,
+        entries: 30,
+        letters: 154,
+        verdict: Shown::Sat(2),
+    };
+    let table: [(Shown, &[u8]); 3] = [
+        (
+            Shown::Sat(2),
+            b"demo 2\nnodes 27\nentries 30\nletters 154\nSAT 2\n",
+        ),
+        (
+            Shown::Unsat(0),
+            b"demo 2\nnodes 27\nentries 30\nletters 154\nUNSAT 0\n",
+        ),
+        (
+            Shown::Undecided(64),
+            b"demo 2\nnodes 27\nentries 30\nletters 154\nUNDECIDED 64\n",
+        ),
+    ];
+    for (verdict, wanted) in &table {
+        let summary = Summary {
+            verdict: *verdict,
+            ..small
+        };
+        is(&rt, demo(alloc, &summary), wanted)?;
+    }
+    Ok(())
 }

@@ -5,7 +5,8 @@ ghost use Rattle.enc_layout.specs.Letters.{Fits};
 ghost use Rattle.enc_layout.specs.Clauses.{layout_of};
 ghost use Rattle.black_top.specs.Answer.{Answer};
 ghost use Rattle.black_top.specs.Solve.{IsSolved, IsSettled, IsDecided};
-ghost use Rattle.black_top.specs.Inner.{Shows, IsDepth};
+ghost use Rattle.black_top.specs.Said.{IsDepth};
+ghost use Rattle.black_top.specs.Inner.{Shows};
 
 use crate::options::Options;
 use crate::output::{Output, refusal, sat, undecided, unsat};
@@ -18,7 +19,7 @@ use std::alloc::{AllocError, Global};
 use unravel::Decision;
 
 /// The depth up to which `solve` goes where none is asked for.
-const DEFAULT_DEPTH: u32 = 64;
+pub const DEFAULT_DEPTH: u32 = 64;
 
 /// The answer to the text of a formula. A text that is too long may be a front of the input.
 pub fn solve(alloc: Global, options: Options, text: &[u8]) -> Result<Output, AllocError>

@@ -1,40 +1,63 @@
-use Rattle.std.proofs.Common.{◌≤◌, List, ℕ, length, map, string_bytes, subst, arith}
+use Rattle.std.proofs.Common.{◌≤◌, [], List, ℕ, length, map, string_bytes, sym, subst, arith}
 use Rattle.report.specs.declared.fault.Fault.TheVariants as faults
 use Rattle.black_top.specs.Words.{Solve, Trace as TraceWord}
 use Rattle.black_top.specs.Answer.{refused}
 use Rattle.black_top.specs.Run.{not_taken}
+use Rattle.black_top.specs.Said.{IsAsked}
 use Rattle.black_top.specs.Inner.{Gives, stop_after}
-use Rattle.ltl_io.specs.Outside.{TakesWhole}
-use Rattle.black_top.proofs.Leaving.{some_left, given_left, reads}
+use Rattle.black_top.proofs.Leaving.{some_left, given_left, given_unread, stops_solve, stops_trace, nothing_read, reads}
 use Rattle.black_top.proofs.answer.answer.Goals as goal
 
 pub returns-in_default-clause-given : goal.returns-in_default-clause-given
 returns-in_default-clause-given g c =
     let left = some_left (g.S.Source.rest c.args.source.now) in
-    (refused faults.Usage, record { bytes = left.0; left = left.1; lawful = not_taken c.in_default.ensures }, c.in_ok-refusal.ensures)
+    let none = rw c.in_default.is at c.in_ok-asked.ensures in
+    (refused faults.Usage, record { bytes = left.0; left = left.1; lawful = not_taken none }, c.in_ok-refusal.ensures)
 
 pub returns-in_default-clause-solve_left : goal.returns-in_default-clause-solve_left
-returns-in_default-clause-solve_left g c settings asks = absurd (c.in_default.ensures (Solve settings) asks)
+returns-in_default-clause-solve_left g c settings asks = let none = rw c.in_default.is at c.in_ok-asked.ensures in absurd (none (Solve settings) asks)
 
 pub returns-in_default-clause-trace_left : goal.returns-in_default-clause-trace_left
-returns-in_default-clause-trace_left g c asks = absurd (c.in_default.ensures TraceWord asks)
+returns-in_default-clause-trace_left g c asks = let none = rw c.in_default.is at c.in_ok-asked.ensures in absurd (none TraceWord asks)
+
+pub returns-in_default-stop_after-clause-given : goal.returns-in_default-stop_after-clause-given
+returns-in_default-stop_after-clause-given g c =
+    let is : IsAsked (map string_bytes c.args.words.now) c.in-Some.asked = rw c.in-Some.is at c.in_ok-asked.ensures in
+    let given = c.in_ok-output.ensures in
+    (given.0, given_unread (map string_bytes c.args.words.now) (g.S.Source.rest c.args.source.now) c.in-Some.asked [] given.0 is (sym c.in_default-stop_after.ensures) given.1, given.2)
+
+pub returns-in_default-stop_after-clause-solve_left : goal.returns-in_default-stop_after-clause-solve_left
+returns-in_default-stop_after-clause-solve_left g c settings asks =
+    let is : IsAsked (map string_bytes c.args.words.now) c.in-Some.asked = rw c.in-Some.is at c.in_ok-asked.ensures in
+    absurd (nothing_read 1048576 (stop_after c.in-Some.asked) c.in_default-stop_after.ensures (stops_solve (map string_bytes c.args.words.now) c.in-Some.asked settings is asks))
+
+pub returns-in_default-stop_after-clause-trace_left : goal.returns-in_default-stop_after-clause-trace_left
+returns-in_default-stop_after-clause-trace_left g c asks =
+    let is : IsAsked (map string_bytes c.args.words.now) c.in-Some.asked = rw c.in-Some.is at c.in_ok-asked.ensures in
+    absurd (nothing_read 18446744073709551615 (stop_after c.in-Some.asked) c.in_default-stop_after.ensures (stops_trace (map string_bytes c.args.words.now) c.in-Some.asked is asks))
 
 pub returns-in_err-bytes-clause-unread : goal.returns-in_err-bytes-clause-unread
-returns-in_err-bytes-clause-unread g c nothing = absurd (reads (map string_bytes c.args.words.now) c.in-Some.asked c.in-Some.ensures nothing)
+returns-in_err-bytes-clause-unread g c nothing =
+    let is : IsAsked (map string_bytes c.args.words.now) c.in-Some.asked = rw c.in-Some.is at c.in_ok-asked.ensures in
+    absurd (reads (map string_bytes c.args.words.now) c.in-Some.asked c.in-Some-stop_after.most is (sym c.in-Some-stop_after.ensures) nothing)
 
 pub returns-in_err-shown-clause-unread : goal.returns-in_err-shown-clause-unread
-returns-in_err-shown-clause-unread g c nothing = absurd (reads (map string_bytes c.args.words.now) c.in-Some.asked c.in-Some.ensures nothing)
+returns-in_err-shown-clause-unread g c nothing =
+    let is : IsAsked (map string_bytes c.args.words.now) c.in-Some.asked = rw c.in-Some.is at c.in_ok-asked.ensures in
+    absurd (reads (map string_bytes c.args.words.now) c.in-Some.asked c.in-Some-stop_after.most is (sym c.in-Some-stop_after.ensures) nothing)
 
 pub returns-clause-unread : goal.returns-clause-unread
-returns-clause-unread g c nothing = absurd (reads (map string_bytes c.args.words.now) c.in-Some.asked c.in-Some.ensures nothing)
+returns-clause-unread g c nothing =
+    let is : IsAsked (map string_bytes c.args.words.now) c.in-Some.asked = rw c.in-Some.is at c.in_ok-asked.ensures in
+    absurd (reads (map string_bytes c.args.words.now) c.in-Some.asked c.in-Some-stop_after.most is (sym c.in-Some-stop_after.ensures) nothing)
 
 pub returns-clause-given : goal.returns-clause-given
 returns-clause-given g c =
     let rest = g.S.Source.rest c.args.source.now in
     let after = g.S.Source.rest c.read_whole.new.source in
     let text = c.in_ok-bytes.bytes.items in
+    let is : IsAsked (map string_bytes c.args.words.now) c.in-Some.asked = rw c.in-Some.is at c.in_ok-asked.ensures in
     let given = c.in_ok-shown.ensures in
-    let taken : TakesWhole (stop_after c.in-Some.asked) text rest after = subst (λ n. TakesWhole n text rest after) c.stop_after.ensures c.in_ok-bytes.ensures.bytes in
     let fits : length text ≤ 18446744073709551615 = omega (arith, c.in_ok-bytes.bytes.ok, c.in_ok-bytes.bytes.small, c.deref.ensures.len) in
     let gives : Gives c.in-Some.asked text given.0 = subst (λ (bytes : List ℕ). Gives c.in-Some.asked bytes given.0) c.deref.ensures.value given.1 in
-    (given.0, given_left (map string_bytes c.args.words.now) rest after c.in-Some.asked text given.0 c.in-Some.ensures taken fits gives, given.2)
+    (given.0, given_left (map string_bytes c.args.words.now) rest after c.in-Some.asked c.in-Some-stop_after.most text given.0 is (sym c.in-Some-stop_after.ensures) c.in_ok-bytes.ensures.bytes fits gives, given.2)
