@@ -8,7 +8,7 @@ use Rattle.log_checker.specs.Judging.{IsFirstBad}
 use Rattle.cert_text.proofs.Faults.{texts_say_one, faults_are_one, texts_have_none}
 use Rattle.log_checker.proofs.Ranges.{one_first}
 use Rattle.cert_check.specs.Lawful.{IsGoodTarget, IsGoodLineOf, IsLawful}
-use Rattle.cert_check.specs.Limit.{IsInForce}
+use Rattle.enc_layout.specs.Limit.{IsInForce}
 use Rattle.cert_check.specs.Answer.{Answer, FormFault, OtherKind, TooManyLetters, BadLine, BadTarget, Verified, HasFewLetters, IsFirstBadLineOf, AreGoodLines, IsAnswer, AnswersAreOne, AllGoodIsVerified}
 
 -- what the answers say of the one certificate that the bytes are the text of

@@ -13,7 +13,7 @@ use Rattle.cert_text.proofs.LiveLines.{live_stands}
 use Rattle.enc_layout.specs.Letters.{LayoutValue, Fits, letters_through}
 use Rattle.enc_layout.specs.Clauses.{counts, clause_list}
 use Rattle.log_checker.specs.Judging.{IsFirstBad, IsFirstBadLine}
-use Rattle.cert_check.specs.Limit.{layout, IsInForce}
+use Rattle.enc_layout.specs.Limit.{layout, IsInForce}
 use Rattle.cert_check.specs.Lawful.{target_literals, IsGoodTarget}
 use Rattle.cert_check.specs.Answer.{Answer, FormFault, OtherKind, TooManyLetters, BadLine, BadTarget, Verified, HasFewLetters, IsAnswer, IsFirstTarget, IsJudged, targets_answer, AreGoodLines}
 use Rattle.cert_check.proofs.Answers.{all_good}

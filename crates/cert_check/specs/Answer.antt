@@ -12,7 +12,7 @@ use Rattle.log_checker.specs.Judging.{IsFirstBad, IsFirstBadLine}
 use Rattle.cert_check.specs.declared.verdict.Verdict.{Verdict}
 use Rattle.cert_check.specs.declared.verdict.Verdict.TheVariants as verdicts
 use Rattle.cert_check.specs.declared.verdict.Reason.TheVariants as reasons
-use Rattle.cert_check.specs.Limit.{layout, IsInForce}
+use Rattle.enc_layout.specs.Limit.{layout, IsInForce}
 use Rattle.cert_check.specs.Lawful.{IsGoodTarget, CertOk}
 
 -- the answers, in the order in which they are tried

@@ -1,4 +1,3 @@
-pub mod Limit
 pub mod Lawful
 pub mod Answer
 pub mod Walk

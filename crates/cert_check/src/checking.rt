@@ -4,7 +4,7 @@ ghost use Rattle.ltl_syntax.specs.Table.{tree_at};
 ghost use Rattle.enc_layout.specs.Letters.{Fits};
 ghost use Rattle.enc_layout.specs.Clauses.{layout_of};
 ghost use Rattle.cert_check.specs.declared.verdict.CheckRefused.TheVariants.{Form, Letters};
-ghost use Rattle.cert_check.specs.Limit.{IsInForce};
+ghost use Rattle.enc_layout.specs.Limit.{IsInForce};
 ghost use Rattle.cert_check.specs.Answer.{IsAnswer, answer_of, FormFault, TooManyLetters};
 
 use crate::verdict::{CheckRefused, Reason, Verdict};

@@ -1,6 +1,7 @@
 pub mod Letters
 pub mod Parts
 pub mod Clauses
+pub mod Limit
 pub mod Assigned
 pub mod Pairs
 pub mod Laws
