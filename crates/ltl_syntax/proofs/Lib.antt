@@ -4,3 +4,12 @@ mod Tables
 mod NameSearch
 mod Works
 pub mod Roots
+mod Members
+pub mod Places
+pub mod Orders
+pub mod Distinct
+pub mod Overwriting
+mod Pending
+mod Cutting
+mod Marking
+pub mod Few

@@ -31,7 +31,7 @@ some_operator_size (one.AlwaysIn a b) = omega arith
 some_operator_size (one.OnceIn a b) = omega arith
 some_operator_size (one.HistoricallyIn a b) = omega arith
 
-some_node_size : (n : Node) → 1 ≤ node_size n
+pub some_node_size : (n : Node) → 1 ≤ node_size n
 some_node_size (nodes.Const b) = omega arith
 some_node_size (nodes.Letter n) = omega arith
 some_node_size (nodes.Fresh n) = omega arith

@@ -6,3 +6,7 @@ pub mod Roots
 pub mod Print
 pub mod Stack
 pub mod Examples
+pub mod Replacement
+pub mod Flat
+pub mod Pending
+pub mod Cutting

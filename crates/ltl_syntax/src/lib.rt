@@ -2,12 +2,16 @@
 #![tactic(auto)]
 
 mod node;
+mod preorder;
 mod printing;
+mod replacing;
 mod shared;
 mod table;
 
 pub use node::{BinaryOp, Kind, Node, UnaryOp};
+pub use preorder::nodes_under;
 pub use printing::print;
+pub use replacing::replace;
 pub use table::{FormulaTable, PushRefused};
 
 #[cfg(test)]

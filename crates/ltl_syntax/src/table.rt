@@ -6,7 +6,7 @@
 ghost use Rattle.std.specs.Prelude.{◌≡◌, ◌≢◌, ℕ, ◌+◌, ◌<◌, ◌≤◌, ◌↔◌, ◌&&◌, not, false, [], Some, length, map, slice_get, slice_index_or, string_bytes, IfOk, OnOk, OnErr, IsTrue};
 ghost use Rattle.std.specs.List.{count_by};
 ghost use Rattle.ltl_syntax.specs.declared.table.PushRefused.TheVariants.{NoMemory};
-ghost use Rattle.ltl_syntax.specs.Table.{Table, IsRoot, MayFollow, IsFine, IsPlain, Pushes, Names, tree_at, trees_of, made, has_child};
+ghost use Rattle.ltl_syntax.specs.Table.{Table, IsTable, IsRoot, MayFollow, IsFine, IsPlain, Pushes, Names, tree_at, trees_of, made, has_child};
 ghost use Rattle.ltl_syntax.specs.Size.{sizes, node_size, HasOrder};
 ghost use Rattle.ltl_syntax.specs.Roots.{HasChildrenBelow};
 
@@ -162,6 +162,13 @@ impl FormulaTable {
         ensures ordered { HasOrder result }
     {
         self.nodes[number as usize]
+    }
+
+    /// Does nothing: its contract says what holds of every table.
+    pub fn is_table(&self)
+        ensures { IsTable self.now.nodes self.now.names }
+    {
+        let _nodes = &self.nodes;
     }
 
     /// The number of names.

@@ -1,0 +1,133 @@
+-- The nodes of a table in the order of their places: as many as the tree has nodes, each standing for the formula at its place.
+use Rattle.std.proofs.Common.{◌≡◌, ℕ, zero, suc, ◌+◌, ◌-◌, ◌<◌, ◌≤◌, inl, inr, subst, ap, ap₂, arith, sym, refl, ◌∙◌, List, [], ◌∷◌, ◌++◌, length, get_or, slice_get, Some, lt-ltb, le-ltb}
+use Rattle.std.proofs.Math.ListN.{get_or-append}
+use Rattle.std.proofs.Math.Seq.{get_or-append_seam, get_or-append_right}
+use Rattle.std.proofs.lemmas.Bool.{cases_lt, cond-true, cond-false}
+use Rattle.std.proofs.lemmas.Option.{slice_get_within}
+use Rattle.std.proofs.lemmas.List.{length-append}
+use Rattle.ltl_syntax.specs.declared.node.Node.{Node}
+use Rattle.ltl_syntax.specs.declared.node.Node.TheVariants as nodes
+use Rattle.ltl_syntax.specs.Formula.{Fresh, Formula, Const, Letter, Unary, Binary, nodes_in}
+use Rattle.ltl_syntax.specs.Table.{Table, made, trees_of, tree_at, IsFine, AreFine, IsTable}
+use Rattle.ltl_syntax.specs.Replacement.{part_at}
+use Rattle.ltl_syntax.proofs.Trees.{node_tree, node_fine}
+use Rattle.ltl_syntax.specs.Flat.{order_among, ordered, orders_after, orders_of, order_at, node_at}
+
+-- ---- the order of a node, from those of its children
+
+ordered_same : (m place : ℕ) (old new : List (List ℕ)) → ((i : ℕ) → i < place → order_among new i ≡ order_among old i) → (number : ℕ) (node : Node) → IsFine m place node → ordered new number node ≡ ordered old number node
+ordered_same m place old new same number (nodes.Const b) f = refl
+ordered_same m place old new same number (nodes.Letter n) f = refl
+ordered_same m place old new same number (nodes.Fresh n) f = refl
+ordered_same m place old new same number (nodes.Unary op a) f = ap (λ xs. number ∷ xs) (same a f)
+ordered_same m place old new same number (nodes.Binary op a b) f = ap₂ (λ xs ys. number ∷ (xs ++ ys)) (same a f.0) (same b f.1)
+
+kept : (orders : List (List ℕ)) (ns : List Node) (i : ℕ) → i < length orders → order_among (orders_after orders ns) i ≡ order_among orders i
+kept orders [] i h = refl
+kept orders (n ∷ ns) i h =
+    kept (orders ++ ordered orders (length orders) n ∷ []) ns i (omega (arith, length-append orders (ordered orders (length orders) n ∷ [])))
+    ∙ get_or-append orders (ordered orders (length orders) n ∷ []) [] i h
+
+order_after : (m : ℕ) (orders : List (List ℕ)) (ns : List Node) → AreFine m (length orders) ns → (k : ℕ) (node : Node) → slice_get ns k ≡ Some node
+    → order_among (orders_after orders ns) (length orders + k) ≡ ordered (orders_after orders ns) (length orders + k) node
+order_after m orders [] f k node e = absurd (cc)
+order_after m orders (n ∷ ns) f zero node e =
+    let at : order_among (orders_after orders (n ∷ ns)) (length orders) ≡ ordered orders (length orders) n =
+    kept (orders ++ ordered orders (length orders) n ∷ []) ns (length orders) (omega (arith, length-append orders (ordered orders (length orders) n ∷ [])))
+    ∙ get_or-append_seam orders (ordered orders (length orders) n) [] [] in
+    let is : n ≡ node = cc in
+    let zeroth : length orders + 0 ≡ length orders = omega arith in
+    rw (zeroth, ← is) (at ∙ sym (ordered_same m (length orders) orders (orders_after orders (n ∷ ns)) (kept orders (n ∷ ns)) (length orders) n f.0))
+order_after m orders (n ∷ ns) f (suc k) node e =
+    let longer : length (orders ++ ordered orders (length orders) n ∷ []) ≡ length orders + 1 = length-append orders (ordered orders (length orders) n ∷ []) in
+    let fine : AreFine m (length (orders ++ ordered orders (length orders) n ∷ [])) ns = subst (λ p. AreFine m p ns) (sym longer) f.1 in
+    let moved : length (orders ++ ordered orders (length orders) n ∷ []) + k ≡ length orders + suc k = omega arith in
+    rw (← moved) (order_after m (orders ++ ordered orders (length orders) n ∷ []) ns fine k node e)
+
+node_there : (ns : List Node) (k : ℕ) → k < length ns → (node : Node) × (slice_get ns k ≡ Some node)
+node_there [] k lt = absurd (omega arith)
+node_there (n ∷ ns) zero lt = (n, refl)
+node_there (n ∷ ns) (suc k) lt = node_there ns k (omega arith)
+
+-- ---- a table
+
+module _ (t : Table) (is : IsTable t.nodes t.names) where
+  pub node_order : (number : ℕ) (node : Node) → slice_get t.nodes number ≡ Some node → order_at t number ≡ ordered (orders_of t) number node
+  unfolding orders_of
+  node_order number node e =
+      let zeroth : 0 + number ≡ number = omega arith in
+      rw zeroth at (order_after (length t.names) [] t.nodes is.fine number node e)
+
+  -- what holds of a node where it holds of its children holds of all
+  module _ (C : ℕ → Type 0) (step : (k : ℕ) (node : Node) → slice_get t.nodes k ≡ Some node → IsFine (length t.names) k node → ((j : ℕ) → j < k → C j) → C k) where
+    up_to : (fuel k : ℕ) → k < fuel → k < length t.nodes → C k
+    up_to zero k lt low = absurd (omega arith)
+    up_to (suc fuel) k lt low =
+        let w = node_there t.nodes k low in
+        step k w.0 w.1 (node_fine t is k w.0 w.1) (λ j lt'. up_to fuel j (omega arith) (omega arith))
+
+    pub by_children : (k : ℕ) → k < length t.nodes → C k
+    by_children k low = up_to (suc k) k (omega arith) low
+
+  -- ---- as many as nodes of the tree, each at its place
+
+  abbrev IsLong : ℕ → Type 0
+  IsLong k = length (order_at t k) ≡ nodes_in (tree_at t k)
+
+  abbrev HasLength : List ℕ → Formula → Type 0
+  HasLength xs f = length xs ≡ nodes_in f
+
+  long_step : (k : ℕ) (node : Node) → IsFine (length t.names) k node → ((j : ℕ) → j < k → IsLong j) → HasLength (ordered (orders_of t) k node) (made t.names (trees_of t) node)
+  long_step k (nodes.Const b) fine all = refl
+  long_step k (nodes.Letter n) fine all = refl
+  long_step k (nodes.Fresh n) fine all = refl
+  long_step k (nodes.Unary op a) fine all = let i = all a fine in omega arith
+  long_step k (nodes.Binary op a b) fine all =
+      let i = all a fine.0 in
+      let j = all b fine.1 in
+      let e = length-append (order_at t a) (order_at t b) in omega arith
+
+  pub order_long : (k : ℕ) → k < length t.nodes → length (order_at t k) ≡ nodes_in (tree_at t k)
+  order_long = by_children IsLong (λ k node e fine all. ap length (node_order k node e) ∙ (long_step k node fine all ∙ sym (ap nodes_in (node_tree t is k node e))))
+
+  -- ---- each node stands for the formula at its place
+
+  abbrev Placed : List ℕ → Formula → Type 0
+  Placed xs f = (n : ℕ) → n < length xs → tree_at t (get_or xs n 0) ≡ part_at f n
+
+  abbrev IsPlaced : ℕ → Type 0
+  IsPlaced k = Placed (order_at t k) (tree_at t k)
+
+  placed_leaf : (k : ℕ) (f : Formula) → tree_at t k ≡ f → Placed (k ∷ []) f
+  placed_leaf k f e zero lt = e
+  placed_leaf k f e (suc n) lt = absurd (omega arith)
+
+  placed_step : (k : ℕ) (node : Node) → slice_get t.nodes k ≡ Some node → IsFine (length t.names) k node → ((j : ℕ) → j < k → IsPlaced j) → Placed (ordered (orders_of t) k node) (made t.names (trees_of t) node)
+  placed_step k (nodes.Const b) e fine all = placed_leaf k (Const b) (node_tree t is k (nodes.Const b) e)
+  placed_step k (nodes.Letter n) e fine all = placed_leaf k (made t.names (trees_of t) (nodes.Letter n)) (node_tree t is k (nodes.Letter n) e)
+  placed_step k (nodes.Fresh n) e fine all = placed_leaf k (Letter (Fresh n)) (node_tree t is k (nodes.Fresh n) e)
+  placed_step k (nodes.Unary op a) e fine all = by where
+    by : Placed (k ∷ order_at t a) (Unary op (tree_at t a))
+    by zero lt = node_tree t is k (nodes.Unary op a) e
+    by (suc n) lt = all a fine n (omega arith)
+  placed_step k (nodes.Binary op a b) e fine all = by where
+    long : length (order_at t a) ≡ nodes_in (tree_at t a)
+    long = let low = slice_get_within t.nodes k (nodes.Binary op a b) e in let lt = fine.0 in order_long a (omega arith)
+
+    by : Placed (k ∷ (order_at t a ++ order_at t b)) (Binary op (tree_at t a) (tree_at t b))
+    by zero lt = node_tree t is k (nodes.Binary op a b) e
+    by (suc n) lt = elim (cases_lt n (length (order_at t a))) [
+      | inl before ↦
+          let within : n < nodes_in (tree_at t a) = subst (λ m. n < m) long before in
+          ap (tree_at t) (get_or-append (order_at t a) (order_at t b) 0 n before) ∙ (all a fine.0 n before ∙ sym (cond-true _ _ _ (lt-ltb n (nodes_in (tree_at t a)) within)))
+      | inr after ↦
+          let beyond : nodes_in (tree_at t a) ≤ n = subst (λ m. m ≤ n) long after in
+          let e' = length-append (order_at t a) (order_at t b) in
+          ap (tree_at t) (get_or-append_right (order_at t a) (order_at t b) n 0 after)
+          ∙ (all b fine.1 (n - length (order_at t a)) (omega arith)
+          ∙ (ap (λ m. part_at (tree_at t b) (n - m)) long ∙ sym (cond-false _ _ _ (le-ltb n (nodes_in (tree_at t a)) beyond))))
+    ]
+
+  pub order_part : (k : ℕ) → k < length t.nodes → (n : ℕ) → n < length (order_at t k) → tree_at t (node_at t k n) ≡ part_at (tree_at t k) n
+  order_part = by_children IsPlaced (λ k node e fine all.
+      subst (λ f. Placed (order_at t k) f) (sym (node_tree t is k node e)) (subst (λ xs. Placed xs (made t.names (trees_of t) node)) (sym (node_order k node e)) (placed_step k node e fine all)))

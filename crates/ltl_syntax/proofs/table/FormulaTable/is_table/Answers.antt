@@ -1,0 +1,4 @@
+use Rattle.ltl_syntax.proofs.table.FormulaTable.is_table.Goals as goal
+
+pub returns : goal.returns
+returns c = rw (← c.self.view_is) c.self.invariant.0
