@@ -19,3 +19,9 @@ pub mod Collecting
 pub mod Closed
 pub mod PlainNames
 pub mod Traces
+pub mod Operators
+pub mod Agreeing
+pub mod Shallow
+pub mod Chosen
+pub mod Extending
+pub mod Originals

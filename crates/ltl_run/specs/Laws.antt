@@ -16,6 +16,8 @@ use Rattle.ltl_run.specs.declared.run_state.Close.{Close}
 use Rattle.ltl_run.specs.TraceOf.{ClosesTo, Accepts, GivesTrace}
 use Rattle.ltl_run.specs.Plain.{HasPlainNames, IsSmallNode}
 use Rattle.ltl_run.specs.Repeated.{HaveCarry}
+use Rattle.ltl_run.specs.Extension.{HasNoFresh, IsGiven, IsExtension}
+use Rattle.ltl_syntax.specs.Replacement.{Places, rep}
 
 -- the normal form of a formula holds at the positions where the formula does
 abbrev pub NormalFormAgrees : Type 0
@@ -119,3 +121,23 @@ CarriesAreFew = (f : Formula) (k : ℕ) (r : States) → IsRun f k r → ((i : �
 -- in the finite kind it comes once
 abbrev pub CarriesComeOnce : Type 0
 CarriesComeOnce = (f : Formula) (k : ℕ) (r : States) → IsUnpruned f r k Kinds.Finite → (c : List Bool) (states : List ℕ) → HaveCarry f r k c states → length states ≤ 1
+
+-- no trace of the kind satisfies the formula
+abbrev pub HasNoTrace : Kind → Formula → Type 0
+HasNoTrace kind f = (t : Trace) → IsTrace t → IsOfKind t kind → Satisfies t f → ⊥
+
+-- each trace has an extension, which is a trace of its kind
+abbrev pub TracesExtend : Type 0
+TracesExtend = (f : Formula) (P : Places) (t : Trace) → IsGiven f → IsTrace t → (u : Trace) × IsTrace u × ((kind : Kind) → IsOfKind t kind → IsOfKind u kind) × IsExtension f P t u
+
+-- on an extension the formula with its occurrences replaced holds where the formula holds on the trace
+abbrev pub ExtensionsAgree : Type 0
+ExtensionsAgree = (f : Formula) (P : Places) (t u : Trace) (i : ℕ) → IsGiven f → IsExtension f P t u → IsPosition t i → Holds u (rep f P) i ↔ Holds t f i
+
+-- where the formula with occurrences replaced has no trace of a kind, the formula has none
+abbrev pub ReplacingRefutes : Type 0
+ReplacingRefutes = (f : Formula) (P : Places) (kind : Kind) → IsGiven f → HasNoTrace kind (rep f P) → HasNoTrace kind f
+
+-- a tree of a table is such a formula where it has no fresh letter
+abbrev pub TreesAreGiven : Type 0
+TreesAreGiven = (t : Table) (root : ℕ) → IsTable t.nodes t.names → root < length t.nodes → HasNoFresh (tree_at t root) → IsGiven (tree_at t root)

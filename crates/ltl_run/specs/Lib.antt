@@ -4,3 +4,4 @@ pub mod Shown
 pub mod Laws
 pub mod Plain
 pub mod Repeated
+pub mod Extension

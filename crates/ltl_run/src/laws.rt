@@ -1,7 +1,7 @@
 //! Laws of runs. Each function is empty: its contract is the law, and a proof cites it by a call.
 //!
 //! The tableau is Reynolds' one-pass tree-shaped one (2016), as Geatti, Gigante and Montanari (2019) ask a solver for its branches.
-ghost use Rattle.ltl_run.specs.Laws.{NormalFormAgrees, NegationAgrees, RangesAreIterated, RunsSatisfy, RulesAccept, LassosRun, TracesRun, RunsAreCut, RunsAreRotated, PrunedRunsShorten, LeastRunsAreUnpruned, HaveUnpruned, UnsatIsSound, BoundSettles, BoundFinds, VerdictIsOne, TreesHavePlainNames, AcceptedRunsHaveTraces, SatIsSound, SatIsExact, CarriesAreFew, CarriesComeOnce};
+ghost use Rattle.ltl_run.specs.Laws.{NormalFormAgrees, NegationAgrees, RangesAreIterated, RunsSatisfy, RulesAccept, LassosRun, TracesRun, RunsAreCut, RunsAreRotated, PrunedRunsShorten, LeastRunsAreUnpruned, HaveUnpruned, UnsatIsSound, BoundSettles, BoundFinds, VerdictIsOne, TreesHavePlainNames, AcceptedRunsHaveTraces, SatIsSound, SatIsExact, CarriesAreFew, CarriesComeOnce, TracesExtend, ExtensionsAgree, ReplacingRefutes, TreesAreGiven};
 
 /// At each position the normal form holds where the formula does, and that of its negation where the formula does not. That of a
 /// bounded operator is a request several times over.
@@ -76,4 +76,18 @@ pub fn satisfiable()
 pub fn carries()
     ensures few { CarriesAreFew }
     ensures once { CarriesComeOnce }
+{}
+
+/// A trace extends by the values of replaced occurrences, with a longer stem where past operators need it, and there the
+/// formula with fresh letters holds where the formula did.
+pub fn extension()
+    ensures there { TracesExtend }
+    ensures agree { ExtensionsAgree }
+{}
+
+/// Where a formula with occurrences replaced has no trace of a kind, the formula has none. The trees of a table are such
+/// formulas.
+pub fn replacing_refutes()
+    ensures refutes { ReplacingRefutes }
+    ensures trees { TreesAreGiven }
 {}

@@ -1,4 +1,4 @@
-mod Trees
+pub mod Trees
 pub mod Sizes
 mod Tables
 mod NameSearch

@@ -1,7 +1,7 @@
 ghost use Rattle.std.specs.Prelude.{IsTrue};
 ghost use Rattle.ltl_syntax.specs.Table.{IsPlain};
 
-use crate::{BinaryOp, FormulaTable, Node, PushRefused, UnaryOp, print};
+use crate::{BinaryOp, FormulaTable, Node, PushRefused, UnaryOp, nodes_under, print, replace};
 use std::process::Abort;
 
 fn is_plain(text: &str) -> bool
@@ -150,4 +150,19 @@ fn numbers_many_names_at_once(rt: HostRuntime) {
     }
     assert_eq!(rt; table.letters(), 16_384);
     assert!(rt; table.name_of(16_383) == "p16383");
+}
+
+#[test]
+fn replaces_nothing(rt: HostRuntime) {
+    let mut table = FormulaTable::new(rt.alloc());
+    let p = name(&rt, &mut table, "p");
+    let right = push(&rt, &mut table, Node::Letter(p));
+    let left = push(&rt, &mut table, Node::Fresh(3));
+    let root = push(&rt, &mut table, Node::Binary(BinaryOp::Until, left, right));
+    assert!(rt; root < table.len());
+    let order = nodes_under(rt.alloc(), &table, root).expect(&rt, "memory");
+    assert!(rt; order.as_slice() == [root, left, right].as_slice());
+    let (copy, same) = replace(rt.alloc(), &table, root, &[]).expect(&rt, "memory");
+    let text = print(rt.alloc(), &copy, same).expect(&rt, "memory");
+    assert!(rt; text.as_slice() == b"({3} U p)".as_slice());
 }
