@@ -16,7 +16,7 @@ use Rattle.black_top.specs.declared.status.Status.{Status}
 use Rattle.black_top.specs.declared.status.Status.TheVariants as statuses
 use Rattle.black_top.specs.declared.output.Output.{Output}
 use Rattle.black_top.specs.Status.{is_answer, has_read}
-use Rattle.black_top.specs.Words.{Setting, Solve, Trace as TraceWord, Demo, Asks, ReadsNothing, kind_of, depth_of}
+use Rattle.command_words.specs.Words.{Setting, Solve, Trace as TraceWord, Demo, Asks, ReadsNothing, kind_of, depth_of}
 use Rattle.black_top.specs.Parts.{IsCut}
 use Rattle.black_top.specs.Taking.{AreLeft, IsTakenUpTo, IsTakenWhole}
 use Rattle.black_top.specs.Answer.{Answer, undecided, status_of, text_of, fault_status}
@@ -26,7 +26,7 @@ use Rattle.black_top.specs.Trace.{IsJudged, not_json, not_trace, empty_loop, emp
 use Rattle.black_top.specs.Demo.{PrintsSummary, DemoPromise}
 use Rattle.black_top.specs.Inner.{Shows}
 use Rattle.black_top.specs.Run.{IsGiven, IsAnswered, NeedsNothing}
-use Rattle.black_top.proofs.OneCommand.{command_one}
+use Rattle.command_words.proofs.OneCommand.{command_one}
 use Rattle.black_top.proofs.OneText.{TextLaws, refused_not_accepted}
 use Rattle.black_top.proofs.OneAnswer.{command_given}
 

@@ -1,10 +1,5 @@
 pub mod Consequences
 pub mod Leaving
-pub mod OneCommand
-pub mod Saying
-pub mod Numbers
-pub mod Walking
-pub mod Matched
 pub mod Settling
 pub mod Refusing
 pub mod Cutting

@@ -13,7 +13,7 @@ use Rattle.lasso_eval.specs.Cells.{cells, max_cells, AreTooMany}
 use Rattle.ltl_closure.specs.Run.{Sat, Unsat, Undecided}
 use Rattle.ltl_run.specs.Laws.{VerdictIsOne}
 use Rattle.report.specs.declared.fault.Fault.TheVariants as faults
-use Rattle.black_top.specs.Words.{Command, Solve, Check, Trace as TraceWord, Demo, Asks, kind_of, depth_of}
+use Rattle.command_words.specs.Words.{Command, Solve, Check, Trace as TraceWord, Demo, Asks, kind_of, depth_of}
 use Rattle.black_top.specs.Answer.{Answer, refused, sat, unsat, undecided, holds, fails, summary, AreAlike}
 use Rattle.black_top.specs.Reading.{RefusesPart, IsParted, uncut, unread, accepted}
 use Rattle.black_top.specs.Solve.{IsInForce, IsReached, number_of, IsDecided, satisfiable, unsatisfiable, undecided_yet, IsSettled, too_deep, decided, IsSolved, unreadable, settled}
@@ -21,7 +21,7 @@ use Rattle.black_top.specs.Trace.{IsJudged, not_json, not_trace, empty_loop, emp
 use Rattle.black_top.specs.Run.{Answers, IsAnswer, not_taken, taken}
 use Rattle.black_top.proofs.Cutting.{cut_one, cut_or_none}
 use Rattle.black_top.proofs.OneText.{TextLaws, one_fault, refused_not_accepted}
-use Rattle.black_top.proofs.OneCommand.{command_one}
+use Rattle.command_words.proofs.OneCommand.{command_one}
 use Rattle.black_top.proofs.Summing.{one_shown}
 
 -- what the crates below say of texts, traces and verdicts

@@ -6,9 +6,9 @@ use Rattle.ltl_parser.specs.Text.{IsAccepted}
 use Rattle.black_top.specs.declared.output.Output.{Output}
 use Rattle.black_top.specs.declared.reading.Reading.{Reading}
 use Rattle.black_top.specs.declared.reading.Reading.TheVariants as readings
-use Rattle.black_top.specs.declared.words.Asked.{Asked}
-use Rattle.black_top.specs.declared.words.Asked.TheVariants as asked
-use Rattle.black_top.specs.Said.{IsDepth}
+use Rattle.command_words.specs.declared.asked.Asked.{Asked}
+use Rattle.command_words.specs.declared.asked.Asked.TheVariants as asked
+use Rattle.command_words.specs.Asked.{IsDepth}
 use Rattle.black_top.specs.Parts.{IsSeparator, EndsLine, BeginsLine}
 use Rattle.black_top.specs.Taking.{AreLeft}
 use Rattle.black_top.specs.Answer.{Answer, status_of, text_of}

@@ -1,7 +1,4 @@
 pub mod Status
-pub mod Words
-pub mod Said
-pub mod Matching
 pub mod Parts
 pub mod Taking
 pub mod Answer

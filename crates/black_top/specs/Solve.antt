@@ -15,7 +15,7 @@ use Rattle.report.specs.Texts.{sat_text, unsat_text, undecided_text}
 use Rattle.black_top.specs.declared.status.Status.{Status}
 use Rattle.black_top.specs.declared.status.Status.TheVariants as statuses
 use Rattle.black_top.specs.Status.{has_read}
-use Rattle.black_top.specs.Words.{Setting, kind_of, depth_of}
+use Rattle.command_words.specs.Words.{Setting, kind_of, depth_of}
 use Rattle.black_top.specs.Taking.{AreLeft, IsTakenUpTo}
 use Rattle.black_top.specs.Answer.{Answer, refused, sat, unsat, undecided, status_of, text_of}
 use Rattle.black_top.specs.Reading.{RefusesPart}

@@ -4,7 +4,7 @@ ghost use Rattle.std.specs.Prelude.{◌≡◌, List, map, string_bytes, IfOk, On
 ghost use Rattle.ltl_io.specs.Count.{Rose, Counts};
 ghost use Rattle.ltl_io.specs.Outside.{LosesAtMost};
 ghost use Rattle.ltl_io.specs.declared.source.ReadRefused.TheVariants as read_refused;
-ghost use Rattle.black_top.specs.Words.{Setting, Solve, Trace as TraceWord, Asks};
+ghost use Rattle.command_words.specs.Words.{Setting, Solve, Trace as TraceWord, Asks};
 ghost use Rattle.black_top.specs.Answer.{Answer};
 ghost use Rattle.black_top.specs.Inner.{Shows};
 ghost use Rattle.black_top.specs.Run.{IsGiven, NeedsNothing};
@@ -12,7 +12,7 @@ ghost use Rattle.black_top.specs.Taking.{IsTakenUpTo, IsTakenWhole};
 
 use crate::commands::{output, stop_after};
 use crate::output::{Output, refusal};
-use crate::words::asked_command;
+use command_words::asked_command;
 use ltl_io::{ReadRefused, Source, read_whole};
 use report::Fault;
 use std::alloc::Global;

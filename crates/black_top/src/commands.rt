@@ -9,7 +9,7 @@ mod trace;
 
 use crate::output::Output;
 use crate::reading::MAX_TEXT;
-use crate::words::Asked;
+use command_words::Asked;
 use std::alloc::{AllocError, Global};
 
 /// After how many bytes the source is read no further. None where it is not read.

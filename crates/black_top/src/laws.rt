@@ -1,13 +1,7 @@
 //! Laws of the definitions: the contract of each function is the law.
-ghost use Rattle.std.specs.Prelude.{◌≡◌, ℕ, List};
-ghost use Rattle.black_top.specs.Words.{Command, Taken};
+ghost use Rattle.std.specs.Prelude.{ℕ, List};
 ghost use Rattle.black_top.specs.Answer.{Answer, AreAlike};
 ghost use Rattle.black_top.specs.Run.{IsAnswer};
-
-/// A list of words is taken as one command at most.
-pub fn one_command()
-    ensures { (words : List (List ℕ)) (c d : Command) → Taken words c → Taken words d → c ≡ d }
-{}
 
 /// Words and bytes have one answer, but for the trace that is shown with SAT.
 pub fn one_answer()

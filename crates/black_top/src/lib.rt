@@ -3,10 +3,7 @@
 
 mod answer;
 mod commands;
-mod decimal;
 pub mod laws;
-mod matching;
-mod options;
 mod output;
 mod parts;
 mod reading;
@@ -15,7 +12,6 @@ mod status;
 #[cfg(test)]
 mod tests;
 mod top;
-mod words;
 
 pub use ring::demo_text;
 pub use status::Status;

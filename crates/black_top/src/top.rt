@@ -3,7 +3,7 @@ ghost use Rattle.std.specs.Prelude.{◌≡◌, ◌⊎◌, ◌<◌, ℕ, List, ma
 ghost use Rattle.ltl_io.specs.Count.{Rose};
 ghost use Rattle.black_top.specs.declared.status.Status.TheVariants as statuses;
 ghost use Rattle.black_top.specs.Status.{is_answer};
-ghost use Rattle.black_top.specs.Words.{Setting, Solve, Trace as TraceWord, Demo, Asks};
+ghost use Rattle.command_words.specs.Words.{Setting, Solve, Trace as TraceWord, Demo, Asks};
 ghost use Rattle.black_top.specs.Run.{IsAnswered, IsCutOff, NeedsNothing};
 ghost use Rattle.black_top.specs.Solve.{SolvePromise};
 ghost use Rattle.black_top.specs.Trace.{TracePromise};

@@ -3,7 +3,7 @@ use Rattle.std.specs.Prelude.{ℕ, Bool, true, false, List, [], ◌∷◌, ◌++
 use Rattle.std.specs.Fmt.{decimal}
 use Rattle.ltl_word.specs.declared.trace.Trace.{Trace}
 use Rattle.ltl_word.specs.Json.{trace_text}
-use Rattle.report.specs.Commands.{Range, OptionRow, CommandRow, commands}
+use Rattle.command_words.specs.Usage.{usage_text}
 use Rattle.report.specs.declared.fault.Fault.{Fault}
 use Rattle.report.specs.declared.fault.Fault.TheVariants as faults
 
@@ -41,29 +41,6 @@ undecided_text depth = numbered (codes "UNDECIDED ") depth
 abbrev pub traced_text : Bool → List ℕ
 traced_text true = line (codes "HOLDS")
 traced_text false = line (codes "FAILS")
-
--- a number's place, where one is taken
-abbrev pub number_text : Option Range → List ℕ
-number_text None = []
-number_text (Some range) = codes " N"
-
--- the options in brackets
-abbrev pub options_text : List OptionRow → List ℕ
-options_text [] = []
-options_text (row ∷ rows) = codes " [" ++ row.word ++ number_text row.number ++ codes "]" ++ options_text rows
-
--- the usage line of a command
-abbrev pub usage_line : CommandRow → List ℕ
-usage_line row = line (codes "usage: black " ++ row.word ++ options_text row.options ++ number_text row.number)
-
--- the usage lines of these commands
-abbrev pub usage_lines : List CommandRow → List ℕ
-usage_lines [] = []
-usage_lines (row ∷ rows) = usage_line row ++ usage_lines rows
-
--- the usage lines of the table
-abbrev pub usage_text : List ℕ
-usage_text = usage_lines commands
 
 -- the line of each refusal
 abbrev pub refused_text : Fault → List ℕ

@@ -1,7 +1,6 @@
 //! The output texts: one call for each answer, which gives the whole text.
 #![tactic(auto)]
 
-pub mod commands;
 mod fault;
 mod line;
 mod refusal;

@@ -2,9 +2,9 @@
 ghost use Rattle.std.specs.Prelude.{◌≡◌, IfOk};
 ghost use Rattle.report.specs.Texts.{refused_text};
 
-use crate::commands::usage;
 use crate::fault::Fault;
 use crate::line::{line, numbered};
+use command_words::usage;
 use std::alloc::{AllocError, Global};
 
 /// The line of the refusal, or the lines of the usage.

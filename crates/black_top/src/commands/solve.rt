@@ -5,12 +5,12 @@ ghost use Rattle.enc_layout.specs.Letters.{Fits};
 ghost use Rattle.enc_layout.specs.Clauses.{layout_of};
 ghost use Rattle.black_top.specs.Answer.{Answer};
 ghost use Rattle.black_top.specs.Solve.{IsSolved, IsSettled, IsDecided};
-ghost use Rattle.black_top.specs.Said.{IsDepth};
+ghost use Rattle.command_words.specs.Asked.{IsDepth};
 ghost use Rattle.black_top.specs.Inner.{Shows};
 
-use crate::options::Options;
 use crate::output::{Output, refusal, sat, undecided, unsat};
 use crate::reading::{Reading, read_formula};
+use command_words::Options;
 use enc_layout::Layout;
 use ltl_closure::Closure;
 use ltl_syntax::FormulaTable;

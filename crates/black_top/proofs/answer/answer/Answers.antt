@@ -1,9 +1,9 @@
 use Rattle.std.proofs.Common.{◌≤◌, [], List, ℕ, length, map, string_bytes, sym, subst, arith}
 use Rattle.report.specs.declared.fault.Fault.TheVariants as faults
-use Rattle.black_top.specs.Words.{Solve, Trace as TraceWord}
+use Rattle.command_words.specs.Words.{Solve, Trace as TraceWord}
 use Rattle.black_top.specs.Answer.{refused}
 use Rattle.black_top.specs.Run.{not_taken}
-use Rattle.black_top.specs.Said.{IsAsked}
+use Rattle.command_words.specs.Asked.{IsAsked}
 use Rattle.black_top.specs.Inner.{Gives, stop_after}
 use Rattle.black_top.proofs.Leaving.{some_left, given_left, given_unread, stops_solve, stops_trace, nothing_read, reads}
 use Rattle.black_top.proofs.answer.answer.Goals as goal

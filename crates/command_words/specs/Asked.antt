@@ -1,0 +1,37 @@
+-- What is handed on of the words that are taken.
+use Rattle.std.specs.Prelude.{◌≡◌, ◌≤◌, ℕ, List, Option, Some, None}
+use Rattle.command_words.specs.declared.options.Options.{Options}
+use Rattle.command_words.specs.declared.asked.Asked.{Asked}
+use Rattle.command_words.specs.declared.asked.Asked.TheVariants as asked
+use Rattle.command_words.specs.Words.{Setting, Solve, Check, Trace, Demo, Batch, System, Monitor, Depast, Asks, kind_of, depth_of, cert_of, core_of, workers_of}
+
+-- a depth that is asked for is at most 1,000
+abbrev pub IsDepth : Option ℕ → Type 0
+IsDepth None = Unit {0}
+IsDepth (Some n) = n ≤ 1000
+
+-- the workers that are asked for are from 1 to 16
+abbrev pub AreWorkers : Option ℕ → Type 0
+AreWorkers None = Unit {0}
+AreWorkers (Some n) = (1 ≤ n) × (n ≤ 16)
+
+-- the options are what the settings say
+pub record AreOptions (settings : List Setting) (options : Options) : Type 0 where
+  pub kind : options.kind ≡ kind_of settings
+  pub depth : options.depth ≡ depth_of settings
+  pub cert : options.cert ≡ cert_of settings
+  pub core : options.core ≡ core_of settings
+  pub workers : options.workers ≡ workers_of settings
+  pub small : IsDepth options.depth
+  pub few : AreWorkers options.workers
+
+-- the words ask for the command
+abbrev pub IsAsked : List (List ℕ) → Asked → Type 0
+IsAsked words (asked.Solve options) = (settings : List Setting) × Asks words (Solve settings) × AreOptions settings options
+IsAsked words (asked.Check options) = (settings : List Setting) × Asks words (Check settings) × AreOptions settings options
+IsAsked words asked.Trace = Asks words Trace
+IsAsked words (asked.Demo n) = Asks words (Demo n)
+IsAsked words (asked.Batch options) = (settings : List Setting) × Asks words (Batch settings) × AreOptions settings options
+IsAsked words (asked.System options) = (settings : List Setting) × Asks words (System settings) × AreOptions settings options
+IsAsked words asked.Monitor = Asks words Monitor
+IsAsked words asked.Depast = Asks words Depast

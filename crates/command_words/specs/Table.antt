@@ -1,0 +1,137 @@
+-- The table of the commands and of their options, with what of it is built. The usage lines show it, and words are judged by it.
+use Rattle.std.specs.Prelude.{ℕ, Bool, true, false, ◌&&◌, List, [], ◌∷◌, codes, Option, Some, None, bytes_eq}
+use Rattle.std.specs.List.{list_any}
+use Rattle.command_words.specs.declared.table.OptionName.{OptionName}
+use Rattle.command_words.specs.declared.table.OptionName.TheVariants as names
+use Rattle.command_words.specs.declared.table.CommandName.{CommandName}
+use Rattle.command_words.specs.declared.table.CommandName.TheVariants as commands
+
+-- a number in a word: how many decimal digits it has at most, and from where to where it goes
+pub record Range : Type 0 where
+  pub digits : ℕ
+  pub low : ℕ
+  pub high : ℕ
+
+-- an option: its word, and its number where it has one
+pub record OptionRow : Type 0 where
+  pub word : List ℕ
+  pub number : Option Range
+
+-- an option of a command, and whether it is built there
+pub record Offer : Type 0 where
+  pub option : OptionName
+  pub built : Bool
+
+-- a command: its word, its options, its number where it has one, whether it reads the source, and whether it is built
+pub record CommandRow : Type 0 where
+  pub word : List ℕ
+  pub options : List Offer
+  pub number : Option Range
+  pub reads : Bool
+  pub built : Bool
+
+-- the row of each option. --finite asks about finite traces, --depth is the greatest depth that is gone through, --cert asks for a
+-- certificate, --core for a core, and --workers says how many workers there are
+abbrev pub option_row : OptionName → OptionRow
+option_row names.Finite = record { word = codes "--finite"; number = None }
+option_row names.Depth = record { word = codes "--depth"; number = Some (record { digits = 4; low = 0; high = 1000 }) }
+option_row names.Cert = record { word = codes "--cert"; number = None }
+option_row names.Core = record { word = codes "--core"; number = None }
+option_row names.Workers = record { word = codes "--workers"; number = Some (record { digits = 2; low = 1; high = 16 }) }
+
+-- the word of an option
+abbrev pub option_word : OptionName → List ℕ
+option_word option = (option_row option).word
+
+-- an option that is built
+abbrev pub ready : OptionName → Offer
+ready option = record { option = option; built = true }
+
+-- an option that is not built yet
+abbrev pub planned : OptionName → Offer
+planned option = record { option = option; built = false }
+
+-- whether a formula has a trace
+abbrev pub solve_command : CommandRow
+solve_command = record {
+  word = codes "solve";
+  options = ready names.Finite ∷ ready names.Depth ∷ ready names.Cert ∷ planned names.Core ∷ planned names.Workers ∷ [];
+  number = None;
+  reads = true;
+  built = true;
+}
+
+-- whether a certificate is one
+abbrev pub check_command : CommandRow
+check_command = record {
+  word = codes "check";
+  options = ready names.Finite ∷ ready names.Workers ∷ [];
+  number = None;
+  reads = true;
+  built = true;
+}
+
+-- whether a formula holds on a trace
+abbrev pub trace_command : CommandRow
+trace_command = record { word = codes "trace"; options = []; number = None; reads = true; built = true }
+
+-- what comes of a formula of the program's own, by its size
+abbrev pub demo_command : CommandRow
+demo_command = record {
+  word = codes "demo";
+  options = [];
+  number = Some (record { digits = 2; low = 2; high = 64 });
+  reads = false;
+  built = true;
+}
+
+-- what each line of a text is, as a formula
+abbrev pub batch_command : CommandRow
+batch_command = record {
+  word = codes "batch";
+  options = ready names.Finite ∷ ready names.Depth ∷ ready names.Workers ∷ [];
+  number = None;
+  reads = true;
+  built = false;
+}
+
+-- whether each path of a system satisfies a formula
+abbrev pub system_command : CommandRow
+system_command = record {
+  word = codes "system";
+  options = ready names.Depth ∷ ready names.Cert ∷ [];
+  number = None;
+  reads = true;
+  built = false;
+}
+
+-- where a formula about the past holds, state by state
+abbrev pub monitor_command : CommandRow
+monitor_command = record { word = codes "monitor"; options = []; number = None; reads = true; built = false }
+
+-- a formula without operators of the past
+abbrev pub depast_command : CommandRow
+depast_command = record { word = codes "depast"; options = []; number = None; reads = true; built = false }
+
+-- the row of each command
+abbrev pub command_row : CommandName → CommandRow
+command_row commands.Solve = solve_command
+command_row commands.Check = check_command
+command_row commands.Trace = trace_command
+command_row commands.Demo = demo_command
+command_row commands.Batch = batch_command
+command_row commands.System = system_command
+command_row commands.Monitor = monitor_command
+command_row commands.Depast = depast_command
+
+-- whether two options are one: their words are
+abbrev pub same_option : OptionName → OptionName → Bool
+same_option a b = bytes_eq (option_word a) (option_word b)
+
+-- whether the command has the option
+abbrev pub has_option : CommandRow → OptionName → Bool
+has_option row option = list_any (λ offer. same_option offer.option option) row.options
+
+-- whether the command has the option, and it is built
+abbrev pub has_built : CommandRow → OptionName → Bool
+has_built row option = list_any (λ offer. offer.built && same_option offer.option option) row.options

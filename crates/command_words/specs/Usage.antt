@@ -1,0 +1,36 @@
+-- The usage lines.
+use Rattle.std.specs.Prelude.{ℕ, List, [], ◌∷◌, ◌++◌, codes, Option, Some, None, if◌then◌else◌}
+use Rattle.command_words.specs.Table.{Range, OptionRow, Offer, CommandRow, option_row, solve_command, check_command, trace_command, demo_command, batch_command, system_command, monitor_command, depast_command}
+
+-- a number's place, where one is taken
+abbrev pub number_text : Option Range → List ℕ
+number_text None = []
+number_text (Some range) = codes " N"
+
+-- an option in brackets
+abbrev pub option_text : OptionRow → List ℕ
+option_text row = codes " [" ++ row.word ++ number_text row.number ++ codes "]"
+
+-- the options, built or not
+abbrev pub options_text : List Offer → List ℕ
+options_text [] = []
+options_text (offer ∷ offers) = option_text (option_row offer.option) ++ options_text offers
+
+-- the usage line of a command
+abbrev pub usage_line : CommandRow → List ℕ
+usage_line row = codes "usage: black " ++ row.word ++ options_text row.options ++ number_text row.number ++ codes "\n"
+
+-- the usage lines of these commands
+abbrev pub usage_lines : List CommandRow → List ℕ
+usage_lines [] = []
+usage_lines (row ∷ rows) = usage_line row ++ usage_lines rows
+
+-- the usage lines of those of the commands that are built
+abbrev pub built_lines : List CommandRow → List ℕ
+built_lines [] = []
+built_lines (row ∷ rows) = (if row.built then usage_line row else []) ++ built_lines rows
+
+-- the first four commands, which are always shown, and behind them each further command that is built
+abbrev pub usage_text : List ℕ
+usage_text = usage_lines (solve_command ∷ check_command ∷ trace_command ∷ demo_command ∷ [])
+    ++ built_lines (batch_command ∷ system_command ∷ monitor_command ∷ depast_command ∷ [])

@@ -1,0 +1,168 @@
+-- The lists of words that are taken, and what they say.
+use Rattle.std.specs.Prelude.{◌≡◌, ◌≢◌, ◌≤◌, ◌⊎◌, ◌++◌, ℕ, List, [], ◌∷◌, length, codes, AllPairs, All, Option, Some, None, is_some, option_and_then, Bool, false, IsTrue, find, if◌then◌else◌}
+use Rattle.std.specs.Str.Parse.{IsNumeral, digits_value}
+use Rattle.ltl_syntax.specs.declared.node.Kind.{Kind}
+use Rattle.ltl_syntax.specs.declared.node.Kind.TheVariants as kinds
+use Rattle.command_words.specs.declared.table.OptionName.{OptionName}
+use Rattle.command_words.specs.declared.table.OptionName.TheVariants as names
+use Rattle.command_words.specs.Table.{Range, CommandRow, option_row, option_word, same_option, has_option, has_built, solve_command, check_command, trace_command, demo_command, batch_command, system_command, monitor_command, depast_command}
+
+-- what one option says: which it is, and its number where it has one
+pub record Setting : Type 0 where
+  pub option : OptionName
+  pub number : Option ℕ
+
+pub data Command : Type 0 where
+  Solve : List Setting → Command
+  Check : List Setting → Command
+  Trace : Command
+  Demo : ℕ → Command
+  Batch : List Setting → Command
+  System : List Setting → Command
+  Monitor : Command
+  Depast : Command
+
+-- one to `most` decimal digits, whose value is n, from low to high
+pub record IsNumber (most low high : ℕ) (digits : List ℕ) (n : ℕ) : Type 0 where
+  pub numeral : IsNumeral 10 digits
+  pub short : length digits ≤ most
+  pub value : digits_value 10 digits ≡ n
+  pub from : low ≤ n
+  pub to : n ≤ high
+
+-- the digits are a number of the range
+abbrev pub IsNumberIn : Range → List ℕ → ℕ → Type 0
+IsNumberIn range digits n = IsNumber range.digits range.low range.high digits n
+
+-- the digits are a number of the range, where there is one
+abbrev pub IsNumberOf : Option Range → List ℕ → ℕ → Type 0
+IsNumberOf None digits n = ⊥
+IsNumberOf (Some range) digits n = IsNumberIn range digits n
+
+-- an option with a number is two words, or one word with = between
+abbrev pub Joined : List ℕ → List ℕ → List (List ℕ) → Type 0
+Joined option digits words = (words ≡ option ∷ digits ∷ []) ⊎ (words ≡ (option ++ codes "=" ++ digits) ∷ [])
+
+-- the word of the option
+abbrev pub name : Setting → List ℕ
+name setting = option_word setting.option
+
+-- the words say an option of this word: it stands alone where it has no number, and else with this number
+abbrev pub SaysOption : List ℕ → Option Range → Option ℕ → List (List ℕ) → Type 0
+SaysOption option None None words = words ≡ option ∷ []
+SaysOption option (Some range) (Some n) words = (digits : List ℕ) × IsNumberIn range digits n × Joined option digits words
+SaysOption option range number words = ⊥
+
+-- the words that say one setting
+abbrev pub Says : Setting → List (List ℕ) → Type 0
+Says setting words = SaysOption (name setting) (option_row setting.option).number setting.number words
+
+-- the words say these settings, one after another
+abbrev pub SayAll : List Setting → List (List ℕ) → Type 0
+SayAll [] words = words ≡ []
+SayAll (c ∷ cs) words = (front : List (List ℕ)) × (back : List (List ℕ)) × (words ≡ front ++ back) × Says c front × SayAll cs back
+
+-- each option at most once, in any order
+abbrev pub Once : List Setting → Type 0
+Once settings = AllPairs (λ a b. name a ≢ name b) settings
+
+-- the setting is of an option of the command
+abbrev pub IsAmong : CommandRow → Setting → Type 0
+IsAmong row setting = IsTrue (has_option row setting.option)
+
+-- the setting is of an option of the command that is built
+abbrev pub IsBuilt : CommandRow → Setting → Type 0
+IsBuilt row setting = IsTrue (has_built row setting.option)
+
+-- the row of a command
+abbrev pub row_of : Command → CommandRow
+row_of (Solve settings) = solve_command
+row_of (Check settings) = check_command
+row_of Trace = trace_command
+row_of (Demo n) = demo_command
+row_of (Batch settings) = batch_command
+row_of (System settings) = system_command
+row_of Monitor = monitor_command
+row_of Depast = depast_command
+
+-- the first word of a command
+abbrev pub command_word : Command → List ℕ
+command_word command = (row_of command).word
+
+-- the settings of a command
+abbrev pub settings_of : Command → List Setting
+settings_of (Solve settings) = settings
+settings_of (Check settings) = settings
+settings_of Trace = []
+settings_of (Demo n) = []
+settings_of (Batch settings) = settings
+settings_of (System settings) = settings
+settings_of Monitor = []
+settings_of Depast = []
+
+-- the words are settings of the command's options
+abbrev pub SaySettings : CommandRow → List Setting → List (List ℕ) → Type 0
+SaySettings row settings words = SayAll settings words × Once settings × All (IsAmong row) settings
+
+-- the words are the command's number
+abbrev pub SayNumber : CommandRow → ℕ → List (List ℕ) → Type 0
+SayNumber row n words = (digits : List ℕ) × IsNumberOf row.number digits n × (words ≡ digits ∷ [])
+
+-- what stands behind the first word of each command
+abbrev pub Follow : Command → List (List ℕ) → Type 0
+Follow (Solve settings) words = SaySettings solve_command settings words
+Follow (Check settings) words = SaySettings check_command settings words
+Follow Trace words = words ≡ []
+Follow (Demo n) words = SayNumber demo_command n words
+Follow (Batch settings) words = SaySettings batch_command settings words
+Follow (System settings) words = SaySettings system_command settings words
+Follow Monitor words = words ≡ []
+Follow Depast words = words ≡ []
+
+-- the words that each command takes
+abbrev pub Taken : List (List ℕ) → Command → Type 0
+Taken words command = (more : List (List ℕ)) × (words ≡ command_word command ∷ more) × Follow command more
+
+-- the command is built, with the options that it has
+abbrev pub IsOffered : Command → Type 0
+IsOffered command = IsTrue (row_of command).built × All (IsBuilt (row_of command)) (settings_of command)
+
+-- the words are taken as this command
+abbrev pub Asks : List (List ℕ) → Command → Type 0
+Asks words command = Taken words command × IsOffered command
+
+-- the setting of the option, where it stands there
+abbrev pub setting_of : OptionName → List Setting → Option Setting
+setting_of option settings = find (λ setting. same_option setting.option option) settings
+
+-- whether the option stands there
+abbrev pub stands : OptionName → List Setting → Bool
+stands option settings = is_some (setting_of option settings)
+
+-- the number of the option, where it stands there
+abbrev pub number_of : OptionName → List Setting → Option ℕ
+number_of option settings = option_and_then (λ setting. setting.number) (setting_of option settings)
+
+-- the kind of trace that the settings say: finite where --finite stands there
+abbrev pub kind_of : List Setting → Kind
+kind_of settings = if stands names.Finite settings then kinds.Finite else kinds.Infinite
+
+-- the depth that the settings say, where one stands there
+abbrev pub depth_of : List Setting → Option ℕ
+depth_of settings = number_of names.Depth settings
+
+-- whether the settings ask for a certificate
+abbrev pub cert_of : List Setting → Bool
+cert_of settings = stands names.Cert settings
+
+-- whether the settings ask for a core
+abbrev pub core_of : List Setting → Bool
+core_of settings = stands names.Core settings
+
+-- how many workers the settings say, where a number stands there
+abbrev pub workers_of : List Setting → Option ℕ
+workers_of settings = number_of names.Workers settings
+
+-- the command reads nothing of the source
+abbrev pub ReadsNothing : Command → Type 0
+ReadsNothing command = (row_of command).reads ≡ false

@@ -1,0 +1,20 @@
+// The usage lines.
+ghost use Rattle.std.specs.Prelude.{◌≡◌, IfOk};
+ghost use Rattle.command_words.specs.Usage.{usage_text};
+
+use std::alloc::{AllocError, Global};
+
+/// The usage lines: those of `solve`, `check`, `trace` and `demo`, with what is not built yet of their options, and
+/// behind them those of the other commands that are built.
+pub fn usage(alloc: Global) -> Result<Vec<u8>, AllocError>
+    ensures { IfOk result (λ text. text.items ≡ usage_text) }
+{
+    let mut text = Vec::new(alloc);
+    text.extend_from_slice(
+        b"usage: black solve [--finite] [--depth N] [--cert] [--core] [--workers N]\n",
+    )?;
+    text.extend_from_slice(b"usage: black check [--finite] [--workers N]\n")?;
+    text.extend_from_slice(b"usage: black trace\n")?;
+    text.extend_from_slice(b"usage: black demo N\n")?;
+    Ok(text)
+}
