@@ -1,1 +1,7 @@
 pub mod OneCommand
+mod Numbers
+mod Saying
+mod Walking
+mod Matched
+mod Telling
+mod Asking

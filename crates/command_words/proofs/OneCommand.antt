@@ -4,9 +4,10 @@ use Rattle.std.specs.List.{list_any, find}
 use Rattle.std.specs.Str.Parse.{digits_value}
 use Rattle.std.specs.Prelude.{bytes_eq}
 use Rattle.std.proofs.lemmas.Slice.Eq.{bytes_eq-Decides}
+use Rattle.command_words.specs.declared.table.Range.{Range}
 use Rattle.command_words.specs.declared.table.OptionName.{OptionName}
 use Rattle.command_words.specs.declared.table.OptionName.TheVariants as names
-use Rattle.command_words.specs.Table.{Range, option_row, option_word, solve_command, check_command, batch_command, system_command}
+use Rattle.command_words.specs.Table.{option_row, option_word, solve_command, check_command, batch_command, system_command}
 use Rattle.command_words.specs.Words.{Setting, Command, Solve, Check, Trace, Demo, Batch, System, Monitor, Depast, IsNumberIn, Joined, name, SaysOption, Says, SayAll, Taken, command_word}
 
 pub false_not_true : false ≡ true → ⊥
@@ -51,28 +52,28 @@ abbrev pub before_equals : List ℕ → List ℕ
 before_equals [] = []
 before_equals (x ∷ xs) = if x == 61 then [] else x ∷ before_equals xs
 
-before_all : (word : List ℕ) → has_equals word ≡ false → before_equals word ≡ word
+pub before_all : (word : List ℕ) → has_equals word ≡ false → before_equals word ≡ word
 before_all [] n = refl
 before_all (x ∷ xs) n = by (x == 61) refl (before_all xs) where
   by : (b : Bool) → (x == 61) ≡ b → (has_equals xs ≡ false → before_equals xs ≡ xs) → before_equals (x ∷ xs) ≡ x ∷ xs
   by true e more = absurd (false_not_true (sym n ∙ ap (λ t. t || has_equals xs) e))
   by false e more = rw e (ap (λ t. x ∷ t) (more (sym (ap (λ t. t || has_equals xs) e) ∙ n)))
 
-before_joined : (word rest : List ℕ) → has_equals word ≡ false → before_equals (word ++ codes "=" ++ rest) ≡ word
+pub before_joined : (word rest : List ℕ) → has_equals word ≡ false → before_equals (word ++ codes "=" ++ rest) ≡ word
 before_joined [] rest n = refl
 before_joined (x ∷ xs) rest n = by (x == 61) refl (before_joined xs rest) where
   by : (b : Bool) → (x == 61) ≡ b → (has_equals xs ≡ false → before_equals (xs ++ codes "=" ++ rest) ≡ xs) → before_equals ((x ∷ xs) ++ codes "=" ++ rest) ≡ x ∷ xs
   by true e more = absurd (false_not_true (sym n ∙ ap (λ t. t || has_equals xs) e))
   by false e more = rw e (ap (λ t. x ∷ t) (more (sym (ap (λ t. t || has_equals xs) e) ∙ n)))
 
-joined_equals : (word rest : List ℕ) → has_equals (word ++ codes "=" ++ rest) ≡ true
+pub joined_equals : (word rest : List ℕ) → has_equals (word ++ codes "=" ++ rest) ≡ true
 joined_equals [] rest = refl
 joined_equals (x ∷ xs) rest = or_true (x == 61) (joined_equals xs rest) where
   or_true : (a : Bool) {b : Bool} → b ≡ true → (a || b) ≡ true
   or_true true e = refl
   or_true false e = e
 
-same_behind : (word d e : List ℕ) → word ++ d ≡ word ++ e → d ≡ e
+pub same_behind : (word d e : List ℕ) → word ++ d ≡ word ++ e → d ≡ e
 same_behind [] d e s = s
 same_behind (x ∷ xs) d e s = same_behind xs d e (cc)
 
@@ -103,7 +104,7 @@ form_before option first more behind range number n (one r digits k num is back)
 pub form_option : (c : Setting) (first : List ℕ) (more behind : List (List ℕ)) → Form (name c) first more behind (option_row c.option).number c.number → before_equals first ≡ name c
 form_option c first more behind f = form_before (name c) first more behind (option_row c.option).number c.number (no_equals c.option) f
 
-not_joined : (option digits : List ℕ) → has_equals option ≡ false → option ≡ option ++ codes "=" ++ digits → ⊥
+pub not_joined : (option digits : List ℕ) → has_equals option ≡ false → option ≡ option ++ codes "=" ++ digits → ⊥
 not_joined option digits n e = false_not_true (sym n ∙ ap has_equals e ∙ joined_equals option digits)
 
 forms_one : (option first : List ℕ) (more behind behind' : List (List ℕ)) (range : Option Range) (m n : Option ℕ) → has_equals option ≡ false

@@ -2,3 +2,5 @@ pub mod Table
 pub mod Words
 pub mod Asked
 pub mod Usage
+pub mod Said
+pub mod Matching

@@ -1,16 +1,11 @@
 -- The table of the commands and of their options, with what of it is built. The usage lines show it, and words are judged by it.
 use Rattle.std.specs.Prelude.{ℕ, Bool, true, false, ◌&&◌, List, [], ◌∷◌, codes, Option, Some, None, bytes_eq}
 use Rattle.std.specs.List.{list_any}
+use Rattle.command_words.specs.declared.table.Range.{Range}
 use Rattle.command_words.specs.declared.table.OptionName.{OptionName}
 use Rattle.command_words.specs.declared.table.OptionName.TheVariants as names
 use Rattle.command_words.specs.declared.table.CommandName.{CommandName}
 use Rattle.command_words.specs.declared.table.CommandName.TheVariants as commands
-
--- a number in a word: how many decimal digits it has at most, and from where to where it goes
-pub record Range : Type 0 where
-  pub digits : ℕ
-  pub low : ℕ
-  pub high : ℕ
 
 -- an option: its word, and its number where it has one
 pub record OptionRow : Type 0 where

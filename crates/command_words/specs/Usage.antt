@@ -1,6 +1,7 @@
 -- The usage lines.
 use Rattle.std.specs.Prelude.{ℕ, List, [], ◌∷◌, ◌++◌, codes, Option, Some, None, if◌then◌else◌}
-use Rattle.command_words.specs.Table.{Range, OptionRow, Offer, CommandRow, option_row, solve_command, check_command, trace_command, demo_command, batch_command, system_command, monitor_command, depast_command}
+use Rattle.command_words.specs.declared.table.Range.{Range}
+use Rattle.command_words.specs.Table.{OptionRow, Offer, CommandRow, option_row, solve_command, check_command, trace_command, demo_command, batch_command, system_command, monitor_command, depast_command}
 
 -- a number's place, where one is taken
 abbrev pub number_text : Option Range → List ℕ

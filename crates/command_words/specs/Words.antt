@@ -3,9 +3,12 @@ use Rattle.std.specs.Prelude.{◌≡◌, ◌≢◌, ◌≤◌, ◌⊎◌, ◌++�
 use Rattle.std.specs.Str.Parse.{IsNumeral, digits_value}
 use Rattle.ltl_syntax.specs.declared.node.Kind.{Kind}
 use Rattle.ltl_syntax.specs.declared.node.Kind.TheVariants as kinds
+use Rattle.command_words.specs.declared.table.Range.{Range}
 use Rattle.command_words.specs.declared.table.OptionName.{OptionName}
 use Rattle.command_words.specs.declared.table.OptionName.TheVariants as names
-use Rattle.command_words.specs.Table.{Range, CommandRow, option_row, option_word, same_option, has_option, has_built, solve_command, check_command, trace_command, demo_command, batch_command, system_command, monitor_command, depast_command}
+use Rattle.command_words.specs.declared.table.CommandName.{CommandName}
+use Rattle.command_words.specs.declared.table.CommandName.TheVariants as commands
+use Rattle.command_words.specs.Table.{CommandRow, option_row, option_word, command_row, same_option, has_option, has_built, solve_command, check_command, demo_command, batch_command, system_command}
 
 -- what one option says: which it is, and its number where it has one
 pub record Setting : Type 0 where
@@ -74,16 +77,20 @@ IsAmong row setting = IsTrue (has_option row setting.option)
 abbrev pub IsBuilt : CommandRow → Setting → Type 0
 IsBuilt row setting = IsTrue (has_built row setting.option)
 
+-- which command it is
+abbrev pub name_of : Command → CommandName
+name_of (Solve settings) = commands.Solve
+name_of (Check settings) = commands.Check
+name_of Trace = commands.Trace
+name_of (Demo n) = commands.Demo
+name_of (Batch settings) = commands.Batch
+name_of (System settings) = commands.System
+name_of Monitor = commands.Monitor
+name_of Depast = commands.Depast
+
 -- the row of a command
 abbrev pub row_of : Command → CommandRow
-row_of (Solve settings) = solve_command
-row_of (Check settings) = check_command
-row_of Trace = trace_command
-row_of (Demo n) = demo_command
-row_of (Batch settings) = batch_command
-row_of (System settings) = system_command
-row_of Monitor = monitor_command
-row_of Depast = depast_command
+row_of command = command_row (name_of command)
 
 -- the first word of a command
 abbrev pub command_word : Command → List ℕ

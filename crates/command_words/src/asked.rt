@@ -1,9 +1,13 @@
 // The words of the command line. The command and its number are read here, its options by `options`.
-ghost use Rattle.std.specs.Prelude.{map, string_bytes, MatchOption, IfOk};
-ghost use Rattle.command_words.specs.Words.{Command, Asks};
+ghost use Rattle.std.specs.Prelude.{ℕ, map, string_bytes, MatchOption, IfOk};
+ghost use Rattle.command_words.specs.Table.{demo_command};
+ghost use Rattle.command_words.specs.Words.{Command, Asks, SayNumber};
 ghost use Rattle.command_words.specs.Asked.{IsAsked};
+ghost use Rattle.command_words.specs.Said.{Follows, FollowsNothing, SayNoNumber};
 
-use crate::options::Options;
+use crate::decimal::decimal_number;
+use crate::options::{Options, command_options};
+use crate::table::{CommandName, DEMO_NUMBERS, command_named, is_built};
 use std::alloc::{AllocError, Global};
 
 /// A command that is asked for.
@@ -26,7 +30,44 @@ pub fn asked_command(alloc: Global, words: &[String]) -> Result<Option<Asked>, A
         ((c : Command) → ¬ (Asks (map string_bytes words.now) c))
         (IsAsked (map string_bytes words.now))) }
 {
-    let _count = words.len();
-    let _text: Vec<u8> = Vec::new(alloc);
-    Err(AllocError)
+    let [word, more @ ..] = words else {
+        return Ok(None);
+    };
+    match command_named(word.as_str()) {
+        Some(command) if is_built(command) => asked_further(alloc, command, more),
+        _ => Ok(None),
+    }
+}
+
+/// What the words behind the command's own ask for.
+fn asked_further(
+    alloc: Global,
+    command: CommandName,
+    words: &[String],
+) -> Result<Option<Asked>, AllocError>
+    ensures { IfOk result (λ asked. MatchOption asked (FollowsNothing command (map string_bytes words.now))
+        (Follows command (map string_bytes words.now))) }
+{
+    let asked = match command {
+        CommandName::Solve => command_options(alloc, command, words)?.map(Asked::Solve),
+        CommandName::Check => command_options(alloc, command, words)?.map(Asked::Check),
+        CommandName::Trace => words.is_empty().then_some(Asked::Trace),
+        CommandName::Demo => demo_number(words).map(Asked::Demo),
+        CommandName::Batch => command_options(alloc, command, words)?.map(Asked::Batch),
+        CommandName::System => command_options(alloc, command, words)?.map(Asked::System),
+        CommandName::Monitor => words.is_empty().then_some(Asked::Monitor),
+        CommandName::Depast => words.is_empty().then_some(Asked::Depast),
+    };
+    Ok(asked)
+}
+
+/// The number of the demo, where the words are that number alone.
+fn demo_number(words: &[String]) -> Option<u32>
+    ensures { MatchOption result (SayNoNumber demo_command (map string_bytes words.now))
+        (λ n. SayNumber demo_command n (map string_bytes words.now)) }
+{
+    let [digits] = words else {
+        return None;
+    };
+    decimal_number(digits.as_bytes(), DEMO_NUMBERS)
 }

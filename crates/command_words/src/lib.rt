@@ -2,10 +2,15 @@
 #![tactic(auto)]
 
 mod asked;
+mod decimal;
 pub mod laws;
 mod lines;
+mod matching;
 mod options;
+mod setting;
 mod table;
+#[cfg(test)]
+mod tests;
 
 pub use asked::{Asked, asked_command};
 pub use lines::usage;
