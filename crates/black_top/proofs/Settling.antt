@@ -1,5 +1,5 @@
 -- From a limit and a decision to the answer of `solve`.
-use Rattle.std.proofs.Common.{◌≡◌, ◌∙◌, ℕ, ◌<◌, ◌≤◌, ◌⊎◌, inl, inr, true, false, Option, Some, None, is_some, unwrap_or, refl, sym, ap, subst, arith}
+use Rattle.std.proofs.Common.{◌≡◌, ◌∙◌, ℕ, ◌<◌, ◌≤◌, ◌⊎◌, inl, inr, Bool, true, false, Option, Some, None, is_some, unwrap_or, refl, sym, ap, subst, arith}
 use Rattle.ltl_syntax.specs.declared.node.Kind.{Kind}
 use Rattle.ltl_syntax.specs.Formula.{Formula}
 use Rattle.ltl_closure.specs.Entries.{ClosureValue}
@@ -7,7 +7,8 @@ use Rattle.enc_layout.specs.Letters.{LayoutValue, Fits}
 use Rattle.enc_layout.specs.Clauses.{layout_of}
 use Rattle.report.specs.declared.fault.Fault.TheVariants as faults
 use Rattle.black_top.specs.Answer.{Answer, refused}
-use Rattle.black_top.specs.Solve.{layout, IsInForce, IsReached, number_of, IsDecided, IsSettled, too_deep, decided}
+use Rattle.enc_layout.specs.Limit.{layout, IsInForce}
+use Rattle.black_top.specs.Solve.{IsReached, number_of, IsDecided, IsSettled, too_deep, decided}
 
 same_layout : (c : ClosureValue) (f : Formula) (kind : Kind) → c.formula ≡ f → c.kind ≡ kind → layout_of c ≡ layout f kind
 same_layout c f kind formula is = ap (λ g. layout g c.kind) formula ∙ ap (layout f) is
@@ -24,9 +25,9 @@ in_force c f kind l n d formula is laid below fits greatest =
     }
 
 -- the depth that was asked for is refused
-pub refused_letters : (kind : Kind) (wanted : Option ℕ) (f : Formula) (n d : ℕ) → is_some wanted ≡ true → n ≡ unwrap_or wanted 64 → IsInForce f kind n d → d < n → IsSettled kind wanted f (refused (faults.Letters d))
-refused_letters kind (Some m) f n d some is force less = too_deep m d refl (subst (λ k. IsInForce f kind k d) is force) (subst (λ k. d < k) is less)
-refused_letters kind None f n d some is force less = absurd (cc)
+pub refused_letters : (kind : Kind) (wanted : Option ℕ) (cert : Bool) (f : Formula) (n d : ℕ) → is_some wanted ≡ true → n ≡ unwrap_or wanted 64 → IsInForce f kind n d → d < n → IsSettled kind wanted cert f (refused (faults.Letters d))
+refused_letters kind (Some m) cert f n d some is force less = too_deep m d refl (subst (λ k. IsInForce f kind k d) is force) (subst (λ k. d < k) is less)
+refused_letters kind None cert f n d some is force less = absurd (cc)
 
 number_is : (wanted : Option ℕ) → unwrap_or wanted 64 ≡ number_of wanted
 number_is (Some m) = refl
@@ -38,9 +39,9 @@ reached kind (Some m) f d (inr more) force = omega (arith, more, force.below)
 reached kind None f d which force = tt
 
 -- the verdict at the limit
-pub settled_at : (c : ClosureValue) (kind : Kind) (wanted : Option ℕ) (f : Formula) (n d : ℕ) → c.formula ≡ f → c.kind ≡ kind → n ≡ unwrap_or wanted 64 → (is_some wanted ≡ false) ⊎ (n ≤ d) → IsInForce f kind n d
-    → (a : Answer) → IsDecided c.formula c.kind d a → IsSettled kind wanted f a
-settled_at c kind wanted f n d formula same is which force a decided_there =
-    let h = subst (λ k. IsDecided f k d a) same (subst (λ g. IsDecided g c.kind d a) formula decided_there) in
+pub settled_at : (c : ClosureValue) (kind : Kind) (wanted : Option ℕ) (cert : Bool) (f : Formula) (n d : ℕ) → c.formula ≡ f → c.kind ≡ kind → n ≡ unwrap_or wanted 64 → (is_some wanted ≡ false) ⊎ (n ≤ d) → IsInForce f kind n d
+    → (a : Answer) → IsDecided c.formula c.kind d cert a → IsSettled kind wanted cert f a
+settled_at c kind wanted cert f n d formula same is which force a decided_there =
+    let h = subst (λ k. IsDecided f k d cert a) same (subst (λ g. IsDecided g c.kind d cert a) formula decided_there) in
     let there = subst (λ k. IsInForce f kind k d) (is ∙ number_is wanted) force in
     decided d a there (reached kind wanted f d (subst (λ k. (is_some wanted ≡ false) ⊎ (k ≤ d)) is which) there) h

@@ -15,7 +15,7 @@ use Rattle.report.specs.declared.summary.Shown.{Shown}
 use Rattle.report.specs.declared.summary.Summary.{Summary}
 use Rattle.black_top.specs.Answer.{Answer, summary}
 use Rattle.black_top.specs.Reading.{RefusesPart}
-use Rattle.black_top.specs.Solve.{layout, IsInForce}
+use Rattle.enc_layout.specs.Limit.{layout, IsInForce}
 use Rattle.black_top.specs.Demo.{ring, shown_verdict, summary_of, IsShown, shown}
 use Rattle.black_top.proofs.OneText.{TextLaws, refused_not_accepted}
 

@@ -1,24 +1,28 @@
 -- The answers, each with its status and its text.
-use Rattle.std.specs.Prelude.{◌≡◌, ℕ, List, None, true, false}
+use Rattle.std.specs.Prelude.{◌≡◌, ℕ, List, Option, None, true, false}
 use Rattle.ltl_word.specs.declared.trace.Trace.{Trace}
+use Rattle.cert_check.specs.declared.verdict.Verdict.{Verdict}
+use Rattle.cert_check.specs.declared.verdict.Verdict.TheVariants as checks
 use Rattle.report.specs.declared.fault.Fault.{Fault}
 use Rattle.report.specs.declared.fault.Fault.TheVariants as faults
 use Rattle.report.specs.declared.summary.Summary.{Summary}
 use Rattle.report.specs.declared.summary.Shown.{Shown}
 use Rattle.report.specs.declared.summary.Shown.TheVariants as verdicts
-use Rattle.report.specs.Texts.{sat_text, unsat_text, undecided_text, traced_text, refused_text}
+use Rattle.report.specs.Texts.{sat_text, unsat_text, undecided_text, traced_text, checked_text, refused_text}
 use Rattle.report.specs.Summary.{summary_text}
 use Rattle.black_top.specs.declared.status.Status.{Status}
 use Rattle.black_top.specs.declared.status.Status.TheVariants as statuses
 
--- a refusal; SAT at a depth with a trace; UNSAT at a depth; UNDECIDED up to a depth; HOLDS; FAILS; the summary of a demo
+-- a refusal; SAT at a depth with a trace; UNSAT at a depth, with the text of a certificate where one is shown; UNDECIDED up to a depth; HOLDS;
+-- FAILS; VERIFIED or REJECTED; the summary of a demo
 pub data Answer : Type 0 where
   refused : Fault → Answer
   sat : ℕ → Trace → Answer
-  unsat : ℕ → Answer
+  unsat : ℕ → Option (List ℕ) → Answer
   undecided : ℕ → Answer
   holds : Answer
   fails : Answer
+  checked : Verdict → Answer
   summary : Summary → Answer
 
 -- the status of a refusal
@@ -35,6 +39,7 @@ fault_status faults.NotTrace = statuses.Text
 fault_status faults.EmptyLoop = statuses.Text
 fault_status faults.EmptyStates = statuses.Text
 fault_status (faults.Cells count) = statuses.Limit
+fault_status (faults.Certificate byte) = statuses.Text
 
 -- the status of a verdict that is shown without a trace
 abbrev pub shown_status : Shown → Status
@@ -42,27 +47,35 @@ shown_status (verdicts.Sat depth) = statuses.Sat
 shown_status (verdicts.Unsat depth) = statuses.Unsat
 shown_status (verdicts.Undecided depth) = statuses.Undecided
 
+-- the status of what is found of a certificate
+abbrev pub checked_status : Verdict → Status
+checked_status checks.Verified = statuses.Good
+checked_status (checks.Rejected reason) = statuses.Negative
+
 -- the status of an answer
 abbrev pub status_of : Answer → Status
 status_of (refused fault) = fault_status fault
 status_of (sat depth trace) = statuses.Sat
-status_of (unsat depth) = statuses.Unsat
+status_of (unsat depth certificate) = statuses.Unsat
 status_of (undecided depth) = statuses.Undecided
 status_of holds = statuses.Good
 status_of fails = statuses.Negative
+status_of (checked verdict) = checked_status verdict
 status_of (summary s) = shown_status s.verdict
 
 -- the text of an answer
 abbrev pub text_of : Answer → List ℕ
 text_of (refused fault) = refused_text fault
 text_of (sat depth trace) = sat_text depth trace
-text_of (unsat depth) = unsat_text depth None None
+text_of (unsat depth certificate) = unsat_text depth None certificate
 text_of (undecided depth) = undecided_text depth
 text_of holds = traced_text true
 text_of fails = traced_text false
+text_of (checked verdict) = checked_text verdict
 text_of (summary s) = summary_text s
 
--- the answers are the same, but for the trace
+-- the answers are the same, but for the trace and the certificate
 abbrev pub AreAlike : Answer → Answer → Type 0
 AreAlike (sat depth trace) (sat depth' trace') = depth ≡ depth'
+AreAlike (unsat depth certificate) (unsat depth' certificate') = depth ≡ depth'
 AreAlike one other = one ≡ other

@@ -17,7 +17,7 @@ use Rattle.black_top.specs.declared.status.Status.{Status}
 use Rattle.black_top.specs.declared.status.Status.TheVariants as statuses
 use Rattle.black_top.specs.Status.{is_answer}
 use Rattle.black_top.specs.Answer.{Answer, summary, status_of, text_of}
-use Rattle.black_top.specs.Solve.{IsInForce}
+use Rattle.enc_layout.specs.Limit.{IsInForce}
 
 -- the letter that says that the token is at place i: `p0`, `p1` and so on
 abbrev pub place : ℕ → Formula

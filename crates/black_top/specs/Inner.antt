@@ -8,32 +8,48 @@ use Rattle.black_top.specs.declared.reading.Reading.{Reading}
 use Rattle.black_top.specs.declared.reading.Reading.TheVariants as readings
 use Rattle.command_words.specs.declared.asked.Asked.{Asked}
 use Rattle.command_words.specs.declared.asked.Asked.TheVariants as asked
-use Rattle.command_words.specs.Asked.{IsDepth}
+use Rattle.command_words.specs.Asked.{IsDepth, AreWorkers}
 use Rattle.black_top.specs.Parts.{IsSeparator, EndsLine, BeginsLine}
 use Rattle.black_top.specs.Taking.{AreLeft}
 use Rattle.black_top.specs.Answer.{Answer, status_of, text_of}
 use Rattle.black_top.specs.Reading.{RefusesPart, IsParted}
 use Rattle.black_top.specs.Solve.{IsSolved}
 use Rattle.black_top.specs.Trace.{IsJudged}
+use Rattle.black_top.specs.Check.{IsChecked}
 use Rattle.black_top.specs.Demo.{IsShown}
 
--- the number that the words ask for, where they do, is in its range
+-- the numbers that the words ask for, where they do, are in their ranges. A command that is not built is not asked for
 abbrev pub IsInBounds : Asked → Type 0
 IsInBounds (asked.Solve options) = IsDepth options.depth
+IsInBounds (asked.Check options) = AreWorkers options.workers
 IsInBounds asked.Trace = Unit {0}
 IsInBounds (asked.Demo n) = (2 ≤ n) × (n ≤ 64)
+IsInBounds (asked.Batch options) = ⊥
+IsInBounds (asked.System options) = ⊥
+IsInBounds asked.Monitor = ⊥
+IsInBounds asked.Depast = ⊥
 
 -- the command's answer to the bytes
 abbrev pub Gives : Asked → List ℕ → Answer → Type 0
-Gives (asked.Solve options) bytes answer = IsSolved options.kind options.depth bytes answer
+Gives (asked.Solve options) bytes answer = IsSolved options.kind options.depth options.cert bytes answer
+Gives (asked.Check options) bytes answer = IsParted (IsChecked options.kind) bytes answer
 Gives asked.Trace bytes answer = IsParted IsJudged bytes answer
 Gives (asked.Demo n) bytes answer = IsShown n answer
+Gives (asked.Batch options) bytes answer = ⊥
+Gives (asked.System options) bytes answer = ⊥
+Gives asked.Monitor bytes answer = ⊥
+Gives asked.Depast bytes answer = ⊥
 
 -- after how many bytes the command reads no further, where it reads: `solve` knows then that the text is too long
 abbrev pub stop_after : Asked → Option ℕ
 stop_after (asked.Solve options) = Some 1048576
+stop_after (asked.Check options) = Some 18446744073709551615
 stop_after asked.Trace = Some 18446744073709551615
 stop_after (asked.Demo n) = None
+stop_after (asked.Batch options) = None
+stop_after (asked.System options) = None
+stop_after asked.Monitor = None
+stop_after asked.Depast = None
 
 -- the text is read as a formula, of which the table has the nodes and no others, or refused
 abbrev pub IsPartReading : List ℕ → Reading → Type 0

@@ -5,6 +5,7 @@ pub mod Answer
 pub mod Reading
 pub mod Solve
 pub mod Trace
+pub mod Check
 pub mod Demo
 pub mod Ring
 pub mod Inner

@@ -1,34 +1,26 @@
 -- `solve`: which answer comes where, and what is promised of it.
-use Rattle.std.specs.Prelude.{◌≡◌, ◌⊎◌, ◌<◌, ◌≤◌, ℕ, List, Option, Some, None, IsTrue}
+use Rattle.std.specs.Prelude.{◌≡◌, ◌⊎◌, ◌<◌, ◌≤◌, ℕ, Bool, true, false, List, Option, Some, None, IsTrue}
 use Rattle.ltl_io.specs.Outside.{Grows, LosesAtMost}
 use Rattle.ltl_syntax.specs.declared.node.Kind.{Kind}
 use Rattle.ltl_syntax.specs.Formula.{Formula}
 use Rattle.ltl_parser.specs.Text.{IsAccepted}
 use Rattle.ltl_word.specs.declared.trace.Trace.{Trace}
 use Rattle.ltl_closure.specs.Run.{IsVerdict, Sat, Unsat, Undecided, bound}
-use Rattle.enc_layout.specs.Letters.{LayoutValue, Fits}
-use Rattle.enc_layout.specs.Clauses.{counts}
+use Rattle.enc_layout.specs.Letters.{Fits}
 use Rattle.unravel.specs.Decision.{IsTraceOfRun, IsModel, HasNoTrace}
+use Rattle.enc_layout.specs.Limit.{layout, IsInForce}
+use Rattle.cert_check.specs.Lawful.{IsLawfulAt}
 use Rattle.report.specs.declared.fault.Fault.{Fault}
 use Rattle.report.specs.declared.fault.Fault.TheVariants as faults
 use Rattle.report.specs.Texts.{sat_text, unsat_text, undecided_text}
 use Rattle.black_top.specs.declared.status.Status.{Status}
 use Rattle.black_top.specs.declared.status.Status.TheVariants as statuses
 use Rattle.black_top.specs.Status.{has_read}
-use Rattle.command_words.specs.Words.{Setting, kind_of, depth_of}
+use Rattle.command_words.specs.Words.{Setting, kind_of, depth_of, cert_of}
 use Rattle.black_top.specs.Taking.{AreLeft, IsTakenUpTo}
 use Rattle.black_top.specs.Answer.{Answer, refused, sat, unsat, undecided, status_of, text_of}
 use Rattle.black_top.specs.Reading.{RefusesPart}
-
--- the layout of the letters of a formula's clauses
-abbrev pub layout : Formula → Kind → LayoutValue
-layout f kind = record { kind = kind; counts = counts f }
-
--- the limit in force: the greatest depth up to n whose letters are within their limit
-pub record IsInForce (f : Formula) (kind : Kind) (n d : ℕ) : Type 0 where
-  pub below : d ≤ n
-  pub fits : Fits (layout f kind) d
-  pub greatest : (e : ℕ) → e ≤ n → Fits (layout f kind) e → e ≤ d
+use Rattle.black_top.specs.Check.{IsVerified}
 
 -- the number up to which the limit in force is taken: the depth that was asked for, or 64
 abbrev pub number_of : Option ℕ → ℕ
@@ -40,21 +32,26 @@ abbrev pub IsReached : Option ℕ → ℕ → Type 0
 IsReached (Some n) d = d ≡ n
 IsReached None d = Unit {0}
 
--- the answer is the tableau's verdict at the limit, and its trace is that of an accepted run
-pub data IsDecided (f : Formula) (kind : Kind) (limit : ℕ) : Answer → Type 0 where
-  satisfiable : (k : ℕ) (t : Trace) → IsVerdict f kind limit (Sat k) → IsTraceOfRun f kind k t → IsDecided f kind limit (sat k t)
-  unsatisfiable : (k : ℕ) → IsVerdict f kind limit (Unsat k) → IsDecided f kind limit (unsat k)
-  undecided_yet : (k : ℕ) → IsVerdict f kind limit (Undecided k) → IsDecided f kind limit (undecided k)
+-- a certificate is shown exactly where one is asked for, and it is lawful for the formula and the kind, and of this depth
+abbrev pub Certifies : Bool → Formula → Kind → ℕ → Option (List ℕ) → Type 0
+Certifies false f kind k certificate = certificate ≡ None
+Certifies true f kind k certificate = (text : List ℕ) × (certificate ≡ Some text) × IsLawfulAt f kind k text
+
+-- the answer is the tableau's verdict at the limit, its trace is that of an accepted run, and its certificate is lawful and of the verdict's depth
+pub data IsDecided (f : Formula) (kind : Kind) (limit : ℕ) (cert : Bool) : Answer → Type 0 where
+  satisfiable : (k : ℕ) (t : Trace) → IsVerdict f kind limit (Sat k) → IsTraceOfRun f kind k t → IsDecided f kind limit cert (sat k t)
+  unsatisfiable : (k : ℕ) (certificate : Option (List ℕ)) → IsVerdict f kind limit (Unsat k) → Certifies cert f kind k certificate → IsDecided f kind limit cert (unsat k certificate)
+  undecided_yet : (k : ℕ) → IsVerdict f kind limit (Undecided k) → IsDecided f kind limit cert (undecided k)
 
 -- the answer to an accepted formula: the depth that was asked for has too many letters, or the verdict at the limit in force
-pub data IsSettled (kind : Kind) (wanted : Option ℕ) (f : Formula) : Answer → Type 0 where
-  too_deep : (n limit : ℕ) → wanted ≡ Some n → IsInForce f kind n limit → limit < n → IsSettled kind wanted f (refused (faults.Letters limit))
-  decided : (limit : ℕ) (answer : Answer) → IsInForce f kind (number_of wanted) limit → IsReached wanted limit → IsDecided f kind limit answer → IsSettled kind wanted f answer
+pub data IsSettled (kind : Kind) (wanted : Option ℕ) (cert : Bool) (f : Formula) : Answer → Type 0 where
+  too_deep : (n limit : ℕ) → wanted ≡ Some n → IsInForce f kind n limit → limit < n → IsSettled kind wanted cert f (refused (faults.Letters limit))
+  decided : (limit : ℕ) (answer : Answer) → IsInForce f kind (number_of wanted) limit → IsReached wanted limit → IsDecided f kind limit cert answer → IsSettled kind wanted cert f answer
 
 -- the answer of `solve` to the formula part: the part is refused, or the formula is accepted and its answer comes
-pub data IsSolved (kind : Kind) (wanted : Option ℕ) (part : List ℕ) : Answer → Type 0 where
-  unreadable : (fault : Fault) → RefusesPart part fault → IsSolved kind wanted part (refused fault)
-  settled : (f : Formula) (answer : Answer) → IsAccepted part f → IsSettled kind wanted f answer → IsSolved kind wanted part answer
+pub data IsSolved (kind : Kind) (wanted : Option ℕ) (cert : Bool) (part : List ℕ) : Answer → Type 0 where
+  unreadable : (fault : Fault) → RefusesPart part fault → IsSolved kind wanted cert part (refused fault)
+  settled : (f : Formula) (answer : Answer) → IsAccepted part f → IsSettled kind wanted cert f answer → IsSolved kind wanted cert part answer
 
 -- SAT was printed with a trace of the kind that satisfies the formula
 pub record PrintsModel (kind : Kind) (f : Formula) (before after : Option (List ℕ)) : Type 0 where
@@ -63,11 +60,15 @@ pub record PrintsModel (kind : Kind) (f : Formula) (before after : Option (List 
   pub model : IsModel f kind trace
   pub printed : Grows (sat_text depth trace) before after
 
--- UNSAT was printed, and no trace of the kind satisfies the formula
-pub record PrintsNone (kind : Kind) (f : Formula) (before after : Option (List ℕ)) : Type 0 where
+-- UNSAT was printed, and no trace of the kind satisfies the formula. Where a certificate is asked for, one was printed that is lawful and of the
+-- printed depth, and `check` verifies it behind the text of the formula
+pub record PrintsNone (kind : Kind) (cert : Bool) (part : List ℕ) (f : Formula) (before after : Option (List ℕ)) : Type 0 where
   pub depth : ℕ
+  pub certificate : Option (List ℕ)
   pub none : HasNoTrace f kind
-  pub printed : Grows (unsat_text depth None None) before after
+  pub certifies : Certifies cert f kind depth certificate
+  pub verified : IsVerified kind part certificate
+  pub printed : Grows (unsat_text depth None certificate) before after
 
 -- UNDECIDED was printed: the verdict at the limit in force is so, and that limit is below the bound
 pub record PrintsUndecided (kind : Kind) (wanted : Option ℕ) (f : Formula) (before after : Option (List ℕ)) : Type 0 where
@@ -83,31 +84,31 @@ AreFewLetters kind (Some n) f = Fits (layout f kind) n
 AreFewLetters kind None f = Unit {0}
 
 -- the verdict at the limit in force was printed, with its status
-pub record PrintsVerdict (kind : Kind) (wanted : Option ℕ) (f : Formula) (before after : Option (List ℕ)) (status : Status) : Type 0 where
+pub record PrintsVerdict (kind : Kind) (wanted : Option ℕ) (cert : Bool) (f : Formula) (before after : Option (List ℕ)) (status : Status) : Type 0 where
   pub limit : ℕ
   pub in_force : IsInForce f kind (number_of wanted) limit
   pub reached : IsReached wanted limit
   pub answer : Answer
-  pub decided : IsDecided f kind limit answer
+  pub decided : IsDecided f kind limit cert answer
   pub own : status ≡ status_of answer
   pub printed : Grows (text_of answer) before after
 
--- what is claimed of the accepted formula that the source had left
-abbrev pub OfFormula : Option (List ℕ) → (Formula → Type 0) → Type 0
-OfFormula rest Claim = (bytes : List ℕ) × AreLeft rest bytes × (f : Formula) × IsAccepted bytes f × Claim f
+-- what is claimed of the text that the source had left and of the accepted formula that it reads as
+abbrev pub OfFormula : Option (List ℕ) → (List ℕ → Formula → Type 0) → Type 0
+OfFormula rest Claim = (bytes : List ℕ) × AreLeft rest bytes × (f : Formula) × IsAccepted bytes f × Claim bytes f
 
 -- what `solve` promises of a call: of the rest of the source and the content of the sink, before and after, and of its status.
 -- A call is quiet where neither count of faults rose
 pub record SolvePromise (settings : List Setting) (IsQuiet : Type 0) (rest left before after : Option (List ℕ)) (status : Status) : Type 0 where
   -- SAT is printed only with a trace of the chosen kind that satisfies the formula
-  pub when_sat : status ≡ statuses.Sat → OfFormula rest (λ f. PrintsModel (kind_of settings) f before after)
-  -- UNSAT is printed only where no trace of the chosen kind satisfies the formula
-  pub when_unsat : status ≡ statuses.Unsat → OfFormula rest (λ f. PrintsNone (kind_of settings) f before after)
+  pub when_sat : status ≡ statuses.Sat → OfFormula rest (λ part f. PrintsModel (kind_of settings) f before after)
+  -- UNSAT is printed only where no trace of the chosen kind satisfies the formula. With --cert a certificate is printed that `check` verifies
+  pub when_unsat : status ≡ statuses.Unsat → OfFormula rest (λ part f. PrintsNone (kind_of settings) (cert_of settings) part f before after)
   -- UNDECIDED is printed only where the tableau's verdict at the limit in force is so, and never where that limit is at least the bound
-  pub when_undecided : status ≡ statuses.Undecided → OfFormula rest (λ f. PrintsUndecided (kind_of settings) (depth_of settings) f before after)
+  pub when_undecided : status ≡ statuses.Undecided → OfFormula rest (λ part f. PrintsUndecided (kind_of settings) (depth_of settings) f before after)
   -- an accepted formula whose letters are few enough gets the tableau's verdict, or there was no memory
   pub verdict : (bytes : List ℕ) (f : Formula) → rest ≡ Some bytes → IsAccepted bytes f → AreFewLetters (kind_of settings) (depth_of settings) f → IsQuiet
-      → (status ≡ statuses.NoMemory) ⊎ PrintsVerdict (kind_of settings) (depth_of settings) f before after status
+      → (status ≡ statuses.NoMemory) ⊎ PrintsVerdict (kind_of settings) (depth_of settings) (cert_of settings) f before after status
   -- the source is untouched past the first read that brings what was taken above the limit of a text
   pub most : LosesAtMost 1052672 rest left
   -- and it is read until then, or to its end

@@ -1,5 +1,7 @@
 -- What a call takes of the source, where the source tells what it has left.
 use Rattle.std.specs.Prelude.{◌≡◌, ◌⊎◌, ◌+◌, ◌<◌, ◌≤◌, ◌++◌, ℕ, List, [], length, Option, Some, IfSome}
+use Rattle.ltl_io.specs.Outside.{LosesAtMost}
+use Rattle.command_words.specs.Words.{Command, Solve, Check, Trace, Demo, Batch, System, Monitor, Depast}
 
 -- the bytes are those that the source had left, where it tells them
 abbrev pub AreLeft : Option (List ℕ) → List ℕ → Type 0
@@ -13,3 +15,19 @@ IsTakenUpTo limit before after = IfSome before (λ rest. (bytes left : List ℕ)
 -- nothing is left of a told rest
 abbrev pub IsTakenWhole : Option (List ℕ) → Option (List ℕ) → Type 0
 IsTakenWhole before after = IfSome before (λ rest. after ≡ Some [])
+
+-- what each command takes of a told rest, where it reads to where it stops
+abbrev pub Takes : Command → Option (List ℕ) → Option (List ℕ) → Type 0
+Takes (Solve settings) before after = IsTakenUpTo 1048576 before after
+Takes (Check settings) before after = IsTakenWhole before after
+Takes Trace before after = IsTakenWhole before after
+Takes (Demo n) before after = after ≡ before
+Takes (Batch settings) before after = after ≡ before
+Takes (System settings) before after = after ≡ before
+Takes Monitor before after = after ≡ before
+Takes Depast before after = after ≡ before
+
+-- and what it takes at most, wherever a read fails
+abbrev pub TakesAtMost : Command → Option (List ℕ) → Option (List ℕ) → Type 0
+TakesAtMost (Solve settings) before after = LosesAtMost 1052672 before after
+TakesAtMost command before after = Unit {0}

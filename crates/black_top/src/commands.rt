@@ -3,14 +3,18 @@ ghost use Rattle.std.specs.Prelude.{◌≡◌, IfOk};
 ghost use Rattle.black_top.specs.Answer.{Answer};
 ghost use Rattle.black_top.specs.Inner.{Shows, Gives, IsInBounds, stop_after};
 
+mod check;
 mod demo;
 mod solve;
 mod trace;
 
-use crate::output::Output;
+use crate::output::{Output, refusal};
 use crate::reading::MAX_TEXT;
 use command_words::Asked;
+use ltl_io::Gate;
+use report::Fault;
 use std::alloc::{AllocError, Global};
+use std::thread::Threads;
 
 /// After how many bytes the source is read no further. None where it is not read.
 pub fn stop_after(asked: Asked) -> Option<usize>
@@ -18,19 +22,31 @@ pub fn stop_after(asked: Asked) -> Option<usize>
 {
     match asked {
         Asked::Solve(_) => Some(MAX_TEXT),
-        Asked::Trace => Some(usize::MAX),
+        Asked::Check(_) | Asked::Trace => Some(usize::MAX),
         Asked::Demo(_) => None,
+        Asked::Batch(_) | Asked::System(_) | Asked::Monitor | Asked::Depast => None,
     }
 }
 
 /// What is shown for the bytes.
-pub fn output(alloc: Global, asked: Asked, bytes: &[u8]) -> Result<Output, AllocError>
+pub fn output<R: Threads + Sync, G: Gate + Sync>(
+    rt: &R,
+    alloc: Global,
+    asked: Asked,
+    bytes: &[u8],
+    gate: &G,
+) -> Result<Output, AllocError>
     requires { IsInBounds asked }
     ensures { IfOk result (λ out. (a : Answer) × Gives asked bytes.now a × Shows out a) }
 {
     match asked {
         Asked::Solve(options) => solve::solve(alloc, options, bytes),
+        Asked::Check(options) => check::check(rt, alloc, options, bytes, gate),
         Asked::Trace => trace::trace(alloc, bytes),
         Asked::Demo(number) => demo::demo(alloc, number),
+        // Do not come: they are not built, so words do not ask for them.
+        Asked::Batch(_) | Asked::System(_) | Asked::Monitor | Asked::Depast => {
+            refusal(alloc, Fault::Usage)
+        }
     }
 }

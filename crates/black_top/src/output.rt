@@ -1,10 +1,11 @@
 // The text and the status of each answer.
 ghost use Rattle.std.specs.Prelude.{◌≡◌, true, false, IfOk};
-ghost use Rattle.black_top.specs.Answer.{refused, sat, unsat, undecided, holds, fails, summary};
-ghost use Rattle.black_top.specs.Answer.{fault_status, shown_status};
+ghost use Rattle.std.specs.Option.{option_copied};
+ghost use Rattle.black_top.specs.Answer.{refused, sat, unsat, undecided, holds, fails, checked, summary, fault_status, shown_status};
 ghost use Rattle.black_top.specs.Inner.{Shows};
 
 use crate::Status;
+use cert_check::Verdict;
 use ltl_word::Trace;
 use report::{Fault, Shown, Summary};
 use std::alloc::{AllocError, Global};
@@ -26,13 +27,17 @@ pub fn sat(alloc: Global, depth: u32, trace: &Trace) -> Result<Output, AllocErro
     })
 }
 
-/// UNSAT at the depth.
-pub fn unsat(alloc: Global, depth: u32) -> Result<Output, AllocError>
-    ensures { IfOk result (λ out. Shows out (unsat depth)) }
+/// UNSAT at the depth, with the text of a certificate where one is given.
+pub fn unsat(
+    alloc: Global,
+    depth: u32,
+    certificate: Option<&[u8]>,
+) -> Result<Output, AllocError>
+    ensures { IfOk result (λ out. Shows out (unsat depth (option_copied certificate.entry))) }
 {
     Ok(Output {
         status: Status::Unsat,
-        text: report::unsat(alloc, depth, None, None)?,
+        text: report::unsat(alloc, depth, None, certificate)?,
     })
 }
 
@@ -86,6 +91,20 @@ fn shown_status(verdict: Shown) -> Status
     }
 }
 
+/// VERIFIED, or REJECTED with the reason.
+pub fn checked(alloc: Global, verdict: Verdict) -> Result<Output, AllocError>
+    ensures { IfOk result (λ out. Shows out (checked verdict)) }
+{
+    let status = match verdict {
+        Verdict::Verified => Status::Good,
+        Verdict::Rejected(_) => Status::Negative,
+    };
+    Ok(Output {
+        status,
+        text: report::checked(alloc, &verdict)?,
+    })
+}
+
 /// A refusal with its line, or the usage.
 pub fn refusal(alloc: Global, fault: Fault) -> Result<Output, AllocError>
     ensures { IfOk result (λ out. Shows out (refused fault)) }
@@ -105,6 +124,7 @@ fn fault_status(fault: Fault) -> Status
         Fault::NoSeparator
         | Fault::Lexical(_)
         | Fault::Grammar(_)
+        | Fault::Certificate(_)
         | Fault::NotJson
         | Fault::NotTrace
         | Fault::EmptyLoop

@@ -3,9 +3,10 @@ ghost use Rattle.std.specs.Prelude.{◌≡◌, ◌⊎◌, ◌<◌, ℕ, List, ma
 ghost use Rattle.ltl_io.specs.Count.{Rose};
 ghost use Rattle.black_top.specs.declared.status.Status.TheVariants as statuses;
 ghost use Rattle.black_top.specs.Status.{is_answer};
-ghost use Rattle.command_words.specs.Words.{Setting, Solve, Trace as TraceWord, Demo, Asks};
+ghost use Rattle.command_words.specs.Words.{Setting, Solve, Check, Trace as TraceWord, Demo, Asks};
 ghost use Rattle.black_top.specs.Run.{IsAnswered, IsCutOff, NeedsNothing};
 ghost use Rattle.black_top.specs.Solve.{SolvePromise};
+ghost use Rattle.black_top.specs.Check.{CheckPromise};
 ghost use Rattle.black_top.specs.Trace.{TracePromise};
 ghost use Rattle.black_top.specs.Demo.{DemoPromise};
 
@@ -18,12 +19,12 @@ use std::thread::Threads;
 /// Does all that the program does: takes the words, reads the source, writes the whole answer and gives its
 /// status.
 pub fn run<R: Threads + Sync, S: Source, K: Sink, G: Gate + Sync>(
-    _rt: &R,
+    rt: &R,
     alloc: Global,
     words: &[String],
     source: &mut S,
     sink: &mut K,
-    _gate: &G,
+    gate: &G,
 ) -> Status
     // With every status but those of faults and of want of memory, the answer is printed in full.
     ensures answered { IsTrue (is_answer result)
@@ -51,6 +52,11 @@ pub fn run<R: Threads + Sync, S: Source, K: Sink, G: Gate + Sync>(
         (¬ (Rose (S.faults source.old) (S.faults source.new))
         × ¬ (Rose (K.faults sink.old) (K.faults sink.new)))
         (S.rest source.old) (S.rest source.new) (K.content sink.old) (K.content sink.new) result }
+    ensures check { (settings : List Setting) → Asks (map string_bytes words.now) (Check settings)
+        → CheckPromise settings
+        (¬ (Rose (S.faults source.old) (S.faults source.new))
+        × ¬ (Rose (K.faults sink.old) (K.faults sink.new)))
+        (S.rest source.old) (S.rest source.new) (K.content sink.old) (K.content sink.new) result }
     ensures trace { Asks (map string_bytes words.now) TraceWord
         → TracePromise (S.rest source.old) (S.rest source.new)
         (K.content sink.old) (K.content sink.new) result }
@@ -64,7 +70,9 @@ pub fn run<R: Threads + Sync, S: Source, K: Sink, G: Gate + Sync>(
     ltl_run::laws::run_satisfies();
     ltl_run::laws::unsatisfiable();
     ltl_run::laws::bounded();
-    match answer(alloc, words, source) {
+    cert_check::laws::certified();
+    cert_check::laws::answers();
+    match answer(rt, alloc, words, source, gate) {
         Err(ReadRefused::Fault) => Status::ReadFault,
         Err(ReadRefused::NoMemory) => Status::NoMemory,
         Ok(output) => match write_whole(sink, &output.text) {

@@ -19,7 +19,7 @@ use Rattle.log_trim.proofs.Keeping.{All-kept_from}
 use Rattle.log_trim.proofs.MarkedLines.{target_kept, trimmed_log}
 use Rattle.cert_text.specs.Text.{greatest_u64, text_of}
 use Rattle.cert_text.specs.Writing.{written}
-use Rattle.cert_check.specs.Lawful.{CertOk}
+use Rattle.cert_check.specs.Lawful.{IsLawfulAt}
 use Rattle.cert_check.specs.Trimmed.{TrimmedVerifies}
 use Rattle.cert_check.proofs.Verifying.{logs_verify}
 
@@ -57,5 +57,5 @@ trimmed_verifies f kind k log new targets numbers M is trim inputs letters known
     let small = letters_through kind (counts f) k in
     let lines_known : AreKnown small (trimmed M log).lines = All-kept_from (All (IsKnown small)) M 1 log.lines known in
     let closes : CloseTableau f kind k (trimmed M log).lines numbers = subst (CloseTableau f kind k (trimmed M log).lines) (sym trim.targets_are) (trimmed_closes f kind k log targets closed M trim.marks) in
-    let about : LogValue → Type 0 = λ l. length l.inputs ≤ greatest_u64 → length l.lines ≤ greatest_u64 → CertOk f kind (text_of (written kind k l.lines l.hints numbers)) in
+    let about : LogValue → Type 0 = λ l. length l.inputs ≤ greatest_u64 → length l.lines ≤ greatest_u64 → IsLawfulAt f kind k (text_of (written kind k l.lines l.hints numbers)) in
     subst about (sym trim.is) (logs_verify f kind k (trimmed M log) numbers (trimmed_log log M is trim.closed) inputs letters lines_known closes shallow) few_inputs few_lines

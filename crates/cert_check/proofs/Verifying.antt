@@ -38,4 +38,5 @@ logs_verify f kind k log targets is inputs letters known closed shallow few_inpu
       written kind k log.lines log.hints targets,
       record { lawful = written_is kind k log.lines log.hints targets shallow closed.count numbers literals (log_hints log is few_inputs few_lines) few_lines; spelled = refl },
       logs_are_lawful f kind k log targets is inputs letters known closed,
+      refl,
     )

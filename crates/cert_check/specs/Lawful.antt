@@ -40,6 +40,10 @@ pub record IsLawful (f : Formula) (kind : Kind) (c : Certificate) : Type 0 where
 abbrev pub CertOk : Formula → Kind → List ℕ → Type 0
 CertOk f kind bytes = (c : Certificate) × IsTextOf bytes c × IsLawful f kind c
 
+-- the bytes are a lawful certificate of this depth
+abbrev pub IsLawfulAt : Formula → Kind → ℕ → List ℕ → Type 0
+IsLawfulAt f kind k bytes = (c : Certificate) × IsTextOf bytes c × IsLawful f kind c × (c.depth ≡ k)
+
 -- a lawful certificate means that no trace of the kind satisfies the formula
 abbrev pub LawfulHasNoTrace : Type 0
 LawfulHasNoTrace = (f : Formula) (kind : Kind) (bytes : List ℕ) (t : Trace) → CertOk f kind bytes → IsTrace t → IsOfKind t kind → ¬ Satisfies t f
@@ -50,9 +54,9 @@ LogsAreLawful = (f : Formula) (kind : Kind) (k : ℕ) (log : LogValue) (targets 
     → letters_through kind (counts f) k ≤ 16777216 → AreKnown (letters_through kind (counts f) k) log.lines → CloseTableau f kind k log.lines targets
     → IsLawful f kind (written kind k log.lines log.hints targets)
 
--- what is written of such a log is a lawful certificate, where the depth and the counts are within their limits
+-- what is written of such a log is a lawful certificate of its depth, where the depth and the counts are within their limits
 abbrev pub LogsVerify : Type 0
 LogsVerify = (f : Formula) (kind : Kind) (k : ℕ) (log : LogValue) (targets : List ℕ) → IsLog log → log.inputs ≡ clause_list f kind k
     → letters_through kind (counts f) k ≤ 16777216 → AreKnown (letters_through kind (counts f) k) log.lines → CloseTableau f kind k log.lines targets
     → k ≤ 1000 → length log.inputs ≤ greatest_u64 → length log.lines ≤ greatest_u64
-    → CertOk f kind (text_of (written kind k log.lines log.hints targets))
+    → IsLawfulAt f kind k (text_of (written kind k log.lines log.hints targets))

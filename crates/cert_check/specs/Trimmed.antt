@@ -12,7 +12,7 @@ use Rattle.log_trim.specs.Marking.{AreLines, AreTheNeeded}
 use Rattle.log_trim.specs.Trimmed.{IsTrimmed}
 use Rattle.cert_text.specs.Text.{greatest_u64, text_of}
 use Rattle.cert_text.specs.Writing.{written}
-use Rattle.cert_check.specs.Lawful.{CertOk}
+use Rattle.cert_check.specs.Lawful.{IsLawfulAt}
 
 -- targets that close the tableau are lines
 abbrev pub TargetsAreLines : Type 0
@@ -23,9 +23,9 @@ abbrev pub TrimmedCloses : Type 0
 TrimmedCloses = (f : Formula) (kind : Kind) (k : ℕ) (log : LogValue) (targets : List ℕ) (M : Marks) → AreTheNeeded log targets M → CloseTableau f kind k log.lines targets
     → CloseTableau f kind k (trimmed M log).lines (new_numbers M log.lines targets)
 
--- what is written of a trimmed log is a lawful certificate, where the log has the clause list through k, its lines have the letters from 1 through k, and its targets close the tableau
+-- what is written of a trimmed log is a lawful certificate of its depth, where the log has the clause list through k, its lines have the letters from 1 through k, and its targets close the tableau
 abbrev pub TrimmedVerifies : Type 0
 TrimmedVerifies = (f : Formula) (kind : Kind) (k : ℕ) (log new : LogValue) (targets numbers : List ℕ) (M : Marks) → IsLog log → IsTrimmed log targets new numbers M → log.inputs ≡ clause_list f kind k
     → letters_through kind (counts f) k ≤ 16777216 → AreKnown (letters_through kind (counts f) k) log.lines → CloseTableau f kind k log.lines targets
     → k ≤ 1000 → length new.inputs ≤ greatest_u64 → length new.lines ≤ greatest_u64
-    → CertOk f kind (text_of (written kind k new.lines new.hints numbers))
+    → IsLawfulAt f kind k (text_of (written kind k new.lines new.hints numbers))

@@ -3,6 +3,10 @@ use Rattle.std.specs.Prelude.{ℕ, Bool, true, false, List, [], ◌∷◌, ◌++
 use Rattle.std.specs.Fmt.{decimal}
 use Rattle.ltl_word.specs.declared.trace.Trace.{Trace}
 use Rattle.ltl_word.specs.Json.{trace_text}
+use Rattle.cert_check.specs.declared.verdict.Verdict.{Verdict}
+use Rattle.cert_check.specs.declared.verdict.Verdict.TheVariants as verdicts
+use Rattle.cert_check.specs.declared.verdict.Reason.{Reason}
+use Rattle.cert_check.specs.declared.verdict.Reason.TheVariants as reasons
 use Rattle.command_words.specs.Usage.{usage_text}
 use Rattle.report.specs.declared.fault.Fault.{Fault}
 use Rattle.report.specs.declared.fault.Fault.TheVariants as faults
@@ -42,6 +46,17 @@ abbrev pub traced_text : Bool → List ℕ
 traced_text true = line (codes "HOLDS")
 traced_text false = line (codes "FAILS")
 
+-- why a certificate is rejected
+abbrev pub rejected_text : Reason → List ℕ
+rejected_text reasons.Kind = line (codes "REJECTED kind")
+rejected_text (reasons.Line number) = numbered (codes "REJECTED line ") number
+rejected_text (reasons.Target number) = numbered (codes "REJECTED target ") number
+
+-- whether a certificate is lawful
+abbrev pub checked_text : Verdict → List ℕ
+checked_text verdicts.Verified = line (codes "VERIFIED")
+checked_text (verdicts.Rejected reason) = rejected_text reason
+
 -- the line of each refusal
 abbrev pub refused_text : Fault → List ℕ
 refused_text faults.Usage = usage_text
@@ -56,3 +71,4 @@ refused_text faults.NotJson = line (codes "trace fault: not JSON")
 refused_text faults.NotTrace = line (codes "trace fault: not a trace")
 refused_text faults.EmptyLoop = line (codes "trace fault: loop is empty")
 refused_text faults.EmptyStates = line (codes "trace fault: states is empty")
+refused_text (faults.Certificate byte) = numbered (codes "certificate fault at byte ") byte

@@ -1,6 +1,6 @@
 // The refusals.
 
-/// A refusal, with the number that its line shows: a byte of the input from 0, a count of nodes or of cells,
+/// A refusal, with the number that its line shows: a byte of a part from 0, a count of nodes or of cells,
 /// or a depth.
 #[derive(Clone, Copy, Debug, PartialEq, Eq)]
 pub enum Fault {
@@ -21,6 +21,9 @@ pub enum Fault {
     Letters(u32),
     /// The table of truth values has so many cells.
     Cells(u128),
+    /// The second part is no certificate text. The number is its first byte, from 0 at its own start, with which
+    /// no such text goes on, or its length.
+    Certificate(u64),
     /// The trace text is no JSON.
     NotJson,
     /// The trace text is JSON of another form.

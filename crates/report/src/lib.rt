@@ -12,4 +12,4 @@ mod verdict;
 pub use fault::Fault;
 pub use refusal::refused;
 pub use summary::{Shown, Summary, demo};
-pub use verdict::{sat, traced, undecided, unsat};
+pub use verdict::{checked, sat, traced, undecided, unsat};

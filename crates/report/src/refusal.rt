@@ -24,6 +24,7 @@ pub fn refused(alloc: Global, fault: &Fault) -> Result<Vec<u8>, AllocError>
             depth.into(),
         ),
         Fault::Cells(count) => numbered(alloc, b"limit cells 67108864 have ", count),
+        Fault::Certificate(byte) => numbered(alloc, b"certificate fault at byte ", byte.into()),
         Fault::NotJson => line(alloc, b"trace fault: not JSON"),
         Fault::NotTrace => line(alloc, b"trace fault: not a trace"),
         Fault::EmptyLoop => line(alloc, b"trace fault: loop is empty"),

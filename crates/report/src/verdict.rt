@@ -1,9 +1,10 @@
 // The texts of the verdicts, and of the truth of a formula on a trace.
 ghost use Rattle.std.specs.Prelude.{◌≡◌, ◌++◌, IfOk};
 ghost use Rattle.std.specs.Option.{option_copied};
-ghost use Rattle.report.specs.Texts.{numbered, core_text, sat_text, unsat_text, undecided_text, traced_text};
+ghost use Rattle.report.specs.Texts.{numbered, core_text, sat_text, unsat_text, undecided_text, traced_text, checked_text};
 
 use crate::line::{line, numbered};
+use cert_check::{Reason, Verdict};
 use ltl_word::Trace;
 use std::alloc::{AllocError, Global};
 
@@ -52,6 +53,18 @@ pub fn traced(alloc: Global, holds: bool) -> Result<Vec<u8>, AllocError>
         line(alloc, b"HOLDS")
     } else {
         line(alloc, b"FAILS")
+    }
+}
+
+/// VERIFIED, or REJECTED with the reason.
+pub fn checked(alloc: Global, verdict: &Verdict) -> Result<Vec<u8>, AllocError>
+    ensures { IfOk result (λ text. text.items ≡ checked_text verdict.now) }
+{
+    match *verdict {
+        Verdict::Verified => line(alloc, b"VERIFIED"),
+        Verdict::Rejected(Reason::Kind) => line(alloc, b"REJECTED kind"),
+        Verdict::Rejected(Reason::Line(number)) => numbered(alloc, b"REJECTED line ", number.into()),
+        Verdict::Rejected(Reason::Target(number)) => numbered(alloc, b"REJECTED target ", number.into()),
     }
 }
 

@@ -1,11 +1,10 @@
-use Rattle.std.proofs.Common.{◌≤◌, [], List, ℕ, length, map, string_bytes, sym, subst, arith}
+use Rattle.std.proofs.Common.{◌∙◌, ◌≤◌, [], List, ℕ, length, map, string_bytes, sym, subst, arith}
 use Rattle.report.specs.declared.fault.Fault.TheVariants as faults
-use Rattle.command_words.specs.Words.{Solve, Trace as TraceWord}
 use Rattle.black_top.specs.Answer.{refused}
 use Rattle.black_top.specs.Run.{not_taken}
 use Rattle.command_words.specs.Asked.{IsAsked}
-use Rattle.black_top.specs.Inner.{Gives, stop_after}
-use Rattle.black_top.proofs.Leaving.{some_left, given_left, given_unread, stops_solve, stops_trace, nothing_read, reads}
+use Rattle.black_top.specs.Inner.{Gives}
+use Rattle.black_top.proofs.Leaving.{some_left, given_left, given_unread, stops, takes_none, reads}
 use Rattle.black_top.proofs.answer.answer.Goals as goal
 
 pub returns-in_default-clause-given : goal.returns-in_default-clause-given
@@ -14,11 +13,8 @@ returns-in_default-clause-given g c =
     let none = rw c.in_default.is at c.in_ok-asked.ensures in
     (refused faults.Usage, record { bytes = left.0; left = left.1; lawful = not_taken none }, c.in_ok-refusal.ensures)
 
-pub returns-in_default-clause-solve_left : goal.returns-in_default-clause-solve_left
-returns-in_default-clause-solve_left g c settings asks = let none = rw c.in_default.is at c.in_ok-asked.ensures in absurd (none (Solve settings) asks)
-
-pub returns-in_default-clause-trace_left : goal.returns-in_default-clause-trace_left
-returns-in_default-clause-trace_left g c asks = let none = rw c.in_default.is at c.in_ok-asked.ensures in absurd (none TraceWord asks)
+pub returns-in_default-clause-left : goal.returns-in_default-clause-left
+returns-in_default-clause-left g c command asks = let none = rw c.in_default.is at c.in_ok-asked.ensures in absurd (none command asks)
 
 pub returns-in_default-stop_after-clause-given : goal.returns-in_default-stop_after-clause-given
 returns-in_default-stop_after-clause-given g c =
@@ -26,15 +22,10 @@ returns-in_default-stop_after-clause-given g c =
     let given = c.in_ok-output.ensures in
     (given.0, given_unread (map string_bytes c.args.words.now) (g.S.Source.rest c.args.source.now) c.in-Some.asked [] given.0 is (sym c.in_default-stop_after.ensures) given.1, given.2)
 
-pub returns-in_default-stop_after-clause-solve_left : goal.returns-in_default-stop_after-clause-solve_left
-returns-in_default-stop_after-clause-solve_left g c settings asks =
+pub returns-in_default-stop_after-clause-left : goal.returns-in_default-stop_after-clause-left
+returns-in_default-stop_after-clause-left g c command asks =
     let is : IsAsked (map string_bytes c.args.words.now) c.in-Some.asked = rw c.in-Some.is at c.in_ok-asked.ensures in
-    absurd (nothing_read 1048576 (stop_after c.in-Some.asked) c.in_default-stop_after.ensures (stops_solve (map string_bytes c.args.words.now) c.in-Some.asked settings is asks))
-
-pub returns-in_default-stop_after-clause-trace_left : goal.returns-in_default-stop_after-clause-trace_left
-returns-in_default-stop_after-clause-trace_left g c asks =
-    let is : IsAsked (map string_bytes c.args.words.now) c.in-Some.asked = rw c.in-Some.is at c.in_ok-asked.ensures in
-    absurd (nothing_read 18446744073709551615 (stop_after c.in-Some.asked) c.in_default-stop_after.ensures (stops_trace (map string_bytes c.args.words.now) c.in-Some.asked is asks))
+    takes_none command (g.S.Source.rest c.args.source.now) (stops (map string_bytes c.args.words.now) c.in-Some.asked command is asks ∙ sym c.in_default-stop_after.ensures)
 
 pub returns-in_err-bytes-clause-unread : goal.returns-in_err-bytes-clause-unread
 returns-in_err-bytes-clause-unread g c nothing =

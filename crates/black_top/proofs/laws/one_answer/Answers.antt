@@ -15,4 +15,5 @@ returns c words bytes =
       };
       one_reading = c.one_reading.ensures;
       one_verdict = c.one_verdict.ensures;
+      one_check = c.answers.ensures.one;
     })

@@ -13,19 +13,21 @@ returns-then-limit-number c =
     let f = tree_at c.args.table.now c.args.root in
     let kind = c.args.options.kind in
     let depth = c.args.options.depth in
+    let cert = c.args.options.cert in
     let number = c.unwrap_or-number.result in
     let limit = c.greatest_depth-limit.result in
     let greatest = c.greatest_depth-limit.ensures in
     let closure = c.in_ok-closure.ensures in
     let force = in_force c.in_ok-closure.closure f kind c.of-layout.result number limit closure.formula closure.kind c.of-layout.ensures.layout greatest.below greatest.fits greatest.greatest in
-    shown (IsSettled kind depth f) (refused (faults.Letters limit)) c.refusal.result
-    (refused_letters kind depth f number limit (sym c.is_some.ensures ∙ c.if-is_some.true) c.unwrap_or-number.ensures force c.if-limit-number.true) c.refusal.ensures
+    shown (IsSettled kind depth cert f) (refused (faults.Letters limit)) c.refusal.result
+    (refused_letters kind depth cert f number limit (sym c.is_some.ensures ∙ c.if-is_some.true) c.unwrap_or-number.ensures force c.if-limit-number.true) c.refusal.ensures
 
 pub returns : goal.returns
 returns c =
     let f = tree_at c.args.table.now c.args.root in
     let kind = c.args.options.kind in
     let depth = c.args.options.depth in
+    let cert = c.args.options.cert in
     let number = c.unwrap_or-number.result in
     let limit = c.greatest_depth-limit.result in
     let greatest = c.greatest_depth-limit.ensures in
@@ -36,5 +38,5 @@ returns c =
       | else-is_some-via-then-is_some+else-limit-number w ↦ inr w.if-limit-number.false
       | else-is_some-via-else-is_some w ↦ inl (sym c.is_some.ensures ∙ w.if-is_some.false)
     ] in
-    shown_as (IsDecided value.formula value.kind limit) (IsSettled kind depth f) c.decide.result
-    (settled_at value kind depth f number limit closure.formula closure.kind c.unwrap_or-number.ensures which force) c.decide.ensures
+    shown_as (IsDecided value.formula value.kind limit cert) (IsSettled kind depth cert f) c.decide.result
+    (settled_at value kind depth cert f number limit closure.formula closure.kind c.unwrap_or-number.ensures which force) c.decide.ensures

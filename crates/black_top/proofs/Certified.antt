@@ -1,0 +1,42 @@
+-- The certificate that `solve` prints is verified by `check` behind the text of its formula.
+use Rattle.std.proofs.Common.{◌≡◌, ℕ, Bool, true, false, List, Option, Some, refl, sym, subst}
+use Rattle.ltl_syntax.specs.declared.node.Kind.{Kind}
+use Rattle.ltl_syntax.specs.Formula.{Formula}
+use Rattle.ltl_parser.specs.Text.{IsAccepted}
+use Rattle.cert_check.specs.declared.verdict.Verdict.TheVariants as verdicts
+use Rattle.cert_check.specs.Answer.{Verified}
+use Rattle.cert_check.specs.Lawful.{CertOk}
+use Rattle.black_top.specs.Answer.{Answer, unsat, checked}
+use Rattle.black_top.specs.Reading.{IsParted, accepted}
+use Rattle.black_top.specs.Solve.{Certifies, IsDecided, satisfiable, unsatisfiable, undecided_yet, IsSettled, too_deep, decided, IsSolved, unreadable, settled}
+use Rattle.black_top.specs.Check.{IsChecked, with_certificate, IsVerified}
+use Rattle.black_top.proofs.Unseparated.{joined_cut}
+
+verified_behind : (kind : Kind) (f : Formula) (part text : List ℕ) → IsAccepted part f → CertOk f kind text → IsParted (IsChecked kind) (with_certificate part text) (checked verdicts.Verified)
+verified_behind kind f part text read ok =
+    accepted part text f (checked verdicts.Verified) (joined_cut part text read.reads.tokens read.reads.lexed) read (record { found = Verified; is = ok; shown = refl })
+
+pub certificate_verified : (cert : Bool) (f : Formula) (kind : Kind) (k : ℕ) (part : List ℕ) (certificate : Option (List ℕ)) → IsAccepted part f → Certifies cert f kind k certificate → IsVerified kind part certificate
+certificate_verified false f kind k part certificate read none = subst (IsVerified kind part) (sym none) tt
+certificate_verified true f kind k part certificate read (text, is, (c, said, lawful, depth)) = subst (IsVerified kind part) (sym is) (verified_behind kind f part text read (c, said, lawful))
+
+-- an answer that is UNSAT with a certificate
+same_certificate : (j k : ℕ) (one : Option (List ℕ)) (text : List ℕ) → unsat j one ≡ unsat k (Some text) → one ≡ Some text
+same_certificate j k one text e = cc
+
+decided_verifies : (f : Formula) (kind : Kind) (limit : ℕ) (cert : Bool) (part : List ℕ) (depth : ℕ) (text : List ℕ) (a : Answer) → IsAccepted part f → IsDecided f kind limit cert a → a ≡ unsat depth (Some text)
+    → IsVerified kind part (Some text)
+decided_verifies f kind limit cert part depth text a read (unsatisfiable k certificate h certifies) e =
+    subst (IsVerified kind part) (same_certificate k depth certificate text e) (certificate_verified cert f kind k part certificate read certifies)
+decided_verifies f kind limit cert part depth text a read (satisfiable k t h r) e = absurd (cc)
+decided_verifies f kind limit cert part depth text a read (undecided_yet k h) e = absurd (cc)
+
+settled_verifies : (kind : Kind) (wanted : Option ℕ) (cert : Bool) (f : Formula) (part : List ℕ) (depth : ℕ) (text : List ℕ) (a : Answer) → IsAccepted part f → IsSettled kind wanted cert f a → a ≡ unsat depth (Some text)
+    → IsVerified kind part (Some text)
+settled_verifies kind wanted cert f part depth text a read (decided limit answer force reached h) e = decided_verifies f kind limit cert part depth text a read h e
+settled_verifies kind wanted cert f part depth text a read (too_deep n limit is force less) e = absurd (cc)
+
+pub printed_verifies : (kind : Kind) (wanted : Option ℕ) (cert : Bool) (part : List ℕ) (depth : ℕ) (text : List ℕ) (a : Answer) → IsSolved kind wanted cert part a → a ≡ unsat depth (Some text)
+    → IsVerified kind part (Some text)
+printed_verifies kind wanted cert part depth text a (settled f answer read h) e = settled_verifies kind wanted cert f part depth text a read h e
+printed_verifies kind wanted cert part depth text a (unreadable fault h) e = absurd (cc)
