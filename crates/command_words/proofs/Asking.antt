@@ -1,19 +1,18 @@
 -- Which command words ask for, from the first of them and what stands behind it.
-use Rattle.std.proofs.Common.{◌≡◌, ◌≢◌, ◌∙◌, ℕ, ◌==◌, ◌&&◌, ◌||◌, Bool, true, false, List, [], ◌∷◌, Option, Some, None, All, refl, sym, ap, subst, length, map, MatchOption}
+use Rattle.std.proofs.Common.{◌≡◌, ◌≢◌, ◌∙◌, ℕ, ◌&&◌, ◌||◌, Bool, true, false, List, [], ◌∷◌, Option, Some, None, All, refl, sym, ap, subst, MatchOption}
 use Rattle.std.specs.List.{find, list_any}
 use Rattle.std.proofs.lemmas.List.Elements.{All-nil}
 use Rattle.std.specs.Prelude.{bytes_eq, IsSomeAnd}
 use Rattle.command_words.specs.declared.table.OptionName.{OptionName}
 use Rattle.command_words.specs.declared.table.CommandName.{CommandName}
 use Rattle.command_words.specs.declared.table.CommandName.TheVariants as commands
-use Rattle.command_words.specs.declared.options.Options.{Options}
 use Rattle.command_words.specs.declared.asked.Asked.{Asked}
 use Rattle.command_words.specs.declared.asked.Asked.TheVariants as asked
-use Rattle.command_words.specs.Table.{Offer, CommandRow, command_row, same_option, has_option, has_built, demo_command}
-use Rattle.command_words.specs.Words.{Setting, Command, Solve, Check, Trace, Demo, Batch, System, Monitor, Depast, SayAll, SaySettings, IsAmong, IsBuilt, name_of, row_of, command_word, settings_of, Follow, Asks, IsOffered}
-use Rattle.command_words.specs.Asked.{AreOptions, IsAsked}
+use Rattle.command_words.specs.Table.{Offer, CommandRow, command_row, same_option, demo_command}
+use Rattle.command_words.specs.Words.{Setting, Command, Solve, Check, Trace, Demo, Batch, System, Monitor, Depast, IsAmong, IsBuilt, name_of, command_word, settings_of, Follow, Asks}
+use Rattle.command_words.specs.Asked.{IsAsked}
 use Rattle.command_words.specs.Said.{SayOnce, NoneAreSaid, name_asked, Tell, Follows, FollowsNothing, SayNoNumber}
-use Rattle.command_words.proofs.OneCommand.{false_not_true, apart}
+use Rattle.command_words.proofs.OneCommand.{false_not_true}
 
 -- ---- commands by their words
 
@@ -124,15 +123,15 @@ pub asks_what_follows : (words more : List (List ℕ)) (word : List ℕ) (name :
     → Follows name more a → IsAsked words a
 asks_what_follows words more word name a whole named built (is, tell) =
     tells a (whole ∙ ap (λ w. w ∷ more) (named ∙ ap (λ n. (command_row n).word) (sym is))) (ap (λ n. (command_row n).built) is ∙ built) tell where
-  tells : (a : Asked) → words ≡ (command_row (name_asked a)).word ∷ more → (command_row (name_asked a)).built ≡ true → Tell more a → IsAsked words a
-  tells (asked.Solve options) e b (settings, (say, once), offered, are) = (settings, ((more, e, (say, once, all_among (command_row commands.Solve) settings offered)), (b, offered)), are)
-  tells (asked.Check options) e b (settings, (say, once), offered, are) = (settings, ((more, e, (say, once, all_among (command_row commands.Check) settings offered)), (b, offered)), are)
-  tells asked.Trace e b none = ((more, e, none), (b, no_offers commands.Trace))
-  tells (asked.Demo n) e b number = ((more, e, number), (b, no_offers commands.Demo))
-  tells (asked.Batch options) e b (settings, (say, once), offered, are) = (settings, ((more, e, (say, once, all_among (command_row commands.Batch) settings offered)), (b, offered)), are)
-  tells (asked.System options) e b (settings, (say, once), offered, are) = (settings, ((more, e, (say, once, all_among (command_row commands.System) settings offered)), (b, offered)), are)
-  tells asked.Monitor e b none = ((more, e, none), (b, no_offers commands.Monitor))
-  tells asked.Depast e b none = ((more, e, none), (b, no_offers commands.Depast))
+      tells : (a : Asked) → words ≡ (command_row (name_asked a)).word ∷ more → (command_row (name_asked a)).built ≡ true → Tell more a → IsAsked words a
+      tells (asked.Solve options) e b (settings, (say, once), offered, are) = (settings, ((more, e, (say, once, all_among (command_row commands.Solve) settings offered)), (b, offered)), are)
+      tells (asked.Check options) e b (settings, (say, once), offered, are) = (settings, ((more, e, (say, once, all_among (command_row commands.Check) settings offered)), (b, offered)), are)
+      tells asked.Trace e b none = ((more, e, none), (b, no_offers commands.Trace))
+      tells (asked.Demo n) e b number = ((more, e, number), (b, no_offers commands.Demo))
+      tells (asked.Batch options) e b (settings, (say, once), offered, are) = (settings, ((more, e, (say, once, all_among (command_row commands.Batch) settings offered)), (b, offered)), are)
+      tells (asked.System options) e b (settings, (say, once), offered, are) = (settings, ((more, e, (say, once, all_among (command_row commands.System) settings offered)), (b, offered)), are)
+      tells asked.Monitor e b none = ((more, e, none), (b, no_offers commands.Monitor))
+      tells asked.Depast e b none = ((more, e, none), (b, no_offers commands.Depast))
 
 pub no_words_asked : (c : Command) → Asks [] c → ⊥
 no_words_asked c ((more, e, follow), offered) = cc

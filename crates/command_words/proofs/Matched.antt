@@ -1,5 +1,5 @@
 -- The settings that words say, as uses of options that `clap` matches.
-use Rattle.std.proofs.Common.{◌≡◌, ◌≢◌, ◌∙◌, ℕ, ◌==◌, ◌||◌, Bool, true, false, inl, inr, List, [], ◌∷◌, ◌++◌, codes, Option, Some, None, is_some, option_and_then, slice_get, All, refl, sym, ap, subst, append_assoc, arith}
+use Rattle.std.proofs.Common.{◌≡◌, ◌≢◌, ◌∙◌, ℕ, ◌||◌, Bool, true, false, inl, inr, List, [], ◌∷◌, ◌++◌, codes, Option, Some, None, is_some, option_and_then, slice_get, All, refl, sym, ap, subst, append_assoc, arith}
 use Rattle.std.proofs.lemmas.List.Elements.{All-head, All-tail}
 use Rattle.std.proofs.lemmas.Bool.{ne_eqb}
 use Rattle.std.proofs.lemmas.Slice.Eq.{bytes_eq-Decides}
@@ -18,9 +18,9 @@ use Rattle.command_words.specs.Table.{option_row, option_word, same_option}
 use Rattle.command_words.specs.Words.{Setting, SaysOption, SayAll, Once, IsNumberIn, name, setting_of, number_of}
 use Rattle.command_words.specs.Said.{SayOnce}
 use Rattle.command_words.specs.Matching.{option_id, options_app, flag_text, IsNumberText, TellsOption, AreMatched}
-use Rattle.command_words.proofs.OneCommand.{apart, word_one}
+use Rattle.command_words.proofs.OneCommand.{word_one}
 use Rattle.command_words.proofs.Saying.{new_behind}
-use Rattle.command_words.proofs.Walking.{Form, alone, two, one, Use, words_of_use, words_of, text_of, row_with, rows_for, built_with, is_flag, IsPlain, IsFit, AreFit, AreNew, words_taken, row_at, row_or, absent_of, row_matched}
+use Rattle.command_words.proofs.Walking.{Form, alone, two, one, Use, words_of_use, words_of, text_of, row_with, rows_for, built_with, IsPlain, IsFit, AreFit, AreNew, words_taken, row_at, row_or, absent_of, row_matched}
 
 -- ---- names of options
 
@@ -135,6 +135,7 @@ told o [] [] are = tt
 told o (c ∷ cs) (u ∷ us) (e, is, are) = by (same_option c.option o) refl (told o cs us are) where
   here : same_option c.option o ≡ bytes_eq (option_id u.0) (option_id o)
   here = ap (λ p. same_option p o) (sym e) ∙ sym (same_id u.0 o)
+
   by : (b : Bool) → same_option c.option o ≡ b → Told (option_row o).number (option_id o) (row_at (option_id o) (rows_for us)) (setting_of o cs)
       → Told (option_row o).number (option_id o) (row_at (option_id o) (rows_for (u ∷ us))) (setting_of o (c ∷ cs))
   by true b rest =

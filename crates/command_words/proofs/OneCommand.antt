@@ -8,7 +8,7 @@ use Rattle.command_words.specs.declared.table.Range.{Range}
 use Rattle.command_words.specs.declared.table.OptionName.{OptionName}
 use Rattle.command_words.specs.declared.table.OptionName.TheVariants as names
 use Rattle.command_words.specs.Table.{option_row, option_word, solve_command, check_command, batch_command, system_command}
-use Rattle.command_words.specs.Words.{Setting, Command, Solve, Check, Trace, Demo, Batch, System, Monitor, Depast, IsNumberIn, Joined, name, SaysOption, Says, SayAll, Taken, command_word}
+use Rattle.command_words.specs.Words.{Setting, Command, Solve, Check, Trace, Demo, Batch, System, Monitor, Depast, IsNumberIn, name, SaysOption, Says, SayAll, Taken, command_word}
 
 pub false_not_true : false ≡ true → ⊥
 false_not_true e = cc

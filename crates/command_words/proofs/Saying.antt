@@ -1,5 +1,5 @@
 -- Which settings words say, read from the front.
-use Rattle.std.proofs.Common.{◌≡◌, ◌≢◌, ◌∙◌, ℕ, ◌≤◌, ◌-◌, ◌==◌, ◌&&◌, ◌||◌, Bool, true, false, inl, inr, List, [], ◌∷◌, ◌++◌, codes, Option, Some, None, is_some, All, refl, sym, ap, ap₂, subst, append_assoc, append-nil, length, get_or, arith, length-append, map, take, drop, take_all, MatchOption}
+use Rattle.std.proofs.Common.{◌≡◌, ◌≢◌, ◌∙◌, ℕ, ◌≤◌, ◌-◌, ◌==◌, ◌||◌, Bool, true, false, inl, inr, List, [], ◌∷◌, ◌++◌, codes, Option, Some, None, All, refl, sym, ap, ap₂, subst, append_assoc, append-nil, length, get_or, arith, length-append, map, take, drop, take_all, MatchOption}
 use Rattle.std.proofs.lemmas.List.Elements.{All-nil, All-cons, All-head, All-tail, All-push}
 use Rattle.std.proofs.lemmas.List.{get_or_append_left, get_or_at}
 use Rattle.std.proofs.lemmas.List.Quantifiers.{all_pairs_push}
@@ -9,9 +9,9 @@ use Rattle.command_words.specs.declared.table.OptionName.{OptionName}
 use Rattle.command_words.specs.declared.table.OptionName.TheVariants as names
 use Rattle.command_words.specs.declared.options.Seen.{Seen}
 use Rattle.command_words.specs.Table.{CommandRow, option_row, option_word, same_option, has_built}
-use Rattle.command_words.specs.Words.{Setting, Says, SayAll, Once, IsBuilt, IsNumberIn, IsNumberOf, name, setting_of, stands}
+use Rattle.command_words.specs.Words.{Setting, Says, SayAll, Once, IsBuilt, IsNumberIn, IsNumberOf, name, stands}
 use Rattle.command_words.specs.Said.{SayOnce, SomeAreSaid, NoneAreSaid, is_seen, with_seen, SaysFirst, SaysNothing, AreRoundEquals, GoesOn, IsApart}
-use Rattle.command_words.proofs.OneCommand.{false_not_true, apart, word_one, no_equals, has_equals, before_equals, before_all, before_joined, joined_equals, Form, alone, two, one, form, form_option, first_one, says_some, not_joined, same_behind}
+use Rattle.command_words.proofs.OneCommand.{false_not_true, apart, no_equals, has_equals, before_equals, before_joined, joined_equals, Form, alone, two, one, form, form_option, first_one, says_some, not_joined, same_behind}
 
 -- ---- a further setting
 

@@ -1,8 +1,7 @@
 -- What is read of the matches, and what the settings say.
-use Rattle.std.proofs.Common.{◌≡◌, ◌∙◌, ◌≤◌, ℕ, Bool, true, false, List, codes, Option, Some, None, sym, ap, refl, if◌then◌else◌}
+use Rattle.std.proofs.Common.{◌≡◌, ℕ, Bool, true, false, List, codes, Option, Some, None, if◌then◌else◌}
 use Rattle.ltl_syntax.specs.declared.node.Kind.{Kind}
 use Rattle.ltl_syntax.specs.declared.node.Kind.TheVariants as kinds
-use Rattle.command_words.specs.declared.table.Range.{Range}
 use Rattle.command_words.specs.Asked.{IsDepth, AreWorkers}
 use Rattle.command_words.specs.Matching.{flag_text, IsNumberText}
 

@@ -286,7 +286,7 @@ walks_over ((o, two digits) ∷ vs) us rows pending h (new, news) ((is, (x, xs, 
     let there : Stands (us ++ (o, two digits) ∷ []) settled pending' = record {
       settles = pending_settles o (x ∷ xs) settled is none;
       are = pending_used o (x ∷ xs) settled ∙ value_used (option_row o).number (option_id o) (x ∷ xs) settled is none ∙ rows_more us (o, two (x ∷ xs)) settled h.are
-        ∙ ap (λ d. rows_for (us ++ (o, two d) ∷ [])) (sym whole);
+          ∙ ap (λ d. rows_for (us ++ (o, two d) ∷ [])) (sym whole);
     } in
     let step = two_walked o x xs rows pending is n in
     after us vs (o, two digits) (option_word o ∷ (x ∷ xs) ∷ words_of vs) rows settled pending pending' (walks_over vs (us ++ (o, two digits) ∷ []) settled pending' there news fit)

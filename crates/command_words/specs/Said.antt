@@ -1,5 +1,5 @@
 -- What the private calls on words give. No public contract cites this file.
-use Rattle.std.specs.Prelude.{◌≡◌, ◌≢◌, ◌||◌, ℕ, Bool, List, [], ◌∷◌, ◌++◌, All, Option, Some, None}
+use Rattle.std.specs.Prelude.{◌≡◌, ◌||◌, ℕ, Bool, List, [], ◌∷◌, ◌++◌, All, Option, Some, None}
 use Rattle.command_words.specs.declared.table.Range.{Range}
 use Rattle.command_words.specs.declared.table.OptionName.{OptionName}
 use Rattle.command_words.specs.declared.table.OptionName.TheVariants as names
@@ -9,7 +9,7 @@ use Rattle.command_words.specs.declared.options.Options.{Options}
 use Rattle.command_words.specs.declared.options.Seen.{Seen}
 use Rattle.command_words.specs.declared.asked.Asked.{Asked}
 use Rattle.command_words.specs.declared.asked.Asked.TheVariants as asked
-use Rattle.command_words.specs.Table.{CommandRow, option_row, option_word, command_row, same_option, solve_command, check_command, demo_command, batch_command, system_command}
+use Rattle.command_words.specs.Table.{CommandRow, option_row, option_word, same_option, solve_command, check_command, demo_command, batch_command, system_command}
 use Rattle.command_words.specs.Words.{Setting, Command, IsNumberIn, IsNumberOf, Says, SayAll, Once, IsBuilt, SayNumber, name_of, Follow, IsOffered}
 use Rattle.command_words.specs.Asked.{AreOptions}
 

@@ -98,11 +98,20 @@ fn with_seen(seen: Seen, option: OptionName) -> Seen
     ensures { result ≡ with_seen seen option }
 {
     match option {
-        OptionName::Finite => Seen { finite: true, ..seen },
-        OptionName::Depth => Seen { depth: true, ..seen },
+        OptionName::Finite => Seen {
+            finite: true,
+            ..seen
+        },
+        OptionName::Depth => Seen {
+            depth: true,
+            ..seen
+        },
         OptionName::Cert => Seen { cert: true, ..seen },
         OptionName::Core => Seen { core: true, ..seen },
-        OptionName::Workers => Seen { workers: true, ..seen },
+        OptionName::Workers => Seen {
+            workers: true,
+            ..seen
+        },
     }
 }
 

@@ -44,7 +44,10 @@ fn words(rt: HostRuntime) -> Result<(), Fail> {
         ("solved", "none"),
         ("solve", "solve 9999 99"),
         ("solve --depth=1", "solve 1 99"),
-        ("solve --cert --depth 1000 --finite", "solve 1000 99 finite cert"),
+        (
+            "solve --cert --depth 1000 --finite",
+            "solve 1000 99 finite cert",
+        ),
         ("solve --depth 1001", "none"),
         ("solve --depth 00001", "none"),
         ("solve --depth -1", "none"),
@@ -86,7 +89,8 @@ fn words(rt: HostRuntime) -> Result<(), Fail> {
 
 #[test]
 fn usage_lines(rt: HostRuntime) -> Result<(), Fail> {
-    let wanted: &[u8] = b"usage: black solve [--finite] [--depth N] [--cert] [--core] [--workers N]\nusage: black check [--finite] [--workers N]\nusage: black trace\nusage: black demo N\n";
+    let wanted: &[u8] =
+        b"usage: black solve [--finite] [--depth N] [--cert] [--core] [--workers N]\nusage: black check [--finite] [--workers N]\nusage: black trace\nusage: black demo N\n";
     assert!(rt; *usage(rt.alloc())? == *wanted);
     Ok(())
 }

@@ -1,7 +1,6 @@
-use Rattle.std.proofs.Common.{◌≡◌, map, string_bytes, refl, sym}
+use Rattle.std.proofs.Common.{map, string_bytes, refl}
 use Rattle.command_words.specs.declared.asked.Asked.TheVariants as asked
 use Rattle.command_words.specs.declared.table.CommandName.TheVariants as commands
-use Rattle.command_words.specs.Said.{Follows, FollowsNothing}
 use Rattle.command_words.proofs.Asking.{match_mapped, no_settings, no_number}
 use Rattle.command_words.proofs.asked.asked_further.Goals as goal
 

@@ -1,7 +1,7 @@
-use Rattle.std.proofs.Common.{◌≡◌, ◌∙◌, map, string_bytes, sym, ap, subst, codes}
+use Rattle.std.proofs.Common.{◌≡◌, ◌∙◌, sym, ap, subst, codes}
 use Rattle.clap.specs.Words.{found_of, one_text, first_value}
 use Rattle.command_words.specs.declared.table.OptionName.TheVariants as names
-use Rattle.command_words.specs.Words.{stands, kind_of, depth_of, workers_of}
+use Rattle.command_words.specs.Words.{stands, depth_of, workers_of}
 use Rattle.command_words.specs.Asked.{IsDepth, AreWorkers}
 use Rattle.command_words.specs.Matching.{IsNumberText}
 use Rattle.command_words.proofs.Telling.{flag_read, finite_read, infinite_read, kind_if, small_depth, few_workers}

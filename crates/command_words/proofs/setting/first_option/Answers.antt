@@ -1,4 +1,4 @@
-use Rattle.std.proofs.Common.{◌≡◌, ◌∙◌, ◌-◌, List, ℕ, length, take, drop, map, string_bytes, sym, ap, ◌∷◌, Some, None, arith}
+use Rattle.std.proofs.Common.{◌∙◌, ◌-◌, length, take, drop, map, string_bytes, sym, ap, ◌∷◌, Some, None, arith}
 use Rattle.std.proofs.lemmas.Str.Pattern.{split_parts}
 use Rattle.clap.proofs.CutLemmas.{list_any-Lacks}
 use Rattle.command_words.proofs.Saying.{first_word, joined_first, joined_nothing, apart_first, apart_nothing, match_weaker}
