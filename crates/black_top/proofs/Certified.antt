@@ -1,11 +1,12 @@
 -- The certificate that `solve` prints is verified by `check` behind the text of its formula.
-use Rattle.std.proofs.Common.{◌≡◌, ℕ, Bool, true, false, List, Option, Some, refl, sym, subst}
+use Rattle.std.proofs.Common.{◌≡◌, ℕ, ◌≤◌, Bool, true, false, List, Option, Some, None, Result, Ok, Err, IfOk, refl, sym, subst}
 use Rattle.ltl_syntax.specs.declared.node.Kind.{Kind}
 use Rattle.ltl_syntax.specs.Formula.{Formula}
 use Rattle.ltl_parser.specs.Text.{IsAccepted}
+use Rattle.ltl_closure.specs.Run.{IsVerdict, no_run, all_pruned, Unsat}
 use Rattle.cert_check.specs.declared.verdict.Verdict.TheVariants as verdicts
 use Rattle.cert_check.specs.Answer.{Verified}
-use Rattle.cert_check.specs.Lawful.{CertOk}
+use Rattle.cert_check.specs.Lawful.{CertOk, IsLawfulAt}
 use Rattle.black_top.specs.Answer.{Answer, unsat, checked}
 use Rattle.black_top.specs.Reading.{IsParted, accepted}
 use Rattle.black_top.specs.Solve.{Certifies, IsDecided, satisfiable, unsatisfiable, undecided_yet, IsSettled, too_deep, decided, IsSolved, unreadable, settled}
@@ -19,6 +20,24 @@ verified_behind kind f part text read ok =
 pub certificate_verified : (cert : Bool) (f : Formula) (kind : Kind) (k : ℕ) (part : List ℕ) (certificate : Option (List ℕ)) → IsAccepted part f → Certifies cert f kind k certificate → IsVerified kind part certificate
 certificate_verified false f kind k part certificate read none = subst (IsVerified kind part) (sym none) tt
 certificate_verified true f kind k part certificate read (text, is, (c, said, lawful, depth)) = subst (IsVerified kind part) (sym is) (verified_behind kind f part text read (c, said, lawful))
+
+-- the depth of UNSAT is not above the limit
+pub unsat_shallow : (f : Formula) (kind : Kind) (limit k : ℕ) → IsVerdict f kind limit (Unsat k) → k ≤ limit
+unsat_shallow f kind limit k (no_run low before none) = low
+unsat_shallow f kind limit k (all_pruned low before none pruned) = low
+
+-- where no certificate is asked for, none is one
+pub uncertified : (cert : Bool) (f : Formula) (kind : Kind) (k : ℕ) → cert ≡ false → Certifies cert f kind k None
+uncertified cert f kind k e = subst (λ b. Certifies b f kind k None) (sym e) refl
+
+-- where one is asked for, a lawful text is one
+pub certified : (cert : Bool) (f : Formula) (kind : Kind) (k : ℕ) (text shown : List ℕ) → cert ≡ true → shown ≡ text → IsLawfulAt f kind k text → Certifies cert f kind k (Some shown)
+certified cert f kind k text shown e same lawful = subst (λ b. Certifies b f kind k (Some shown)) (sym e) (shown, refl, subst (IsLawfulAt f kind k) (sym same) lawful)
+
+-- a text that is the one that is lawful
+pub lawful_text : {A E : Type 0} (items : A → List ℕ) (r : Result A E) (f : Formula) (kind : Kind) (k : ℕ) (text : List ℕ) → IsLawfulAt f kind k text → IfOk r (λ x. items x ≡ text) → IfOk r (λ x. IsLawfulAt f kind k (items x))
+lawful_text items (Ok x) f kind k text lawful e = subst (IsLawfulAt f kind k) (sym e) lawful
+lawful_text items (Err e) f kind k text lawful h = tt
 
 -- an answer that is UNSAT with a certificate
 same_certificate : (j k : ℕ) (one : Option (List ℕ)) (text : List ℕ) → unsat j one ≡ unsat k (Some text) → one ≡ Some text

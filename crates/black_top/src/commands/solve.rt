@@ -72,6 +72,7 @@ fn decide(
     ensures { IfOk result (λ out. (a : Answer)
         × IsDecided closure.now.formula closure.now.kind limit cert a × Shows out a) }
 {
+    enc_layout::laws::numbering();
     match unravel::decide(alloc, closure, limit)? {
         Decision::Sat { depth, trace } => sat(alloc, depth, &trace),
         Decision::Unsat {
