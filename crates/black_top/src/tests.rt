@@ -6,6 +6,8 @@ use std::process::Abort;
 use std::test::Fail;
 use std::thread::Threads;
 
+mod certificates;
+
 const USAGE: &[u8] =
     b"usage: black solve [--finite] [--depth N] [--cert] [--core] [--workers N]\nusage: black check [--finite] [--workers N]\nusage: black trace\nusage: black demo N\n";
 
@@ -35,7 +37,7 @@ fn answer<R: Threads + Sync>(
 ) -> Result<(Status, Vec<u8>), AllocError> {
     let words = list(alloc, words)?;
     let mut source = MemorySource::new(input.to_vec(alloc)?, 1000, Vec::new(alloc));
-    let mut sink = MemorySink::new(alloc, 1024, 7, Vec::new(alloc))?;
+    let mut sink = MemorySink::new(alloc, 65_536, 7, Vec::new(alloc))?;
     let status = run(rt, alloc, &words, &mut source, &mut sink, &NoGate);
     Ok((status, sink.content().to_vec(alloc)?))
 }
@@ -212,7 +214,7 @@ fn options(rt: HostRuntime) -> Result<(), Fail> {
 #[test]
 fn refused_words(rt: HostRuntime) -> Result<(), Fail> {
     let alloc = rt.alloc();
-    let table: [&str; 19] = [
+    let table: [&str; 26] = [
         "solve --",
         "solve --depth",
         "solve --depth=",
@@ -222,10 +224,17 @@ fn refused_words(rt: HostRuntime) -> Result<(), Fail> {
         "solve --depth=1 --depth 2",
         "solve --finite --finite",
         "solve --dep 3",
-        "solve --cert",
+        "solve --core",
+        "solve --workers 2",
+        "solve --cert --cert",
         "solve p",
         "trace --finite",
-        "check",
+        "check --cert",
+        "check --workers",
+        "check --workers 0",
+        "check --workers 17",
+        "check --workers=001",
+        "batch",
         "demo",
         "demo 1",
         "demo 65",
@@ -497,7 +506,7 @@ fn leaves_the_rest(rt: HostRuntime) -> Result<(), Fail> {
         ("solve", 7_328),
         ("trace", 0),
         ("demo 2", 1_060_000),
-        ("check", 1_060_000),
+        ("check", 0),
     ];
     for (words, left) in &table {
         let content = padded(alloc, b' ', 1_060_000, b"")?;
