@@ -1,0 +1,4 @@
+mod Cutting
+mod Unique
+mod Decided
+mod Grouped

@@ -1,0 +1,81 @@
+// One line: it is read as a formula, and the tableau's verdict is taken at the batch limit.
+ghost use Rattle.std.specs.Prelude.{◌≡◌, ◌<◌, ◌≤◌, length, IfOk};
+ghost use Rattle.ltl_syntax.specs.Table.{tree_at};
+ghost use Rattle.enc_layout.specs.Letters.{Fits};
+ghost use Rattle.enc_layout.specs.Clauses.{layout_of};
+ghost use Rattle.batch_run.specs.Outcomes.{IsOutcome, IsBatchLimit};
+ghost use Rattle.batch_run.specs.Grouping.{ShowsVerdict};
+
+use crate::answer::Outcome;
+use enc_layout::Layout;
+use ltl_closure::Closure;
+use ltl_lexer::{LexRefused, tokens};
+use ltl_parser::{ParseRefused, parse};
+use ltl_syntax::{FormulaTable, Kind};
+use std::alloc::{AllocError, Global};
+use unravel::Decision;
+
+/// The most bytes of a line.
+const MAX_TEXT: usize = 1_048_576;
+
+/// The most letters that the clauses of a line's formula may have.
+const MAX_LETTERS: u64 = 1_048_576;
+
+/// What is said of a line.
+pub fn outcome(alloc: Global, text: &[u8], kind: Kind, asked: u32) -> Result<Outcome, AllocError>
+    requires { asked ≤ 1000 }
+    ensures { IfOk result (IsOutcome kind asked text.now) }
+{
+    ltl_parser::laws::read_without_fault();
+    ltl_parser::laws::nodes_of_text();
+    if text.len() > MAX_TEXT {
+        return Ok(Outcome::Text);
+    }
+    let tokens = match tokens(alloc, text) {
+        Ok(tokens) => tokens,
+        Err(LexRefused::Lexical(byte)) => return Ok(Outcome::Lexical(byte)),
+        Err(LexRefused::NoMemory) => return Err(AllocError),
+    };
+    match parse(alloc, text, &tokens) {
+        Ok((table, root)) => verdict(alloc, &table, root, kind, asked),
+        Err(ParseRefused::Grammar(byte)) => Ok(Outcome::Grammar(byte)),
+        Err(ParseRefused::Nodes(count)) => Ok(Outcome::Nodes(count)),
+        Err(ParseRefused::NoMemory) => Err(AllocError),
+    }
+}
+
+/// The tableau's verdict at the batch limit. What shows it is dropped.
+fn verdict(
+    alloc: Global,
+    table: &FormulaTable,
+    root: u32,
+    kind: Kind,
+    asked: u32,
+) -> Result<Outcome, AllocError>
+    requires few { asked ≤ 1000 }
+    requires root { root < length table.now.nodes }
+    ensures { IfOk result (ShowsVerdict (tree_at table.now root) kind asked) }
+{
+    let closure = Closure::of(alloc, table, root, kind)?;
+    let limit = batch_limit(&closure, asked);
+    match unravel::decide(alloc, &closure, limit)? {
+        Decision::Sat { depth, .. } => Ok(Outcome::Sat(depth)),
+        Decision::Unsat { depth, .. } => Ok(Outcome::Unsat(depth)),
+        Decision::Undecided { depth } => Ok(Outcome::Undecided(depth)),
+    }
+}
+
+/// The greatest depth up to `asked` whose letters are at most 1,048,576. Depth 0 is always one.
+fn batch_limit(closure: &Closure<'_>, asked: u32) -> u32
+    requires { asked ≤ 1000 }
+    ensures limit { IsBatchLimit closure.now.formula closure.now.kind asked result }
+    ensures fits { Fits (layout_of closure.now) result }
+{
+    let _entries = closure.entries();
+    let layout = Layout::of(closure);
+    let mut depth = asked;
+    'depths: while depth > 0 && layout.letters_through(depth) > MAX_LETTERS {
+        depth -= 1;
+    }
+    depth
+}

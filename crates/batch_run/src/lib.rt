@@ -1,0 +1,16 @@
+//! Batches: one formula a line, decided by several workers side by side.
+#![tactic(auto)]
+
+mod answer;
+mod deciding;
+mod groups;
+pub mod laws;
+mod lines;
+mod printing;
+mod shared;
+#[cfg(test)]
+mod tests;
+
+pub use answer::{Answer, Outcome, all_verdicts};
+pub use groups::answers;
+pub use printing::batch_text;

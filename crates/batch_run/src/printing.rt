@@ -1,0 +1,51 @@
+// The text of a batch: a line for each answer.
+ghost use Rattle.std.specs.Prelude.{◌≡◌, ◌++◌, IfOk, OnOk};
+ghost use Rattle.batch_run.specs.Texts.{worded, outcome_text, answer_text, batch_text};
+
+use crate::answer::{Answer, Outcome};
+use itoa::Buffer;
+use std::alloc::{AllocError, Global};
+
+/// A line for each answer: its number, one space, and what is said of the formula.
+pub fn batch_text(alloc: Global, answers: &[Answer]) -> Result<Vec<u8>, AllocError>
+    ensures { IfOk result (λ text. text.items ≡ batch_text answers.now) }
+{
+    let mut text = Vec::new(alloc);
+    'answers: for answer in answers {
+        push_answer(&mut text, *answer)?;
+    }
+    Ok(text)
+}
+
+fn push_answer(text: &mut Vec<u8>, answer: Answer) -> Result<(), AllocError>
+    ensures { OnOk result (text.new.items ≡ text.old.items ++ answer_text answer) }
+{
+    push_number(text, b"", answer.line)?;
+    text.push(b' ')?;
+    push_outcome(text, answer.outcome)?;
+    text.push(b'\n')?;
+    Ok(())
+}
+
+fn push_outcome(text: &mut Vec<u8>, outcome: Outcome) -> Result<(), AllocError>
+    ensures { OnOk result (text.new.items ≡ text.old.items ++ outcome_text outcome) }
+{
+    match outcome {
+        Outcome::Sat(depth) => push_number(text, b"SAT ", depth),
+        Outcome::Unsat(depth) => push_number(text, b"UNSAT ", depth),
+        Outcome::Undecided(depth) => push_number(text, b"UNDECIDED ", depth),
+        Outcome::Text => text.extend_from_slice(b"limit text 1048576"),
+        Outcome::Lexical(byte) => push_number(text, b"lexical fault at byte ", byte),
+        Outcome::Grammar(byte) => push_number(text, b"grammar fault at byte ", byte),
+        Outcome::Nodes(count) => push_number(text, b"limit nodes 16384 have ", count),
+    }
+}
+
+/// Adds the words and the number, in decimal.
+fn push_number(text: &mut Vec<u8>, words: &[u8], number: u32) -> Result<(), AllocError>
+    ensures { OnOk result (text.new.items ≡ text.old.items ++ worded words.now number) }
+{
+    let mut buffer = Buffer::new();
+    text.extend_from_slice(words)?;
+    text.extend_from_slice(buffer.format(number).as_bytes())
+}
