@@ -7,6 +7,7 @@ use Rattle.batch_run.specs.declared.answer.Outcome.{Outcome}
 use Rattle.batch_run.specs.declared.answer.Outcome.TheVariants as outcomes
 use Rattle.batch_run.specs.declared.answer.Answer.{Answer}
 use Rattle.batch_run.specs.declared.lines.Line.{Line}
+use Rattle.batch_run.specs.declared.lines.Rest.{Rest}
 use Rattle.batch_run.specs.declared.groups.Area.{Area}
 use Rattle.batch_run.specs.Lines.{FormulaLine, AreFormulaLines}
 use Rattle.batch_run.specs.Outcomes.{IsBatchVerdict, IsOutcome, AreAnswered}
@@ -14,6 +15,14 @@ use Rattle.batch_run.specs.Outcomes.{IsBatchVerdict, IsOutcome, AreAnswered}
 -- a text begins with these formula lines, and the others are those of the rest. The numbers are those of the first line of each
 abbrev pub Continues : ℕ → List ℕ → ℕ → List ℕ → List FormulaLine → Type 0
 Continues number text next rest found = (later : List FormulaLine) → AreFormulaLines next rest later → AreFormulaLines number text (found ++ later)
+
+-- some lines of what is left are passed, among which these are the formula lines
+abbrev pub Passes : Rest → Rest → List FormulaLine → Type 0
+Passes before after found = Continues before.number before.text.now after.number after.text.now found
+
+-- no line of what is left has so great a number: each has at least one byte
+abbrev pub end_of : Rest → ℕ
+end_of rest = rest.number + length rest.text.now
 
 -- the formula line that stands in an area
 abbrev pub line_of : Line → FormulaLine

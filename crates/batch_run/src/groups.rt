@@ -1,8 +1,8 @@
-// Groups of as many consecutive formula lines as there are workers. Each line of a group is decided in an area of its own,
-// by a worker of its own, and the answers are taken in the order of the lines.
-ghost use Rattle.std.specs.Prelude.{◌≡◌, ℕ, ◌+◌, ◌^◌, ◌<◌, ◌≤◌, [], length, map, IfOk, OnOk, slice_index_or};
+// Groups of as many consecutive formula lines as there are workers. Each line of a group is decided in an area
+// of its own, by a worker of its own, and the answers are taken in the order of the lines.
+ghost use Rattle.std.specs.Prelude.{◌≡◌, ℕ, ◌+◌, ◌^◌, ◌<◌, ◌≤◌, [], length, IfOk, OnOk, slice_index_or};
 ghost use Rattle.batch_run.specs.Outcomes.{AreAnswers};
-ghost use Rattle.batch_run.specs.Grouping.{Continues, HasOutcomes, IsDone, lines_in};
+ghost use Rattle.batch_run.specs.Grouping.{Passes, HasOutcomes, IsDone, end_of, lines_in};
 
 use crate::answer::{Answer, Outcome};
 use crate::deciding::outcome;
@@ -21,8 +21,9 @@ struct Area<'t> {
     outcome: Option<Outcome>,
 }
 
-/// The answers to the formula lines of a text of at most 16,777,216 bytes, in order. Each line is a piece, and the gate is told
-/// of each as it begins; pieces are numbered from 0 over the whole text. `asked` is the depth up to which a verdict is sought.
+/// The answers to the formula lines of a text of at most 16,777,216 bytes, in order. Each line is a piece, and
+/// the gate is told of each as it begins; pieces are numbered from 0 over the whole text. `asked` is the depth
+/// up to which a verdict is sought. With one worker no thread is made.
 pub fn answers<R: Threads + Sync, G: Gate + Sync>(
     rt: &R,
     alloc: Global,
@@ -61,10 +62,10 @@ pub fn answers<R: Threads + Sync, G: Gate + Sync>(
 /// Takes the next formula lines, as many as there are workers, or all that are left.
 fn fill<'t>(group: &mut Vec<Area<'t>>, rest: &mut Rest<'t>, workers: u32) -> Result<(), AllocError>
     requires some { 1 ≤ workers }
-    requires small { rest.old.number + length rest.old.text.now < 2 ^ 32 }
-    ensures lines { OnOk result (Continues rest.old.number rest.old.text.now rest.new.number rest.new.text.now (lines_in group.new.items)) }
+    requires small { end_of rest.old < 2 ^ 32 }
+    ensures lines { OnOk result (Passes rest.old rest.new (lines_in group.new.items)) }
     ensures all { OnOk result (group.new.items ≡ [] → rest.new.text.now ≡ []) }
-    ensures room { rest.new.number + length rest.new.text.now ≤ rest.old.number + length rest.old.text.now }
+    ensures room { end_of rest.new ≤ end_of rest.old }
     ensures pieces { OnOk result (length group.new.items + rest.old.number ≤ rest.new.number) }
 {
     group.clear();

@@ -1,8 +1,8 @@
-// The formula lines of a text, one after another. A line ends at a newline or with the text, and a line of white space
-// alone is passed over.
+// The formula lines of a text, one after another. A line ends at a newline or with the text, and one of white
+// space alone is passed over.
 ghost use Rattle.std.specs.Prelude.{◌≡◌, ◌+◌, ◌^◌, ◌<◌, ◌≤◌, [], ◌∷◌, length, MatchOption, OnSome};
 ghost use Rattle.batch_run.specs.Lines.{IsFrontLine, is_blank};
-ghost use Rattle.batch_run.specs.Grouping.{Continues, line_of};
+ghost use Rattle.batch_run.specs.Grouping.{Passes, end_of, line_of};
 
 use memchr::memchr;
 
@@ -24,11 +24,10 @@ pub struct Line<'t> {
 impl<'t> Rest<'t> {
     /// The next formula line. Where there is none, nothing is left.
     pub fn next_formula(&mut self) -> Option<Line<'t>>
-        requires { self.old.number + length self.old.text.now < 2 ^ 32 }
-        ensures found { MatchOption result
-            (Continues self.old.number self.old.text.now self.new.number self.new.text.now [] × (self.new.text.now ≡ []))
-            (λ line. Continues self.old.number self.old.text.now self.new.number self.new.text.now (line_of line ∷ [])) }
-        ensures room { self.new.number + length self.new.text.now ≤ self.old.number + length self.old.text.now }
+        requires { end_of self.old < 2 ^ 32 }
+        ensures found { MatchOption result (Passes self.old self.new [] × (self.new.text.now ≡ []))
+            (λ line. Passes self.old self.new (line_of line ∷ [])) }
+        ensures room { end_of self.new ≤ end_of self.old }
         ensures moves { OnSome result (self.old.number < self.new.number) }
         ensures order { self.old.number ≤ self.new.number }
     {
@@ -44,8 +43,8 @@ impl<'t> Rest<'t> {
 
     /// The next line, without its newline.
     fn next_line(&mut self) -> Option<&'t [u8]>
-        requires { self.old.number + length self.old.text.now < 2 ^ 32 }
-        ensures front { MatchOption result ((self.old.text.now ≡ []) × (self.new.text.now ≡ []) × (self.new.number ≡ self.old.number))
+        requires { end_of self.old < 2 ^ 32 }
+        ensures front { MatchOption result ((self.old.text.now ≡ []) × (self.new ≡ self.old))
             (λ line. IsFrontLine self.old.text.now line.now self.new.text.now) }
         ensures number { OnSome result (self.new.number ≡ self.old.number + 1) }
         ensures shorter { OnSome result (length self.new.text.now < length self.old.text.now) }
