@@ -1,0 +1,5 @@
+use Rattle.past_monitor.specs.Part.{AreSteppedTo}
+use Rattle.past_monitor.proofs.monitor.step_parts.Given as goal
+
+abbrev pub invariant-loop-place : goal.invariant-loop-place
+invariant-loop-place l = AreSteppedTo l.place l.state l.fn.parts.items l.parts.items l.values.items

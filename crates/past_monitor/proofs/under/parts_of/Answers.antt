@@ -1,0 +1,32 @@
+use Rattle.std.proofs.Common.{◌≡◌, ℕ, suc, ◌+◌, ◌++◌, ◌∷◌, [], length, Vec, Global, sym, ◌∙◌, ap, subst, arith}
+use Rattle.past_monitor.specs.declared.part.Part.{Part}
+use Rattle.past_monitor.specs.Part.{moved, IsNamed, ring_of}
+use Rattle.past_monitor.proofs.Placing.{ArePlaced, passed, added}
+use Rattle.past_monitor.proofs.under.parts_of.Goals.{then-marks-number+in_ok-new+in_ok-push-2, else-marks-number}
+use Rattle.past_monitor.proofs.under.parts_of.Goals as goal
+
+pub loop-number-preserved : goal.loop-number-preserved
+loop-number-preserved c =
+    let t = c.args.table.now in
+    let marks = c.args.marks.now in
+    let number = c.loop-number.number in
+    let places = c.loop-number.places.items in
+    let places' = c.push.new.self.items in
+    let parts = c.loop-number.parts.items in
+    let is = c.loop-number.invariant in
+    let one : suc number ≡ number + 1 = omega arith in
+    let count : c.len.result ≡ length parts = omega (arith, c.len.ensures, c.loop-number.parts.ok.0) in
+    let more : places' ≡ places ++ length parts ∷ [] = c.in_ok-push.ensures.items ∙ ap (λ n. places ++ n ∷ []) count in
+    elim c.if-marks-number.branch [
+      | then-marks-number+in_ok-new+in_ok-push-2 w ↦
+          let node = w.node.result in
+          let p = w.in_ok-new.field-0 in
+          let over : w.over_places-node.result ≡ moved places' node = w.over_places-node.ensures ∙ ap (λ ps. moved ps node) w.deref.ensures.value in
+          subst (λ (ps : Vec Part Global). ArePlaced t marks (number + 1) places' ps.items) (sym w.parts-is)
+          (subst (λ k. ArePlaced t marks k places' w.push-then-marks-number.new.self.items) one
+          (added t marks number places places' parts is more c.args.root node p w.push-then-marks-number.new.self.items c.requires.marks w.if-marks-number.true w.node.ensures.node w.node.ensures.below w.node.ensures.tree
+          (w.in_ok-new.ensures.node ∙ over) (subst (λ n. IsNamed t.names n p.name) over w.in_ok-new.ensures.named) (w.in_ok-new.ensures.ring ∙ ap (λ n. ring_of n []) over) w.in_ok-push-2.ensures.items))
+      | else-marks-number w ↦
+          subst (λ (ps : Vec Part Global). ArePlaced t marks (number + 1) places' ps.items) (sym w.parts-is)
+          (subst (λ k. ArePlaced t marks k places' parts) one (passed t marks number places places' parts is more w.if-marks-number.false))
+    ]

@@ -1,0 +1,30 @@
+// Why there is no monitor of a formula.
+ghost use Rattle.std.specs.Prelude.{◌≡◌};
+ghost use Rattle.past_monitor.specs.declared.refused.MonitorRefused.TheVariants.{NoMemory};
+
+use std::alloc::{AllocError, AllocFailed};
+
+/// Why there is no monitor: an operator that looks ahead is under the root, or memory ran out.
+#[derive(Clone, Copy, Debug, PartialEq, Eq)]
+pub enum MonitorRefused {
+    /// One of `X wX F G U R W M X[n] F[a,b] G[a,b]`.
+    Future,
+    /// Memory was wanting, and nothing is said of the formula.
+    NoMemory,
+}
+
+impl From<AllocError> for MonitorRefused {
+    ghost from_gives = { λ _ e. e ≡ NoMemory };
+
+    fn from(_: AllocError) -> MonitorRefused {
+        MonitorRefused::NoMemory
+    }
+}
+
+impl<T: Drop> From<AllocFailed<T>> for MonitorRefused {
+    ghost from_gives = { λ _ e. e ≡ NoMemory };
+
+    fn from(_: AllocFailed<T>) -> MonitorRefused {
+        MonitorRefused::NoMemory
+    }
+}
