@@ -1,0 +1,14 @@
+use Rattle.std.proofs.lemmas.Result.{on_ok_weaker}
+use Rattle.system_check.specs.Copy.{numbers_in}
+use Rattle.system_check.proofs.CopyLoop.{may_put, grown_node}
+use Rattle.system_check.proofs.copying.copy_node.Goals as goal
+
+pub put-requires-clause-may : goal.put-requires-clause-may
+put-requires-clause-may c =
+    may_put c.args.source.now c.args.target.now c.renumbered.new.target (numbers_in c.args.numbers.now.items) c.args.node c.in_ok-copy.copy c.requires.roots c.requires.ordered c.in_ok-copy.ensures
+
+pub returns-clause-grown : goal.returns-clause-grown
+returns-clause-grown c =
+    on_ok_weaker c.put.result
+    (grown_node c.args.source.now c.args.target.now c.renumbered.new.target c.put.new.table (numbers_in c.args.numbers.now.items) c.args.node c.in_ok-copy.copy c.in_ok-copy.ensures c.requires.names)
+    c.put.ensures.pushes

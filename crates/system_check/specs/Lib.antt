@@ -1,0 +1,8 @@
+pub mod TwoStates
+pub mod System
+pub mod Under
+pub mod Copy
+pub mod Formulas
+pub mod Joining
+pub mod Answer
+pub mod Laws

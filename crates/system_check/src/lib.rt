@@ -1,0 +1,14 @@
+//! Finite systems: what holds of the first state and of each two states in a row, and whether each path satisfies a goal.
+#![tactic(auto)]
+
+mod copying;
+mod deciding;
+mod forms;
+mod joining;
+pub mod laws;
+mod parts;
+#[cfg(test)]
+mod tests;
+
+pub use deciding::{SystemAnswer, decide_system};
+pub use joining::{JoinRefused, Joined, join_parts};
