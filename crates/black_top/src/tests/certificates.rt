@@ -324,6 +324,7 @@ fn printed_certificates_verify(rt: HostRuntime) -> Result<(), Fail> {
 }
 
 /// Holds piece 0 until piece 1 has begun, and notes whether it came to that.
+#[derive(Drop)]
 struct Meeting {
     begun: AtomicU64,
     met: AtomicU64,
