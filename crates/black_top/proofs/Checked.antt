@@ -17,7 +17,7 @@ use Rattle.black_top.specs.Parts.{IsCut}
 use Rattle.black_top.specs.Taking.{IsTakenWhole}
 use Rattle.black_top.specs.Answer.{Answer, status_of, text_of}
 use Rattle.black_top.specs.Reading.{RefusesPart, IsParted, uncut, unread, accepted}
-use Rattle.black_top.specs.Check.{IsChecked, shown_of, PrintsVerified, PrintsRejected, OfParts, CheckPromise}
+use Rattle.black_top.specs.Check.{IsChecked, shown_of, PrintsVerified, PrintsRejected, PrintsFound, OfParts, CheckPromise}
 use Rattle.black_top.specs.Run.{IsAnswered}
 use Rattle.black_top.proofs.Cutting.{cut_one, cut_or_none}
 use Rattle.black_top.proofs.OneText.{TextLaws, refused_not_accepted}
@@ -104,6 +104,26 @@ lawful_from {words} {rest} {before} {after} {s} one laws settings bytes part sec
     let same = told_left rest bytes h.given.bytes told h.given.left in
     lawful_parted (kind_of settings) h.given.bytes part second f before after s h.answer one laws (subst (λ b. IsCut b part second) same cut) read ok (checks settings asks h) h.own h.printed
 
+-- what is found of the certificate behind an accepted formula
+found_parted : (kind : Kind) (bytes part second : List ℕ) (f : Formula) (before after : Option (List ℕ)) (s : Status) (a : Answer) → TextLaws → IsCut bytes part second → IsAccepted part f
+    → IsParted (IsChecked kind) bytes a → s ≡ status_of a → Grows (text_of a) before after → PrintsFound kind f second before after s
+found_parted kind bytes part second f before after s a laws cut read (uncut none) e g = absurd (cut_or_none bytes part second cut none)
+found_parted kind bytes part second f before after s a laws cut read (unread part' second' fault cut' refuses) e g =
+    let same = cut_one bytes part second part' second' cut cut' in
+    absurd (refused_not_accepted part laws fault f (subst (λ p. RefusesPart p fault) (sym same.0) refuses) read)
+found_parted kind bytes part second f before after s a laws cut read (accepted part' second' f' answer cut' read' is) e g =
+    let same = cut_one bytes part second part' second' cut cut' in
+    let read'' = subst (λ p. IsAccepted p f') (sym same.0) read' in
+    let tree : f ≡ f' = laws.one_formula part f f' read.reads read''.reads in
+    let here : IsAnswer f kind second is.found = subst (λ h. IsAnswer h kind second is.found) (sym tree) (subst (λ text. IsAnswer f' kind text is.found) (sym same.1) is.is) in
+    record { found = is.found; is = here; own = e ∙ ap status_of is.shown; printed = subst (λ b. Grows (text_of b) before after) is.shown g }
+
+found_from : {words : List (List ℕ)} {rest before after : Option (List ℕ)} {s : Status} → TextLaws → (settings : List Setting) (bytes part second : List ℕ) (f : Formula) → Asks words (Check settings) → rest ≡ Some bytes
+    → IsCut bytes part second → IsAccepted part f → IsAnswered words rest before after s → PrintsFound (kind_of settings) f second before after s
+found_from {words} {rest} {before} {after} {s} laws settings bytes part second f asks told cut read h =
+    let same = told_left rest bytes h.given.bytes told h.given.left in
+    found_parted (kind_of settings) h.given.bytes part second f before after s h.answer laws (subst (λ b. IsCut b part second) same cut) read (checks settings asks h) h.own h.printed
+
 -- ---- the promise
 
 pub check_broken : (settings : List Setting) (IsQuiet : Type 0) (rest left before after : Option (List ℕ)) (status : Status) → IsBroken IsQuiet status → (IsTrue (has_read status) → IsTakenWhole rest left)
@@ -111,6 +131,7 @@ pub check_broken : (settings : List Setting) (IsQuiet : Type 0) (rest left befor
 check_broken settings IsQuiet rest left before after status broken taken = record {
   when_verified = λ e. absurd (broken_not status statuses.Good broken.none refl e);
   when_rejected = λ e. absurd (broken_not status statuses.Negative broken.none refl e);
+  found = λ bytes part second f told cut read quiet. inl (broken.cause quiet);
   verdict = λ bytes part second f told cut read ok quiet. inl (broken.cause quiet);
   taken = taken;
 }
@@ -120,6 +141,7 @@ pub check_kept : (settings : List Setting) (IsQuiet : Type 0) (words : List (Lis
 check_kept settings IsQuiet words rest left before after status no_trace one laws asks answer taken = record {
   when_verified = λ e. verified_from no_trace settings asks (subst (IsAnswered words rest before after) e answer);
   when_rejected = λ e. rejected_from one settings asks (subst (IsAnswered words rest before after) e answer);
+  found = λ bytes part second f told cut read quiet. inr (found_from laws settings bytes part second f asks told cut read answer);
   verdict = λ bytes part second f told cut read ok quiet. inr (lawful_from one laws settings bytes part second f asks told cut read ok answer);
   taken = λ read. taken;
 }

@@ -18,7 +18,7 @@ use Rattle.black_top.specs.Status.{has_read}
 use Rattle.command_words.specs.Words.{Setting, kind_of}
 use Rattle.black_top.specs.Parts.{IsCut}
 use Rattle.black_top.specs.Taking.{AreLeft, IsTakenWhole}
-use Rattle.black_top.specs.Answer.{Answer, refused, checked}
+use Rattle.black_top.specs.Answer.{Answer, refused, checked, status_of, text_of}
 use Rattle.black_top.specs.Reading.{IsParted}
 
 -- what is shown of what is found of a certificate
@@ -58,6 +58,13 @@ pub record PrintsRejected (kind : Kind) (f : Formula) (text : List ℕ) (before 
   pub unlawful : ¬ (CertOk f kind text)
   pub printed : Grows (checked_text (verdicts.Rejected reason)) before after
 
+-- what is found of the certificate was printed, with its status
+pub record PrintsFound (kind : Kind) (f : Formula) (text : List ℕ) (before after : Option (List ℕ)) (status : Status) : Type 0 where
+  pub found : CheckAnswer
+  pub is : IsAnswer f kind text found
+  pub own : status ≡ status_of (shown_of found)
+  pub printed : Grows (text_of (shown_of found)) before after
+
 -- what is claimed of the accepted formula and of the second part of what the source had left
 pub record OfParts (rest : Option (List ℕ)) (Claim : Formula → List ℕ → Type 0) : Type 0 where
   pub bytes : List ℕ
@@ -76,6 +83,10 @@ pub record CheckPromise (settings : List Setting) (IsQuiet : Type 0) (rest left 
   pub when_verified : status ≡ statuses.Good → OfParts rest (λ f text. PrintsVerified (kind_of settings) f text before after)
   -- REJECTED is printed only where it is none, with the first reason
   pub when_rejected : status ≡ statuses.Negative → OfParts rest (λ f text. PrintsRejected (kind_of settings) f text before after)
+  -- of an accepted formula and a second part that is printed which is found: VERIFIED, the first reason why not, the byte of the certificate's fault, or
+  -- that its letters are too many; or there was no memory
+  pub found : (bytes part second : List ℕ) (f : Formula) → rest ≡ Some bytes → IsCut bytes part second → IsAccepted part f → IsQuiet
+      → (status ≡ statuses.NoMemory) ⊎ PrintsFound (kind_of settings) f second before after status
   -- a lawful certificate of an accepted formula is verified, or there was no memory
   pub verdict : (bytes part second : List ℕ) (f : Formula) → rest ≡ Some bytes → IsCut bytes part second → IsAccepted part f → CertOk f (kind_of settings) second → IsQuiet
       → (status ≡ statuses.NoMemory) ⊎ ((status ≡ statuses.Good) × Grows (checked_text verdicts.Verified) before after)

@@ -1,5 +1,6 @@
 // The texts letter by letter. The expected lines are those of the documents.
-use crate::{Fault, Shown, Summary, demo, refused, sat, traced, undecided, unsat};
+use crate::{Fault, Shown, Summary, checked, demo, refused, sat, traced, undecided, unsat};
+use cert_check::{Reason, Verdict};
 use ltl_word::Trace;
 use std::alloc::{AllocError, Global};
 use std::process::Abort;
@@ -13,7 +14,7 @@ fn is<R: Abort>(rt: &R, text: Result<Vec<u8>, AllocError>, wanted: &[u8]) -> Res
 #[test]
 fn refusals(rt: HostRuntime) -> Result<(), Fail> {
     let alloc = rt.alloc();
-    let table: [(Fault, &[u8]); 12] = [
+    let table: [(Fault, &[u8]); 13] = [
         (
             Fault::Usage,
             b"usage: black solve [--finite] [--depth N] [--cert] [--core] [--workers N]\nusage: black check [--finite] [--workers N]\nusage: black trace\nusage: black demo N\n",
@@ -33,6 +34,10 @@ fn refusals(rt: HostRuntime) -> Result<(), Fail> {
         (
             Fault::Cells(268_435_456),
             b"limit cells 67108864 have 268435456\n",
+        ),
+        (
+            Fault::Certificate(61),
+            b"certificate fault at byte 61\n",
         ),
         (Fault::NotJson, b"trace fault: not JSON\n"),
         (Fault::NotTrace, b"trace fault: not a trace\n"),
@@ -66,6 +71,24 @@ fn verdicts(rt: HostRuntime) -> Result<(), Fail> {
     is(&rt, undecided(alloc, 1000), b"UNDECIDED 1000\n")?;
     is(&rt, traced(alloc, true), b"HOLDS\n")?;
     is(&rt, traced(alloc, false), b"FAILS\n")
+}
+
+#[test]
+fn checks(rt: HostRuntime) -> Result<(), Fail> {
+    let alloc = rt.alloc();
+    let table: [(Verdict, &[u8]); 4] = [
+        (Verdict::Verified, b"VERIFIED\n"),
+        (Verdict::Rejected(Reason::Kind), b"REJECTED kind\n"),
+        (Verdict::Rejected(Reason::Line(2)), b"REJECTED line 2\n"),
+        (
+            Verdict::Rejected(Reason::Target(1)),
+            b"REJECTED target 1\n",
+        ),
+    ];
+    for (verdict, wanted) in &table {
+        is(&rt, checked(alloc, verdict), wanted)?;
+    }
+    Ok(())
 }
 
 #[test]
