@@ -1,5 +1,5 @@
 -- The command that words ask for, and its answer.
-use Rattle.std.proofs.Common.{◌≡◌, ℕ, List, refl, subst}
+use Rattle.std.proofs.Common.{◌≡◌, ℕ, List, subst}
 use Rattle.command_words.specs.Words.{Command, Asks}
 use Rattle.command_words.proofs.OneCommand.{command_one}
 use Rattle.black_top.specs.Answer.{Answer}

@@ -1,5 +1,5 @@
 -- `solve`: its answer is one, what its answers mean, and that it keeps what it promises.
-use Rattle.std.proofs.Common.{◌≡◌, ◌∙◌, ℕ, ◌<◌, inl, inr, Bool, true, false, List, Option, Some, None, IsTrue, refl, sym, ap, subst, arith}
+use Rattle.std.proofs.Common.{◌≡◌, ◌∙◌, ℕ, ◌<◌, inl, inr, Bool, false, List, Option, Some, IsTrue, refl, sym, ap, subst, arith}
 use Rattle.std.proofs.lemmas.Bool.{cases_lt}
 use Rattle.ltl_io.specs.Outside.{Grows, LosesAtMost}
 use Rattle.ltl_syntax.specs.declared.node.Kind.{Kind}
@@ -16,9 +16,8 @@ use Rattle.black_top.specs.declared.status.Status.{Status}
 use Rattle.black_top.specs.declared.status.Status.TheVariants as statuses
 use Rattle.black_top.specs.Status.{has_read}
 use Rattle.black_top.specs.Taking.{IsTakenUpTo}
-use Rattle.black_top.specs.Answer.{Answer, refused, sat, unsat, undecided, status_of, text_of, AreAlike}
-use Rattle.black_top.specs.Solve.{IsReached, number_of, Certifies, IsDecided, satisfiable, unsatisfiable, undecided_yet, IsSettled, too_deep, decided, IsSolved, unreadable, settled, PrintsModel, PrintsNone, PrintsUndecided, AreFewLetters, PrintsVerdict, OfFormula, SolvePromise}
-use Rattle.black_top.specs.Check.{IsVerified}
+use Rattle.black_top.specs.Answer.{Answer, refused, undecided, status_of, text_of, AreAlike}
+use Rattle.black_top.specs.Solve.{IsReached, number_of, IsDecided, satisfiable, unsatisfiable, undecided_yet, IsSettled, too_deep, decided, IsSolved, unreadable, settled, PrintsModel, PrintsNone, PrintsUndecided, AreFewLetters, PrintsVerdict, OfFormula, SolvePromise}
 use Rattle.black_top.specs.Run.{IsAnswered}
 use Rattle.black_top.proofs.OneText.{TextLaws, one_fault, refused_not_accepted}
 use Rattle.black_top.proofs.Asking.{command_given}

@@ -1,6 +1,6 @@
 -- A text that has tokens has no separator line: no token begins with two dashes, and none has a newline in it. So what is joined to such a text
 -- by a separator line is cut there.
-use Rattle.std.proofs.Common.{◌≡◌, ◌∙◌, ◌⊎◌, ℕ, ◌+◌, ◌<◌, ◌≤◌, inl, inr, Bool, true, false, ◌&&◌, ◌||◌, ◌==◌, List, [], ◌∷◌, ◌++◌, length, codes, refl, sym, ap, ap₂, subst, arith, append_assoc, length-append}
+use Rattle.std.proofs.Common.{◌≡◌, ◌∙◌, ◌⊎◌, ℕ, ◌<◌, ◌≤◌, inl, inr, Bool, true, false, ◌&&◌, ◌||◌, ◌==◌, List, [], ◌∷◌, ◌++◌, length, codes, refl, sym, ap, ap₂, subst, arith, append_assoc, length-append}
 use Rattle.std.specs.Prelude.{Option, Some, None, if◌then◌else◌, bytes_eq, not}
 use Rattle.std.specs.Fmt.{decimal}
 use Rattle.std.specs.List.{list_all, list_any}
@@ -226,7 +226,7 @@ joined_cut text second ts lexed = record {
   begins = inr refl;
   ends = inr refl;
   first = λ b l a h.
-    let d = dashes_of (text ++ codes "\n---\n" ++ second) b l a h in
-    let low = no_earlier text (codes "---\n" ++ second) b d.0 ts lexed (starts b h.text h.begins) (sym (append_assoc text (codes "\n---\n") second) ∙ d.1) in
-    omega (arith, low, length-append text newline);
+      let d = dashes_of (text ++ codes "\n---\n" ++ second) b l a h in
+      let low = no_earlier text (codes "---\n" ++ second) b d.0 ts lexed (starts b h.text h.begins) (sym (append_assoc text (codes "\n---\n") second) ∙ d.1) in
+      omega (arith, low, length-append text newline);
 }

@@ -1,5 +1,5 @@
 -- `solve`: which answer comes where, and what is promised of it.
-use Rattle.std.specs.Prelude.{◌≡◌, ◌⊎◌, ◌<◌, ◌≤◌, ℕ, Bool, true, false, List, Option, Some, None, IsTrue}
+use Rattle.std.specs.Prelude.{◌≡◌, ◌⊎◌, ◌<◌, ℕ, Bool, true, false, List, Option, Some, None, IsTrue}
 use Rattle.ltl_io.specs.Outside.{Grows, LosesAtMost}
 use Rattle.ltl_syntax.specs.declared.node.Kind.{Kind}
 use Rattle.ltl_syntax.specs.Formula.{Formula}

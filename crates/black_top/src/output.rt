@@ -28,11 +28,7 @@ pub fn sat(alloc: Global, depth: u32, trace: &Trace) -> Result<Output, AllocErro
 }
 
 /// UNSAT at the depth, with the text of a certificate where one is given.
-pub fn unsat(
-    alloc: Global,
-    depth: u32,
-    certificate: Option<&[u8]>,
-) -> Result<Output, AllocError>
+pub fn unsat(alloc: Global, depth: u32, certificate: Option<&[u8]>) -> Result<Output, AllocError>
     ensures { IfOk result (λ out. Shows out (unsat depth (option_copied certificate.entry))) }
 {
     Ok(Output {

@@ -35,10 +35,7 @@ fn refusals(rt: HostRuntime) -> Result<(), Fail> {
             Fault::Cells(268_435_456),
             b"limit cells 67108864 have 268435456\n",
         ),
-        (
-            Fault::Certificate(61),
-            b"certificate fault at byte 61\n",
-        ),
+        (Fault::Certificate(61), b"certificate fault at byte 61\n"),
         (Fault::NotJson, b"trace fault: not JSON\n"),
         (Fault::NotTrace, b"trace fault: not a trace\n"),
         (Fault::EmptyLoop, b"trace fault: loop is empty\n"),
@@ -80,10 +77,7 @@ fn checks(rt: HostRuntime) -> Result<(), Fail> {
         (Verdict::Verified, b"VERIFIED\n"),
         (Verdict::Rejected(Reason::Kind), b"REJECTED kind\n"),
         (Verdict::Rejected(Reason::Line(2)), b"REJECTED line 2\n"),
-        (
-            Verdict::Rejected(Reason::Target(1)),
-            b"REJECTED target 1\n",
-        ),
+        (Verdict::Rejected(Reason::Target(1)), b"REJECTED target 1\n"),
     ];
     for (verdict, wanted) in &table {
         is(&rt, checked(alloc, verdict), wanted)?;

@@ -63,8 +63,16 @@ pub fn checked(alloc: Global, verdict: &Verdict) -> Result<Vec<u8>, AllocError>
     match *verdict {
         Verdict::Verified => line(alloc, b"VERIFIED"),
         Verdict::Rejected(Reason::Kind) => line(alloc, b"REJECTED kind"),
-        Verdict::Rejected(Reason::Line(number)) => numbered(alloc, b"REJECTED line ", number.into()),
-        Verdict::Rejected(Reason::Target(number)) => numbered(alloc, b"REJECTED target ", number.into()),
+        Verdict::Rejected(Reason::Line(number)) => numbered(
+            alloc,
+            b"REJECTED line ",
+            number.into(),
+        ),
+        Verdict::Rejected(Reason::Target(number)) => numbered(
+            alloc,
+            b"REJECTED target ",
+            number.into(),
+        ),
     }
 }
 

@@ -41,7 +41,16 @@ pub fn check<R: Threads + Sync, G: Gate + Sync>(
     match read_formula(alloc, parts.formula)? {
         Reading::Refused(fault) => refusal(alloc, fault),
         Reading::Formula { table, root } => {
-            judge(rt, alloc, &table, root, options.kind, parts.second, workers, gate)
+            judge(
+                rt,
+                alloc,
+                &table,
+                root,
+                options.kind,
+                parts.second,
+                workers,
+                gate,
+            )
         }
     }
 }

@@ -116,8 +116,7 @@ const ON_FALSE: &[Row] = &[
 ];
 
 /// A certificate of `wX false`.
-const LAST: &[u8] =
-    b"ltlcert 1 infinite 1\n-2 -3 0 2 3 4 0\n-8 0 5 2 7 6 0\nclose 1 2 2\n";
+const LAST: &[u8] = b"ltlcert 1 infinite 1\n-2 -3 0 2 3 4 0\n-8 0 5 2 7 6 0\nclose 1 2 2\n";
 
 /// On `wX false`, with that certificate changed in one place.
 const ON_LAST: &[Row] = &[
@@ -257,12 +256,7 @@ fn checked_inputs(rt: HostRuntime) -> Result<(), Fail> {
         b"X false\n---\nltlcert 1 finite 1\n-2 -3 0 2 3 0\n-6 0 4 2 6 5 0\nclose 1 2 2\n";
     let table: [(&str, &[u8], &[u8], Status); 9] = [
         ("check --finite", next, VERIFIED, Status::Good),
-        (
-            "check --workers 3 --finite",
-            next,
-            VERIFIED,
-            Status::Good,
-        ),
+        ("check --workers 3 --finite", next, VERIFIED, Status::Good),
         ("check", next, b"REJECTED kind\n", Status::Negative),
         (
             "check --finite",

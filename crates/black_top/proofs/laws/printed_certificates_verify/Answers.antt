@@ -3,7 +3,7 @@ use Rattle.std.specs.Prelude.{Some}
 use Rattle.cert_check.specs.declared.verdict.Verdict.TheVariants.{Verified}
 use Rattle.command_words.specs.Words.{Solve, Check, kind_of, depth_of, cert_of}
 use Rattle.black_top.specs.Answer.{unsat, checked}
-use Rattle.black_top.specs.Check.{with_certificate, IsVerified}
+use Rattle.black_top.specs.Check.{IsVerified}
 use Rattle.black_top.specs.Run.{taken}
 use Rattle.black_top.proofs.Asking.{command_given}
 use Rattle.black_top.proofs.Certified.{printed_verifies}
