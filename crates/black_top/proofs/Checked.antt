@@ -79,12 +79,12 @@ rejected_from {words} {rest} {before} {after} one settings asks h =
     record { bytes = h.given.bytes; left = h.given.left; part = part; second = second; cut = cut; formula = f; accepted = read; claim = printed }
 
 -- VERIFIED was printed, with its status
-abbrev IsVerified : Option (List ℕ) → Option (List ℕ) → Status → Type 0
-IsVerified before after s = (s ≡ statuses.Good) × Grows (checked_text verdicts.Verified) before after
+abbrev ShowsVerified : Option (List ℕ) → Option (List ℕ) → Status → Type 0
+ShowsVerified before after s = (s ≡ statuses.Good) × Grows (checked_text verdicts.Verified) before after
 
 -- the answer to a lawful certificate of an accepted formula
 lawful_parted : (kind : Kind) (bytes part second : List ℕ) (f : Formula) (before after : Option (List ℕ)) (s : Status) (a : Answer) → AnswersAreOne → TextLaws → IsCut bytes part second → IsAccepted part f
-    → CertOk f kind second → IsParted (IsChecked kind) bytes a → s ≡ status_of a → Grows (text_of a) before after → IsVerified before after s
+    → CertOk f kind second → IsParted (IsChecked kind) bytes a → s ≡ status_of a → Grows (text_of a) before after → ShowsVerified before after s
 lawful_parted kind bytes part second f before after s a one laws cut read ok (uncut none) e g = absurd (cut_or_none bytes part second cut none)
 lawful_parted kind bytes part second f before after s a one laws cut read ok (unread part' second' fault cut' refuses) e g =
     let same = cut_one bytes part second part' second' cut cut' in
@@ -99,7 +99,7 @@ lawful_parted kind bytes part second f before after s a one laws cut read ok (ac
     (e ∙ ap status_of shown, subst (λ b. Grows (text_of b) before after) shown g)
 
 lawful_from : {words : List (List ℕ)} {rest before after : Option (List ℕ)} {s : Status} → AnswersAreOne → TextLaws → (settings : List Setting) (bytes part second : List ℕ) (f : Formula) → Asks words (Check settings) → rest ≡ Some bytes
-    → IsCut bytes part second → IsAccepted part f → CertOk f (kind_of settings) second → IsAnswered words rest before after s → IsVerified before after s
+    → IsCut bytes part second → IsAccepted part f → CertOk f (kind_of settings) second → IsAnswered words rest before after s → ShowsVerified before after s
 lawful_from {words} {rest} {before} {after} {s} one laws settings bytes part second f asks told cut read ok h =
     let same = told_left rest bytes h.given.bytes told h.given.left in
     lawful_parted (kind_of settings) h.given.bytes part second f before after s h.answer one laws (subst (λ b. IsCut b part second) same cut) read ok (checks settings asks h) h.own h.printed

@@ -20,8 +20,8 @@ pub fn one_answer()
 /// What `solve --cert` prints, `check` with the same kind verifies behind the text of the formula and a
 /// separator line.
 pub fn printed_certificates_verify()
-    ensures { (solve check : List (List ℕ)) (asked also : List Setting) (text certificate : List ℕ) (depth : ℕ)
-        → Asks solve (Solve asked) → Asks check (Check also) → kind_of asked ≡ kind_of also
+    ensures { (solve check : List (List ℕ)) (asked also : List Setting) (text certificate : List ℕ)
+        (depth : ℕ) → Asks solve (Solve asked) → Asks check (Check also) → kind_of asked ≡ kind_of also
         → IsAnswer solve text (unsat depth (Some certificate))
         → IsAnswer check (with_certificate text certificate) (checked Verified) }
 {}

@@ -1,7 +1,8 @@
 // The text and the status of each answer.
 ghost use Rattle.std.specs.Prelude.{◌≡◌, true, false, IfOk};
 ghost use Rattle.std.specs.Option.{option_copied};
-ghost use Rattle.black_top.specs.Answer.{refused, sat, unsat, undecided, holds, fails, checked, summary, fault_status, shown_status};
+ghost use Rattle.black_top.specs.Answer.{refused, sat, unsat, undecided, holds, fails, checked, summary};
+ghost use Rattle.black_top.specs.Answer.{fault_status, shown_status};
 ghost use Rattle.black_top.specs.Inner.{Shows};
 
 use crate::Status;

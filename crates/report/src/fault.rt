@@ -21,8 +21,8 @@ pub enum Fault {
     Letters(u32),
     /// The table of truth values has so many cells.
     Cells(u128),
-    /// The second part is no certificate text. The number is its first byte, from 0 at its own start, with which
-    /// no such text goes on, or its length.
+    /// The second part is no certificate text. The number is its first byte, from 0 at its own start, with
+    /// which no such text goes on, or its length.
     Certificate(u64),
     /// The trace text is no JSON.
     NotJson,

@@ -1,7 +1,8 @@
 // The texts of the verdicts, and of the truth of a formula on a trace.
 ghost use Rattle.std.specs.Prelude.{◌≡◌, ◌++◌, IfOk};
 ghost use Rattle.std.specs.Option.{option_copied};
-ghost use Rattle.report.specs.Texts.{numbered, core_text, sat_text, unsat_text, undecided_text, traced_text, checked_text};
+ghost use Rattle.report.specs.Texts.{numbered, core_text, sat_text, unsat_text, undecided_text};
+ghost use Rattle.report.specs.Texts.{traced_text, checked_text};
 
 use crate::line::{line, numbered};
 use cert_check::{Reason, Verdict};

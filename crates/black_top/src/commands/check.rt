@@ -1,5 +1,5 @@
-// `check`: whether a certificate shows that no trace of the kind satisfies a formula. The input is both, with a
-// separator line between. Nothing is decided here: only the certificate counts.
+// `check`: whether a certificate shows that no trace of the kind satisfies a formula. The input is both, with
+// a separator line between. Nothing is decided here: only the certificate counts.
 ghost use Rattle.std.specs.Prelude.{◌<◌, ◌≤◌, length, IfOk};
 ghost use Rattle.ltl_syntax.specs.Table.{tree_at};
 ghost use Rattle.command_words.specs.Asked.{AreWorkers};

@@ -106,6 +106,7 @@ fn certificate(
     cert_check::laws::trimmed();
     let (needed, numbers) = trim(alloc, &log.view(), targets)?;
     let view = needed.view();
+    // The counts are numbers of 64 bits, so the text can name each clause and each line.
     let _counts = (view.inputs(), view.lines());
     cert_text::write(alloc, closure.kind(), depth, &view, &numbers)
 }
