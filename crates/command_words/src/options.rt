@@ -10,7 +10,7 @@ ghost use Rattle.command_words.specs.Matching.{IsNumberText};
 use crate::decimal::decimal_number;
 use crate::matching::option_matches;
 use crate::setting::first_option;
-use crate::table::{CommandName, DEPTHS, OptionName, Range, WORKERS, has_option};
+use crate::table::{CommandName, DEPTHS, OptionName, Range, WORKERS, offers_option};
 use ltl_syntax::Kind;
 use std::alloc::{AllocError, Global};
 
@@ -71,7 +71,7 @@ fn are_taken(command: CommandName, words: &[String]) -> bool
         let Some((option, behind)) = first_option(rest) else {
             return false;
         };
-        if !has_option(command, option) || is_seen(seen, option) {
+        if !offers_option(command, option) || is_seen(seen, option) {
             return false;
         }
         seen = with_seen(seen, option);

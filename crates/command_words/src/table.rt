@@ -115,7 +115,7 @@ pub fn is_built(command: CommandName) -> bool
 }
 
 /// Whether the command has the option, and it is built there.
-pub fn has_option(command: CommandName, option: OptionName) -> bool
+pub fn offers_option(command: CommandName, option: OptionName) -> bool
     ensures { result ≡ has_built (command_row command) option }
 {
     match (command, option) {
