@@ -26,7 +26,8 @@ pub fn option_matches(alloc: Global, words: &[String]) -> Result<ArgMatches<'_>,
 
 /// `clap`'s matches of option words.
 fn parsed(alloc: Global, words: &[String]) -> Result<ArgMatches<'_>, Error>
-    ensures matches { IfOk result (λ m. rows_of (found_of m) ≡ matches_of options_app (map string_bytes words.now)) }
+    ensures matches { IfOk result (λ m. rows_of (found_of m)
+        ≡ matches_of options_app (map string_bytes words.now)) }
     ensures refused { IfErr result (λ e. takes options_app (map string_bytes words.now) ≡ true
         → kind_of e ≡ ErrorKind.OutOfMemory) }
 {

@@ -1,10 +1,12 @@
-// The options of a command: each at most once, in any order. Whether words are taken is found here; which options
-// stand there, and with which texts, is then what `clap` matches.
-ghost use Rattle.std.specs.Prelude.{◌≡◌, ◌≤◌, ℕ, List, Option, map, string_bytes, MatchOption, MatchBool, IfOk};
+// The options of a command: each at most once, in any order. Whether words are taken is found here; which
+// options stand there, and with which texts, is then what `clap` matches.
+ghost use Rattle.std.specs.Prelude.{◌≡◌, ◌≤◌, ℕ, List, Option, map, string_bytes};
+ghost use Rattle.std.specs.Prelude.{MatchOption, MatchBool, IfOk};
 ghost use Rattle.std.specs.Option.{option_copied};
 ghost use Rattle.command_words.specs.Table.{command_row};
 ghost use Rattle.command_words.specs.Words.{Setting};
-ghost use Rattle.command_words.specs.Said.{SayOnce, SomeAreSaid, NoneAreSaid, AreTold, AreSaid, is_seen, with_seen};
+ghost use Rattle.command_words.specs.Said.{SayOnce, SomeAreSaid, NoneAreSaid, AreTold, AreSaid};
+ghost use Rattle.command_words.specs.Said.{is_seen, with_seen};
 ghost use Rattle.command_words.specs.Matching.{IsNumberText};
 
 use crate::decimal::decimal_number;

@@ -1,4 +1,5 @@
-// The option that the first words say. Its number is a word of its own, or stands behind `=` in the same word.
+// The option that the first words say. Its number is a word of its own, or stands behind `=` in the same
+// word.
 ghost use Rattle.std.specs.Prelude.{ℕ, List, map, string_bytes, MatchOption};
 ghost use Rattle.command_words.specs.declared.table.OptionName.{OptionName};
 ghost use Rattle.command_words.specs.Said.{SaysNothing, SaysFirst, AreRoundEquals, IsApart};
@@ -34,7 +35,8 @@ fn joined_option(word: &str, digits: &str) -> Option<OptionName>
 /// The option of the word, whose number the next word is where it has one, and the words behind them.
 fn option_apart<'a>(word: &str, more: &'a [String]) -> Option<(OptionName, &'a [String])>
     ensures { MatchOption result
-        ((option : OptionName) (behind : List (List ℕ)) → ¬ (IsApart word.now (map string_bytes more.now) option behind))
+        ((option : OptionName) (behind : List (List ℕ))
+        → ¬ (IsApart word.now (map string_bytes more.now) option behind))
         (λ said. IsApart word.now (map string_bytes more.now) said.0 (map string_bytes said.1.now)) }
 {
     let option = option_named(word)?;
