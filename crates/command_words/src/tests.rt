@@ -1,5 +1,5 @@
-// The words as one table, with what they ask for: the command, the depth and the workers (9999 and 99 where none
-// are asked for), and the flags.
+// The words as one table, with what they ask for: the command, the depth and the workers (9999 and 99 where
+// none are asked for), and the flags.
 use crate::{Asked, Options, asked_command, usage};
 use ltl_syntax::Kind;
 use std::alloc::{AllocError, Global};
