@@ -8,3 +8,7 @@ mod Marking
 mod Placing
 mod Runs
 mod Forms
+mod Lines
+mod Watching
+mod OneState
+mod OneAnswer

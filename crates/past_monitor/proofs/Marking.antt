@@ -1,5 +1,5 @@
 -- The walk that marks the nodes under a root, none of which looks ahead.
-use Rattle.std.proofs.Common.{◌≡◌, ℕ, suc, ◌+◌, ◌-◌, ◌<◌, ◌≤◌, Bool, true, false, not, ◌||◌, ◌==◌, List, length, replicate, set, length-set, slice_get, slice_index_or, Some, refl, sym, ◌∙◌, ap, subst, arith, true≢false, ◌⊎◌, inl, inr}
+use Rattle.std.proofs.Common.{◌≡◌, ℕ, suc, ◌+◌, ◌<◌, ◌≤◌, Bool, true, false, ◌||◌, ◌==◌, List, length, replicate, set, length-set, slice_get, Some, refl, sym, ◌∙◌, ap, subst, arith, true≢false, ◌⊎◌, inl, inr}
 use Rattle.std.proofs.lemmas.Bool.{cases_lt, eqb-true}
 use Rattle.std.proofs.lemmas.Bool.Decides.{eqb_tells}
 use Rattle.std.proofs.lemmas.List.{get_or-set_other, get_or-set_same, get_or-replicate, get_or_past, length-replicate}
@@ -7,7 +7,6 @@ use Rattle.ltl_syntax.specs.declared.node.Node.{Node}
 use Rattle.ltl_syntax.specs.declared.node.Node.TheVariants as nodes
 use Rattle.ltl_syntax.specs.Formula.{Formula}
 use Rattle.ltl_syntax.specs.Table.{Table, tree_at, trees_of, made, has_child, IsFine, tree_among}
-use Rattle.ltl_syntax.specs.Roots.{HasChildrenBelow}
 use Rattle.past_monitor.specs.Past.{IsPast}
 use Rattle.past_monitor.specs.Part.{value_at, IsPastNode, AreMarked}
 

@@ -1,5 +1,5 @@
 -- A step of the parts: their values are those of their formulas, and what they keep is right for one state more.
-use Rattle.std.proofs.Common.{◌≡◌, ℕ, zero, suc, ◌+◌, ◌-◌, ◌<◌, ◌≤◌, ◌⊎◌, inl, inr, ◌↔◌, refl, sym, subst, ap, ap₂, ◌∙◌, arith, set, length-set, Bool, true, false, List, [], ◌∷◌, ◌++◌, length, map, take, slice_index_or, Contains, IsTrue}
+use Rattle.std.proofs.Common.{◌≡◌, ℕ, zero, suc, ◌-◌, ◌<◌, ◌≤◌, inl, inr, ◌↔◌, refl, sym, subst, ap, ap₂, ◌∙◌, arith, set, length-set, Bool, false, List, [], ◌∷◌, ◌++◌, length, take, slice_index_or, Contains, IsTrue}
 use Rattle.std.proofs.Math.ListN.{get_or-map}
 use Rattle.std.proofs.lemmas.Bool.{cases_lt}
 use Rattle.std.proofs.lemmas.List.{length-map, same_lists, get_or-set_other, get_or-set_same}
@@ -19,11 +19,11 @@ use Rattle.ltl_word.specs.Claims.{Claim}
 use Rattle.ltl_word.specs.Holds.{Holds, name_of}
 use Rattle.past_monitor.specs.declared.part.Part.{Part}
 use Rattle.past_monitor.specs.Past.{IsPast}
-use Rattle.past_monitor.specs.Kept.{AreKept, AreLast, reach₁, reach₂, watched₁}
-use Rattle.past_monitor.specs.Monitor.{MonitorValue, formula_at, formula_of, StandsFor, IsStep}
+use Rattle.past_monitor.specs.Kept.{AreKept, reach₁, reach₂, watched₁}
+use Rattle.past_monitor.specs.Monitor.{MonitorValue, formula_at, StandAbove, AreAll, StandsFor, IsStep}
 use Rattle.past_monitor.specs.Ring.{RingValue, taken}
 use Rattle.past_monitor.specs.Part.{no_ring, ring₁, ring₂, ring_of, value₁, value₂, value_at, IsValue, joining₁, joining, IsNamed, IsPart, part_at, nodes_of, kept_of, formulas_of, AreParts, HaveChildrenBelow, part_after, AreSteppedTo, AreStepped, IsMonitor}
-use Rattle.past_monitor.proofs.Trees.{made_at, node_of_part, length-formulas}
+use Rattle.past_monitor.proofs.Trees.{made_at, length-formulas}
 use Rattle.past_monitor.proofs.Values.{one_right, two_right, joins_right, kept_next, past_watched}
 
 -- an operator's ring has room for as many values as are kept
@@ -336,9 +336,7 @@ pub is_step : (names : List (List ℕ)) (parts new : List Part) (values : List B
     → AreStepped state parts new values → answer ≡ value_at values (length values - 1) → IsStep old state answer (value_of names new)
 is_step names parts new values state old answer seen some are is last =
     subst (λ m. IsStep m state answer (value_of names new)) seen (record {
-      formula =
-          let same = same_trees names parts new values state are is in
-          ap (λ fs. formula_at fs (length fs - 1)) same;
+      formulas = same_trees names parts new values state are is;
       stands = λ t h. stands_seen names new (t ++ state ∷ []) (still_stands names parts new values state are is t (seen_stands names parts t h));
       right = λ t h.
           let told = all_told names parts new values state are is t (seen_stands names parts t h) (length parts) (omega arith) (length parts - 1) (omega arith) in
@@ -355,3 +353,21 @@ still_monitor names parts new values values' state was is = record {
   long = is.long_values ∙ sym is.long;
   parts_are = new_parts names parts new values' state was.parts_are is;
 }
+
+-- ---- the operands of each formula stand before it
+
+above : (names : List (List ℕ)) (formulas : List Formula) (i : ℕ) (node : Node) → HasChildrenBelow i node → StandAbove formulas i (made names formulas node)
+above names formulas i (nodes.Const b) below = tt
+above names formulas i (nodes.Letter n) below = tt
+above names formulas i (nodes.Fresh n) below = tt
+above names formulas i (nodes.Unary op a) below = (a, below, refl)
+above names formulas i (nodes.Binary op a b) below = ((a, below.0, refl), (b, below.1, refl))
+
+pub all_there : (names : List (List ℕ)) (parts : List Part) → 0 < length parts → AreParts names parts → AreAll (formulas_of names parts)
+all_there names parts some are =
+    let count = length-formulas names parts in
+    let below : HaveChildrenBelow parts = λ i lt. (are.each i lt).below in (
+      omega (arith, count),
+      λ i lt. let low : i < length parts = omega (arith, count) in
+          subst (StandAbove (formulas_of names parts) i) (sym (made_at names parts below i low)) (above names (formulas_of names parts) i (part_at parts i).node (below i low)),
+    )

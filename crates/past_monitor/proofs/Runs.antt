@@ -1,11 +1,11 @@
 -- The answers of a monitor that takes one state after the other.
-use Rattle.std.proofs.Common.{◌≡◌, ℕ, zero, suc, ◌+◌, ◌<◌, ◌↔◌, Bool, false, List, [], ◌∷◌, ◌++◌, length, length-append, take, slice_index_or, IsTrue, refl, sym, subst, ap, ap₂, ◌∙◌, arith}
+use Rattle.std.proofs.Common.{◌≡◌, ℕ, zero, suc, ◌+◌, ◌-◌, ◌<◌, ◌↔◌, Bool, false, List, [], ◌∷◌, ◌++◌, length, length-append, take, slice_index_or, IsTrue, refl, subst, ap, arith}
 use Rattle.std.proofs.lemmas.List.{append_assoc}
 use Rattle.ltl_syntax.specs.Formula.{Formula}
 use Rattle.ltl_word.specs.declared.trace.Trace.TheVariants.{Finite}
 use Rattle.ltl_word.specs.Trace.{Names}
 use Rattle.ltl_word.specs.Holds.{Holds}
-use Rattle.past_monitor.specs.Monitor.{MonitorValue, formula_of, StandsFor, IsStep}
+use Rattle.past_monitor.specs.Monitor.{MonitorValue, formula_at, formula_of, StandsFor}
 use Rattle.past_monitor.specs.Laws.{IsRun}
 
 -- after the states t
@@ -30,4 +30,4 @@ run_right (s ∷ states) (a ∷ answers) m t stands run =
         let joined : (t ++ s ∷ []) ++ take (suc j) states ≡ t ++ s ∷ take (suc j) states = append_assoc t (s ∷ []) (take (suc j) states) in
         subst (λ i. IsTrue (slice_index_or answers j false) ↔ Holds (Finite (t ++ s ∷ take (suc j) states)) (formula_of m) i) e
         (subst (λ (ts : List Names). IsTrue (slice_index_or answers j false) ↔ Holds (Finite ts) (formula_of m) (length (t ++ s ∷ []) + j)) joined
-        (subst (λ (f : Formula). IsTrue (slice_index_or answers j false) ↔ Holds (Finite ((t ++ s ∷ []) ++ take (suc j) states)) f (length (t ++ s ∷ []) + j)) run.1.formula (later j (omega arith))))
+        (subst (λ (f : Formula). IsTrue (slice_index_or answers j false) ↔ Holds (Finite ((t ++ s ∷ []) ++ take (suc j) states)) f (length (t ++ s ∷ []) + j)) (ap (λ fs. formula_at fs (length fs - 1)) run.1.formulas) (later j (omega arith))))

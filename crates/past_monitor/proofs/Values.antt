@@ -1,5 +1,5 @@
 -- The value of each operator at a new state, from the values that are kept.
-use Rattle.std.proofs.Common.{◌≡◌, ℕ, zero, suc, ◌+◌, ◌-◌, ◌<◌, ◌≤◌, min, ◌⊎◌, inl, inr, ◌↔◌, refl, sym, subst, ap, ◌∙◌, arith, true≢false, Bool, true, false, not, ◌&&◌, ◌||◌, nat_lt, List, [], ◌∷◌, ◌++◌, length, length-append, take, slice_index_or, Contains, IsTrue}
+use Rattle.std.proofs.Common.{◌≡◌, ℕ, zero, suc, ◌-◌, ◌<◌, ◌≤◌, ◌⊎◌, inl, inr, ◌↔◌, refl, sym, subst, ap, ◌∙◌, arith, true≢false, Bool, true, false, not, ◌&&◌, ◌||◌, nat_lt, List, [], ◌∷◌, ◌++◌, length, length-append, take, slice_index_or, IsTrue}
 use Rattle.std.proofs.lemmas.Bool.{cases_lt, ltb-true, lt-ltb}
 use Rattle.std.proofs.lemmas.List.{length-take, get_or-take}
 use Rattle.ltl_syntax.specs.declared.node.UnaryOp.{UnaryOp}
@@ -32,6 +32,19 @@ or_is false b = (λ h. inr h, λ w. elim w [ inl x ↦ absurd (cc) | inr y ↦ y
 not_is : (a : Bool) → IsTrue (not a) ↔ (IsTrue a → ⊥)
 not_is true = (λ h x. cc, λ h. absurd (h refl))
 not_is false = (λ h x. cc, λ h. refl)
+
+no_truth : (P : Type 0) → IsTrue false → P
+no_truth P e = absurd (true≢false (sym e))
+
+implies_is : (v w : Bool) (P Q : Type 0) → (IsTrue v ↔ P) → (IsTrue w ↔ Q) → IsTrue (not v || w) ↔ (P → Q)
+implies_is true w P Q r s = (λ x h. s.0 x, λ f. s.1 (f (r.0 refl)))
+implies_is false w P Q r s = (λ x h. no_truth Q (r.1 h), λ f. refl)
+
+iff_is : (v w : Bool) (P Q : Type 0) → (IsTrue v ↔ P) → (IsTrue w ↔ Q) → IsTrue ((v && w) || (not v && not w)) ↔ (P ↔ Q)
+iff_is true true P Q r s = (λ x. (λ h. s.0 refl, λ h. r.0 refl), λ f. refl)
+iff_is true false P Q r s = (λ x. no_truth (P ↔ Q) x, λ f. s.1 (f.0 (r.0 refl)))
+iff_is false true P Q r s = (λ x. no_truth (P ↔ Q) x, λ f. r.1 (f.1 (s.0 refl)))
+iff_is false false P Q r s = (λ x. (λ h. no_truth Q (r.1 h), λ h. no_truth P (s.1 h)), λ f. refl)
 
 -- a list's value behind its end is the default
 no_value : (values : List Bool) (j : ℕ) (d : Bool) → length values ≤ j → slice_index_or values j d ≡ d
@@ -206,12 +219,8 @@ module _ (t : List Names) (state : Names) where
   pub two_right : (op : BinaryOp) (a b : Formula) (values : List Bool) (v w : Bool) → IsPast (Binary op a b) → AreLast t (Binary op a b) (reach₂ op) values → (IsTrue v ↔ U a n) → (IsTrue w ↔ U b n) → IsTrue (value₂ op (ring₂ op values) v w) ↔ U (Binary op a b) n
   two_right And a b values v w p k r s = let e = and_is v w in (λ x. let y = e.0 x in (r.0 y.0, s.0 y.1), λ h. e.1 (r.1 h.0, s.1 h.1))
   two_right Or a b values v w p k r s = let e = or_is v w in (λ x. elim (e.0 x) [ inl y ↦ inl (r.0 y) | inr y ↦ inr (s.0 y) ], λ h. e.1 (elim h [ inl y ↦ inl (r.1 y) | inr y ↦ inr (s.1 y) ]))
-  two_right Implies a b values true w p k r s = (λ x h. s.0 x, λ f. s.1 (f (r.0 refl)))
-  two_right Implies a b values false w p k r s = (λ x h. let y : IsTrue false = r.1 h in absurd (cc), λ f. refl)
-  two_right Iff a b values true true p k r s = (λ x. (λ h. s.0 refl, λ h. r.0 refl), λ f. refl)
-  two_right Iff a b values true false p k r s = (λ x. absurd (cc), λ f. s.1 (f.0 (r.0 refl)))
-  two_right Iff a b values false true p k r s = (λ x. absurd (cc), λ f. r.1 (f.1 (s.0 refl)))
-  two_right Iff a b values false false p k r s = (λ x. (λ h. let y : IsTrue false = r.1 h in absurd (cc), λ h. let y : IsTrue false = s.1 h in absurd (cc)), λ f. refl)
+  two_right Implies a b values v w p k r s = implies_is v w (U a n) (U b n) r s
+  two_right Iff a b values v w p k r s = iff_is v w (U a n) (U b n) r s
   two_right Until a b values v w p k r s = absurd p.0
   two_right Release a b values v w p k r s = absurd p.0
   two_right WeakUntil a b values v w p k r s = absurd p.0

@@ -1,7 +1,8 @@
 pub mod Past
 pub mod Kept
 pub mod Monitor
-pub mod Laws
 pub mod Line
+pub mod Text
+pub mod Laws
 pub mod Ring
 pub mod Part

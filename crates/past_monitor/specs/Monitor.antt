@@ -1,8 +1,8 @@
 -- What a contract sees of a monitor, for which states it stands, and what a step is.
-use Rattle.std.specs.Prelude.{◌≡◌, ℕ, ◌-◌, ◌<◌, Bool, false, List, [], ◌∷◌, ◌++◌, length, slice_index_or, ◌↔◌, IsTrue, refl}
+use Rattle.std.specs.Prelude.{◌≡◌, ℕ, ◌-◌, ◌<◌, ⊤, Bool, false, List, [], ◌∷◌, ◌++◌, length, slice_index_or, ◌↔◌, IsTrue, refl}
 use Rattle.std.specs.Coded.{Coded, code_by, coded×, coded_list, coded_bool}
 use Rattle.ltl_syntax.specs.FormulaCode.{coded_formula}
-use Rattle.ltl_syntax.specs.Formula.{Formula, Const}
+use Rattle.ltl_syntax.specs.Formula.{Formula, Const, Letter, Unary, Binary}
 use Rattle.ltl_word.specs.declared.trace.Trace.TheVariants.{Finite}
 use Rattle.ltl_word.specs.Trace.{Names}
 use Rattle.ltl_word.specs.Holds.{Holds}
@@ -26,13 +26,24 @@ formula_at formulas i = slice_index_or formulas i (Const false)
 abbrev pub formula_of : MonitorValue → Formula
 formula_of m = formula_at m.formulas (length m.formulas - 1)
 
+-- each operand of a formula stands at an earlier place than it
+abbrev pub StandAbove : List Formula → ℕ → Formula → Type 0
+StandAbove formulas i (Const b) = ⊤
+StandAbove formulas i (Letter p) = ⊤
+StandAbove formulas i (Unary op a) = (j : ℕ) × (j < i) × (formula_at formulas j ≡ a)
+StandAbove formulas i (Binary op a b) = ((j : ℕ) × (j < i) × (formula_at formulas j ≡ a)) × ((k : ℕ) × (k < i) × (formula_at formulas k ≡ b))
+
+-- so that each formula in the last one is there
+abbrev pub AreAll : List Formula → Type 0
+AreAll formulas = (0 < length formulas) × ((i : ℕ) → i < length formulas → StandAbove formulas i (formula_at formulas i))
+
 -- the monitor stands for the states t: it keeps for each formula the values that are to be kept after t
 abbrev pub StandsFor : MonitorValue → List Names → Type 0
 StandsFor m t = (i : ℕ) → i < length m.formulas → AreKept t (formula_at m.formulas i) (slice_index_or m.kept i [])
 
--- a step: the formula stays, and for each list of states that the monitor stood for, it stands for that list and this state,
+-- a step: the formulas stay, and for each list of states that the monitor stood for, it stands for that list and this state,
 -- and the answer is whether the formula holds at the last of them
 pub record IsStep (old : MonitorValue) (state : Names) (answer : Bool) (new : MonitorValue) : Type 0 where
-  pub formula : formula_of new ≡ formula_of old
+  pub formulas : new.formulas ≡ old.formulas
   pub stands : (t : List Names) → StandsFor old t → StandsFor new (t ++ state ∷ [])
   pub right : (t : List Names) → StandsFor old t → IsTrue answer ↔ Holds (Finite (t ++ state ∷ [])) (formula_of old) (length t)

@@ -1,5 +1,5 @@
 -- The formulas of a monitor, each made of earlier ones, and the value of each at a state.
-use Rattle.std.specs.Prelude.{◌≡◌, ℕ, ◌+◌, ◌<◌, ◌≤◌, ⊤, Bool, true, false, not, ◌&&◌, ◌||◌, List, [], map, length, slice_index_or, slice_get, Some, ◌↔◌, IsTrue, Contains}
+use Rattle.std.specs.Prelude.{◌≡◌, ℕ, ◌+◌, ◌-◌, ◌<◌, ◌≤◌, ⊤, Bool, true, false, not, ◌&&◌, ◌||◌, List, [], map, length, slice_index_or, slice_get, Some, ◌↔◌, IsTrue, Contains}
 use Rattle.ltl_syntax.specs.declared.node.UnaryOp.{UnaryOp}
 use Rattle.ltl_syntax.specs.declared.node.BinaryOp.{BinaryOp}
 use Rattle.ltl_syntax.specs.declared.node.UnaryOp.TheVariants as one
@@ -7,7 +7,7 @@ use Rattle.ltl_syntax.specs.declared.node.BinaryOp.TheVariants as two
 use Rattle.ltl_syntax.specs.declared.node.Node.{Node}
 use Rattle.ltl_syntax.specs.declared.node.Node.TheVariants as nodes
 use Rattle.ltl_syntax.specs.Formula.{Fresh, Formula}
-use Rattle.ltl_syntax.specs.Table.{Table, trees_after, tree_at, has_child}
+use Rattle.ltl_syntax.specs.Table.{Table, trees_after, has_child}
 use Rattle.ltl_syntax.specs.Roots.{HasChildrenBelow}
 use Rattle.ltl_word.specs.Trace.{Names}
 use Rattle.ltl_word.specs.Holds.{name_of}
@@ -172,6 +172,11 @@ nodes_of parts = map (λ p. p.node) parts
 abbrev pub formulas_of : List (List ℕ) → List Part → List Formula
 formulas_of names parts = trees_after names [] (nodes_of parts)
 
+-- the formula of the last part
+abbrev pub last_of : List (List ℕ) → List Part → Formula
+last_of names parts = formula_at (formulas_of names parts) (length parts - 1)
+
+-- what is kept for each part
 abbrev pub kept_of : List Part → List (List Bool)
 kept_of parts = map (λ p. p.kept.values) parts
 

@@ -1,8 +1,9 @@
-//! Monitors of formulas that do not look ahead: for one state after the other, whether the formula holds at the last one so far.
+//! Monitors of formulas that do not look ahead: for one state after the other, whether the formula holds at
+//! the last one so far.
 //!
-//! Whether such a formula holds at a position depends on the states up to it alone, so a few earlier values for each operator are
-//! all that is kept. A step takes no memory, and its time depends on the formula alone, whatever the numbers of a bounded operator
-//! are.
+//! Whether such a formula holds at a position depends on the states up to it alone, so a few earlier values
+//! for each operator are all that is kept. A step takes no memory, and its time depends on the formula alone,
+//! whatever the numbers of a bounded operator are.
 #![tactic(auto)]
 
 pub mod laws;
@@ -11,8 +12,12 @@ mod monitor;
 mod part;
 mod refused;
 mod ring;
+#[cfg(test)]
+mod tests;
+mod text;
 mod under;
 
 pub use line::state_of;
 pub use monitor::Monitor;
-pub use refused::MonitorRefused;
+pub use refused::{MonitorRefused, WatchRefused};
+pub use text::watch;

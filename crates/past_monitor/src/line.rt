@@ -7,8 +7,9 @@ use ltl_word::{Name, StateSet};
 use serde_json::Value;
 use std::alloc::{AllocError, Global};
 
-/// The state that a line tells: it is a JSON array of strings, its names, which may repeat and stand in any order. `None` where
-/// the line is no such array. The line is read as `Trace::from_json` reads the text of a trace.
+/// The state that a line tells: it is a JSON array of strings, its names, which may repeat and stand in any
+/// order. `None` where the line is no such array. The line is read as `Trace::from_json` reads the text of a
+/// trace.
 pub fn state_of(alloc: Global, line: &[u8]) -> Result<Option<StateSet>, AllocError>
     ensures { IfOk result (IsStateOf line.now) }
 {

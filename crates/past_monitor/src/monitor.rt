@@ -3,7 +3,7 @@ ghost use Rattle.std.specs.Prelude.{◌≡◌, ◌<◌, [], length, IfOk, OnOk, 
 ghost use Rattle.ltl_syntax.specs.Table.{tree_at};
 ghost use Rattle.past_monitor.specs.declared.refused.MonitorRefused.TheVariants.{Future};
 ghost use Rattle.past_monitor.specs.Past.{IsPast};
-ghost use Rattle.past_monitor.specs.Monitor.{formula_of, StandsFor, IsStep};
+ghost use Rattle.past_monitor.specs.Monitor.{formula_of, AreAll, StandsFor, IsStep};
 ghost use Rattle.past_monitor.specs.Part.{HaveChildrenBelow, AreStepped};
 
 use crate::MonitorRefused;
@@ -14,7 +14,8 @@ use ltl_word::StateSet;
 use std::alloc::Global;
 use std::marker::Model;
 
-/// A monitor of the formula under a node. It takes one state after the other, and tells whether the formula holds at the last one.
+/// A monitor of the formula under a node. It takes one state after the other, and tells whether the formula
+/// holds at the last one.
 ///
 /// Contracts see the formulas under the node and the values that are kept for each.
 #[derive(Drop)]
@@ -34,13 +35,17 @@ impl<'t> Model for Monitor<'t> {
 
     ghost use Rattle.past_monitor.specs.Part.{IsMonitor, formulas_of, kept_of};
 
-    ghost view = { λ m. record { formulas = formulas_of m.table.now.names m.parts.items; kept = kept_of m.parts.items } };
+    ghost view = { λ m. record {
+      formulas = formulas_of m.table.now.names m.parts.items;
+      kept = kept_of m.parts.items;
+    } };
 
     ghost invariant = { λ m. IsMonitor m.table.now.names m.parts.items m.values.items };
 }
 
 impl<'t> Monitor<'t> {
-    /// A monitor that has taken no state, with all the memory that it takes: it grows with the size of the formula.
+    /// A monitor that has taken no state, with all the memory that it takes: it grows with the size of the
+    /// formula.
     pub fn new(
         alloc: Global,
         table: &'t FormulaTable,
@@ -48,6 +53,7 @@ impl<'t> Monitor<'t> {
     ) -> Result<Monitor<'t>, MonitorRefused>
         requires { root < length table.now.nodes }
         ensures formula { IfOk result (λ m. formula_of m ≡ tree_at table.now root) }
+        ensures all { IfOk result (λ m. AreAll m.formulas) }
         ensures start { IfOk result (λ m. StandsFor m []) }
 
         // it is refused for an operator that looks ahead where there is one, and only there

@@ -11,8 +11,8 @@ use ltl_syntax::{BinaryOp, FormulaTable, Node, UnaryOp};
 use ltl_word::{Name, StateSet};
 use std::alloc::{AllocError, Global};
 
-/// A formula, as its node over the places of its children, with what is kept for it. A letter has its name, any other formula the
-/// empty one.
+/// A formula, as its node over the places of its children, with what is kept for it. A letter has its name,
+/// any other formula the empty one.
 #[derive(Drop)]
 pub struct Part {
     pub node: Node,
@@ -40,7 +40,8 @@ impl Part {
     pub fn take(&mut self, state: &StateSet, values: &[bool]) -> bool
         requires { HasChildrenBelow (length values.now) self.old.node }
         ensures value { IsValue state.now values.now self.old.node self.old.name self.old.kept result }
-        ensures kept { self.new ≡ record self.old { kept = taken self.old.kept (joining values.now self.old.node result) } }
+        ensures kept { self.new
+            ≡ record self.old { kept = taken self.old.kept (joining values.now self.old.node result) } }
     {
         let value = self.value(state, values);
         self.kept.take(joins(self.node, values, value));
@@ -92,7 +93,8 @@ fn is_past_binary(op: BinaryOp) -> bool
     ensures { IsTrue result ↔ IsPast₂ op }
 {
     match op {
-        BinaryOp::Until | BinaryOp::Release | BinaryOp::WeakUntil | BinaryOp::StrongRelease => false,
+        BinaryOp::Until | BinaryOp::Release | BinaryOp::WeakUntil | BinaryOp::StrongRelease =>
+            false,
         _ => true,
     }
 }
@@ -123,7 +125,8 @@ fn new_ring(alloc: Global, node: Node) -> Result<Ring, AllocError>
     }
 }
 
-// Before the first position a weak operator and one over all positions find no false value, and the other ones no true value.
+// Before the first position a weak operator and one over all positions find no false value, and the other
+// ones no true value.
 fn unary_ring(alloc: Global, op: UnaryOp) -> Result<Ring, AllocError>
     requires { IsInOrder op }
     ensures { IfOk result (λ r. r ≡ ring₁ op []) }

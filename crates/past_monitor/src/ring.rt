@@ -1,7 +1,8 @@
 // The last values of a formula.
 //
-// A bounded operator asks whether one of the values in a window has the value that it seeks. Between two steps the window moves by
-// one place: one value enters it and one leaves it, so a count of those that are sought is kept in place of a look at each.
+// A bounded operator asks whether one of the values in a window has the value that it seeks. Between two
+// steps the window moves by one place: one value enters it and one leaves it, so a count of those that are
+// sought is kept in place of a look at each.
 ghost use Rattle.std.specs.Prelude.{◌≡◌, ◌≤◌, IfOk, []};
 ghost use Rattle.past_monitor.specs.Ring.{value_back, counted_at, shows, taken};
 
@@ -9,8 +10,8 @@ use std::alloc::{AllocError, Global};
 use std::collections::VecDeque;
 use std::marker::Model;
 
-/// The last values of a formula, the last first, as many as there is room for, and how many of those from the place `first` on
-/// have the value that is sought.
+/// The last values of a formula, the last first, as many as there is room for, and how many of those from the
+/// place `first` on have the value that is sought.
 #[derive(Drop)]
 pub struct Ring {
     values: VecDeque<bool>,
@@ -28,9 +29,15 @@ impl Model for Ring {
 
     ghost coded = { coded_ring };
 
-    ghost view = { λ r. record { room = r.room; first = r.first; sought = r.sought; values = r.values.items } };
+    ghost view = { λ r. record {
+      room = r.room;
+      first = r.first;
+      sought = r.sought;
+      values = r.values.items;
+    } };
 
-    ghost invariant = { λ r. IsRing r.room r.first r.sought r.found r.values.items (deque_capacity r.values) };
+    ghost invariant = { λ r.
+        IsRing r.room r.first r.sought r.found r.values.items (deque_capacity r.values) };
 }
 
 impl Ring {
@@ -49,8 +56,8 @@ impl Ring {
         })
     }
 
-    /// The value so many positions back, where 0 is the position of the present value. One that is not there is not the one that
-    /// is sought.
+    /// The value so many positions back, where 0 is the position of the present value. One that is not there
+    /// is not the one that is sought.
     pub fn back(&self, age: usize, present: bool) -> bool
         ensures { result ≡ value_back self.now age present }
     {
@@ -63,7 +70,8 @@ impl Ring {
         }
     }
 
-    /// Whether the value that is sought is in the window, which begins at the place `first` and counts the present value as 0.
+    /// Whether the value that is sought is in the window, which begins at the place `first` and counts the
+    /// present value as 0.
     pub fn shows(&self, present: bool) -> bool
         ensures { result ≡ shows self.now present }
     {

@@ -1,14 +1,15 @@
 // The parts of a monitor: the nodes under the root, children before parents.
 //
-// Children stand before their parents, so one walk from the root backwards marks each node after its parent, with no stack, and one
-// walk forwards makes a part of each marked node, with the places of its children among the parts.
+// Children stand before their parents, so one walk from the root backwards marks each node after its parent,
+// with no stack, and one walk forwards makes a part of each marked node, with the places of its children
+// among the parts.
 ghost use Rattle.std.specs.Prelude.{◌≡◌, ◌+◌, ◌-◌, ◌<◌, ◌≤◌, ◌||◌, ℕ, Bool, true, false, [], length, slice_index_or, IfOk, Ok, Err};
 ghost use Rattle.ltl_syntax.specs.Table.{tree_at, has_child};
 ghost use Rattle.ltl_syntax.specs.Roots.{HasChildrenBelow};
 ghost use Rattle.past_monitor.specs.declared.refused.MonitorRefused.TheVariants.{Future};
 ghost use Rattle.past_monitor.specs.Past.{IsPast};
 ghost use Rattle.past_monitor.specs.Monitor.{formula_at};
-ghost use Rattle.past_monitor.specs.Part.{AreParts, AreMarked, AreFresh, formulas_of, moved};
+ghost use Rattle.past_monitor.specs.Part.{AreParts, AreMarked, AreFresh, last_of, value_at, moved};
 
 use crate::MonitorRefused;
 use crate::part::{Part, is_past};
@@ -25,7 +26,7 @@ pub fn parts_under(
     ensures parts { IfOk result (λ parts. AreParts table.now.names parts.items) }
     ensures fresh { IfOk result (λ parts. AreFresh parts.items) }
     ensures some { IfOk result (λ parts. 0 < length parts.items) }
-    ensures formula { IfOk result (λ parts. formula_at (formulas_of table.now.names parts.items) (length parts.items - 1) ≡ tree_at table.now root) }
+    ensures formula { IfOk result (λ parts. last_of table.now.names parts.items ≡ tree_at table.now root) }
     ensures future { result ≡ Err Future → IsPast (tree_at table.now root) → ⊥ }
 {
     let marks = marks_under(alloc, table, root)?;
@@ -33,11 +34,7 @@ pub fn parts_under(
 }
 
 // A mark for each node up to the root: whether it is under the root.
-fn marks_under(
-    alloc: Global,
-    table: &FormulaTable,
-    root: u32,
-) -> Result<Vec<bool>, MonitorRefused>
+fn marks_under(alloc: Global, table: &FormulaTable, root: u32) -> Result<Vec<bool>, MonitorRefused>
     requires { root < length table.now.nodes }
     ensures marks { IfOk result (λ marks. AreMarked table.now root marks.items) }
     ensures future { result ≡ Err Future → IsPast (tree_at table.now root) → ⊥ }
@@ -62,7 +59,7 @@ fn marks_under(
 fn mark_children(marks: &mut Vec<bool>, node: Node)
     requires { HasChildrenBelow (length marks.old.items) node }
     ensures length { length marks.new.items ≡ length marks.old.items }
-    ensures each { (i : ℕ) → slice_index_or marks.new.items i false ≡ (slice_index_or marks.old.items i false || has_child i node) }
+    ensures each { (i : ℕ) → value_at marks.new.items i ≡ (value_at marks.old.items i || has_child i node) }
 {
     match node {
         Node::Const(_) | Node::Letter(_) | Node::Fresh(_) => {}
@@ -86,7 +83,7 @@ fn parts_of(
     ensures parts { IfOk result (λ parts. AreParts table.now.names parts.items) }
     ensures fresh { IfOk result (λ parts. AreFresh parts.items) }
     ensures some { IfOk result (λ parts. 0 < length parts.items) }
-    ensures formula { IfOk result (λ parts. formula_at (formulas_of table.now.names parts.items) (length parts.items - 1) ≡ tree_at table.now root) }
+    ensures formula { IfOk result (λ parts. last_of table.now.names parts.items ≡ tree_at table.now root) }
 {
     let _nodes = table.len();
     let mut places = Vec::with_capacity(alloc, root as usize + 1)?;

@@ -1,4 +1,4 @@
-use Rattle.std.proofs.Common.{◌≡◌, ◌+◌, ℕ, List, [], suc, take, slice_index_or, Bool, false, ◌↔◌, IsTrue, subst, arith}
+use Rattle.std.proofs.Common.{◌≡◌, ◌+◌, [], suc, take, slice_index_or, false, ◌↔◌, IsTrue, subst, arith}
 use Rattle.ltl_word.specs.declared.trace.Trace.TheVariants.{Finite}
 use Rattle.ltl_word.specs.Holds.{Holds}
 use Rattle.past_monitor.specs.Monitor.{formula_of}

@@ -1,6 +1,6 @@
-use Rattle.std.proofs.Common.{◌≡◌, ℕ, suc, ◌-◌, subst, true, false, sym, ◌∙◌, arith}
+use Rattle.std.proofs.Common.{◌≡◌, suc, ◌-◌, subst, true, false, sym, ◌∙◌, arith}
 use Rattle.std.proofs.lemmas.List.{get_or_default}
-use Rattle.past_monitor.specs.Part.{value_at, IsPastNode}
+use Rattle.past_monitor.specs.Part.{value_at}
 use Rattle.past_monitor.proofs.Marking.{IsMarking, marked, passed, all_marked}
 use Rattle.past_monitor.proofs.under.marks_under.Goals as goal
 
