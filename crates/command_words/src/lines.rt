@@ -4,13 +4,8 @@ ghost use Rattle.command_words.specs.Usage.{usage_text};
 
 use std::alloc::{AllocError, Global};
 
-<<<<<<< HEAD
 /// The usage lines: those of `solve`, `check`, `trace` and `demo`, with what is not built yet of their
 /// options, and behind them those of the other commands that are built.
-=======
-/// The usage lines: those of `solve`, `check`, `trace` and `demo`, with what is not built yet of their options,
-/// and behind them those of the other commands that are built.
->>>>>>> 62d3bd9 (command_words: lines within the width)
 pub fn usage(alloc: Global) -> Result<Vec<u8>, AllocError>
     ensures { IfOk result (λ text. text.items ≡ usage_text) }
 {

@@ -1,10 +1,5 @@
-<<<<<<< HEAD
 // The words as one table, with what they ask for: the command, the depth and the workers (9999 and 99 where
 // none are asked for), and the flags.
-=======
-// The words as one table, with what they ask for: the command, the depth and the workers (9999 and 99 where none
-// are asked for), and the flags.
->>>>>>> 62d3bd9 (command_words: lines within the width)
 use crate::{Asked, Options, asked_command, usage};
 use ltl_syntax::Kind;
 use std::alloc::{AllocError, Global};
