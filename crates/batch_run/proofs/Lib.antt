@@ -2,3 +2,4 @@ mod Cutting
 mod Unique
 mod Decided
 mod Grouped
+mod Sound

@@ -1,5 +1,5 @@
-// Groups of as many consecutive formula lines as there are workers. Each line of a group is decided in an area
-// of its own, by a worker of its own, and the answers are taken in the order of the lines.
+// Groups of as many consecutive formula lines as there are workers. Each line of a group is decided in an
+// area of its own, by a worker of its own, and the answers are taken in the order of the lines.
 ghost use Rattle.std.specs.Prelude.{◌≡◌, ℕ, ◌+◌, ◌^◌, ◌<◌, ◌≤◌, [], length, IfOk, OnOk, slice_index_or};
 ghost use Rattle.batch_run.specs.Outcomes.{AreAnswers};
 ghost use Rattle.batch_run.specs.Grouping.{Passes, HasOutcomes, IsDone, end_of, lines_in};
@@ -21,9 +21,9 @@ struct Area<'t> {
     outcome: Option<Outcome>,
 }
 
-/// The answers to the formula lines of a text of at most 16,777,216 bytes, in order. Each line is a piece, and
-/// the gate is told of each as it begins; pieces are numbered from 0 over the whole text. `asked` is the depth
-/// up to which a verdict is sought. With one worker no thread is made.
+/// The answers to the formula lines of a text of at most 16,777,216 bytes, in order. Each line is a piece,
+/// and the gate is told of each as it begins; pieces are numbered from 0 over the whole text. `asked` is the
+/// depth up to which a verdict is sought. With one worker no thread is made.
 pub fn answers<R: Threads + Sync, G: Gate + Sync>(
     rt: &R,
     alloc: Global,
@@ -81,7 +81,8 @@ fn fill<'t>(group: &mut Vec<Area<'t>>, rest: &mut Rest<'t>, workers: u32) -> Res
     Ok(())
 }
 
-/// Decides each line of the group, in a thread of its own where one can be made. The pieces are numbered from `first`.
+/// Decides each line of the group, in a thread of its own where one can be made. The pieces are numbered from
+/// `first`.
 fn decide_group<R: Threads + Sync, G: Gate + Sync>(
     rt: &R,
     alloc: Global,

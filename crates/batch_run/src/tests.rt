@@ -59,6 +59,7 @@ fn answers_each_formula_line(rt: HostRuntime) {
     }
     laws::one_cut();
     laws::one_list();
+    laws::verdicts();
 }
 
 #[test]
