@@ -17,6 +17,7 @@ pub mod Joining
 pub mod RingFormula
 pub mod Summing
 pub mod Summarized
+pub mod Batched
 pub mod OneAnswer
 pub mod Leaving
 mod RingExamples

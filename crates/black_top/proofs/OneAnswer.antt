@@ -3,8 +3,9 @@ use Rattle.std.proofs.Common.{◌≡◌, ℕ, List, refl, subst}
 use Rattle.ltl_word.specs.Laws.{IsOneReading}
 use Rattle.ltl_run.specs.Laws.{VerdictIsOne}
 use Rattle.cert_check.specs.Answer.{AnswersAreOne}
+use Rattle.batch_run.specs.Laws.{AnswersAreOne as BatchesAreOne}
 use Rattle.command_words.specs.Words.{Command, Solve, Check, Trace as TraceWord, Demo, Batch, System, Monitor, Depast, kind_of, depth_of, cert_of}
-use Rattle.black_top.specs.Answer.{Answer, refused, sat, unsat, undecided, holds, fails, checked, summary, AreAlike}
+use Rattle.black_top.specs.Answer.{Answer, refused, sat, unsat, undecided, holds, fails, checked, summary, batched, AreAlike}
 use Rattle.black_top.specs.Trace.{IsJudged}
 use Rattle.black_top.specs.Check.{IsChecked}
 use Rattle.black_top.specs.Run.{Answers, IsAnswer, not_taken, taken}
@@ -15,6 +16,7 @@ use Rattle.black_top.proofs.Solved.{one_solved}
 use Rattle.black_top.proofs.Checked.{one_check}
 use Rattle.black_top.proofs.Traced.{one_judgement}
 use Rattle.black_top.proofs.Summing.{one_shown}
+use Rattle.black_top.proofs.Batched.{one_batched}
 
 -- what the crates below say of texts, traces, verdicts and certificates
 pub record Laws : Type 0 where
@@ -22,6 +24,7 @@ pub record Laws : Type 0 where
   pub one_reading : IsOneReading
   pub one_verdict : VerdictIsOne
   pub one_check : AnswersAreOne
+  pub one_batch : BatchesAreOne
 
 alike_itself : (a : Answer) → AreAlike a a
 alike_itself (refused fault) = refl
@@ -32,6 +35,7 @@ alike_itself holds = refl
 alike_itself fails = refl
 alike_itself (checked verdict) = refl
 alike_itself (summary s) = refl
+alike_itself (batched answers) = refl
 
 alike : (a b : Answer) → a ≡ b → AreAlike a b
 alike a b same = subst (AreAlike a) same (alike_itself a)
@@ -42,7 +46,7 @@ one_answer_of bytes laws (Solve settings) a b h k = one_solved (kind_of settings
 one_answer_of bytes laws (Check settings) a b h k = alike a b (one_parted (IsChecked (kind_of settings)) (one_check (kind_of settings) laws.one_check) bytes laws.text a b h k)
 one_answer_of bytes laws TraceWord a b h k = alike a b (one_parted IsJudged (one_judgement laws.one_reading) bytes laws.text a b h k)
 one_answer_of bytes laws (Demo n) a b h k = alike a b (one_shown n laws.one_verdict a b h k)
-one_answer_of bytes laws (Batch settings) a b h k = absurd h
+one_answer_of bytes laws (Batch settings) a b h k = alike a b (one_batched (kind_of settings) (depth_of settings) bytes laws.one_batch a b h k)
 one_answer_of bytes laws (System settings) a b h k = absurd h
 one_answer_of bytes laws Monitor a b h k = absurd h
 one_answer_of bytes laws Depast a b h k = absurd h

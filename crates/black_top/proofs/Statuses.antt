@@ -16,6 +16,7 @@ fault_refuses : (fault : Fault) → is_refusal (fault_status fault) ≡ true
 fault_refuses faults.Usage = refl
 fault_refuses faults.NoSeparator = refl
 fault_refuses faults.Text = refl
+fault_refuses faults.Batch = refl
 fault_refuses (faults.Lexical byte) = refl
 fault_refuses (faults.Grammar byte) = refl
 fault_refuses (faults.Nodes count) = refl

@@ -1,8 +1,10 @@
 -- The answers, each with its status and its text.
-use Rattle.std.specs.Prelude.{◌≡◌, ℕ, List, Option, None, true, false}
+use Rattle.std.specs.Prelude.{◌≡◌, ℕ, List, Option, None, true, false, if◌then◌else◌}
 use Rattle.ltl_word.specs.declared.trace.Trace.{Trace}
 use Rattle.cert_check.specs.declared.verdict.Verdict.{Verdict}
 use Rattle.cert_check.specs.declared.verdict.Verdict.TheVariants as checks
+use Rattle.batch_run.specs.declared.answer.Answer.{Answer as LineAnswer}
+use Rattle.batch_run.specs.Texts.{batch_text, is_clean}
 use Rattle.report.specs.declared.fault.Fault.{Fault}
 use Rattle.report.specs.declared.fault.Fault.TheVariants as faults
 use Rattle.report.specs.declared.summary.Summary.{Summary}
@@ -14,7 +16,7 @@ use Rattle.black_top.specs.declared.status.Status.{Status}
 use Rattle.black_top.specs.declared.status.Status.TheVariants as statuses
 
 -- a refusal; SAT at a depth with a trace; UNSAT at a depth, with the text of a certificate where one is shown; UNDECIDED up to a depth; HOLDS;
--- FAILS; VERIFIED or REJECTED; the summary of a demo
+-- FAILS; VERIFIED or REJECTED; the summary of a demo; the answers to the lines of a batch
 pub data Answer : Type 0 where
   refused : Fault → Answer
   sat : ℕ → Trace → Answer
@@ -24,11 +26,13 @@ pub data Answer : Type 0 where
   fails : Answer
   checked : Verdict → Answer
   summary : Summary → Answer
+  batched : List LineAnswer → Answer
 
 -- the status of a refusal
 abbrev pub fault_status : Fault → Status
 fault_status faults.Usage = statuses.Usage
 fault_status faults.Text = statuses.Limit
+fault_status faults.Batch = statuses.Limit
 fault_status (faults.Lexical byte) = statuses.Text
 fault_status (faults.Grammar byte) = statuses.Text
 fault_status (faults.Nodes count) = statuses.Limit
@@ -52,6 +56,10 @@ abbrev pub checked_status : Verdict → Status
 checked_status checks.Verified = statuses.Good
 checked_status (checks.Rejected reason) = statuses.Negative
 
+-- the status of a batch: whether each of its lines has a verdict
+abbrev pub batch_status : List LineAnswer → Status
+batch_status answers = if is_clean answers then statuses.Good else statuses.Text
+
 -- the status of an answer
 abbrev pub status_of : Answer → Status
 status_of (refused fault) = fault_status fault
@@ -62,6 +70,7 @@ status_of holds = statuses.Good
 status_of fails = statuses.Negative
 status_of (checked verdict) = checked_status verdict
 status_of (summary s) = shown_status s.verdict
+status_of (batched answers) = batch_status answers
 
 -- the text of an answer
 abbrev pub text_of : Answer → List ℕ
@@ -73,6 +82,7 @@ text_of holds = traced_text true
 text_of fails = traced_text false
 text_of (checked verdict) = checked_text verdict
 text_of (summary s) = summary_text s
+text_of (batched answers) = batch_text answers
 
 -- the answers are the same, but for the trace and the certificate
 abbrev pub AreAlike : Answer → Answer → Type 0

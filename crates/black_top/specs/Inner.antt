@@ -17,6 +17,7 @@ use Rattle.black_top.specs.Solve.{IsSolved}
 use Rattle.black_top.specs.Trace.{IsJudged}
 use Rattle.black_top.specs.Check.{IsChecked}
 use Rattle.black_top.specs.Demo.{IsShown}
+use Rattle.black_top.specs.Batch.{IsBatched}
 
 -- the numbers that the words ask for, where they do, are in their ranges. A command that is not built is not asked for
 abbrev pub IsInBounds : Asked → Type 0
@@ -24,7 +25,7 @@ IsInBounds (asked.Solve options) = IsDepth options.depth
 IsInBounds (asked.Check options) = AreWorkers options.workers
 IsInBounds asked.Trace = Unit {0}
 IsInBounds (asked.Demo n) = (2 ≤ n) × (n ≤ 64)
-IsInBounds (asked.Batch options) = ⊥
+IsInBounds (asked.Batch options) = IsDepth options.depth × AreWorkers options.workers
 IsInBounds (asked.System options) = ⊥
 IsInBounds asked.Monitor = ⊥
 IsInBounds asked.Depast = ⊥
@@ -35,7 +36,7 @@ Gives (asked.Solve options) bytes answer = IsSolved options.kind options.depth o
 Gives (asked.Check options) bytes answer = IsParted (IsChecked options.kind) bytes answer
 Gives asked.Trace bytes answer = IsParted IsJudged bytes answer
 Gives (asked.Demo n) bytes answer = IsShown n answer
-Gives (asked.Batch options) bytes answer = ⊥
+Gives (asked.Batch options) bytes answer = IsBatched options.kind options.depth bytes answer
 Gives (asked.System options) bytes answer = ⊥
 Gives asked.Monitor bytes answer = ⊥
 Gives asked.Depast bytes answer = ⊥
@@ -46,7 +47,7 @@ stop_after (asked.Solve options) = Some 1048576
 stop_after (asked.Check options) = Some 18446744073709551615
 stop_after asked.Trace = Some 18446744073709551615
 stop_after (asked.Demo n) = None
-stop_after (asked.Batch options) = None
+stop_after (asked.Batch options) = Some 16777216
 stop_after (asked.System options) = None
 stop_after asked.Monitor = None
 stop_after asked.Depast = None

@@ -7,6 +7,7 @@ pub mod Solve
 pub mod Trace
 pub mod Check
 pub mod Demo
+pub mod Batch
 pub mod Ring
 pub mod Inner
 pub mod Run

@@ -11,6 +11,7 @@ use Rattle.black_top.specs.Solve.{IsSolved}
 use Rattle.black_top.specs.Trace.{IsJudged}
 use Rattle.black_top.specs.Check.{IsChecked}
 use Rattle.black_top.specs.Demo.{IsShown}
+use Rattle.black_top.specs.Batch.{IsBatched}
 
 -- the answer of a command to the bytes. A command that is not built has none
 abbrev pub Answers : Command → List ℕ → Answer → Type 0
@@ -18,7 +19,7 @@ Answers (Solve settings) bytes answer = IsSolved (kind_of settings) (depth_of se
 Answers (Check settings) bytes answer = IsParted (IsChecked (kind_of settings)) bytes answer
 Answers Trace bytes answer = IsParted IsJudged bytes answer
 Answers (Demo n) bytes answer = IsShown n answer
-Answers (Batch settings) bytes answer = ⊥
+Answers (Batch settings) bytes answer = IsBatched (kind_of settings) (depth_of settings) bytes answer
 Answers (System settings) bytes answer = ⊥
 Answers Monitor bytes answer = ⊥
 Answers Depast bytes answer = ⊥

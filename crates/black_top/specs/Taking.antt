@@ -22,7 +22,7 @@ Takes (Solve settings) before after = IsTakenUpTo 1048576 before after
 Takes (Check settings) before after = IsTakenWhole before after
 Takes Trace before after = IsTakenWhole before after
 Takes (Demo n) before after = after ≡ before
-Takes (Batch settings) before after = after ≡ before
+Takes (Batch settings) before after = IsTakenUpTo 16777216 before after
 Takes (System settings) before after = after ≡ before
 Takes Monitor before after = after ≡ before
 Takes Depast before after = after ≡ before
@@ -30,4 +30,5 @@ Takes Depast before after = after ≡ before
 -- and what it takes at most, wherever a read fails
 abbrev pub TakesAtMost : Command → Option (List ℕ) → Option (List ℕ) → Type 0
 TakesAtMost (Solve settings) before after = LosesAtMost 1052672 before after
+TakesAtMost (Batch settings) before after = LosesAtMost 16781312 before after
 TakesAtMost command before after = Unit {0}

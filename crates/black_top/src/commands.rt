@@ -3,6 +3,7 @@ ghost use Rattle.std.specs.Prelude.{◌≡◌, IfOk};
 ghost use Rattle.black_top.specs.Answer.{Answer};
 ghost use Rattle.black_top.specs.Inner.{Shows, Gives, IsInBounds, stop_after};
 
+mod batch;
 mod check;
 mod demo;
 mod solve;
@@ -24,7 +25,8 @@ pub fn stop_after(asked: Asked) -> Option<usize>
         Asked::Solve(_) => Some(MAX_TEXT),
         Asked::Check(_) | Asked::Trace => Some(usize::MAX),
         Asked::Demo(_) => None,
-        Asked::Batch(_) | Asked::System(_) | Asked::Monitor | Asked::Depast => None,
+        Asked::Batch(_) => Some(batch::MAX_BATCH),
+        Asked::System(_) | Asked::Monitor | Asked::Depast => None,
     }
 }
 
@@ -44,9 +46,8 @@ pub fn output<R: Threads + Sync, G: Gate + Sync>(
         Asked::Check(options) => check::check(rt, alloc, options, bytes, gate),
         Asked::Trace => trace::trace(alloc, bytes),
         Asked::Demo(number) => demo::demo(alloc, number),
+        Asked::Batch(options) => batch::batch(rt, alloc, options, bytes, gate),
         // Do not come: they are not built, so words do not ask for them.
-        Asked::Batch(_) | Asked::System(_) | Asked::Monitor | Asked::Depast => {
-            refusal(alloc, Fault::Usage)
-        }
+        Asked::System(_) | Asked::Monitor | Asked::Depast => refusal(alloc, Fault::Usage),
     }
 }

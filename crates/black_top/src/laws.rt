@@ -15,6 +15,7 @@ pub fn one_answer()
     ltl_word::laws::one_reading();
     ltl_run::laws::one_verdict();
     cert_check::laws::answers();
+    batch_run::laws::one_list();
 }
 
 /// What `solve --cert` prints, `check` with the same kind verifies behind the text of the formula and a

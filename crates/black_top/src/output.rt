@@ -2,10 +2,11 @@
 ghost use Rattle.std.specs.Prelude.{◌≡◌, true, false, IfOk};
 ghost use Rattle.std.specs.Option.{option_copied};
 ghost use Rattle.black_top.specs.Answer.{refused, sat, unsat, undecided, holds, fails, checked, summary};
-ghost use Rattle.black_top.specs.Answer.{fault_status, shown_status};
+ghost use Rattle.black_top.specs.Answer.{batched, fault_status, shown_status};
 ghost use Rattle.black_top.specs.Inner.{Shows};
 
 use crate::Status;
+use batch_run::{Answer, all_verdicts, batch_text};
 use cert_check::Verdict;
 use ltl_word::Trace;
 use report::{Fault, Shown, Summary};
@@ -102,6 +103,21 @@ pub fn checked(alloc: Global, verdict: Verdict) -> Result<Output, AllocError>
     })
 }
 
+/// The answers to the lines of a batch.
+pub fn batched(alloc: Global, answers: &[Answer]) -> Result<Output, AllocError>
+    ensures { IfOk result (λ out. Shows out (batched answers.now)) }
+{
+    let status = if all_verdicts(answers) {
+        Status::Good
+    } else {
+        Status::Text
+    };
+    Ok(Output {
+        status,
+        text: batch_text(alloc, answers)?,
+    })
+}
+
 /// A refusal with its line, or the usage.
 pub fn refusal(alloc: Global, fault: Fault) -> Result<Output, AllocError>
     ensures { IfOk result (λ out. Shows out (refused fault)) }
@@ -117,7 +133,8 @@ fn fault_status(fault: Fault) -> Status
 {
     match fault {
         Fault::Usage => Status::Usage,
-        Fault::Text | Fault::Nodes(_) | Fault::Letters(_) | Fault::Cells(_) => Status::Limit,
+        Fault::Text | Fault::Batch | Fault::Nodes(_) | Fault::Letters(_) | Fault::Cells(_) =>
+            Status::Limit,
         Fault::NoSeparator
         | Fault::Lexical(_)
         | Fault::Grammar(_)

@@ -5,7 +5,7 @@ ghost use Rattle.black_top.specs.Status.{code_of};
 /// What `run` answers.
 #[derive(Clone, Copy, Debug, PartialEq, Eq)]
 pub enum Status {
-    /// VERIFIED or HOLDS was printed.
+    /// VERIFIED or HOLDS was printed, or a batch in which each line has a verdict.
     Good,
     /// REJECTED or FAILS was printed.
     Negative,
@@ -14,7 +14,7 @@ pub enum Status {
     Undecided,
     /// The words were not taken, and the usage was printed.
     Usage,
-    /// The input was refused with a place or a reason.
+    /// The input was refused with a place or a reason, or some line of a batch was.
     Text,
     /// The input was refused with a limit.
     Limit,

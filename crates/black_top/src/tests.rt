@@ -6,10 +6,12 @@ use std::process::Abort;
 use std::test::Fail;
 use std::thread::Threads;
 
+mod batches;
 mod certificates;
+mod meeting;
 
 const USAGE: &[u8] =
-    b"usage: black solve [--finite] [--depth N] [--cert] [--core] [--workers N]\nusage: black check [--finite] [--workers N]\nusage: black trace\nusage: black demo N\n";
+    b"usage: black solve [--finite] [--depth N] [--cert] [--core] [--workers N]\nusage: black check [--finite] [--workers N]\nusage: black trace\nusage: black demo N\nusage: black batch [--finite] [--depth N] [--workers N]\n";
 
 const RECURRING: &[u8] = b"G F p & G !p";
 
@@ -234,7 +236,8 @@ fn refused_words(rt: HostRuntime) -> Result<(), Fail> {
         "check --workers 0",
         "check --workers 17",
         "check --workers=001",
-        "batch",
+        "system",
+        "batch --cert",
         "demo",
         "demo 1",
         "demo 65",

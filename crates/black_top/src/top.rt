@@ -3,12 +3,13 @@ ghost use Rattle.std.specs.Prelude.{◌≡◌, ◌⊎◌, ◌<◌, ℕ, List, ma
 ghost use Rattle.ltl_io.specs.Count.{Rose};
 ghost use Rattle.black_top.specs.declared.status.Status.TheVariants as statuses;
 ghost use Rattle.black_top.specs.Status.{is_answer};
-ghost use Rattle.command_words.specs.Words.{Setting, Solve, Check, Trace as TraceWord, Demo, Asks};
+ghost use Rattle.command_words.specs.Words.{Setting, Solve, Check, Trace as TraceWord, Demo, Batch, Asks};
 ghost use Rattle.black_top.specs.Run.{IsAnswered, IsCutOff, NeedsNothing};
 ghost use Rattle.black_top.specs.Solve.{SolvePromise};
 ghost use Rattle.black_top.specs.Check.{CheckPromise};
 ghost use Rattle.black_top.specs.Trace.{TracePromise};
 ghost use Rattle.black_top.specs.Demo.{DemoPromise};
+ghost use Rattle.black_top.specs.Batch.{BatchPromise};
 
 use crate::Status;
 use crate::answer::answer;
@@ -62,6 +63,11 @@ pub fn run<R: Threads + Sync, S: Source, K: Sink, G: Gate + Sync>(
         (K.content sink.old) (K.content sink.new) result }
     ensures demo { (number : ℕ) → Asks (map string_bytes words.now) (Demo number)
         → DemoPromise number
+        (¬ (Rose (S.faults source.old) (S.faults source.new))
+        × ¬ (Rose (K.faults sink.old) (K.faults sink.new)))
+        (S.rest source.old) (S.rest source.new) (K.content sink.old) (K.content sink.new) result }
+    ensures batch { (settings : List Setting) → Asks (map string_bytes words.now) (Batch settings)
+        → BatchPromise settings
         (¬ (Rose (S.faults source.old) (S.faults source.new))
         × ¬ (Rose (K.faults sink.old) (K.faults sink.new)))
         (S.rest source.old) (S.rest source.new) (K.content sink.old) (K.content sink.new) result }

@@ -87,7 +87,7 @@ batch_command = record {
   options = ready names.Finite ∷ ready names.Depth ∷ ready names.Workers ∷ [];
   number = None;
   reads = true;
-  built = false;
+  built = true;
 }
 
 -- whether each path of a system satisfies a formula

@@ -16,5 +16,6 @@ pub fn usage(alloc: Global) -> Result<Vec<u8>, AllocError>
     text.extend_from_slice(b"usage: black check [--finite] [--workers N]\n")?;
     text.extend_from_slice(b"usage: black trace\n")?;
     text.extend_from_slice(b"usage: black demo N\n")?;
+    text.extend_from_slice(b"usage: black batch [--finite] [--depth N] [--workers N]\n")?;
     Ok(text)
 }

@@ -107,7 +107,7 @@ pub fn is_built(command: CommandName) -> bool
 {
     match command {
         CommandName::Solve | CommandName::Check | CommandName::Trace | CommandName::Demo => true,
-        CommandName::Batch => false,
+        CommandName::Batch => true,
         CommandName::System => false,
         CommandName::Monitor => false,
         CommandName::Depast => false,

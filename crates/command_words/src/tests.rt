@@ -32,6 +32,7 @@ fn shown(alloc: Global, asked: Option<Asked>) -> Result<String, AllocError> {
         Some(Asked::Check(said)) => options(alloc, "check", said),
         Some(Asked::Trace) => String::from_str(alloc, "trace"),
         Some(Asked::Demo(number)) => format!(in alloc; "demo {number}"),
+        Some(Asked::Batch(said)) => options(alloc, "batch", said),
         Some(_) => String::from_str(alloc, "another"),
     }
 }
@@ -75,7 +76,9 @@ fn words(rt: HostRuntime) -> Result<(), Fail> {
         ("demo 004", "none"),
         ("demo 4 4", "none"),
         ("demo", "none"),
-        ("batch", "none"),
+        ("batch", "batch 9999 99"),
+        ("batch --workers 2 --finite --depth=3", "batch 3 2 finite"),
+        ("batch --cert", "none"),
         ("system", "none"),
         ("monitor", "none"),
         ("depast", "none"),
@@ -90,7 +93,7 @@ fn words(rt: HostRuntime) -> Result<(), Fail> {
 #[test]
 fn usage_lines(rt: HostRuntime) -> Result<(), Fail> {
     let wanted: &[u8] =
-        b"usage: black solve [--finite] [--depth N] [--cert] [--core] [--workers N]\nusage: black check [--finite] [--workers N]\nusage: black trace\nusage: black demo N\n";
+        b"usage: black solve [--finite] [--depth N] [--cert] [--core] [--workers N]\nusage: black check [--finite] [--workers N]\nusage: black trace\nusage: black demo N\nusage: black batch [--finite] [--depth N] [--workers N]\n";
     assert!(rt; *usage(rt.alloc())? == *wanted);
     Ok(())
 }

@@ -62,6 +62,7 @@ abbrev pub refused_text : Fault → List ℕ
 refused_text faults.Usage = usage_text
 refused_text faults.NoSeparator = line (codes "no separator line")
 refused_text faults.Text = line (codes "limit text 1048576")
+refused_text faults.Batch = line (codes "limit batch 16777216")
 refused_text (faults.Lexical byte) = numbered (codes "lexical fault at byte ") byte
 refused_text (faults.Grammar byte) = numbered (codes "grammar fault at byte ") byte
 refused_text (faults.Nodes count) = numbered (codes "limit nodes 16384 have ") count

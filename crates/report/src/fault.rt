@@ -10,6 +10,8 @@ pub enum Fault {
     NoSeparator,
     /// The formula's text is too long.
     Text,
+    /// The text of a batch is too long.
+    Batch,
     /// No token begins at the byte.
     Lexical(u32),
     /// The tokens read as no formula, by the byte of the first that is wrong.

@@ -15,6 +15,7 @@ pub fn refused(alloc: Global, fault: &Fault) -> Result<Vec<u8>, AllocError>
         Fault::Usage => usage(alloc),
         Fault::NoSeparator => line(alloc, b"no separator line"),
         Fault::Text => line(alloc, b"limit text 1048576"),
+        Fault::Batch => line(alloc, b"limit batch 16777216"),
         Fault::Lexical(byte) => numbered(alloc, b"lexical fault at byte ", byte.into()),
         Fault::Grammar(byte) => numbered(alloc, b"grammar fault at byte ", byte.into()),
         Fault::Nodes(count) => numbered(alloc, b"limit nodes 16384 have ", count.into()),

@@ -17,10 +17,11 @@ fn refusals(rt: HostRuntime) -> Result<(), Fail> {
     let table: [(Fault, &[u8]); 13] = [
         (
             Fault::Usage,
-            b"usage: black solve [--finite] [--depth N] [--cert] [--core] [--workers N]\nusage: black check [--finite] [--workers N]\nusage: black trace\nusage: black demo N\n",
+            b"usage: black solve [--finite] [--depth N] [--cert] [--core] [--workers N]\nusage: black check [--finite] [--workers N]\nusage: black trace\nusage: black demo N\nusage: black batch [--finite] [--depth N] [--workers N]\n",
         ),
         (Fault::NoSeparator, b"no separator line\n"),
         (Fault::Text, b"limit text 1048576\n"),
+        (Fault::Batch, b"limit batch 16777216\n"),
         (Fault::Lexical(0), b"lexical fault at byte 0\n"),
         (
             Fault::Grammar(1_048_576),

@@ -19,8 +19,8 @@ use report::Fault;
 use std::alloc::{AllocError, Global};
 use std::thread::Threads;
 
-/// The workers that check where no number is asked for.
-const DEFAULT_WORKERS: u32 = 1;
+/// The workers that there are where no number is asked for.
+pub const DEFAULT_WORKERS: u32 = 1;
 
 /// The answer to an input of two parts.
 pub fn check<R: Threads + Sync, G: Gate + Sync>(

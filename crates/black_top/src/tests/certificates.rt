@@ -1,10 +1,10 @@
 // `check` on certificates that were worked by hand, and on those that `solve --cert` prints.
+use super::meeting::Meeting;
 use super::{NINE, RECURRING, answer, list, shows};
 use crate::{Status, run};
-use ltl_io::{Gate, MemorySink, MemorySource};
+use ltl_io::{MemorySink, MemorySource};
 use std::alloc::{AllocError, Global};
 use std::process::Abort;
-use std::sync::atomic::{AtomicU64, Ordering};
 use std::test::Fail;
 use std::thread::Threads;
 
@@ -317,42 +317,17 @@ fn printed_certificates_verify(rt: HostRuntime) -> Result<(), Fail> {
     Ok(())
 }
 
-/// Holds piece 0 until piece 1 has begun, and notes whether it came to that.
-#[derive(Drop)]
-struct Meeting {
-    begun: AtomicU64,
-    met: AtomicU64,
-}
-
-impl Gate for Meeting {
-    fn begin(&self, piece: u32) {
-        if piece == 1 {
-            self.begun.store(1, Ordering::SeqCst);
-            return;
-        }
-        for _turn in 0..1_000_000_000u32 {
-            if self.begun.load(Ordering::SeqCst) == 1 {
-                self.met.store(1, Ordering::SeqCst);
-                return;
-            }
-        }
-    }
-}
-
 /// Two workers are at work at once.
 #[test]
 fn workers_meet(rt: HostRuntime) -> Result<(), Fail> {
     let alloc = rt.alloc();
-    let gate = Meeting {
-        begun: AtomicU64::new(0),
-        met: AtomicU64::new(0),
-    };
+    let gate = Meeting::new();
     let words = list(alloc, "check --workers 2")?;
     let input = joined(alloc, b"wX false", LAST)?;
     let mut source = MemorySource::new(input, 1000, Vec::new(alloc));
     let mut sink = MemorySink::new(alloc, 64, 64, Vec::new(alloc))?;
     let status = run(&rt, alloc, &words, &mut source, &mut sink, &gate);
     assert!(rt; status == Status::Good && sink.content() == VERIFIED);
-    assert!(rt; gate.met.load(Ordering::SeqCst) == 1);
+    assert!(rt; gate.met());
     Ok(())
 }

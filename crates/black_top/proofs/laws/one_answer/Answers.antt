@@ -16,4 +16,5 @@ returns c words bytes =
       one_reading = c.one_reading.ensures;
       one_verdict = c.one_verdict.ensures;
       one_check = c.answers.ensures.one;
+      one_batch = c.one_list.ensures;
     })
