@@ -216,7 +216,7 @@ fn options(rt: HostRuntime) -> Result<(), Fail> {
 #[test]
 fn refused_words(rt: HostRuntime) -> Result<(), Fail> {
     let alloc = rt.alloc();
-    let table: [&str; 26] = [
+    let table: [&str; 27] = [
         "solve --",
         "solve --depth",
         "solve --depth=",
