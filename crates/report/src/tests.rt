@@ -14,7 +14,7 @@ fn is<R: Abort>(rt: &R, text: Result<Vec<u8>, AllocError>, wanted: &[u8]) -> Res
 #[test]
 fn refusals(rt: HostRuntime) -> Result<(), Fail> {
     let alloc = rt.alloc();
-    let table: [(Fault, &[u8]); 13] = [
+    let table: [(Fault, &[u8]); 14] = [
         (
             Fault::Usage,
             b"usage: black solve [--finite] [--depth N] [--cert] [--core] [--workers N]\nusage: black check [--finite] [--workers N]\nusage: black trace\nusage: black demo N\nusage: black batch [--finite] [--depth N] [--workers N]\n",
