@@ -5,15 +5,17 @@
     tables.py clauses     the clause list of a token ring of 32 letters through depth 64
     tables.py tableau     families of formulas: the answer, and what the solver learnt
     tables.py solver      the solver alone on clauses, beside `minisat` and `cadical` where they are installed
+    tables.py check       certificates: how fast `black check` reads and judges them, by one worker and by four
 
-Seconds are of processor time. The program `black_bench` is built first where it is not there yet, and only a proved program is
-built. LIMIT is the number of seconds after which a run is given up (120).
+Seconds are of processor time, and in the last table of the clock. The program `black_bench`, or `black`, is built first where it is
+not there yet, and only a proved program is built. LIMIT is the number of seconds after which a run is given up (120).
 """
 import os
 import shutil
 import subprocess
 import sys
 import tempfile
+import time
 
 import clauses
 import families
@@ -21,13 +23,18 @@ import families
 TOP = os.path.dirname(os.path.dirname(os.path.abspath(__file__)))
 CRATE = TOP + "/crates/black_bench"
 BENCH = CRATE + "/out/black_bench"
+PROGRAM = TOP + "/crates/black_main/out/black_main"
 LIMIT = os.environ.get("LIMIT", "120")
 
 
-def build():
-    made = subprocess.run(["rt", "run", "--", "closure"], cwd=CRATE, stdin=subprocess.DEVNULL, capture_output=True, text=True)
-    if not os.path.exists(BENCH):
-        sys.exit((made.stdout + made.stderr)[-2000:] + "\nthere is no build of black_bench")
+def build(program, word):
+    """Builds the program, if it is not there, by running it with the word on nothing."""
+    if os.path.exists(program):
+        return
+    crate = os.path.dirname(os.path.dirname(program))
+    made = subprocess.run(["rt", "run", "--", word], cwd=crate, stdin=subprocess.DEVNULL, capture_output=True, text=True)
+    if not os.path.exists(program):
+        sys.exit((made.stdout + made.stderr)[-2000:] + "\nthere is no build of " + program)
 
 
 def measured(words, text):
@@ -106,9 +113,62 @@ def solver_table():
         row(name, answer, out[4] if len(out) == 6 else "", "%.3f" % seconds, memory, *beside(clauses.dimacs(letters, found)))
 
 
-TABLES = {"closure": closure_table, "clauses": clauses_table, "tableau": tableau_table, "solver": solver_table}
+def timed(words, source, sink):
+    """The seconds of the clock that the command takes from one file to the other, and its MiB."""
+    source.seek(0)
+    begun = time.monotonic()
+    child = subprocess.Popen(["timeout", LIMIT] + words, stdin=source, stdout=sink, stderr=subprocess.DEVNULL)
+    _, status, used = os.wait4(child.pid, 0)
+    child.returncode = status
+    return time.monotonic() - begun, used.ru_maxrss // 1024
+
+
+def hint_count(certificate):
+    """How many hints a certificate has: the numbers between the 0 behind the literals and the last 0 of each line."""
+    count = 0
+    for line in certificate.split(b"\n")[1:]:
+        if line[:1] not in (b"", b"c", b"d"):
+            words = line.split(b" ")
+            count += len(words) - words.index(b"0") - 2
+    return count
+
+
+def check_row(name, size):
+    formula = families.FAMILIES[name](size).encode()
+    with tempfile.TemporaryFile() as source, tempfile.TemporaryFile() as sink, tempfile.TemporaryFile() as text:
+        source.write(formula)
+        source.flush()
+        plain, _ = timed([PROGRAM, "solve"], source, subprocess.DEVNULL)
+        solve, _ = timed([PROGRAM, "solve", "--cert"], source, sink)
+        sink.seek(0)
+        verdict, _, certificate = sink.read().partition(b"\n")
+        if not verdict.startswith(b"UNSAT"):
+            row("%s %d" % (name, size), verdict.decode() or "none in time")
+            return
+        text.write(formula + b"\n---\n" + certificate)
+        text.flush()
+        cells = []
+        for workers in (1, 4):
+            seconds, memory = timed([PROGRAM, "check", "--workers", str(workers)], text, subprocess.DEVNULL)
+            cells += ["%.3f" % seconds, "%.0f" % (len(certificate) / seconds / 1e6),
+                      "%.1f" % (hint_count(certificate) / seconds / 1e6), memory]
+        row("%s %d" % (name, size), verdict.decode(), "%.1f" % (len(certificate) / 1e6), "%.2f" % plain, "%.2f" % solve, *cells)
+
+
+def check_table():
+    head("formula", "answer", "MB", "solve", "with `--cert`", "one worker", "MB/s", "million hints/s", "MiB",
+         "four workers", "MB/s", "million hints/s", "MiB")
+    for name, size in (("starved", 3), ("conflict", 7), ("stuck", 6)):
+        check_row(name, size)
+
+
+TABLES = {"closure": closure_table, "clauses": clauses_table, "tableau": tableau_table, "solver": solver_table,
+          "check": check_table}
 
 if len(sys.argv) != 2 or sys.argv[1] not in TABLES:
     sys.exit(__doc__)
-build()
+if sys.argv[1] == "check":
+    build(PROGRAM, "words")
+else:
+    build(BENCH, "closure")
 TABLES[sys.argv[1]]()

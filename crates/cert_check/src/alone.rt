@@ -8,9 +8,11 @@ ghost use Rattle.cert_text.specs.Reading.{certificate_in};
 ghost use Rattle.cert_check.specs.Answer.{answer_of, IsFirstTarget, IsJudged};
 ghost use Rattle.cert_check.specs.Walk.{IsGoodKept};
 
+use crate::listing::stored_for;
 use crate::targets::{allowed, are_among, by_targets};
 use crate::verdict::{Reason, Verdict};
 use cert_text::{Form, Item, Items, Targets};
+use clause_index::Indexed;
 use cnf_base::Clauses;
 use enc_layout::Layout;
 use log_checker::LiveChecker;
@@ -64,7 +66,27 @@ fn first_bad_target(
 }
 
 /// The verdict on a certificate of the right kind whose letters are few enough.
-pub fn judge<C: Clauses>(
+pub fn judge(
+    alloc: Global,
+    closure: &Closure<'_>,
+    form: Form,
+    bytes: &[u8],
+) -> Result<Verdict, AllocError>
+    requires text { IsTextOf bytes.now (certificate_in bytes.now) }
+    requires says { form ≡ form_of (certificate_in bytes.now) }
+    requires kind { form.kind ≡ closure.now.kind }
+    requires fits { Fits (layout_of closure.now) form.depth }
+    ensures { IfOk result (λ v. IsJudged closure.now.formula (certificate_in bytes.now) (answer_of v)) }
+{
+    let clauses = Indexed::of(closure, form.depth);
+    match stored_for(alloc, &clauses, bytes.len()) {
+        Some(list) => judge_over(alloc, closure, &list, form, bytes),
+        None => judge_over(alloc, closure, &clauses, form, bytes),
+    }
+}
+
+/// The same over these clauses, however they are found.
+fn judge_over<C: Clauses>(
     alloc: Global,
     closure: &Closure<'_>,
     clauses: &C,

@@ -10,7 +10,6 @@ ghost use Rattle.cert_check.specs.Answer.{IsAnswer, answer_of, FormFault, TooMan
 use crate::verdict::{CheckRefused, Reason, Verdict};
 use crate::{alone, together};
 use cert_text::{CertRefused, CertView, form};
-use clause_index::Indexed;
 use enc_layout::Layout;
 use ltl_closure::Closure;
 use ltl_io::Gate;
@@ -60,8 +59,7 @@ fn check_alone<G: Gate>(
         return Err(CheckRefused::Letters(limit));
     }
     gate.begin(0);
-    let clauses = Indexed::of(&closure, form.depth);
-    Ok(alone::judge(alloc, &closure, &clauses, form, bytes)?)
+    Ok(alone::judge(alloc, &closure, form, bytes)?)
 }
 
 /// By several workers, over the places of all lines.
@@ -97,8 +95,7 @@ fn check_together<R: Threads + Sync, G: Gate + Sync>(
     if let Some(limit) = limit_below(&closure, view.depth()) {
         return Err(CheckRefused::Letters(limit));
     }
-    let clauses = Indexed::of(&closure, view.depth());
-    Ok(together::judge(rt, alloc, &closure, &clauses, &view, workers, gate)?)
+    Ok(together::judge(rt, alloc, &closure, &view, bytes.len(), workers, gate)?)
 }
 
 /// Judges the certificate text `bytes` for the formula under the node `root` and a kind of trace. With

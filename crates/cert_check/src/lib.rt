@@ -4,6 +4,7 @@
 mod alone;
 mod checking;
 pub mod laws;
+mod listing;
 mod targets;
 #[cfg(test)]
 mod tests;

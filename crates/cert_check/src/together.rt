@@ -6,9 +6,11 @@ ghost use Rattle.enc_layout.specs.Clauses.{layout_of, clause_list};
 ghost use Rattle.cert_check.specs.Lawful.{IsGoodTarget};
 ghost use Rattle.cert_check.specs.Answer.{answer_of, IsFirstTarget, IsJudged};
 
+use crate::listing::stored_for;
 use crate::targets::{allowed, are_among, by_targets};
 use crate::verdict::{Reason, Verdict};
 use cert_text::CertView;
+use clause_index::Indexed;
 use cnf_base::Clauses;
 use enc_layout::Layout;
 use log_checker::{Lines, Scratch, check_lines};
@@ -52,8 +54,32 @@ fn first_bad_target(closure: &Closure<'_>, view: &CertView<'_>) -> Option<u32>
     None
 }
 
-/// The verdict on a certificate of the right kind whose letters are few enough.
-pub fn judge<R: Threads + Sync, C: Clauses + Sync, G: Gate + Sync>(
+/// The verdict on a certificate of the right kind whose letters are few enough, a text of so many bytes.
+pub fn judge<R: Threads + Sync, G: Gate + Sync>(
+    rt: &R,
+    alloc: Global,
+    closure: &Closure<'_>,
+    view: &CertView<'_>,
+    bytes: usize,
+    workers: u32,
+    gate: &G,
+) -> Result<Verdict, AllocError>
+    requires kind { view.now.kind ≡ closure.now.kind }
+    requires fits { Fits (layout_of closure.now) view.now.depth }
+    requires some { 1 ≤ workers }
+    requires few { workers ≤ 16 }
+    ensures { IfOk result (λ v. IsJudged closure.now.formula view.now (answer_of v)) }
+{
+    view.is_text();
+    let clauses = Indexed::of(closure, view.depth());
+    match stored_for(alloc, &clauses, bytes) {
+        Some(list) => judge_over(rt, alloc, closure, &list, view, workers, gate),
+        None => judge_over(rt, alloc, closure, &clauses, view, workers, gate),
+    }
+}
+
+/// The same over these clauses, however they are found.
+fn judge_over<R: Threads + Sync, C: Clauses + Sync, G: Gate + Sync>(
     rt: &R,
     alloc: Global,
     closure: &Closure<'_>,

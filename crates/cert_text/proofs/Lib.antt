@@ -7,6 +7,7 @@ pub mod LiveLines
 pub mod Written
 pub mod Shapes
 pub mod Forming
+pub mod Skips
 pub mod Ended
 pub mod Slices
 pub mod Standing

@@ -1,12 +1,13 @@
 -- Where a byte, and the 0 behind some literals, stand in a text.
-use Rattle.std.proofs.Common.{◌≡◌, ℕ, ◌+◌, ◌-◌, ◌/◌, ◌%◌, ◌<◌, ◌≤◌, inl, inr, Bool, true, false, List, [], ◌∷◌, ◌++◌, length, get_or, All, refl, sym, ap, ◌∙◌, arith, append_assoc, length-append}
+use Rattle.std.proofs.Common.{◌≡◌, ℕ, ◌+◌, ◌-◌, ◌/◌, ◌%◌, ◌<◌, ◌≤◌, inl, inr, Bool, true, false, List, [], ◌∷◌, ◌++◌, length, take, drop, get_or, All, Some, None, refl, sym, ap, subst, ◌∙◌, arith, append_assoc, length-append}
 use Rattle.std.specs.Prelude.{codes, decimal}
 use Rattle.std.specs.List.{flat_map}
 use Rattle.std.proofs.Math.Seq.{get_or-append_seam}
-use Rattle.std.proofs.lemmas.Bool.{cases_order}
+use Rattle.std.proofs.lemmas.Bool.{cases_order, eq-eqb, eqb-true}
 use Rattle.std.proofs.lemmas.Fmt.{decimal_by_steps, decimal_nonempty}
-use Rattle.std.proofs.lemmas.List.{get_or_append_left, get_or-append-add}
+use Rattle.std.proofs.lemmas.List.{get_or_append_left, get_or-append-add, get_or-take, get_or-drop, length-drop, length-take-le}
 use Rattle.std.proofs.lemmas.List.Elements.{All-nil, All-head, All-tail, All-push, All-append}
+use Rattle.memchr.specs.Find.{IsFirstByte, Nowhere, Passes, is_byte}
 use Rattle.cnf_base.specs.declared.literal.Literal.{Literal}
 use Rattle.cert_text.specs.Text.{greatest_u64, IsLiteral, sign_text, literal_text}
 use Rattle.cert_text.proofs.Sound.{apart}
@@ -160,3 +161,35 @@ remaining_none bytes at nought stops it = go it.literals it.all it.spelled it.be
 pub remaining_all : (line : List ℕ) (literals : List Literal) (more : List ℕ) → All IsLiteral literals → line ≡ flat_map literal_text literals ++ 48 ∷ more
     → Remaining line 0 (length (flat_map literal_text literals))
 remaining_all line literals more all is = record { before = []; literals = literals; more = more; all = all; spelled = is; place = refl; behind = omega arith }
+
+-- a slice from a place on, read
+slice_at : (bytes hay : List ℕ) (at k : ℕ) → hay ≡ take (length bytes - at) (drop at bytes) → at + k < length bytes → get_or hay k 0 ≡ get_or bytes (at + k) 0
+slice_at bytes hay at k is low = ap (λ xs. get_or xs k 0) is ∙ get_or-take (length bytes - at) (drop at bytes) k 0 (omega (arith, low)) ∙ get_or-drop at bytes k 0
+
+slice_size : (bytes hay : List ℕ) (at : ℕ) → at ≤ length bytes → hay ≡ take (length bytes - at) (drop at bytes) → length hay ≡ length bytes - at
+slice_size bytes hay at within is = ap length is ∙ length-take-le (length bytes - at) (drop at bytes) (omega (arith, length-drop at bytes))
+
+-- the first place of a byte in the slice
+pub sought_before : (bytes hay : List ℕ) (at byte end : ℕ) → at ≤ end → end ≤ length bytes → hay ≡ take (length bytes - at) (drop at bytes) → Nowhere (Passes (is_byte byte) hay) 0 (end - at) → HasSought bytes at byte end
+sought_before bytes hay at byte end low high is nowhere = record {
+  low = low;
+  high = high;
+  none = λ k from to same.
+      let back : at + (k - at) ≡ k = omega (arith, from) in
+      let there = slice_at bytes hay at (k - at) is (omega (arith, from, to, high)) ∙ ap (λ i. get_or bytes i 0) back ∙ same in
+      nowhere (k - at) (omega arith) (omega (arith, from, to)) (eq-eqb (get_or hay (k - at) 0) byte there);
+}
+
+pub sought_nowhere : (bytes hay : List ℕ) (at byte : ℕ) → at ≤ length bytes → hay ≡ take (length bytes - at) (drop at bytes) → IsFirstByte (is_byte byte) hay None → HasSought bytes at byte (length bytes)
+sought_nowhere bytes hay at byte within is none =
+    sought_before bytes hay at byte (length bytes) within (omega arith) is (subst (λ n. Nowhere (Passes (is_byte byte) hay) 0 n) (slice_size bytes hay at within is) none)
+
+pub sought_at : (bytes hay : List ℕ) (at byte k : ℕ) → at ≤ length bytes → hay ≡ take (length bytes - at) (drop at bytes) → IsFirstByte (is_byte byte) hay (Some k)
+    → (at + k < length bytes) × HasSought bytes at byte (at + k) × (get_or bytes (at + k) 0 ≡ byte)
+sought_at bytes hay at byte k within is first =
+    let low : at + k < length bytes = omega (arith, first.0.high, slice_size bytes hay at within is, within) in
+    let less : at + k - at ≡ k = omega arith in (
+      low,
+      sought_before bytes hay at byte (at + k) (omega arith) (omega (arith, low)) is (subst (λ n. Nowhere (Passes (is_byte byte) hay) 0 n) (sym less) first.0.before),
+      sym (slice_at bytes hay at k is low) ∙ eqb-true (get_or hay k 0) byte first.1,
+    )

@@ -8,3 +8,4 @@ pub mod Worked
 pub mod Reading
 pub mod Items
 pub mod View
+pub mod Skipped

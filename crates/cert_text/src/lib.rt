@@ -12,6 +12,7 @@ pub mod reader;
 pub mod refused;
 mod scanning;
 mod shared;
+mod skipping;
 pub mod spelled;
 #[cfg(test)]
 mod tests;

@@ -1,11 +1,14 @@
 // One pass over the bytes of a certificate, without memory: a byte is either wanted, or it decides how the
-// text goes on. Each step is inlined, so that the place stays in registers.
+// text goes on. Each step is inlined, so that the place stays in registers. Short numbers are gone over at
+// once.
 ghost use Rattle.std.specs.Prelude.{◌≡◌, ℕ, ◌+◌, ◌<◌, ◌≤◌, ◌^◌, length, [], Some, None, MatchOption, MatchResult, codes};
 ghost use Rattle.cert_text.specs.Text.{Certificate, IsTextOf, IsFormFault};
 ghost use Rattle.cert_text.specs.Shape.{small_step, small_advance, number_in, literal_in, first_in, end_in, greatest_in, with_target, IsFew, IsInRange, lines_at, form_of};
+ghost use Rattle.cert_text.specs.declared.scanning.Role.TheVariants as roles;
 ghost use Rattle.cert_text.specs.declared.scanning.Place.TheVariants as places;
 
 use crate::glance::Form;
+use crate::skipping::skip;
 use ltl_syntax::Kind;
 
 /// What stands before a part of a certificate: the header, and how many lines and targets.
@@ -107,6 +110,26 @@ fn with_target(head: Head) -> Head
     }
 }
 
+/// The byte behind a target: the last one ends the line.
+#[inline(always)]
+fn target_end(head: Head, value: u64, byte: u8) -> Option<(&'static [u8], Place)>
+    requires few { IsFew (roles.Target head) }
+    ensures { MatchOption result (end_in (roles.Target head) value byte ≡ None)
+        (λ r. end_in (roles.Target head) value byte ≡ Some (r.0.now, r.1)) }
+{
+    if head.targets == head.depth + 1 {
+        if byte != b'\n' {
+            return None;
+        }
+        Some((b"", Place::End(with_target(head))))
+    } else {
+        if byte != b' ' {
+            return None;
+        }
+        Some((b"", Place::First(Role::Target(with_target(head)))))
+    }
+}
+
 #[inline(always)]
 fn end(role: Role, value: u64, byte: u8) -> Option<(&'static [u8], Place)>
     requires number { value ≤ greatest_in role }
@@ -141,19 +164,7 @@ fn end(role: Role, value: u64, byte: u8) -> Option<(&'static [u8], Place)>
             }
             Some((b"", Place::Hint(head)))
         }
-        Role::Target(head) => {
-            if head.targets == head.depth + 1 {
-                if byte != b'\n' {
-                    return None;
-                }
-                Some((b"", Place::End(with_target(head))))
-            } else {
-                if byte != b' ' {
-                    return None;
-                }
-                Some((b"", Place::First(Role::Target(with_target(head)))))
-            }
-        }
+        Role::Target(head) => target_end(head, value, byte),
         Role::Delete(head) => match byte {
             b' ' => Some((b"", Place::First(Role::Delete(head)))),
             b'\n' => Some((b"", Place::Part(head))),
@@ -178,6 +189,49 @@ fn more(role: Role, value: u64, byte: u8) -> Option<(&'static [u8], Place)>
     Some((b"", Place::More(role, 10 * value + digit)))
 }
 
+#[inline(always)]
+fn kind(version: u32, byte: u8) -> Option<(&'static [u8], Place)>
+    ensures { MatchOption result (small_step (places.Kind version) byte ≡ None)
+        (λ r. small_step (places.Kind version) byte ≡ Some (r.0.now, r.1)) }
+{
+    match byte {
+        b'i' => Some((
+            b"nfinite ",
+            Place::First(Role::Depth {
+                version,
+                kind: Kind::Infinite,
+            }),
+        )),
+        b'f' => Some((
+            b"inite ",
+            Place::First(Role::Depth {
+                version,
+                kind: Kind::Finite,
+            }),
+        )),
+        _ => None,
+    }
+}
+
+#[inline(always)]
+fn hint(head: Head, byte: u8) -> Option<(&'static [u8], Place)>
+    requires { head.lines + 1 < 2 ^ 64 }
+    ensures { MatchOption result (small_step (places.Hint head) byte ≡ None)
+        (λ r. small_step (places.Hint head) byte ≡ Some (r.0.now, r.1)) }
+{
+    match byte {
+        b'0' => {
+            let head = Head {
+                lines: head.lines + 1,
+                ..head
+            };
+            Some((b"\n", Place::Part(head)))
+        }
+        b'-' => Some((b"", Place::First(Role::Hint(head)))),
+        _ => first(Role::Hint(head), byte),
+    }
+}
+
 /// What a byte leads to: the bytes that must come then, and the place behind them.
 #[inline(always)]
 fn next(place: Place, byte: u8) -> Option<(&'static [u8], Place)>
@@ -191,23 +245,7 @@ fn next(place: Place, byte: u8) -> Option<(&'static [u8], Place)>
             b'2' => Some((b" ", Place::Kind { version: 2 })),
             _ => None,
         },
-        Place::Kind { version } => match byte {
-            b'i' => Some((
-                b"nfinite ",
-                Place::First(Role::Depth {
-                    version,
-                    kind: Kind::Infinite,
-                }),
-            )),
-            b'f' => Some((
-                b"inite ",
-                Place::First(Role::Depth {
-                    version,
-                    kind: Kind::Finite,
-                }),
-            )),
-            _ => None,
-        },
+        Place::Kind { version } => kind(version, byte),
         Place::First(role) => number(role, byte),
         Place::More(role, value) => more(role, value, byte),
         Place::Part(head) => match byte {
@@ -217,17 +255,7 @@ fn next(place: Place, byte: u8) -> Option<(&'static [u8], Place)>
             _ => literal(head, byte),
         },
         Place::Literal(head) => literal(head, byte),
-        Place::Hint(head) => match byte {
-            b'0' => {
-                let head = Head {
-                    lines: head.lines + 1,
-                    ..head
-                };
-                Some((b"\n", Place::Part(head)))
-            }
-            b'-' => Some((b"", Place::First(Role::Hint(head)))),
-            _ => first(Role::Hint(head), byte),
-        },
+        Place::Hint(head) => hint(head, byte),
         Place::End(_) => None,
     }
 }
@@ -256,12 +284,14 @@ pub fn form(bytes: &[u8]) -> Result<Form, u64>
 {
     let mut left: &'static [u8] = b"ltlcert ";
     let mut place = Place::Version;
-    for (index, byte) in bytes.iter().enumerate() {
-        let Some(found) = advance(left, place, *byte) else {
+    let mut index = 0;
+    'bytes: while index < bytes.len() {
+        let Some(found) = advance(left, place, bytes[index]) else {
             return Err(index as u64);
         };
         left = found.0;
         place = found.1;
+        index = skip(bytes, index + 1, left, place);
     }
     let end = bytes.len() as u64;
     if !left.is_empty() {

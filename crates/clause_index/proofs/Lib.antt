@@ -11,3 +11,4 @@ mod Strong
 mod Prunes
 mod Listing
 mod Sampling
+mod Filling

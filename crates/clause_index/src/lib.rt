@@ -14,9 +14,11 @@ mod request;
 mod run;
 mod samples;
 mod sizes;
+mod storing;
 #[cfg(test)]
 mod tests;
 
 pub use found::Found;
 pub use indexed::Indexed;
 pub use run::Run;
+pub use storing::stored;

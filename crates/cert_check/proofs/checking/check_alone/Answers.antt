@@ -8,7 +8,7 @@ use Rattle.cert_text.specs.Shape.{form_of}
 use Rattle.cert_text.specs.Reading.{certificate_in}
 use Rattle.cert_text.proofs.Slices.{in_text}
 use Rattle.cert_check.specs.Answer.{answer_of}
-use Rattle.cert_check.proofs.Judging.{same_list, judged_bytes}
+use Rattle.cert_check.proofs.Judging.{judged_bytes}
 use Rattle.cert_check.proofs.checking.check_alone.Goals as goal
 
 pub judge-requires-clause-text : goal.judge-requires-clause-text
@@ -16,9 +16,6 @@ judge-requires-clause-text g c = let e = c.in-Ok.ensures in subst (IsTextOf c.ar
 
 pub judge-requires-clause-says : goal.judge-requires-clause-says
 judge-requires-clause-says g c = let e = c.in-Ok.ensures in e.2 ∙ ap form_of (sym (in_text c.args.bytes.now e.0 e.1))
-
-pub judge-requires-clause-clauses : goal.judge-requires-clause-clauses
-judge-requires-clause-clauses g c = same_list c.of-clauses.ensures.formula c.of-clauses.ensures.kind c.of-clauses.ensures.depth
 
 pub returns-clause-verdict : goal.returns-clause-verdict
 returns-clause-verdict g c =

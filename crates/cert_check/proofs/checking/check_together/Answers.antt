@@ -4,16 +4,13 @@ use Rattle.enc_layout.specs.Letters.{Fits}
 use Rattle.enc_layout.specs.Clauses.{layout_of}
 use Rattle.cert_text.specs.Text.{IsFormFault}
 use Rattle.cert_check.specs.Answer.{answer_of}
-use Rattle.cert_check.proofs.Judging.{same_list, judged_bytes}
+use Rattle.cert_check.proofs.Judging.{judged_bytes}
 use Rattle.cert_check.proofs.checking.check_together.Goals as goal
 
 pub returns-in-Err-Form-clause-form : goal.returns-in-Err-Form-clause-form
 returns-in-Err-Form-clause-form g c byte is =
     let same : c.in-Err-Form.byte ≡ byte = cc in
     subst (IsFormFault c.args.bytes.now) same (c.in-Err-Form.ensures.form c.in-Err-Form.byte (ap (λ e. Err e) c.in-Err-Form.field-0-is))
-
-pub judge-requires-clause-clauses : goal.judge-requires-clause-clauses
-judge-requires-clause-clauses g c κs within = same_list c.of-clauses.ensures.formula c.of-clauses.ensures.kind (c.of-clauses.ensures.depth ∙ c.depth-2.ensures)
 
 pub returns-clause-verdict : goal.returns-clause-verdict
 returns-clause-verdict g c =

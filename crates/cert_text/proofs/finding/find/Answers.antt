@@ -1,9 +1,14 @@
-use Rattle.std.proofs.Common.{arith}
-use Rattle.cert_text.proofs.Sought.{sought_is}
+use Rattle.std.proofs.Common.{◌+◌, length, refl, arith}
+use Rattle.cert_text.proofs.Sought.{sought_is, sought_at, sought_nowhere}
 use Rattle.cert_text.proofs.finding.find.Goals as goal
 
-pub returns-else-bytes-end-clause-first : goal.returns-else-bytes-end-clause-first
-returns-else-bytes-end-clause-first c = sought_is c.args.bytes.now c.args.at c.args.byte c.loop-end.end c.loop-end.invariant (λ low. c.if-bytes-end.false)
+pub returns-in-None-clause-first : goal.returns-in-None-clause-first
+returns-in-None-clause-first c =
+    let bytes = c.args.bytes.now in
+    sought_is bytes c.args.at c.args.byte (length bytes) (sought_nowhere bytes _ c.args.at c.args.byte c.requires refl c.in-None.ensures) (λ low. absurd (omega (arith, low)))
 
-pub returns-after-loop-end-clause-first : goal.returns-after-loop-end-clause-first
-returns-after-loop-end-clause-first c = sought_is c.args.bytes.now c.args.at c.args.byte c.loop-end.end c.loop-end.invariant (λ low. absurd (omega (arith, low, c.loop-end-test.false)))
+pub returns-in-Some-clause-first : goal.returns-in-Some-clause-first
+returns-in-Some-clause-first c =
+    let bytes = c.args.bytes.now in
+    let found = sought_at bytes _ c.args.at c.args.byte c.in-Some.place c.requires refl c.in-Some.ensures in
+    sought_is bytes c.args.at c.args.byte (c.args.at + c.in-Some.place) found.1 (λ low. found.2)

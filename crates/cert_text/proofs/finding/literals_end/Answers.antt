@@ -6,7 +6,7 @@ use Rattle.cert_text.proofs.finding.literals_end.Goals as goal
 
 pub loop-end-preserved : goal.loop-end-preserved
 loop-end-preserved c nought it =
-    remaining_more c.args.line.now c.loop-end.end nought c.find-end.result c.loop-end-test.true c.if-line-end-ne48.true c.find-end.ensures.first (c.loop-end.invariant nought it)
+    remaining_more c.args.line.now c.loop-end.end nought c.find_near-end.result c.loop-end-test.true c.if-line-end-ne48.true c.find_near-end.ensures.first (c.loop-end.invariant nought it)
 
 pub returns-else-line-end-ne48 : goal.returns-else-line-end-ne48
 returns-else-line-end-ne48 c literals more all is =

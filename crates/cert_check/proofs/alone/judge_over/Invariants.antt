@@ -3,7 +3,7 @@ use Rattle.enc_layout.specs.Letters.{letters_through}
 use Rattle.enc_layout.specs.Clauses.{counts, clause_list}
 use Rattle.cert_text.specs.Reading.{certificate_in}
 use Rattle.cert_check.proofs.Walking.{IsWalked}
-use Rattle.cert_check.proofs.alone.judge.Given as goal
+use Rattle.cert_check.proofs.alone.judge_over.Given as goal
 
 abbrev pub invariant-items : goal.invariant-items
 invariant-items g l = record {
