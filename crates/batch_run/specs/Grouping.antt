@@ -1,5 +1,5 @@
 -- Internal: what the private calls give. No public contract cites this file.
-use Rattle.std.specs.Prelude.{◌≡◌, ℕ, ◌+◌, ◌≤◌, List, [], ◌∷◌, ◌++◌, length, map, Some, IfSome, ⊤}
+use Rattle.std.specs.Prelude.{◌≡◌, ℕ, suc, ◌+◌, ◌*◌, ◌/◌, ◌%◌, ◌<◌, ◌≤◌, List, [], ◌∷◌, ◌++◌, length, map, get_or, ⊤}
 use Rattle.ltl_syntax.specs.declared.node.Kind.{Kind}
 use Rattle.ltl_syntax.specs.Formula.{Formula}
 use Rattle.ltl_closure.specs.Run.{Sat, Unsat, Undecided}
@@ -8,7 +8,7 @@ use Rattle.batch_run.specs.declared.answer.Outcome.TheVariants as outcomes
 use Rattle.batch_run.specs.declared.answer.Answer.{Answer}
 use Rattle.batch_run.specs.declared.lines.Line.{Line}
 use Rattle.batch_run.specs.declared.lines.Rest.{Rest}
-use Rattle.batch_run.specs.declared.groups.Area.{Area}
+use Rattle.batch_run.specs.declared.groups.Lane.{Lane}
 use Rattle.batch_run.specs.Lines.{FormulaLine, AreFormulaLines}
 use Rattle.batch_run.specs.Outcomes.{IsBatchVerdict, IsOutcome, AreAnswered}
 
@@ -24,27 +24,34 @@ Passes before after found = Continues before.number before.text.now after.number
 abbrev pub end_of : Rest → ℕ
 end_of rest = rest.number + length rest.text.now
 
--- the formula line that stands in an area
+-- a line as a formula line
 abbrev pub line_of : Line → FormulaLine
 line_of l = record { number = l.number; bytes = l.text.now }
 
-abbrev pub lines_in : List Area → List FormulaLine
-lines_in areas = map (λ a. line_of a.line) areas
+abbrev pub lines_of : List Line → List FormulaLine
+lines_of lines = map line_of lines
 
--- an area has kept its line, and has its outcome or none
-pub record IsDone (kind : Kind) (asked : ℕ) (old new : Area) : Type 0 where
-  pub same : line_of new.line ≡ line_of old.line
-  pub outcome : IfSome new.outcome (IsOutcome kind asked old.line.text.now)
+-- the outcomes of one worker's lines: of the line at its own number, and of each that stands so many places behind the one before
+abbrev pub AreOwn : Kind → ℕ → List Line → ℕ → ℕ → List Outcome → Type 0
+AreOwn kind asked lines worker workers outcomes = (j : ℕ) (l : Line) (o : Outcome) → j < length outcomes
+    → IsOutcome kind asked (get_or lines (worker + j * workers) l).text.now (get_or outcomes j o)
 
--- the outcomes of the areas, with the numbers of their lines
-abbrev pub AreTaken : List Area → List Answer → Type 0
-AreTaken [] [] = ⊤
-AreTaken (a ∷ areas) (x ∷ answers) = (x.line ≡ a.line.number) × (a.outcome ≡ Some x.outcome) × AreTaken areas answers
-AreTaken areas answers = ⊥
+pub record AreOutcomes (kind : Kind) (asked : ℕ) (lines : List Line) (worker workers : ℕ) (lane : Lane) : Type 0 where
+  pub own : AreOwn kind asked lines worker workers lane.outcomes.items
 
--- each area has an outcome, and these stand behind the answers before
-abbrev pub HasOutcomes : List Area → List Answer → List Answer → Type 0
-HasOutcomes areas before after = (more : List Answer) × (after ≡ before ++ more) × AreTaken areas more
+-- the lane of the line at this place has its outcome
+abbrev pub HasOutcome : List Lane → ℕ → Outcome → Type 0
+HasOutcome lanes at o = (lane : Lane) × (lane ≡ get_or lanes (at % length lanes) lane) × (at / length lanes < length lane.outcomes.items) × (o ≡ get_or lane.outcomes.items (at / length lanes) o)
+
+-- the outcomes of lines that stand at this place and behind it, with the numbers of the lines
+abbrev pub AreTaken : List Lane → ℕ → List Line → List Answer → Type 0
+AreTaken lanes at [] [] = ⊤
+AreTaken lanes at (l ∷ lines) (x ∷ answers) = (x.line ≡ l.number) × HasOutcome lanes at x.outcome × AreTaken lanes (suc at) lines answers
+AreTaken lanes at lines answers = ⊥
+
+-- each line has an outcome, and these stand behind the answers before
+abbrev pub HasOutcomes : List Lane → List Line → List Answer → List Answer → Type 0
+HasOutcomes lanes lines before after = (more : List Answer) × (after ≡ before ++ more) × AreTaken lanes 0 lines more
 
 -- a formula has this verdict, and it is no refusal
 abbrev pub ShowsVerdict : Formula → Kind → ℕ → Outcome → Type 0
@@ -56,12 +63,12 @@ ShowsVerdict f kind asked (outcomes.Lexical byte) = ⊥
 ShowsVerdict f kind asked (outcomes.Grammar byte) = ⊥
 ShowsVerdict f kind asked (outcomes.Nodes count) = ⊥
 
--- before a group is decided: the lines before it are answered, the group has the next ones, and nothing is left behind an empty
--- group. The numbers of lines and of pieces are small
-pub record IsUnderWay (kind : Kind) (asked : ℕ) (text : List ℕ) (answers : List Answer) (group : List Area) (number : ℕ) (rest : List ℕ) : Type 0 where
+-- before some lines are decided: those before them are answered, these are the next ones, and nothing is left where there is none. The
+-- numbers of lines and of pieces are small
+pub record IsUnderWay (kind : Kind) (asked : ℕ) (text : List ℕ) (answers : List Answer) (next : List Line) (number : ℕ) (rest : List ℕ) : Type 0 where
   pub done : List FormulaLine
   pub answered : AreAnswered kind asked done answers
-  pub lines : Continues 1 text number rest (done ++ lines_in group)
-  pub all : group ≡ [] → rest ≡ []
+  pub lines : Continues 1 text number rest (done ++ lines_of next)
+  pub all : next ≡ [] → rest ≡ []
   pub room : number + length rest ≤ 16777217
-  pub pieces : length answers + length group + 1 ≤ number
+  pub pieces : length answers + length next + 1 ≤ number

@@ -1,8 +1,9 @@
-// Groups of as many consecutive formula lines as there are workers. Each line of a group is decided in an
-// area of its own, by a worker of its own, and the answers are taken in the order of the lines.
+// Groups of as many consecutive formula lines as there are workers, whose lines are decided side by side. A worker goes
+// from its line of one group to that of the next and waits for nobody, so threads are made once for many groups. The answers are
+// taken in the order of the lines.
 ghost use Rattle.std.specs.Prelude.{◌≡◌, ℕ, ◌+◌, ◌^◌, ◌<◌, ◌≤◌, [], length, IfOk, OnOk, slice_index_or};
 ghost use Rattle.batch_run.specs.Outcomes.{AreAnswers};
-ghost use Rattle.batch_run.specs.Grouping.{Passes, HasOutcomes, IsDone, end_of, lines_in};
+ghost use Rattle.batch_run.specs.Grouping.{Passes, AreOutcomes, HasOutcomes, end_of, lines_of};
 
 use crate::answer::{Answer, Outcome};
 use crate::deciding::outcome;
@@ -13,12 +14,13 @@ use std::alloc::{AllocError, Global};
 use std::thread;
 use std::thread::Threads;
 
-/// What one worker works on, and what it answers.
+/// How many groups are decided before the answers are taken.
+const GROUPS: u32 = 64;
+
+/// What is said of the lines of one worker, one of each group. There are fewer where there is no memory.
 #[derive(Drop)]
-struct Area<'t> {
-    line: Line<'t>,
-    /// None before the line is decided, and where there is no memory to decide it.
-    outcome: Option<Outcome>,
+struct Lane {
+    outcomes: Vec<Outcome>,
 }
 
 /// The answers to the formula lines of a text of at most 16,777,216 bytes, in order. Each line is a piece,
@@ -39,99 +41,150 @@ pub fn answers<R: Threads + Sync, G: Gate + Sync>(
     requires few { workers ≤ 16 }
     ensures { IfOk result (λ found. AreAnswers kind asked text.now found.items) }
 {
-    let mut group = Vec::with_capacity(alloc, workers as usize)?;
+    let most = workers * GROUPS;
+    let mut lanes = lanes(alloc, workers)?;
+    let mut lines = Vec::with_capacity(alloc, most as usize)?;
     let mut answers = Vec::new(alloc);
     let mut rest = Rest { text, number: 1 };
-    fill(&mut group, &mut rest, workers)?;
-    'groups: while !group.is_empty() {
-        decide_group(
+    fill(&mut lines, &mut rest, most)?;
+    'groups: while !lines.is_empty() {
+        decide_groups(
             rt,
             alloc,
-            &mut group,
+            &lines,
             kind,
             asked,
             answers.len() as u32,
             gate,
+            &mut lanes,
+            workers as usize,
         );
-        collect(&group, &mut answers)?;
-        fill(&mut group, &mut rest, workers)?;
+        collect(&lines, &lanes, &mut answers)?;
+        fill(&mut lines, &mut rest, most)?;
     }
     Ok(answers)
 }
 
-/// Takes the next formula lines, as many as there are workers, or all that are left.
-fn fill<'t>(group: &mut Vec<Area<'t>>, rest: &mut Rest<'t>, workers: u32) -> Result<(), AllocError>
-    requires some { 1 ≤ workers }
-    requires small { end_of rest.old < 2 ^ 32 }
-    ensures lines { OnOk result (Passes rest.old rest.new (lines_in group.new.items)) }
-    ensures all { OnOk result (group.new.items ≡ [] → rest.new.text.now ≡ []) }
-    ensures room { end_of rest.new ≤ end_of rest.old }
-    ensures pieces { OnOk result (length group.new.items + rest.old.number ≤ rest.new.number) }
+/// A lane for each worker, with room for a line of each group.
+fn lanes(alloc: Global, workers: u32) -> Result<Vec<Lane>, AllocError>
+    ensures { IfOk result (λ lanes. length lanes.items ≡ workers) }
 {
-    group.clear();
-    'lines: for _worker in 0..workers {
+    let mut lanes = Vec::with_capacity(alloc, workers as usize)?;
+    'workers: for _worker in 0..workers {
+        lanes.push(Lane {
+            outcomes: Vec::with_capacity(alloc, GROUPS as usize)?,
+        })?;
+    }
+    Ok(lanes)
+}
+
+/// Takes the next formula lines, so many at most, or all that are left.
+fn fill<'t>(lines: &mut Vec<Line<'t>>, rest: &mut Rest<'t>, most: u32) -> Result<(), AllocError>
+    requires some { 1 ≤ most }
+    requires small { end_of rest.old < 2 ^ 32 }
+    ensures lines { OnOk result (Passes rest.old rest.new (lines_of lines.new.items)) }
+    ensures all { OnOk result (lines.new.items ≡ [] → rest.new.text.now ≡ []) }
+    ensures room { end_of rest.new ≤ end_of rest.old }
+    ensures pieces { OnOk result (length lines.new.items + rest.old.number ≤ rest.new.number) }
+{
+    lines.clear();
+    'places: for _place in 0..most {
         match rest.next_formula() {
-            Some(line) => group.push(Area {
-                line,
-                outcome: None,
-            })?,
+            Some(line) => lines.push(line)?,
             None => return Ok(()),
         }
     }
     Ok(())
 }
 
-/// Decides each line of the group, in a thread of its own where one can be made. The pieces are numbered from
-/// `first`.
-fn decide_group<R: Threads + Sync, G: Gate + Sync>(
+/// Decides the lines, each worker in a thread of its own where one can be made. The pieces are numbered from `first`.
+fn decide_groups<R: Threads + Sync, G: Gate + Sync>(
     rt: &R,
     alloc: Global,
-    group: &mut Vec<Area<'_>>,
+    lines: &Vec<Line<'_>>,
     kind: Kind,
     asked: u32,
     first: u32,
     gate: &G,
+    lanes: &mut Vec<Lane>,
+    workers: usize,
 )
-    requires some { 1 ≤ length group.old.items }
+    requires lanes { length lanes.old.items ≡ workers }
+    requires some { 1 ≤ workers }
+    requires few { workers ≤ 16 }
     requires asked { asked ≤ 1000 }
-    requires pieces { first + length group.old.items < 2 ^ 32 }
-    ensures count { length group.new.items ≡ length group.old.items }
-    ensures done { (i : ℕ) (d : _) → i < length group.old.items →
-        IsDone kind asked (slice_index_or group.old.items i d) (slice_index_or group.new.items i d) }
+    requires pieces { first + length lines.now.items < 2 ^ 32 }
+    ensures count { length lanes.new.items ≡ length lanes.old.items }
+    ensures done { (worker : ℕ) (d : _) → worker < length lanes.old.items → AreOutcomes kind asked
+        lines.now.items worker workers (slice_index_or lanes.new.items worker d) }
 {
-    let workers = group.len();
     thread::for_each_mut(
         rt,
-        group.as_mut_slice(),
+        lanes.as_mut_slice(),
         workers,
-        &|place, area| { decide(alloc, area, first + place as u32, kind, asked, gate) },
+        &|worker, lane| {
+            decide_lane(
+                alloc, lines, worker, workers, kind, asked, first, gate, lane,
+            )
+        },
     );
 }
 
-/// Decides the line of an area.
-fn decide<G: Gate>(alloc: Global, area: &mut Area<'_>, piece: u32, kind: Kind, asked: u32, gate: &G)
-    requires { asked ≤ 1000 }
-    ensures { IsDone kind asked area.old area.new }
+/// Decides the lines of one worker: that of its own number, counted from 0, and then one of each further group, as
+/// far as memory reaches.
+fn decide_lane<G: Gate>(
+    alloc: Global,
+    lines: &Vec<Line<'_>>,
+    worker: usize,
+    workers: usize,
+    kind: Kind,
+    asked: u32,
+    first: u32,
+    gate: &G,
+    lane: &mut Lane,
+)
+    requires some { 1 ≤ workers }
+    requires few { workers ≤ 16 }
+    requires asked { asked ≤ 1000 }
+    requires pieces { first + length lines.now.items < 2 ^ 32 }
+    ensures { AreOutcomes kind asked lines.now.items worker workers lane.new }
 {
-    gate.begin(piece);
-    area.outcome = match outcome(alloc, area.line.text, kind, asked) {
-        Ok(outcome) => Some(outcome),
-        Err(_) => None,
-    };
+    lane.outcomes.clear();
+    let mut index = worker;
+    'own: while index < lines.len() {
+        gate.begin(first + index as u32);
+        let Ok(outcome) = outcome(alloc, lines[index].text, kind, asked) else {
+            return;
+        };
+        match lane.outcomes.push(outcome) {
+            Ok(()) => index += workers,
+            Err(_) => {
+                lane.outcomes.clear();
+                return;
+            }
+        }
+    }
 }
 
-/// Takes the answers of the group.
-fn collect(group: &Vec<Area<'_>>, answers: &mut Vec<Answer>) -> Result<(), AllocError>
-    ensures { OnOk result (HasOutcomes group.now.items answers.old.items answers.new.items) }
+/// Takes the answers to the lines.
+fn collect(
+    lines: &Vec<Line<'_>>,
+    lanes: &Vec<Lane>,
+    answers: &mut Vec<Answer>,
+) -> Result<(), AllocError>
+    requires { 1 ≤ length lanes.now.items }
+    ensures { OnOk result (HasOutcomes lanes.now.items lines.now.items answers.old.items answers.new.items) }
 {
-    'areas: for index in 0..group.len() {
-        let area = &group[index];
-        let Some(outcome) = area.outcome else {
+    let workers = lanes.len();
+    'places: for index in 0..lines.len() {
+        let outcomes = &lanes[index % workers].outcomes;
+        let group = index / workers;
+        if group >= outcomes.len() {
             return Err(AllocError);
-        };
+        }
         answers.push(Answer {
-            line: area.line.number,
-            outcome,
+            line: lines[index].number,
+            outcome: outcomes[group],
         })?;
     }
     Ok(())
