@@ -1,0 +1,16 @@
+//! Laws of cores. Each function is empty: its contract is the law, and a proof cites it by a call.
+ghost use Rattle.core_extract.specs.Laws.{TestsAreOne, CoreIsOne, CoreIsRefuted, CoreHasNoTrace, CoreIsLeast, CoreIsApart};
+
+/// A formula has one core at most.
+pub fn core_is_one()
+    ensures test { TestsAreOne }
+    ensures core { CoreIsOne }
+{}
+
+/// The core of a refuted formula is refuted and has no trace, and with one kept occurrence more replaced it is refuted no more.
+pub fn core_is_least()
+    ensures refuted { CoreIsRefuted }
+    ensures no_trace { CoreHasNoTrace }
+    ensures least { CoreIsLeast }
+    ensures apart { CoreIsApart }
+{}

@@ -1,0 +1,14 @@
+//! Unsatisfiable cores: which parts of a formula conflict.
+#![tactic(auto)]
+
+mod extracting;
+pub mod laws;
+mod passing;
+mod present;
+mod task;
+mod testing;
+#[cfg(test)]
+mod tests;
+
+pub use extracting::core;
+pub use testing::is_refuted;
