@@ -64,6 +64,15 @@ impl Values {
         Values { rows }
     }
 
+    /// At how many positions, from 0, the formula under the node has a value: at none where it is
+    /// not under the root.
+    pub fn positions(&self, node: u32) -> usize
+        requires { node < length self.now }
+        ensures { result ≡ length (row_at self.now node) }
+    {
+        self.rows[node as usize].cells().len()
+    }
+
     /// Whether the formula under the node holds at the position, both from 0. It takes no memory.
     pub fn at(&self, node: u32, position: u32) -> bool
         requires { position < length (row_at self.now node) }

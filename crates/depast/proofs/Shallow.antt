@@ -1,0 +1,101 @@
+-- What the names of a formula stand for is nested no deeper than the formula.
+use Rattle.std.proofs.Common.{ℕ, zero, suc, ◌+◌, ◌<◌, ◌≤◌, max, arith, false, List, [], ◌∷◌, ◌++◌, slice_index_or}
+use Rattle.std.specs.Prelude.{⊤}
+use Rattle.ltl_syntax.specs.declared.node.UnaryOp.{UnaryOp}
+use Rattle.ltl_syntax.specs.declared.node.BinaryOp.{BinaryOp}
+use Rattle.ltl_syntax.specs.declared.node.UnaryOp.TheVariants.{Always, AlwaysIn, Eventually, EventuallyIn, Historically, HistoricallyIn, Next, NextTimes, Not, Once, OnceIn, WeakNext, WeakYesterday, Yesterday, YesterdayTimes}
+use Rattle.ltl_syntax.specs.declared.node.BinaryOp.TheVariants.{And, Iff, Implies, Or, Release, Since, StrongRelease, Trigger, Until, WeakUntil}
+use Rattle.ltl_syntax.specs.Formula.{Formula, Const, Letter, Unary, Binary}
+use Rattle.ltl_word.specs.Depth.{past_depth}
+use Rattle.depast.specs.Lifting.{counted, meanings, meanings₁, meanings₂}
+
+abbrev AreShallow : ℕ → List Formula → Type 0
+AreShallow h [] = ⊤
+AreShallow h (x ∷ xs) = (past_depth x ≤ h) × AreShallow h xs
+
+shallow_append : (h : ℕ) (xs ys : List Formula) → AreShallow h xs → AreShallow h ys → AreShallow h (xs ++ ys)
+shallow_append h [] ys a b = b
+shallow_append h (x ∷ xs) ys a b = (a.0, shallow_append h xs ys a.1 b)
+
+shallow_more : (g h : ℕ) → g ≤ h → (xs : List Formula) → AreShallow g xs → AreShallow h xs
+shallow_more g h le [] a = tt
+shallow_more g h le (x ∷ xs) a = let d = a.0 in (omega arith, shallow_more g h le xs a.1)
+
+shallow_counted : (h : ℕ) (g : ℕ → Formula) (n : ℕ) → ((j : ℕ) → j < n → past_depth (g (suc j)) ≤ h) → AreShallow h (counted g n)
+shallow_counted h g zero k = tt
+shallow_counted h g (suc n) k = shallow_append h (counted g n) (g (suc n) ∷ []) (shallow_counted h g n (λ j lt. k j (omega arith))) (k n (omega arith), tt)
+
+shallow₁ : (op : UnaryOp) (a : Formula) → AreShallow (past_depth (Unary op a)) (meanings₁ op a)
+shallow₁ Not a = tt
+shallow₁ Next a = tt
+shallow₁ WeakNext a = tt
+shallow₁ Eventually a = tt
+shallow₁ Always a = tt
+shallow₁ Yesterday a = (omega arith, tt)
+shallow₁ WeakYesterday a = (omega arith, tt)
+shallow₁ Once a = (omega arith, tt)
+shallow₁ Historically a = (omega arith, tt)
+shallow₁ (NextTimes n) a = tt
+shallow₁ (YesterdayTimes n) a = shallow_counted (n + past_depth a) (λ m. Unary (YesterdayTimes m) a) n (λ j lt. omega arith)
+shallow₁ (EventuallyIn m n) a = tt
+shallow₁ (AlwaysIn m n) a = tt
+shallow₁ (OnceIn m n) a = shallow_counted (n + past_depth a) (λ k. Unary (YesterdayTimes k) a) n (λ j lt. omega arith)
+shallow₁ (HistoricallyIn m n) a = shallow_counted (n + past_depth a) (λ k. Unary (HistoricallyIn k k) a) n (λ j lt. omega arith)
+
+shallow₂ : (op : BinaryOp) (a b : Formula) → AreShallow (past_depth (Binary op a b)) (meanings₂ op a b)
+shallow₂ And a b = tt
+shallow₂ Or a b = tt
+shallow₂ Implies a b = tt
+shallow₂ Iff a b = tt
+shallow₂ Until a b = tt
+shallow₂ Release a b = tt
+shallow₂ WeakUntil a b = tt
+shallow₂ StrongRelease a b = tt
+shallow₂ Since a b = (omega arith, tt)
+shallow₂ Trigger a b = (omega arith, tt)
+
+deeper₁ : (op : UnaryOp) (a : Formula) → past_depth a ≤ past_depth (Unary op a)
+deeper₁ Not a = omega arith
+deeper₁ Next a = omega arith
+deeper₁ WeakNext a = omega arith
+deeper₁ Eventually a = omega arith
+deeper₁ Always a = omega arith
+deeper₁ Yesterday a = omega arith
+deeper₁ WeakYesterday a = omega arith
+deeper₁ Once a = omega arith
+deeper₁ Historically a = omega arith
+deeper₁ (NextTimes n) a = omega arith
+deeper₁ (YesterdayTimes n) a = omega arith
+deeper₁ (EventuallyIn m n) a = omega arith
+deeper₁ (AlwaysIn m n) a = omega arith
+deeper₁ (OnceIn m n) a = omega arith
+deeper₁ (HistoricallyIn m n) a = omega arith
+
+deeper₂ : (op : BinaryOp) (a b : Formula) → max (past_depth a) (past_depth b) ≤ past_depth (Binary op a b)
+deeper₂ And a b = omega arith
+deeper₂ Or a b = omega arith
+deeper₂ Implies a b = omega arith
+deeper₂ Iff a b = omega arith
+deeper₂ Until a b = omega arith
+deeper₂ Release a b = omega arith
+deeper₂ WeakUntil a b = omega arith
+deeper₂ StrongRelease a b = omega arith
+deeper₂ Since a b = omega arith
+deeper₂ Trigger a b = omega arith
+
+shallow : (f : Formula) → AreShallow (past_depth f) (meanings f)
+shallow (Const b) = tt
+shallow (Letter p) = tt
+shallow (Unary op a) = shallow_append (past_depth (Unary op a)) (meanings a) (meanings₁ op a) (shallow_more (past_depth a) (past_depth (Unary op a)) (deeper₁ op a) (meanings a) (shallow a)) (shallow₁ op a)
+shallow (Binary op a b) =
+    let d = deeper₂ op a b in
+    shallow_append (past_depth (Binary op a b)) (meanings a) (meanings b ++ meanings₂ op a b) (shallow_more (past_depth a) (past_depth (Binary op a b)) (omega arith) (meanings a) (shallow a))
+    (shallow_append (past_depth (Binary op a b)) (meanings b) (meanings₂ op a b) (shallow_more (past_depth b) (past_depth (Binary op a b)) (omega arith) (meanings b) (shallow b)) (shallow₂ op a b))
+
+shallow_at : (h : ℕ) (xs : List Formula) (k : ℕ) → AreShallow h xs → past_depth (slice_index_or xs k (Const false)) ≤ h
+shallow_at h [] k a = omega arith
+shallow_at h (x ∷ xs) zero a = a.0
+shallow_at h (x ∷ xs) (suc k) a = shallow_at h xs k a.1
+
+pub meaning_shallow : (f : Formula) (k : ℕ) → past_depth (slice_index_or (meanings f) k (Const false)) ≤ past_depth f
+meaning_shallow f k = shallow_at (past_depth f) (meanings f) k (shallow f)

@@ -1,0 +1,14 @@
+pub mod Names
+pub mod Depast
+pub mod Lifting
+pub mod Future
+pub mod Laws
+pub mod Rows
+pub mod Postorder
+pub mod Symbols
+pub mod Writing
+pub mod Building
+pub mod Counting
+pub mod Removal
+pub mod States
+pub mod Sources
