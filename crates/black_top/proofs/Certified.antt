@@ -9,11 +9,11 @@ use Rattle.cert_check.specs.Answer.{Verified}
 use Rattle.cert_check.specs.Lawful.{CertOk, IsLawfulAt}
 use Rattle.black_top.specs.Answer.{Answer, unsat, checked}
 use Rattle.black_top.specs.Reading.{IsParted, accepted}
-use Rattle.black_top.specs.Solve.{Certifies, IsDecided, satisfiable, unsatisfiable, undecided_yet, IsSettled, too_deep, decided, IsSolved, unreadable, settled}
+use Rattle.black_top.specs.Solve.{number_of, Certifies, IsDecided, satisfiable, unsatisfiable, undecided_yet, IsSettled, too_deep, decided, IsSolved, unreadable, settled}
 use Rattle.black_top.specs.Check.{IsChecked, with_certificate, IsVerified}
 use Rattle.black_top.proofs.Unseparated.{joined_cut}
 
-verified_behind : (kind : Kind) (f : Formula) (part text : List ℕ) → IsAccepted part f → CertOk f kind text → IsParted (IsChecked kind) (with_certificate part text) (checked verdicts.Verified)
+pub verified_behind : (kind : Kind) (f : Formula) (part text : List ℕ) → IsAccepted part f → CertOk f kind text → IsParted (IsChecked kind) (with_certificate part text) (checked verdicts.Verified)
 verified_behind kind f part text read ok =
     accepted part text f (checked verdicts.Verified) (joined_cut part text read.reads.tokens read.reads.lexed) read (record { found = Verified; is = ok; shown = refl })
 
@@ -40,22 +40,22 @@ lawful_text items (Ok x) f kind k text lawful e = subst (IsLawfulAt f kind k) (s
 lawful_text items (Err e) f kind k text lawful h = tt
 
 -- an answer that is UNSAT with a certificate
-same_certificate : (j k : ℕ) (one : Option (List ℕ)) (text : List ℕ) → unsat j one ≡ unsat k (Some text) → one ≡ Some text
-same_certificate j k one text e = cc
+same_certificate : (j k : ℕ) (core other one : Option (List ℕ)) (text : List ℕ) → unsat j core one ≡ unsat k other (Some text) → one ≡ Some text
+same_certificate j k core other one text e = cc
 
-decided_verifies : (f : Formula) (kind : Kind) (limit : ℕ) (cert : Bool) (part : List ℕ) (depth : ℕ) (text : List ℕ) (a : Answer) → IsAccepted part f → IsDecided f kind limit cert a → a ≡ unsat depth (Some text)
+decided_verifies : (f : Formula) (kind : Kind) (asked limit : ℕ) (core cert : Bool) (part : List ℕ) (depth : ℕ) (shown : Option (List ℕ)) (text : List ℕ) (a : Answer) → IsAccepted part f → IsDecided f kind asked limit core cert a → a ≡ unsat depth shown (Some text)
     → IsVerified kind part (Some text)
-decided_verifies f kind limit cert part depth text a read (unsatisfiable k certificate h certifies) e =
-    subst (IsVerified kind part) (same_certificate k depth certificate text e) (certificate_verified cert f kind k part certificate read certifies)
-decided_verifies f kind limit cert part depth text a read (satisfiable k t h r) e = absurd (cc)
-decided_verifies f kind limit cert part depth text a read (undecided_yet k h) e = absurd (cc)
+decided_verifies f kind asked limit core cert part depth shown text a read (unsatisfiable k conflict certificate h is certifies) e =
+    subst (IsVerified kind part) (same_certificate k depth conflict shown certificate text e) (certificate_verified cert f kind k part certificate read certifies)
+decided_verifies f kind asked limit core cert part depth shown text a read (satisfiable k t h r) e = absurd (cc)
+decided_verifies f kind asked limit core cert part depth shown text a read (undecided_yet k h) e = absurd (cc)
 
-settled_verifies : (kind : Kind) (wanted : Option ℕ) (cert : Bool) (f : Formula) (part : List ℕ) (depth : ℕ) (text : List ℕ) (a : Answer) → IsAccepted part f → IsSettled kind wanted cert f a → a ≡ unsat depth (Some text)
+settled_verifies : (kind : Kind) (wanted : Option ℕ) (core cert : Bool) (f : Formula) (part : List ℕ) (depth : ℕ) (shown : Option (List ℕ)) (text : List ℕ) (a : Answer) → IsAccepted part f → IsSettled kind wanted core cert f a → a ≡ unsat depth shown (Some text)
     → IsVerified kind part (Some text)
-settled_verifies kind wanted cert f part depth text a read (decided limit answer force reached h) e = decided_verifies f kind limit cert part depth text a read h e
-settled_verifies kind wanted cert f part depth text a read (too_deep n limit is force less) e = absurd (cc)
+settled_verifies kind wanted core cert f part depth shown text a read (decided limit answer force reached h) e = decided_verifies f kind (number_of wanted) limit core cert part depth shown text a read h e
+settled_verifies kind wanted core cert f part depth shown text a read (too_deep n limit is force less) e = absurd (cc)
 
-pub printed_verifies : (kind : Kind) (wanted : Option ℕ) (cert : Bool) (part : List ℕ) (depth : ℕ) (text : List ℕ) (a : Answer) → IsSolved kind wanted cert part a → a ≡ unsat depth (Some text)
+pub printed_verifies : (kind : Kind) (wanted : Option ℕ) (core cert : Bool) (part : List ℕ) (depth : ℕ) (shown : Option (List ℕ)) (text : List ℕ) (a : Answer) → IsSolved kind wanted core cert part a → a ≡ unsat depth shown (Some text)
     → IsVerified kind part (Some text)
-printed_verifies kind wanted cert part depth text a (settled f answer read h) e = settled_verifies kind wanted cert f part depth text a read h e
-printed_verifies kind wanted cert part depth text a (unreadable fault h) e = absurd (cc)
+printed_verifies kind wanted core cert part depth shown text a (settled f answer read h) e = settled_verifies kind wanted core cert f part depth shown text a read h e
+printed_verifies kind wanted core cert part depth shown text a (unreadable fault h) e = absurd (cc)

@@ -9,15 +9,27 @@ pub mod Refusing
 pub mod Showing
 pub mod Settling
 pub mod Certified
+pub mod Conflicting
 pub mod Solved
 pub mod Checked
+pub mod ThreeParts
+pub mod PartSizes
+pub mod OneSystem
+pub mod Systems
+pub mod SystemSettling
+pub mod SystemDeciding
+pub mod SystemReading
 pub mod Written
 pub mod Traced
+pub mod Watched
 pub mod Joining
 pub mod RingFormula
 pub mod Summing
 pub mod Summarized
 pub mod Batched
+pub mod OneLifted
+pub mod Depasted
 pub mod OneAnswer
+pub mod Working
 pub mod Leaving
 mod RingExamples

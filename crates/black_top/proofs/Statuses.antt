@@ -20,6 +20,7 @@ fault_refuses faults.Batch = refl
 fault_refuses (faults.Lexical byte) = refl
 fault_refuses (faults.Grammar byte) = refl
 fault_refuses (faults.Nodes count) = refl
+fault_refuses (faults.PastNodes count) = refl
 fault_refuses (faults.Letters depth) = refl
 fault_refuses (faults.Cells count) = refl
 fault_refuses (faults.Certificate byte) = refl
@@ -27,6 +28,10 @@ fault_refuses faults.NotJson = refl
 fault_refuses faults.NotTrace = refl
 fault_refuses faults.EmptyLoop = refl
 fault_refuses faults.EmptyStates = refl
+fault_refuses faults.SystemStart = refl
+fault_refuses faults.SystemStep = refl
+fault_refuses faults.LooksAhead = refl
+fault_refuses (faults.State number) = refl
 
 pub not_refused : (s : Status) (fault : Fault) → is_refusal s ≡ false → s ≡ fault_status fault → ⊥
 not_refused s fault not e = let f : false ≡ true = sym not ∙ ap is_refusal e ∙ fault_refuses fault in cc

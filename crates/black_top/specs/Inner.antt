@@ -1,6 +1,7 @@
 -- What the private calls give. No public contract cites this file.
 use Rattle.std.specs.Prelude.{◌≡◌, ◌<◌, ◌≤◌, ℕ, List, ◌++◌, length, Option, Some, None}
 use Rattle.ltl_syntax.specs.Formula.{nodes_in}
+use Rattle.ltl_syntax.specs.Size.{sizes, formula_size}
 use Rattle.ltl_syntax.specs.Table.{tree_at}
 use Rattle.ltl_parser.specs.Text.{IsAccepted}
 use Rattle.black_top.specs.declared.output.Output.{Output}
@@ -16,30 +17,33 @@ use Rattle.black_top.specs.Reading.{RefusesPart, IsParted}
 use Rattle.black_top.specs.Solve.{IsSolved}
 use Rattle.black_top.specs.Trace.{IsJudged}
 use Rattle.black_top.specs.Check.{IsChecked}
+use Rattle.black_top.specs.Monitor.{IsMonitored}
 use Rattle.black_top.specs.Demo.{IsShown}
 use Rattle.black_top.specs.Batch.{IsBatched}
+use Rattle.black_top.specs.System.{IsSystemAnswer}
+use Rattle.black_top.specs.Depast.{IsDepasted}
 
 -- the numbers that the words ask for, where they do, are in their ranges. A command that is not built is not asked for
 abbrev pub IsInBounds : Asked → Type 0
-IsInBounds (asked.Solve options) = IsDepth options.depth
+IsInBounds (asked.Solve options) = IsDepth options.depth × AreWorkers options.workers
 IsInBounds (asked.Check options) = AreWorkers options.workers
 IsInBounds asked.Trace = Unit {0}
 IsInBounds (asked.Demo n) = (2 ≤ n) × (n ≤ 64)
 IsInBounds (asked.Batch options) = IsDepth options.depth × AreWorkers options.workers
-IsInBounds (asked.System options) = ⊥
-IsInBounds asked.Monitor = ⊥
-IsInBounds asked.Depast = ⊥
+IsInBounds (asked.System options) = IsDepth options.depth
+IsInBounds asked.Monitor = Unit {0}
+IsInBounds asked.Depast = Unit {0}
 
 -- the command's answer to the bytes
 abbrev pub Gives : Asked → List ℕ → Answer → Type 0
-Gives (asked.Solve options) bytes answer = IsSolved options.kind options.depth options.cert bytes answer
+Gives (asked.Solve options) bytes answer = IsSolved options.kind options.depth options.core options.cert bytes answer
 Gives (asked.Check options) bytes answer = IsParted (IsChecked options.kind) bytes answer
 Gives asked.Trace bytes answer = IsParted IsJudged bytes answer
 Gives (asked.Demo n) bytes answer = IsShown n answer
 Gives (asked.Batch options) bytes answer = IsBatched options.kind options.depth bytes answer
-Gives (asked.System options) bytes answer = ⊥
-Gives asked.Monitor bytes answer = ⊥
-Gives asked.Depast bytes answer = ⊥
+Gives (asked.System options) bytes answer = IsSystemAnswer options.depth options.cert bytes answer
+Gives asked.Monitor bytes answer = IsParted IsMonitored bytes answer
+Gives asked.Depast bytes answer = IsDepasted bytes answer
 
 -- after how many bytes the command reads no further, where it reads: `solve` knows then that the text is too long
 abbrev pub stop_after : Asked → Option ℕ
@@ -48,14 +52,14 @@ stop_after (asked.Check options) = Some 18446744073709551615
 stop_after asked.Trace = Some 18446744073709551615
 stop_after (asked.Demo n) = None
 stop_after (asked.Batch options) = Some 16777216
-stop_after (asked.System options) = None
-stop_after asked.Monitor = None
-stop_after asked.Depast = None
+stop_after (asked.System options) = Some 18446744073709551615
+stop_after asked.Monitor = Some 18446744073709551615
+stop_after asked.Depast = Some 18446744073709551615
 
 -- the text is read as a formula, of which the table has the nodes and no others, or refused
 abbrev pub IsPartReading : List ℕ → Reading → Type 0
 IsPartReading text (readings.Formula table root) =
-    (root < length table.nodes) × IsAccepted text (tree_at table root) × (length table.nodes ≡ nodes_in (tree_at table root))
+    (root < length table.nodes) × IsAccepted text (tree_at table root) × (length table.nodes ≡ nodes_in (tree_at table root)) × (sizes table.nodes ≡ formula_size (tree_at table root))
 IsPartReading text (readings.Refused fault) = RefusesPart text fault
 
 -- a separator line begins so many bytes from the start, and this stands behind it

@@ -6,8 +6,14 @@ pub mod Reading
 pub mod Solve
 pub mod Trace
 pub mod Check
+pub mod Monitor
+pub mod Conflict
 pub mod Demo
 pub mod Batch
+pub mod System
+pub mod Depast
 pub mod Ring
+pub mod SystemInner
 pub mod Inner
 pub mod Run
+pub mod Workers

@@ -3,26 +3,29 @@ use Rattle.std.specs.Prelude.{◌≡◌, ℕ, List, Option}
 use Rattle.ltl_io.specs.Outside.{Grows, GrowsByFront}
 use Rattle.report.specs.declared.fault.Fault.TheVariants as faults
 use Rattle.black_top.specs.declared.status.Status.{Status}
-use Rattle.command_words.specs.Words.{Command, Solve, Check, Trace, Demo, Batch, System, Monitor, Depast, Asks, ReadsNothing, kind_of, depth_of, cert_of}
+use Rattle.command_words.specs.Words.{Command, Solve, Check, Trace, Demo, Batch, System, Monitor, Depast, Asks, ReadsNothing, kind_of, depth_of, core_of, cert_of}
 use Rattle.black_top.specs.Taking.{AreLeft}
 use Rattle.black_top.specs.Answer.{Answer, refused, status_of, text_of}
 use Rattle.black_top.specs.Reading.{IsParted}
 use Rattle.black_top.specs.Solve.{IsSolved}
 use Rattle.black_top.specs.Trace.{IsJudged}
 use Rattle.black_top.specs.Check.{IsChecked}
+use Rattle.black_top.specs.Monitor.{IsMonitored}
 use Rattle.black_top.specs.Demo.{IsShown}
 use Rattle.black_top.specs.Batch.{IsBatched}
+use Rattle.black_top.specs.System.{IsSystemAnswer}
+use Rattle.black_top.specs.Depast.{IsDepasted}
 
 -- the answer of a command to the bytes. A command that is not built has none
 abbrev pub Answers : Command → List ℕ → Answer → Type 0
-Answers (Solve settings) bytes answer = IsSolved (kind_of settings) (depth_of settings) (cert_of settings) bytes answer
+Answers (Solve settings) bytes answer = IsSolved (kind_of settings) (depth_of settings) (core_of settings) (cert_of settings) bytes answer
 Answers (Check settings) bytes answer = IsParted (IsChecked (kind_of settings)) bytes answer
 Answers Trace bytes answer = IsParted IsJudged bytes answer
 Answers (Demo n) bytes answer = IsShown n answer
 Answers (Batch settings) bytes answer = IsBatched (kind_of settings) (depth_of settings) bytes answer
-Answers (System settings) bytes answer = ⊥
-Answers Monitor bytes answer = ⊥
-Answers Depast bytes answer = ⊥
+Answers (System settings) bytes answer = IsSystemAnswer (depth_of settings) (cert_of settings) bytes answer
+Answers Monitor bytes answer = IsParted IsMonitored bytes answer
+Answers Depast bytes answer = IsDepasted bytes answer
 
 -- the answer to these words and bytes: usage where the words ask for no command, and else the answer of the command that they
 -- ask for

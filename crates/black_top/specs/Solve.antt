@@ -16,11 +16,12 @@ use Rattle.report.specs.Texts.{sat_text, unsat_text, undecided_text}
 use Rattle.black_top.specs.declared.status.Status.{Status}
 use Rattle.black_top.specs.declared.status.Status.TheVariants as statuses
 use Rattle.black_top.specs.Status.{has_read}
-use Rattle.command_words.specs.Words.{Setting, kind_of, depth_of, cert_of}
+use Rattle.command_words.specs.Words.{Setting, kind_of, depth_of, core_of, cert_of}
 use Rattle.black_top.specs.Taking.{AreLeft, IsTakenUpTo}
 use Rattle.black_top.specs.Answer.{Answer, refused, sat, unsat, undecided, status_of, text_of}
 use Rattle.black_top.specs.Reading.{RefusesPart}
 use Rattle.black_top.specs.Check.{IsVerified}
+use Rattle.black_top.specs.Conflict.{ShowsCore, TellsConflict}
 
 -- the number up to which the limit in force is taken: the depth that was asked for, or 64
 abbrev pub number_of : Option ℕ → ℕ
@@ -37,21 +38,24 @@ abbrev pub Certifies : Bool → Formula → Kind → ℕ → Option (List ℕ) �
 Certifies false f kind k certificate = certificate ≡ None
 Certifies true f kind k certificate = (text : List ℕ) × (certificate ≡ Some text) × IsLawfulAt f kind k text
 
--- the answer is the tableau's verdict at the limit, its trace is that of an accepted run, and its certificate is lawful and of the verdict's depth
-pub data IsDecided (f : Formula) (kind : Kind) (limit : ℕ) (cert : Bool) : Answer → Type 0 where
-  satisfiable : (k : ℕ) (t : Trace) → IsVerdict f kind limit (Sat k) → IsTraceOfRun f kind k t → IsDecided f kind limit cert (sat k t)
-  unsatisfiable : (k : ℕ) (certificate : Option (List ℕ)) → IsVerdict f kind limit (Unsat k) → Certifies cert f kind k certificate → IsDecided f kind limit cert (unsat k certificate)
-  undecided_yet : (k : ℕ) → IsVerdict f kind limit (Undecided k) → IsDecided f kind limit cert (undecided k)
+-- the answer is the tableau's verdict at the limit, its trace is that of an accepted run, its core the formula's for the asked number, and its
+-- certificate is lawful and of the verdict's depth
+pub data IsDecided (f : Formula) (kind : Kind) (asked limit : ℕ) (core cert : Bool) : Answer → Type 0 where
+  satisfiable : (k : ℕ) (t : Trace) → IsVerdict f kind limit (Sat k) → IsTraceOfRun f kind k t → IsDecided f kind asked limit core cert (sat k t)
+  unsatisfiable : (k : ℕ) (conflict certificate : Option (List ℕ)) → IsVerdict f kind limit (Unsat k) → ShowsCore core f kind asked conflict
+      → Certifies cert f kind k certificate → IsDecided f kind asked limit core cert (unsat k conflict certificate)
+  undecided_yet : (k : ℕ) → IsVerdict f kind limit (Undecided k) → IsDecided f kind asked limit core cert (undecided k)
 
 -- the answer to an accepted formula: the depth that was asked for has too many letters, or the verdict at the limit in force
-pub data IsSettled (kind : Kind) (wanted : Option ℕ) (cert : Bool) (f : Formula) : Answer → Type 0 where
-  too_deep : (n limit : ℕ) → wanted ≡ Some n → IsInForce f kind n limit → limit < n → IsSettled kind wanted cert f (refused (faults.Letters limit))
-  decided : (limit : ℕ) (answer : Answer) → IsInForce f kind (number_of wanted) limit → IsReached wanted limit → IsDecided f kind limit cert answer → IsSettled kind wanted cert f answer
+pub data IsSettled (kind : Kind) (wanted : Option ℕ) (core cert : Bool) (f : Formula) : Answer → Type 0 where
+  too_deep : (n limit : ℕ) → wanted ≡ Some n → IsInForce f kind n limit → limit < n → IsSettled kind wanted core cert f (refused (faults.Letters limit))
+  decided : (limit : ℕ) (answer : Answer) → IsInForce f kind (number_of wanted) limit → IsReached wanted limit
+      → IsDecided f kind (number_of wanted) limit core cert answer → IsSettled kind wanted core cert f answer
 
 -- the answer of `solve` to the formula part: the part is refused, or the formula is accepted and its answer comes
-pub data IsSolved (kind : Kind) (wanted : Option ℕ) (cert : Bool) (part : List ℕ) : Answer → Type 0 where
-  unreadable : (fault : Fault) → RefusesPart part fault → IsSolved kind wanted cert part (refused fault)
-  settled : (f : Formula) (answer : Answer) → IsAccepted part f → IsSettled kind wanted cert f answer → IsSolved kind wanted cert part answer
+pub data IsSolved (kind : Kind) (wanted : Option ℕ) (core cert : Bool) (part : List ℕ) : Answer → Type 0 where
+  unreadable : (fault : Fault) → RefusesPart part fault → IsSolved kind wanted core cert part (refused fault)
+  settled : (f : Formula) (answer : Answer) → IsAccepted part f → IsSettled kind wanted core cert f answer → IsSolved kind wanted core cert part answer
 
 -- SAT was printed with a trace of the kind that satisfies the formula
 pub record PrintsModel (kind : Kind) (f : Formula) (before after : Option (List ℕ)) : Type 0 where
@@ -60,15 +64,17 @@ pub record PrintsModel (kind : Kind) (f : Formula) (before after : Option (List 
   pub model : IsModel f kind trace
   pub printed : Grows (sat_text depth trace) before after
 
--- UNSAT was printed, and no trace of the kind satisfies the formula. Where a certificate is asked for, one was printed that is lawful and of the
--- printed depth, and `check` verifies it behind the text of the formula
-pub record PrintsNone (kind : Kind) (cert : Bool) (part : List ℕ) (f : Formula) (before after : Option (List ℕ)) : Type 0 where
+-- UNSAT was printed, and no trace of the kind satisfies the formula. Where a core is asked for, the formula's was printed, which is locally minimal.
+-- Where a certificate is asked for, one was printed that is lawful and of the printed depth, and `check` verifies it behind the text of the formula
+pub record PrintsNone (kind : Kind) (wanted : Option ℕ) (core cert : Bool) (part : List ℕ) (f : Formula) (before after : Option (List ℕ)) : Type 0 where
   pub depth : ℕ
+  pub conflict : Option (List ℕ)
   pub certificate : Option (List ℕ)
   pub none : HasNoTrace f kind
+  pub conflicts : TellsConflict core f kind (number_of wanted) conflict
   pub certifies : Certifies cert f kind depth certificate
   pub verified : IsVerified kind part certificate
-  pub printed : Grows (unsat_text depth None certificate) before after
+  pub printed : Grows (unsat_text depth conflict certificate) before after
 
 -- UNDECIDED was printed: the verdict at the limit in force is so, and that limit is below the bound
 pub record PrintsUndecided (kind : Kind) (wanted : Option ℕ) (f : Formula) (before after : Option (List ℕ)) : Type 0 where
@@ -84,12 +90,12 @@ AreFewLetters kind (Some n) f = Fits (layout f kind) n
 AreFewLetters kind None f = Unit {0}
 
 -- the verdict at the limit in force was printed, with its status
-pub record PrintsVerdict (kind : Kind) (wanted : Option ℕ) (cert : Bool) (f : Formula) (before after : Option (List ℕ)) (status : Status) : Type 0 where
+pub record PrintsVerdict (kind : Kind) (wanted : Option ℕ) (core cert : Bool) (f : Formula) (before after : Option (List ℕ)) (status : Status) : Type 0 where
   pub limit : ℕ
   pub in_force : IsInForce f kind (number_of wanted) limit
   pub reached : IsReached wanted limit
   pub answer : Answer
-  pub decided : IsDecided f kind limit cert answer
+  pub decided : IsDecided f kind (number_of wanted) limit core cert answer
   pub own : status ≡ status_of answer
   pub printed : Grows (text_of answer) before after
 
@@ -102,13 +108,15 @@ OfFormula rest Claim = (bytes : List ℕ) × AreLeft rest bytes × (f : Formula)
 pub record SolvePromise (settings : List Setting) (IsQuiet : Type 0) (rest left before after : Option (List ℕ)) (status : Status) : Type 0 where
   -- SAT is printed only with a trace of the chosen kind that satisfies the formula
   pub when_sat : status ≡ statuses.Sat → OfFormula rest (λ part f. PrintsModel (kind_of settings) f before after)
-  -- UNSAT is printed only where no trace of the chosen kind satisfies the formula. With --cert a certificate is printed that `check` verifies
-  pub when_unsat : status ≡ statuses.Unsat → OfFormula rest (λ part f. PrintsNone (kind_of settings) (cert_of settings) part f before after)
+  -- UNSAT is printed only where no trace of the chosen kind satisfies the formula. With --core its core is printed, and with --cert a certificate
+  -- that `check` verifies
+  pub when_unsat : status ≡ statuses.Unsat
+      → OfFormula rest (λ part f. PrintsNone (kind_of settings) (depth_of settings) (core_of settings) (cert_of settings) part f before after)
   -- UNDECIDED is printed only where the tableau's verdict at the limit in force is so, and never where that limit is at least the bound
   pub when_undecided : status ≡ statuses.Undecided → OfFormula rest (λ part f. PrintsUndecided (kind_of settings) (depth_of settings) f before after)
   -- an accepted formula whose letters are few enough gets the tableau's verdict, or there was no memory
   pub verdict : (bytes : List ℕ) (f : Formula) → rest ≡ Some bytes → IsAccepted bytes f → AreFewLetters (kind_of settings) (depth_of settings) f → IsQuiet
-      → (status ≡ statuses.NoMemory) ⊎ PrintsVerdict (kind_of settings) (depth_of settings) (cert_of settings) f before after status
+      → (status ≡ statuses.NoMemory) ⊎ PrintsVerdict (kind_of settings) (depth_of settings) (core_of settings) (cert_of settings) f before after status
   -- the source is untouched past the first read that brings what was taken above the limit of a text
   pub most : LosesAtMost 1052672 rest left
   -- and it is read until then, or to its end

@@ -23,9 +23,9 @@ Takes (Check settings) before after = IsTakenWhole before after
 Takes Trace before after = IsTakenWhole before after
 Takes (Demo n) before after = after ≡ before
 Takes (Batch settings) before after = IsTakenUpTo 16777216 before after
-Takes (System settings) before after = after ≡ before
-Takes Monitor before after = after ≡ before
-Takes Depast before after = after ≡ before
+Takes (System settings) before after = IsTakenWhole before after
+Takes Monitor before after = IsTakenWhole before after
+Takes Depast before after = IsTakenWhole before after
 
 -- and what it takes at most, wherever a read fails
 abbrev pub TakesAtMost : Command → Option (List ℕ) → Option (List ℕ) → Type 0

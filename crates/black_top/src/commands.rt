@@ -5,15 +5,18 @@ ghost use Rattle.black_top.specs.Inner.{Shows, Gives, IsInBounds, stop_after};
 
 mod batch;
 mod check;
+mod conflict;
 mod demo;
+mod monitor;
+mod removal;
 mod solve;
+mod system;
 mod trace;
 
-use crate::output::{Output, refusal};
+use crate::output::Output;
 use crate::reading::MAX_TEXT;
 use command_words::Asked;
 use ltl_io::Gate;
-use report::Fault;
 use std::alloc::{AllocError, Global};
 use std::thread::Threads;
 
@@ -23,10 +26,10 @@ pub fn stop_after(asked: Asked) -> Option<usize>
 {
     match asked {
         Asked::Solve(_) => Some(MAX_TEXT),
-        Asked::Check(_) | Asked::Trace => Some(usize::MAX),
+        Asked::Check(_) | Asked::Trace | Asked::System(_) | Asked::Monitor => Some(usize::MAX),
+        Asked::Depast => Some(usize::MAX),
         Asked::Demo(_) => None,
         Asked::Batch(_) => Some(batch::MAX_BATCH),
-        Asked::System(_) | Asked::Monitor | Asked::Depast => None,
     }
 }
 
@@ -42,12 +45,13 @@ pub fn output<R: Threads + Sync, G: Gate + Sync>(
     ensures { IfOk result (λ out. (a : Answer) × Gives asked bytes.now a × Shows out a) }
 {
     match asked {
-        Asked::Solve(options) => solve::solve(alloc, options, bytes),
+        Asked::Solve(options) => solve::solve(rt, alloc, options, bytes, gate),
         Asked::Check(options) => check::check(rt, alloc, options, bytes, gate),
         Asked::Trace => trace::trace(alloc, bytes),
         Asked::Demo(number) => demo::demo(alloc, number),
         Asked::Batch(options) => batch::batch(rt, alloc, options, bytes, gate),
-        // Do not come: they are not built, so words do not ask for them.
-        Asked::System(_) | Asked::Monitor | Asked::Depast => refusal(alloc, Fault::Usage),
+        Asked::System(options) => system::system(alloc, options, bytes),
+        Asked::Monitor => monitor::monitor(alloc, bytes),
+        Asked::Depast => removal::depast(alloc, bytes),
     }
 }

@@ -1,12 +1,21 @@
 //! Laws of the definitions: the contract of each function is the law.
-ghost use Rattle.std.specs.Prelude.{◌≡◌, ℕ, List, Some};
+ghost use Rattle.std.specs.Prelude.{◌≡◌, ◌≤◌, ℕ, List, Option, Some};
 ghost use Rattle.cert_check.specs.declared.verdict.Verdict.TheVariants.{Verified};
 ghost use Rattle.command_words.specs.Words.{Setting, Solve, Check, Asks, kind_of};
 ghost use Rattle.black_top.specs.Answer.{Answer, AreAlike, unsat, checked};
 ghost use Rattle.black_top.specs.Check.{with_certificate};
 ghost use Rattle.black_top.specs.Run.{IsAnswer};
+ghost use Rattle.black_top.specs.Workers.{WorkersAreFree};
+ghost use Rattle.ltl_syntax.specs.Formula.{Formula};
+ghost use Rattle.ltl_syntax.specs.Size.{formula_size};
+ghost use Rattle.ltl_word.specs.declared.trace.Trace.{Trace};
+ghost use Rattle.ltl_word.specs.Trace.{IsTrace};
+ghost use Rattle.depast.specs.Depast.{depast};
+ghost use Rattle.depast.specs.Lifting.{IsLifted};
+ghost use Rattle.black_top.specs.Depast.{IsSound, KeepsTruth};
 
 /// Words and bytes have one answer, but for the trace that is shown with SAT and the certificate with UNSAT.
+/// The core that is shown with UNSAT is one.
 pub fn one_answer()
     ensures { (words : List (List ℕ)) (bytes : List ℕ) (a b : Answer)
         → IsAnswer words bytes a → IsAnswer words bytes b → AreAlike a b }
@@ -15,14 +24,35 @@ pub fn one_answer()
     ltl_word::laws::one_reading();
     ltl_run::laws::one_verdict();
     cert_check::laws::answers();
+    core_extract::laws::core_is_one();
     batch_run::laws::one_list();
+    past_monitor::laws::one_answer();
 }
 
 /// What `solve --cert` prints, `check` with the same kind verifies behind the text of the formula and a
 /// separator line.
 pub fn printed_certificates_verify()
     ensures { (solve check : List (List ℕ)) (asked also : List Setting) (text certificate : List ℕ)
-        (depth : ℕ) → Asks solve (Solve asked) → Asks check (Check also) → kind_of asked ≡ kind_of also
-        → IsAnswer solve text (unsat depth (Some certificate))
+        (depth : ℕ) (core : Option (List ℕ))
+        → Asks solve (Solve asked) → Asks check (Check also) → kind_of asked ≡ kind_of also
+        → IsAnswer solve text (unsat depth core (Some certificate))
         → IsAnswer check (with_certificate text certificate) (checked Verified) }
 {}
+
+/// Words that ask for the same command, and for the same of all but the workers, have the same answers.
+pub fn workers_change_no_answer()
+    ensures { WorkersAreFree }
+{}
+
+/// What `depast` prints has no past operator, and a trace of a kind exactly where the formula has one; a lifted
+/// trace keeps what is true.
+pub fn past_removed()
+    ensures sound { (f : Formula) → formula_size (depast f) ≤ 16384 → IsSound f }
+    ensures kept { (f : Formula) (t u : Trace) → IsTrace t → IsLifted f t u → KeepsTruth f t u }
+{
+    depast::laws::without_past();
+    depast::laws::few_names();
+    depast::laws::lifting();
+    depast::laws::lowering();
+    depast::laws::equisatisfiable();
+}

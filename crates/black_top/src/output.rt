@@ -1,8 +1,9 @@
 // The text and the status of each answer.
-ghost use Rattle.std.specs.Prelude.{◌≡◌, true, false, IfOk};
+ghost use Rattle.std.specs.Prelude.{◌≡◌, true, false, IfOk, Some, None};
 ghost use Rattle.std.specs.Option.{option_copied};
 ghost use Rattle.black_top.specs.Answer.{refused, sat, unsat, undecided, holds, fails, checked, summary};
-ghost use Rattle.black_top.specs.Answer.{batched, fault_status, shown_status};
+ghost use Rattle.black_top.specs.Answer.{batched, no_path, paths_hold, path_fails, watched};
+ghost use Rattle.black_top.specs.Answer.{fault_status, shown_status, are_true, watched_status};
 ghost use Rattle.black_top.specs.Inner.{Shows};
 
 use crate::Status;
@@ -29,13 +30,19 @@ pub fn sat(alloc: Global, depth: u32, trace: &Trace) -> Result<Output, AllocErro
     })
 }
 
-/// UNSAT at the depth, with the text of a certificate where one is given.
-pub fn unsat(alloc: Global, depth: u32, certificate: Option<&[u8]>) -> Result<Output, AllocError>
-    ensures { IfOk result (λ out. Shows out (unsat depth (option_copied certificate.entry))) }
+/// UNSAT at the depth, with a printed core and the text of a certificate where they are given.
+pub fn unsat(
+    alloc: Global,
+    depth: u32,
+    core: Option<&[u8]>,
+    certificate: Option<&[u8]>,
+) -> Result<Output, AllocError>
+    ensures { IfOk result (λ out. Shows out
+        (unsat depth (option_copied core.entry) (option_copied certificate.entry))) }
 {
     Ok(Output {
         status: Status::Unsat,
-        text: report::unsat(alloc, depth, None, certificate)?,
+        text: report::unsat(alloc, depth, core, certificate)?,
     })
 }
 
@@ -118,6 +125,78 @@ pub fn batched(alloc: Global, answers: &[Answer]) -> Result<Output, AllocError>
     })
 }
 
+/// NO PATH at the depth.
+pub fn no_path(alloc: Global, depth: u32) -> Result<Output, AllocError>
+    ensures { IfOk result (λ out. Shows out (no_path depth)) }
+{
+    Ok(Output {
+        status: Status::Unsat,
+        text: report::no_path(alloc, depth)?,
+    })
+}
+
+/// HOLDS at the depth.
+pub fn paths_hold(alloc: Global, depth: u32) -> Result<Output, AllocError>
+    ensures { IfOk result (λ out. Shows out (paths_hold depth None)) }
+{
+    Ok(Output {
+        status: Status::Good,
+        text: report::paths_hold(alloc, depth)?,
+    })
+}
+
+/// HOLDS at the depth, with a printed formula and the text of its certificate.
+pub fn paths_hold_by(
+    alloc: Global,
+    depth: u32,
+    formula: &[u8],
+    certificate: &[u8],
+) -> Result<Output, AllocError>
+    ensures { IfOk result (λ out. Shows out (paths_hold depth
+        (Some record { formula = formula.now; certificate = certificate.now }))) }
+{
+    Ok(Output {
+        status: Status::Good,
+        text: report::paths_hold_by(alloc, depth, formula, certificate)?,
+    })
+}
+
+/// FAILS at the depth, and the path.
+pub fn path_fails(alloc: Global, depth: u32, path: &Trace) -> Result<Output, AllocError>
+    ensures { IfOk result (λ out. Shows out (path_fails depth path.now)) }
+{
+    Ok(Output {
+        status: Status::Negative,
+        text: report::path_fails(alloc, depth, path)?,
+    })
+}
+
+/// The answers of a monitor, one a line.
+pub fn watched(alloc: Global, answers: &[bool]) -> Result<Output, AllocError>
+    ensures { IfOk result (λ out. Shows out (watched answers.now)) }
+{
+    Ok(Output {
+        status: watched_status(answers),
+        text: report::answers(alloc, answers)?,
+    })
+}
+
+fn watched_status(answers: &[bool]) -> Status
+    ensures { result ≡ watched_status answers.now }
+{
+    if are_true(answers) {
+        Status::Good
+    } else {
+        Status::Negative
+    }
+}
+
+fn are_true(answers: &[bool]) -> bool
+    ensures { result ≡ are_true answers.now }
+{
+    answers.iter().all(|answer| *answer)
+}
+
 /// A refusal with its line, or the usage.
 pub fn refusal(alloc: Global, fault: Fault) -> Result<Output, AllocError>
     ensures { IfOk result (λ out. Shows out (refused fault)) }
@@ -135,6 +214,7 @@ fn fault_status(fault: Fault) -> Status
         Fault::Usage => Status::Usage,
         Fault::Text | Fault::Batch | Fault::Nodes(_) | Fault::Letters(_) | Fault::Cells(_) =>
             Status::Limit,
+        Fault::PastNodes(_) => Status::Limit,
         Fault::NoSeparator
         | Fault::Lexical(_)
         | Fault::Grammar(_)
@@ -142,6 +222,10 @@ fn fault_status(fault: Fault) -> Status
         | Fault::NotJson
         | Fault::NotTrace
         | Fault::EmptyLoop
-        | Fault::EmptyStates => Status::Text,
+        | Fault::EmptyStates
+        | Fault::SystemStart
+        | Fault::SystemStep
+        | Fault::LooksAhead
+        | Fault::State(_) => Status::Text,
     }
 }

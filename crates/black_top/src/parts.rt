@@ -3,6 +3,8 @@
 ghost use Rattle.std.specs.Prelude.{◌≤◌, List, ℕ, length, MatchOption};
 ghost use Rattle.black_top.specs.Parts.{BeginsLine, IsCut, HasNoSeparator};
 ghost use Rattle.black_top.specs.Inner.{OpensSecond, OpensNothing};
+ghost use Rattle.black_top.specs.System.{HasFewSeparators};
+ghost use Rattle.black_top.specs.SystemInner.{AreCut};
 
 /// What stands before the separator line, without the one newline right before it, and what stands behind its
 /// newline.
@@ -26,6 +28,35 @@ pub fn cut(bytes: &[u8]) -> Option<Parts<'_>>
         }
     }
     None
+}
+
+/// The parts of an input with two separator lines, and the places at which the second and the third begin.
+#[derive(Clone, Copy)]
+pub struct ThreeParts<'a> {
+    pub start: &'a [u8],
+    pub step: &'a [u8],
+    pub step_place: usize,
+    pub goal: &'a [u8],
+    pub goal_place: usize,
+}
+
+/// The three parts of an input with two separator lines: what stands behind the first one is cut once more.
+pub fn cut_twice(bytes: &[u8]) -> Option<ThreeParts<'_>>
+    ensures { MatchOption result (HasFewSeparators bytes.now) (AreCut bytes.now) }
+{
+    let Some(first) = cut(bytes) else {
+        return None;
+    };
+    let Some(second) = cut(first.second) else {
+        return None;
+    };
+    Some(ThreeParts {
+        start: first.formula,
+        step: second.formula,
+        step_place: bytes.len() - first.second.len(),
+        goal: second.second,
+        goal_place: bytes.len() - second.second.len(),
+    })
 }
 
 /// What stands behind the separator line that begins at this byte, where one does.

@@ -5,7 +5,8 @@ ghost use Rattle.black_top.specs.Status.{code_of};
 /// What `run` answers.
 #[derive(Clone, Copy, Debug, PartialEq, Eq)]
 pub enum Status {
-    /// VERIFIED or HOLDS was printed, or a batch in which each line has a verdict.
+    /// VERIFIED or HOLDS was printed, a batch in which each line has a verdict, or a formula without past
+    /// operators.
     Good,
     /// REJECTED or FAILS was printed.
     Negative,

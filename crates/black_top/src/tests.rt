@@ -8,10 +8,14 @@ use std::thread::Threads;
 
 mod batches;
 mod certificates;
+mod cores;
+mod depasts;
 mod meeting;
+mod monitors;
+mod systems;
 
 const USAGE: &[u8] =
-    b"usage: black solve [--finite] [--depth N] [--cert] [--core] [--workers N]\nusage: black check [--finite] [--workers N]\nusage: black trace\nusage: black demo N\nusage: black batch [--finite] [--depth N] [--workers N]\n";
+    b"usage: black solve [--finite] [--depth N] [--cert] [--core] [--workers N]\nusage: black check [--finite] [--workers N]\nusage: black trace\nusage: black demo N\nusage: black batch [--finite] [--depth N] [--workers N]\nusage: black system [--depth N] [--cert]\nusage: black monitor\nusage: black depast\n";
 
 const RECURRING: &[u8] = b"G F p & G !p";
 
@@ -226,8 +230,8 @@ fn refused_words(rt: HostRuntime) -> Result<(), Fail> {
         "solve --depth=1 --depth 2",
         "solve --finite --finite",
         "solve --dep 3",
-        "solve --core",
-        "solve --workers 2",
+        "solve --core --core",
+        "solve --workers 17",
         "solve --cert --cert",
         "solve p",
         "trace --finite",
@@ -236,8 +240,8 @@ fn refused_words(rt: HostRuntime) -> Result<(), Fail> {
         "check --workers 0",
         "check --workers 17",
         "check --workers=001",
-        "system",
         "batch --cert",
+        "monitor --finite",
         "demo",
         "demo 1",
         "demo 65",

@@ -3,13 +3,17 @@ ghost use Rattle.std.specs.Prelude.{◌≡◌, ◌⊎◌, ◌<◌, ℕ, List, ma
 ghost use Rattle.ltl_io.specs.Count.{Rose};
 ghost use Rattle.black_top.specs.declared.status.Status.TheVariants as statuses;
 ghost use Rattle.black_top.specs.Status.{is_answer};
-ghost use Rattle.command_words.specs.Words.{Setting, Solve, Check, Trace as TraceWord, Demo, Batch, Asks};
+ghost use Rattle.command_words.specs.Words.{Setting, Solve, Check, Trace as TraceWord, Demo, Batch};
+ghost use Rattle.command_words.specs.Words.{System, Monitor, Depast, Asks};
 ghost use Rattle.black_top.specs.Run.{IsAnswered, IsCutOff, NeedsNothing};
 ghost use Rattle.black_top.specs.Solve.{SolvePromise};
 ghost use Rattle.black_top.specs.Check.{CheckPromise};
 ghost use Rattle.black_top.specs.Trace.{TracePromise};
 ghost use Rattle.black_top.specs.Demo.{DemoPromise};
 ghost use Rattle.black_top.specs.Batch.{BatchPromise};
+ghost use Rattle.black_top.specs.System.{SystemPromise};
+ghost use Rattle.black_top.specs.Monitor.{MonitorPromise};
+ghost use Rattle.black_top.specs.Depast.{DepastPromise};
 
 use crate::Status;
 use crate::answer::answer;
@@ -61,6 +65,11 @@ pub fn run<R: Threads + Sync, S: Source, K: Sink, G: Gate + Sync>(
     ensures trace { Asks (map string_bytes words.now) TraceWord
         → TracePromise (S.rest source.old) (S.rest source.new)
         (K.content sink.old) (K.content sink.new) result }
+    ensures system { (settings : List Setting) → Asks (map string_bytes words.now) (System settings)
+        → SystemPromise settings
+        (¬ (Rose (S.faults source.old) (S.faults source.new))
+        × ¬ (Rose (K.faults sink.old) (K.faults sink.new)))
+        (S.rest source.old) (S.rest source.new) (K.content sink.old) (K.content sink.new) result }
     ensures demo { (number : ℕ) → Asks (map string_bytes words.now) (Demo number)
         → DemoPromise number
         (¬ (Rose (S.faults source.old) (S.faults source.new))
@@ -71,13 +80,21 @@ pub fn run<R: Threads + Sync, S: Source, K: Sink, G: Gate + Sync>(
         (¬ (Rose (S.faults source.old) (S.faults source.new))
         × ¬ (Rose (K.faults sink.old) (K.faults sink.new)))
         (S.rest source.old) (S.rest source.new) (K.content sink.old) (K.content sink.new) result }
+    ensures monitor { Asks (map string_bytes words.now) Monitor
+        → MonitorPromise (S.rest source.old) (S.rest source.new)
+        (K.content sink.old) (K.content sink.new) result }
+    ensures depast { Asks (map string_bytes words.now) Depast
+        → DepastPromise (S.rest source.old) (S.rest source.new)
+        (K.content sink.old) (K.content sink.new) result }
 {
     ltl_parser::laws::one_outcome();
     ltl_run::laws::run_satisfies();
     ltl_run::laws::unsatisfiable();
     ltl_run::laws::bounded();
+    core_extract::laws::core_is_least();
     cert_check::laws::certified();
     cert_check::laws::answers();
+    crate::laws::past_removed();
     match answer(rt, alloc, words, source, gate) {
         Err(ReadRefused::Fault) => Status::ReadFault,
         Err(ReadRefused::NoMemory) => Status::NoMemory,

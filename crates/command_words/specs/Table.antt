@@ -42,15 +42,11 @@ option_word option = (option_row option).word
 abbrev pub ready : OptionName → Offer
 ready option = record { option = option; built = true }
 
--- an option that is not built yet
-abbrev pub planned : OptionName → Offer
-planned option = record { option = option; built = false }
-
 -- whether a formula has a trace
 abbrev pub solve_command : CommandRow
 solve_command = record {
   word = codes "solve";
-  options = ready names.Finite ∷ ready names.Depth ∷ ready names.Cert ∷ planned names.Core ∷ planned names.Workers ∷ [];
+  options = ready names.Finite ∷ ready names.Depth ∷ ready names.Cert ∷ ready names.Core ∷ ready names.Workers ∷ [];
   number = None;
   reads = true;
   built = true;
@@ -97,16 +93,16 @@ system_command = record {
   options = ready names.Depth ∷ ready names.Cert ∷ [];
   number = None;
   reads = true;
-  built = false;
+  built = true;
 }
 
 -- where a formula about the past holds, state by state
 abbrev pub monitor_command : CommandRow
-monitor_command = record { word = codes "monitor"; options = []; number = None; reads = true; built = false }
+monitor_command = record { word = codes "monitor"; options = []; number = None; reads = true; built = true }
 
 -- a formula without operators of the past
 abbrev pub depast_command : CommandRow
-depast_command = record { word = codes "depast"; options = []; number = None; reads = true; built = false }
+depast_command = record { word = codes "depast"; options = []; number = None; reads = true; built = true }
 
 -- the row of each command
 abbrev pub command_row : CommandName → CommandRow

@@ -4,8 +4,8 @@ ghost use Rattle.command_words.specs.Usage.{usage_text};
 
 use std::alloc::{AllocError, Global};
 
-/// The usage lines: those of `solve`, `check`, `trace` and `demo`, with what is not built yet of their
-/// options, and behind them those of the other commands that are built.
+/// The usage lines: those of `solve`, `check`, `trace` and `demo`, and behind them those of the other commands
+/// that are built.
 pub fn usage(alloc: Global) -> Result<Vec<u8>, AllocError>
     ensures { IfOk result (λ text. text.items ≡ usage_text) }
 {
@@ -17,5 +17,8 @@ pub fn usage(alloc: Global) -> Result<Vec<u8>, AllocError>
     text.extend_from_slice(b"usage: black trace\n")?;
     text.extend_from_slice(b"usage: black demo N\n")?;
     text.extend_from_slice(b"usage: black batch [--finite] [--depth N] [--workers N]\n")?;
+    text.extend_from_slice(b"usage: black system [--depth N] [--cert]\n")?;
+    text.extend_from_slice(b"usage: black monitor\n")?;
+    text.extend_from_slice(b"usage: black depast\n")?;
     Ok(text)
 }

@@ -108,9 +108,9 @@ pub fn is_built(command: CommandName) -> bool
     match command {
         CommandName::Solve | CommandName::Check | CommandName::Trace | CommandName::Demo => true,
         CommandName::Batch => true,
-        CommandName::System => false,
-        CommandName::Monitor => false,
-        CommandName::Depast => false,
+        CommandName::System => true,
+        CommandName::Monitor => true,
+        CommandName::Depast => true,
     }
 }
 
@@ -119,7 +119,7 @@ pub fn offers_option(command: CommandName, option: OptionName) -> bool
     ensures { result ≡ has_built (command_row command) option }
 {
     match (command, option) {
-        (CommandName::Solve, OptionName::Finite | OptionName::Depth | OptionName::Cert) => true,
+        (CommandName::Solve, _) => true,
         (CommandName::Check, OptionName::Finite | OptionName::Workers) => true,
         (CommandName::Batch, OptionName::Finite | OptionName::Depth | OptionName::Workers) => true,
         (CommandName::System, OptionName::Depth | OptionName::Cert) => true,

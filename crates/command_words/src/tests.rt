@@ -33,7 +33,9 @@ fn shown(alloc: Global, asked: Option<Asked>) -> Result<String, AllocError> {
         Some(Asked::Trace) => String::from_str(alloc, "trace"),
         Some(Asked::Demo(number)) => format!(in alloc; "demo {number}"),
         Some(Asked::Batch(said)) => options(alloc, "batch", said),
-        Some(_) => String::from_str(alloc, "another"),
+        Some(Asked::System(said)) => options(alloc, "system", said),
+        Some(Asked::Monitor) => String::from_str(alloc, "monitor"),
+        Some(Asked::Depast) => String::from_str(alloc, "depast"),
     }
 }
 
@@ -59,8 +61,8 @@ fn words(rt: HostRuntime) -> Result<(), Fail> {
         ("solve --dep 3", "none"),
         ("solve --finite=1", "none"),
         ("solve --", "none"),
-        ("solve --core", "none"),
-        ("solve --workers 2", "none"),
+        ("solve --core", "solve 9999 99 core"),
+        ("solve --workers 2 --core --cert", "solve 9999 2 cert core"),
         ("solve x", "none"),
         ("check --workers=16 --finite", "check 9999 16 finite"),
         ("check --workers 01", "check 9999 1"),
@@ -79,9 +81,12 @@ fn words(rt: HostRuntime) -> Result<(), Fail> {
         ("batch", "batch 9999 99"),
         ("batch --workers 2 --finite --depth=3", "batch 3 2 finite"),
         ("batch --cert", "none"),
-        ("system", "none"),
-        ("monitor", "none"),
-        ("depast", "none"),
+        ("system --cert --depth=7", "system 7 99 cert"),
+        ("system --finite", "none"),
+        ("monitor", "monitor"),
+        ("monitor p", "none"),
+        ("depast", "depast"),
+        ("depast p", "none"),
     ];
     for (said, wanted) in &table {
         let text = shown(alloc, asked(alloc, said)?)?;
@@ -93,7 +98,7 @@ fn words(rt: HostRuntime) -> Result<(), Fail> {
 #[test]
 fn usage_lines(rt: HostRuntime) -> Result<(), Fail> {
     let wanted: &[u8] =
-        b"usage: black solve [--finite] [--depth N] [--cert] [--core] [--workers N]\nusage: black check [--finite] [--workers N]\nusage: black trace\nusage: black demo N\nusage: black batch [--finite] [--depth N] [--workers N]\n";
+        b"usage: black solve [--finite] [--depth N] [--cert] [--core] [--workers N]\nusage: black check [--finite] [--workers N]\nusage: black trace\nusage: black demo N\nusage: black batch [--finite] [--depth N] [--workers N]\nusage: black system [--depth N] [--cert]\nusage: black monitor\nusage: black depast\n";
     assert!(rt; *usage(rt.alloc())? == *wanted);
     Ok(())
 }

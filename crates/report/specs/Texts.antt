@@ -1,6 +1,7 @@
 -- The text of each answer, line by line.
 use Rattle.std.specs.Prelude.{ℕ, Bool, true, false, List, [], ◌∷◌, ◌++◌, codes, Option, Some, None}
 use Rattle.std.specs.Fmt.{decimal}
+use Rattle.std.specs.List.{flat_map}
 use Rattle.ltl_word.specs.declared.trace.Trace.{Trace}
 use Rattle.ltl_word.specs.Json.{trace_text}
 use Rattle.cert_check.specs.declared.verdict.Verdict.{Verdict}
@@ -10,6 +11,11 @@ use Rattle.cert_check.specs.declared.verdict.Reason.TheVariants as reasons
 use Rattle.command_words.specs.Usage.{usage_text}
 use Rattle.report.specs.declared.fault.Fault.{Fault}
 use Rattle.report.specs.declared.fault.Fault.TheVariants as faults
+
+-- a printed formula, and the text of its certificate
+pub record Proof : Type 0 where
+  pub formula : List ℕ
+  pub certificate : List ℕ
 
 -- every line ends with one newline
 abbrev pub line : List ℕ → List ℕ
@@ -41,10 +47,43 @@ unsat_text depth core certificate = numbered (codes "UNSAT ") depth ++ core_text
 abbrev pub undecided_text : ℕ → List ℕ
 undecided_text depth = numbered (codes "UNDECIDED ") depth
 
+-- NO PATH at a depth
+abbrev pub no_path_text : ℕ → List ℕ
+no_path_text depth = numbered (codes "NO PATH ") depth
+
+-- the line of a formula, and the certificate behind it
+abbrev pub proof_text : Proof → List ℕ
+proof_text proof = line (codes "formula " ++ proof.formula) ++ proof.certificate
+
+-- HOLDS at a depth, with a formula and its certificate where they are given
+abbrev pub paths_hold_text : ℕ → Option Proof → List ℕ
+paths_hold_text depth None = numbered (codes "HOLDS ") depth
+paths_hold_text depth (Some proof) = numbered (codes "HOLDS ") depth ++ proof_text proof
+
+-- FAILS at a depth, with a path
+abbrev pub path_fails_text : ℕ → Trace → List ℕ
+path_fails_text depth trace = numbered (codes "FAILS ") depth ++ line (trace_text trace)
+
 -- whether a formula holds on a trace
 abbrev pub traced_text : Bool → List ℕ
 traced_text true = line (codes "HOLDS")
 traced_text false = line (codes "FAILS")
+
+-- whether a formula holds at a state
+abbrev pub answer_text : Bool → List ℕ
+answer_text true = line (codes "true")
+answer_text false = line (codes "false")
+
+-- the same for each of some states
+abbrev pub answers_text : List Bool → List ℕ
+answers_text answers = flat_map answer_text answers
+
+-- a formula without past operators, and a trace with its new names on the next line
+abbrev pub depasted_text : List ℕ → List ℕ
+depasted_text formula = line formula
+
+abbrev pub lifted_text : List ℕ → Trace → List ℕ
+lifted_text formula trace = line formula ++ line (trace_text trace)
 
 -- why a certificate is rejected
 abbrev pub rejected_text : Reason → List ℕ
@@ -66,10 +105,15 @@ refused_text faults.Batch = line (codes "limit batch 16777216")
 refused_text (faults.Lexical byte) = numbered (codes "lexical fault at byte ") byte
 refused_text (faults.Grammar byte) = numbered (codes "grammar fault at byte ") byte
 refused_text (faults.Nodes count) = numbered (codes "limit nodes 16384 have ") count
+refused_text (faults.PastNodes count) = numbered (codes "limit depast nodes 16384 have ") count
 refused_text (faults.Letters depth) = numbered (codes "limit letters 16777216 greatest depth ") depth
 refused_text (faults.Cells count) = numbered (codes "limit cells 67108864 have ") count
 refused_text faults.NotJson = line (codes "trace fault: not JSON")
 refused_text faults.NotTrace = line (codes "trace fault: not a trace")
 refused_text faults.EmptyLoop = line (codes "trace fault: loop is empty")
 refused_text faults.EmptyStates = line (codes "trace fault: states is empty")
+refused_text faults.SystemStart = line (codes "system fault in start")
+refused_text faults.SystemStep = line (codes "system fault in step")
+refused_text faults.LooksAhead = line (codes "monitor fault: future operator")
+refused_text (faults.State number) = numbered (codes "state fault at line ") number
 refused_text (faults.Certificate byte) = numbered (codes "certificate fault at byte ") byte

@@ -18,6 +18,8 @@ pub enum Fault {
     Grammar(u32),
     /// The formula has so many nodes.
     Nodes(u32),
+    /// The formula without past operators would have so many nodes.
+    PastNodes(u32),
     /// The clauses of the depth that was asked for have too many letters. The number is the greatest depth
     /// that has not.
     Letters(u32),
@@ -34,4 +36,12 @@ pub enum Fault {
     EmptyLoop,
     /// The list of states of the trace is empty.
     EmptyStates,
+    /// The start of a system has a temporal operator.
+    SystemStart,
+    /// The step of a system has a temporal operator that is not `X`, or an `X` under an `X`.
+    SystemStep,
+    /// An operator of the monitored formula looks ahead.
+    LooksAhead,
+    /// The line with this number, from 1, is the first of the states that is neither white space nor a state.
+    State(u64),
 }

@@ -19,6 +19,7 @@ pub fn refused(alloc: Global, fault: &Fault) -> Result<Vec<u8>, AllocError>
         Fault::Lexical(byte) => numbered(alloc, b"lexical fault at byte ", byte.into()),
         Fault::Grammar(byte) => numbered(alloc, b"grammar fault at byte ", byte.into()),
         Fault::Nodes(count) => numbered(alloc, b"limit nodes 16384 have ", count.into()),
+        Fault::PastNodes(count) => numbered(alloc, b"limit depast nodes 16384 have ", count.into()),
         Fault::Letters(depth) => numbered(
             alloc,
             b"limit letters 16777216 greatest depth ",
@@ -30,5 +31,9 @@ pub fn refused(alloc: Global, fault: &Fault) -> Result<Vec<u8>, AllocError>
         Fault::NotTrace => line(alloc, b"trace fault: not a trace"),
         Fault::EmptyLoop => line(alloc, b"trace fault: loop is empty"),
         Fault::EmptyStates => line(alloc, b"trace fault: states is empty"),
+        Fault::SystemStart => line(alloc, b"system fault in start"),
+        Fault::SystemStep => line(alloc, b"system fault in step"),
+        Fault::LooksAhead => line(alloc, b"monitor fault: future operator"),
+        Fault::State(number) => numbered(alloc, b"state fault at line ", number.into()),
     }
 }

@@ -1,5 +1,8 @@
 // The texts letter by letter. The expected lines are those of the documents.
-use crate::{Fault, Shown, Summary, checked, demo, refused, sat, traced, undecided, unsat};
+use crate::{
+    Fault, Shown, Summary, answers, checked, demo, depasted, lifted, no_path, path_fails,
+    paths_hold, paths_hold_by, refused, sat, traced, undecided, unsat,
+};
 use cert_check::{Reason, Verdict};
 use ltl_word::Trace;
 use std::alloc::{AllocError, Global};
@@ -14,10 +17,10 @@ fn is<R: Abort>(rt: &R, text: Result<Vec<u8>, AllocError>, wanted: &[u8]) -> Res
 #[test]
 fn refusals(rt: HostRuntime) -> Result<(), Fail> {
     let alloc = rt.alloc();
-    let table: [(Fault, &[u8]); 14] = [
+    let table: [(Fault, &[u8]); 19] = [
         (
             Fault::Usage,
-            b"usage: black solve [--finite] [--depth N] [--cert] [--core] [--workers N]\nusage: black check [--finite] [--workers N]\nusage: black trace\nusage: black demo N\nusage: black batch [--finite] [--depth N] [--workers N]\n",
+            b"usage: black solve [--finite] [--depth N] [--cert] [--core] [--workers N]\nusage: black check [--finite] [--workers N]\nusage: black trace\nusage: black demo N\nusage: black batch [--finite] [--depth N] [--workers N]\nusage: black system [--depth N] [--cert]\nusage: black monitor\nusage: black depast\n",
         ),
         (Fault::NoSeparator, b"no separator line\n"),
         (Fault::Text, b"limit text 1048576\n"),
@@ -28,6 +31,10 @@ fn refusals(rt: HostRuntime) -> Result<(), Fail> {
             b"grammar fault at byte 1048576\n",
         ),
         (Fault::Nodes(16_385), b"limit nodes 16384 have 16385\n"),
+        (
+            Fault::PastNodes(16_385),
+            b"limit depast nodes 16384 have 16385\n",
+        ),
         (
             Fault::Letters(937),
             b"limit letters 16777216 greatest depth 937\n",
@@ -41,6 +48,10 @@ fn refusals(rt: HostRuntime) -> Result<(), Fail> {
         (Fault::NotTrace, b"trace fault: not a trace\n"),
         (Fault::EmptyLoop, b"trace fault: loop is empty\n"),
         (Fault::EmptyStates, b"trace fault: states is empty\n"),
+        (Fault::SystemStart, b"system fault in start\n"),
+        (Fault::SystemStep, b"system fault in step\n"),
+        (Fault::LooksAhead, b"monitor fault: future operator\n"),
+        (Fault::State(2), b"state fault at line 2\n"),
     ];
     for (fault, wanted) in &table {
         is(&rt, refused(alloc, fault), wanted)?;
@@ -67,8 +78,27 @@ fn verdicts(rt: HostRuntime) -> Result<(), Fail> {
         b"UNSAT 0\ncore ((p & !p) & {0})\nltlcert\n",
     )?;
     is(&rt, undecided(alloc, 1000), b"UNDECIDED 1000\n")?;
+    is(&rt, no_path(alloc, 3), b"NO PATH 3\n")?;
+    is(&rt, paths_hold(alloc, 5), b"HOLDS 5\n")?;
+    is(
+        &rt,
+        paths_hold_by(alloc, 0, b"((p & G q) & !r)", b"ltlcert\n"),
+        b"HOLDS 0\nformula ((p & G q) & !r)\nltlcert\n",
+    )?;
+    is(
+        &rt,
+        path_fails(alloc, 1, &trace),
+        b"FAILS 1\n{\"kind\":\"finite\",\"states\":[[\"p\"]]}\n",
+    )?;
+    is(&rt, depasted(alloc, b"X p"), b"X p\n")?;
+    is(
+        &rt,
+        lifted(alloc, b"p", &trace),
+        b"p\n{\"kind\":\"finite\",\"states\":[[\"p\"]]}\n",
+    )?;
     is(&rt, traced(alloc, true), b"HOLDS\n")?;
-    is(&rt, traced(alloc, false), b"FAILS\n")
+    is(&rt, traced(alloc, false), b"FAILS\n")?;
+    is(&rt, answers(alloc, &[true, false]), b"true\nfalse\n")
 }
 
 #[test]

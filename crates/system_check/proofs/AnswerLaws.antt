@@ -61,11 +61,15 @@ module _ (start step goal : Formula) (limit : ℕ) where
     pub no_path : (k : ℕ) (t : Trace) → IsAnswer start step goal limit (answers.NoPath k) → ¬ IsPath start step t
     no_path k t unsat p = unsat_has_no_trace (system_of start step) Kinds.Infinite limit k t unsat p.trace p.infinite ((system_paths t p.trace p.infinite start step is).1 p)
 
-    pub holds_on : (k : ℕ) (log : LogValue) (targets : Vec ℕ Global) (t : Trace) → IsAnswer start step goal limit (answers.Holds k log targets) → IsPath start step t → Satisfies t goal
-    holds_on k log targets t w p = elim (Holds_decided t p.trace goal 0) [
+    -- where the whole formula is refuted, each path satisfies the goal
+    pub refuted_holds : (k : ℕ) (t : Trace) → Says (whole_of start step goal) limit (Unsat k) → IsPath start step t → Satisfies t goal
+    refuted_holds k t unsat p = elim (Holds_decided t p.trace goal 0) [
       | yes h ↦ h
-      | no n ↦ absurd (unsat_has_no_trace (whole_of start step goal) Kinds.Infinite limit k t w.1 p.trace p.infinite ((whole_paths t p.trace p.infinite start step is goal).1 (p, n)))
+      | no n ↦ absurd (unsat_has_no_trace (whole_of start step goal) Kinds.Infinite limit k t unsat p.trace p.infinite ((whole_paths t p.trace p.infinite start step is goal).1 (p, n)))
     ]
+
+    pub holds_on : (k : ℕ) (log : LogValue) (targets : Vec ℕ Global) (t : Trace) → IsAnswer start step goal limit (answers.Holds k log targets) → IsPath start step t → Satisfies t goal
+    holds_on k log targets t w p = refuted_holds k t w.1 p
 
     pub fails_on : (k : ℕ) (t : Trace) → IsTraceOfRun (whole_of start step goal) Kinds.Infinite k t → IsPath start step t × (¬ Satisfies t goal)
     fails_on k t w =

@@ -297,8 +297,10 @@ fn printed_certificates_verify(rt: HostRuntime) -> Result<(), Fail> {
     let alloc = rt.alloc();
     let infinite: (&str, &str) = ("solve --cert", "check");
     let finite: (&str, &str) = ("solve --finite --cert", "check --workers 2 --finite");
-    let table: [((&str, &str), &[u8], &[u8]); 6] = [
+    let core: (&str, &str) = ("solve --core --cert --workers 2", "check");
+    let table: [((&str, &str), &[u8], &[u8]); 7] = [
         (infinite, b"false", b"UNSAT 0\n"),
+        (core, b"false", b"UNSAT 0\ncore false\n"),
         (infinite, b"wX false", b"UNSAT 1\n"),
         (infinite, RECURRING, b"UNSAT 2\n"),
         (finite, RECURRING, b"UNSAT 1\n"),

@@ -4,7 +4,7 @@ use Rattle.black_top.specs.Answer.{refused}
 use Rattle.black_top.specs.Run.{not_taken}
 use Rattle.command_words.specs.Asked.{IsAsked}
 use Rattle.black_top.specs.Inner.{Gives}
-use Rattle.black_top.proofs.Leaving.{some_left, given_left, given_unread, stops, takes_none, reads}
+use Rattle.black_top.proofs.Leaving.{some_left, given_left, given_unread, stops, takes, takes_none, reads}
 use Rattle.black_top.proofs.answer.answer.Goals as goal
 
 pub returns-in_default-clause-given : goal.returns-in_default-clause-given
@@ -52,3 +52,12 @@ returns-clause-given g c =
     let fits : length text ≤ 18446744073709551615 = omega (arith, c.in_ok-bytes.bytes.ok, c.in_ok-bytes.bytes.small, c.deref.ensures.len) in
     let gives : Gives c.in-Some.asked text given.0 = subst (λ (bytes : List ℕ). Gives c.in-Some.asked bytes given.0) c.deref.ensures.value given.1 in
     (given.0, given_left (map string_bytes c.args.words.now) rest after c.in-Some.asked c.in-Some-stop_after.most text given.0 is (sym c.in-Some-stop_after.ensures) c.in_ok-bytes.ensures.bytes fits gives, given.2)
+
+pub returns-clause-left : goal.returns-clause-left
+returns-clause-left g c command asks =
+    let rest = g.S.Source.rest c.args.source.now in
+    let after = g.S.Source.rest c.read_whole.new.source in
+    let text = c.in_ok-bytes.bytes.items in
+    let is : IsAsked (map string_bytes c.args.words.now) c.in-Some.asked = rw c.in-Some.is at c.in_ok-asked.ensures in
+    let fits : length text ≤ 18446744073709551615 = omega (arith, c.in_ok-bytes.bytes.ok, c.in_ok-bytes.bytes.small, c.deref.ensures.len) in
+    takes command c.in-Some-stop_after.most text rest after (stops (map string_bytes c.args.words.now) c.in-Some.asked command is asks ∙ sym c.in-Some-stop_after.ensures) c.in_ok-bytes.ensures.bytes fits c.in_ok-bytes.ensures.bounded

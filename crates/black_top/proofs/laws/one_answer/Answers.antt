@@ -16,5 +16,7 @@ returns c words bytes =
       one_reading = c.one_reading.ensures;
       one_verdict = c.one_verdict.ensures;
       one_check = c.answers.ensures.one;
+      one_core = c.core_is_one.ensures.core;
       one_batch = c.one_list.ensures;
+      one_watch = c.one_answer.ensures;
     })

@@ -1,0 +1,12 @@
+use Rattle.std.proofs.Common.{refl}
+use Rattle.black_top.proofs.Certified.{uncertified, certified}
+use Rattle.black_top.proofs.commands.solve.shown_certificate.Goals as goal
+
+pub returns-then-not-cert : goal.returns-then-not-cert
+returns-then-not-cert c = uncertified c.args.cert c.args.closure.now.formula c.args.closure.now.kind c.args.depth c.if-not-cert.true
+
+pub returns : goal.returns
+returns c =
+    let value = c.args.closure.now in
+    let text = c.in_ok-text.text.items in
+    certified c.args.cert value.formula value.kind c.args.depth text text c.if-not-cert.false refl c.in_ok-text.ensures
