@@ -29,7 +29,7 @@ impl Pace {
         if self.left == 0 {
             return false;
         }
-        if self.conflicts < luby(1000_u32.saturating_sub(self.left)).saturating_mul(50) {
+        if self.conflicts < luby(1000_u32.saturating_sub(self.left)).saturating_mul(100) {
             return false;
         }
         self.conflicts = 0;

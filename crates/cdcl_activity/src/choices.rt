@@ -256,11 +256,11 @@ impl Choices {
         self.bump = self.bump >> 40 | 1;
     }
 
-    /// Lets later bumps count more, by a ninth.
+    /// Lets later bumps count more, by a nineteenth.
     pub fn decay(&mut self)
         ensures { self.new ≡ self.old }
     {
-        self.bump = self.bump.saturating_add(self.bump / 9 + 1);
+        self.bump = self.bump.saturating_add(self.bump / 19 + 1);
         if self.bump > 1 << 60 {
             self.rescale();
         }

@@ -108,7 +108,7 @@ impl State {
             &mut self.head,
             &mut self.sure,
         )?;
-        offer(&mut self.choices, &self.assigned);
+        offer(&mut self.choices, &self.assigned, found);
         self.watches.watching();
         self.assigned.told();
         Ok(found)
