@@ -31,15 +31,19 @@ pub enum Visited {
     Conflict(Hint),
 }
 
-/// The place of a literal behind the first two that is not false.
+/// The place of a literal behind the first two that is not false, looked for from the end: there a learnt clause has what
+/// became false first. Such a literal keeps its value, or stays without one, for longer, and so the clause is visited less often.
 pub fn find(assigned: &Assigned, clause: &Clause<'_>) -> Option<usize>
     requires { All (λ l. l.letter.0 < length assigned.now.values) clause.now }
     ensures { MatchOption result (AreFalseFrom assigned.now.trail clause.now 2 (length clause.now)) (IsReplacement assigned.now.trail clause.now) }
 {
-    for j in 2..clause.len() {
-        if !assigned.holds(clause.get(j).opposite()) {
-            return Some(j);
+    let mut end = clause.len();
+    'down: while end > 2 {
+        let last = end - 1;
+        if !assigned.holds(clause.get(last).opposite()) {
+            return Some(last);
         }
+        end = last;
     }
     None
 }
