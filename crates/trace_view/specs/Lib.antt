@@ -1,0 +1,4 @@
+pub mod Grid
+pub mod Letters
+pub mod Names
+pub mod Text

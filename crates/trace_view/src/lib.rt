@@ -1,0 +1,16 @@
+//! A trace as a picture: a grid of truth values, and its text and its timing diagram.
+//!
+//! A grid has a row for each letter that is asked for and a cell for each state of the trace, of which a loop
+//! is shown once. Text and diagram are functions of the grid, and any name can be shown.
+#![tactic(auto)]
+
+mod grid;
+mod letters;
+mod lines;
+mod names;
+#[cfg(test)]
+mod tests;
+
+pub use grid::{CELL_LIMIT, Grid, GridRefused, Row};
+pub use letters::letters_of;
+pub use lines::text;
