@@ -2,3 +2,5 @@
 mod Cells
 mod Occurring
 mod Pieces
+mod Drawing
+mod Lanes

@@ -1,6 +1,8 @@
 -- A text that a loop builds, one piece in each turn.
 use Rattle.std.proofs.Common.{◌≡◌, ℕ, ◌+◌, ◌-◌, ◌≤◌, List, [], ◌∷◌, ◌++◌, ap, sym, subst, ◌∙◌, append_assoc, add-one, arith}
 use Rattle.trace_view.specs.Text.{below, between, line}
+use Rattle.trace_view.specs.Diagram.{worded, escaped}
+use Rattle.trace_view.specs.Names.{shown}
 
 below_more : (k : ℕ) (g : ℕ → List ℕ) → below (k + 1) g ≡ below k g ++ g k
 below_more k g = ap (λ n. below n g) (add-one k)
@@ -33,3 +35,35 @@ line_closed old first last new label at from to i le ge begins goes ends =
     let end : i ≡ to = omega arith in
     let pieces : last ≡ (old ++ label) ++ between from to at = subst (λ n. last ≡ (old ++ label) ++ between from n at) end (goes ∙ ap (λ t. t ++ between from i at) begins) in
     ends ∙ (ap (λ t. t ++ 10 ∷ []) pieces ∙ (append_assoc (old ++ label) (between from to at) (10 ∷ []) ∙ (append_assoc old label (between from to at ++ 10 ∷ []) ∙ ap (λ t. old ++ t) (same label at from to))))
+
+-- ---- piece by piece
+
+-- a text that grew by a piece
+pub record Grew (old new piece : List ℕ) : Type 0 where
+  pub is : new ≡ old ++ piece
+
+-- by the first piece, and by one more
+pub begun : {first : List ℕ} (old piece : List ℕ) → first ≡ old ++ piece → Grew old first piece
+begun old piece e = record { is = e }
+
+pub next : {old first last before : List ℕ} (piece : List ℕ) → Grew old first before → last ≡ first ++ piece → Grew old last (before ++ piece)
+next {old} {first} {last} {before} piece g f = record { is = f ∙ (ap (λ t. t ++ piece) g.is ∙ append_assoc old before piece) }
+
+-- some words and a number, which has another name
+pub begun_number : {first : List ℕ} {n m : ℕ} (old words : List ℕ) → n ≡ m → first ≡ old ++ worded words n → Grew old first (worded words m)
+begun_number {first} old words e f = record { is = subst (λ k. first ≡ old ++ worded words k) e f }
+
+pub next_number : {old first last before : List ℕ} {n m : ℕ} (words : List ℕ) → Grew old first before → n ≡ m → last ≡ first ++ worded words n → Grew old last (before ++ worded words m)
+next_number {first = first} {last = last} words g e f = next (worded words _) g (subst (λ k. last ≡ first ++ worded words k) e f)
+
+-- the pieces of a loop up to the last
+pub next_below : {old first last before : List ℕ} (g : ℕ → List ℕ) (i n : ℕ) → Grew old first before → n ≤ i → i ≤ n → last ≡ first ++ below i g → Grew old last (before ++ below n g)
+next_below {first = first} {last = last} g i n grew le ge f = let end : i ≡ n = omega arith in next (below n g) grew (subst (λ k. last ≡ first ++ below k g) end f)
+
+-- a name that is shown, escaped
+pub next_name : {old first last before : List ℕ} (text name : List ℕ) → Grew old first before → text ≡ shown name → last ≡ first ++ escaped text → Grew old last (before ++ escaped (shown name))
+next_name {first = first} {last = last} text name g e f = next (escaped (shown name)) g (subst (λ t. last ≡ first ++ escaped t) e f)
+
+-- a text that was empty is the piece
+pub from_nothing : {old new piece : List ℕ} → old ≡ [] → Grew old new piece → new ≡ piece
+from_nothing {old} {new} {piece} none g = g.is ∙ ap (λ t. t ++ piece) none

@@ -87,8 +87,8 @@ impl Model for Grid {
 }
 
 impl Grid {
-    /// The grid with these letters, each of which may come again. It is refused exactly where it would have too
-    /// many cells.
+    /// The grid with these letters, each of which may come again. It is refused exactly where it would have
+    /// too many cells.
     pub fn of(alloc: Global, trace: &Trace, letters: &[Name]) -> Result<Grid, GridRefused>
         ensures grid { IfOk result (IsGridOf trace.now letters.now) }
         ensures fits { OnOk result (cells_for trace.now letters.now ≤ CELL_LIMIT) }

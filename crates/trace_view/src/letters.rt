@@ -1,6 +1,5 @@
 // The letters of a trace.
 ghost use Rattle.std.specs.Prelude.{◌≡◌, ◌↔◌, ◌++◌, ℕ, List, IfOk, OnOk, Contains};
-ghost use Rattle.std.specs.List.{flat_map};
 ghost use Rattle.ltl_word.specs.State.{IsAscending};
 ghost use Rattle.trace_view.specs.Grid.{Occurs};
 ghost use Rattle.trace_view.specs.Letters.{all_names};
@@ -11,7 +10,8 @@ use std::alloc::{AllocError, Global};
 /// The letters that are true in some state, each once and in ascending order of their bytes.
 pub fn letters_of(alloc: Global, trace: &Trace) -> Result<StateSet, AllocError>
     ensures ascending { IfOk result IsAscending }
-    ensures letters { IfOk result (λ letters. (name : List ℕ) → Contains letters name ↔ Occurs trace.now name) }
+    ensures letters { IfOk result (λ letters.
+        (name : List ℕ) → Contains letters name ↔ Occurs trace.now name) }
 {
     let mut names = Vec::new(alloc);
     match trace {

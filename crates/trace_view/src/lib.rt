@@ -4,6 +4,7 @@
 //! is shown once. Text and diagram are functions of the grid, and any name can be shown.
 #![tactic(auto)]
 
+mod diagram;
 mod grid;
 mod letters;
 mod lines;
@@ -11,6 +12,7 @@ mod names;
 #[cfg(test)]
 mod tests;
 
+pub use diagram::svg;
 pub use grid::{CELL_LIMIT, Grid, GridRefused, Row};
 pub use letters::letters_of;
 pub use lines::text;

@@ -1,6 +1,5 @@
 // The grid as text.
-ghost use Rattle.std.specs.Prelude.{◌≡◌, ℕ, ◌+◌, ◌<◌, ◌≤◌, ◌++◌, List, replicate, slice_index_or, option_copied, IfOk, OnOk};
-ghost use Rattle.std.specs.Fmt.{decimal};
+ghost use Rattle.std.specs.Prelude.{◌≡◌, ◌<◌, ◌≤◌, ◌++◌, replicate, IfOk, OnOk};
 ghost use Rattle.std.specs.List.{flat_map};
 ghost use Rattle.trace_view.specs.Text.{below, spaces, measured, before, column, number, mark, cell, under};
 ghost use Rattle.trace_view.specs.Text.{line, label, row_line, loop_line, block, block_at, text};
@@ -21,8 +20,8 @@ pub struct Measures {
     block: usize,
 }
 
-/// The grid as lines of at most so many columns, where one state fits: the numbers of the states, a line for each
-/// letter, and a line that shows the loop. What does not fit stands in further blocks below.
+/// The grid as lines of at most so many columns, where one state fits: the numbers of the states, a line
+/// for each letter, and a line that shows the loop. What does not fit stands in further blocks below.
 #[tactic(auto, using(crate::proofs::Pieces::piece_behind))]
 pub fn text(alloc: Global, grid: &Grid, width: usize) -> Result<Vec<u8>, AllocError>
     ensures { IfOk result (λ lines. lines.items ≡ text grid.now width) }

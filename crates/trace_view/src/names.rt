@@ -1,5 +1,5 @@
-// Names as they are shown. Any text may be the name of a letter, while a line of text and XML have no room for
-// some characters.
+// Names as they are shown. Any text may be the name of a letter, while a line of text and XML have no room
+// for some characters.
 ghost use Rattle.std.specs.Prelude.{◌≡◌, string_bytes, IfOk};
 ghost use Rattle.trace_view.specs.Names.{is_unfit, shown_char, shown, columns_of, widest};
 

@@ -1,5 +1,5 @@
 // Pictures letter by letter. The expected ones were drawn by hand.
-use crate::{Grid, letters_of, text};
+use crate::{Grid, letters_of, svg, text};
 use ltl_word::{Name, Trace};
 use std::alloc::{AllocError, Global};
 use std::process::Abort;
@@ -101,5 +101,58 @@ fn texts(rt: HostRuntime) -> Result<(), Fail> {
             "{wanted}"
         );
     }
+    Ok(())
+}
+
+// What stands behind the style.
+#[test]
+fn diagrams(rt: HostRuntime) -> Result<(), Fail> {
+    let alloc = rt.alloc();
+    let table: [(&[u8], &str); 3] = [
+        (
+            br#"{"kind":"infinite","loop":[[]],"stem":[["a<b"]]}"#,
+            "<rect class='paper' width='147' height='116'/>\n<rect class='loop' x='91' y='36' width='40' height='44'/>\n<path class='edge' d='M51 36V80M91 36V80M131 36V80'/>\n<text class='number' x='71' y='30'>0</text>\n<text class='number' x='111' y='30'>1</text>\n<text class='name' x='12' y='63'>a&lt;b</text>\n<path class='lane' d='M51 68V48H91V68H131V68'/>\n<path class='back' d='M119 80V100H103V84'/>\n<path class='head' d='M103 80l5 9h-10Z'/>\n</svg>\n",
+        ),
+        (
+            br#"{"kind":"finite","states":[["q"],["&>"]]}"#,
+            "<rect class='paper' width='138' height='152'/>\n<path class='edge' d='M42 36V116M82 36V116M122 36V116'/>\n<text class='number' x='62' y='30'>0</text>\n<text class='number' x='102' y='30'>1</text>\n<text class='name' x='12' y='63'>&amp;&gt;</text>\n<path class='lane' d='M42 68V68H82V48H122V68'/>\n<text class='name' x='12' y='99'>q</text>\n<path class='lane' d='M42 104V84H82V104H122V104'/>\n</svg>\n",
+        ),
+        // no letters
+        (
+            br#"{"kind":"finite","states":[[]]}"#,
+            "<rect class='paper' width='80' height='80'/>\n<path class='edge' d='M24 36V44M64 36V44'/>\n<text class='number' x='44' y='30'>0</text>\n</svg>\n",
+        ),
+    ];
+    for (json, wanted) in table {
+        let picture = svg(alloc, &grid(alloc, json, None)?)?;
+        let (_head, tail) = split(&picture, picture.len().saturating_sub(wanted.len()));
+        assert!(rt; *tail == *wanted.as_bytes(), "{wanted}");
+    }
+    Ok(())
+}
+
+fn split(bytes: &[u8], at: usize) -> (&[u8], &[u8]) {
+    bytes.split_at(at.min(bytes.len()))
+}
+
+#[test]
+fn accessors(rt: HostRuntime) -> Result<(), Fail> {
+    let alloc = rt.alloc();
+    let grid = grid(
+        alloc,
+        br#"{"kind":"infinite","loop":[["p"]],"stem":[["q"]]}"#,
+        None,
+    )?;
+    assert_eq!(rt; grid.states(), 2);
+    assert_eq!(rt; grid.loop_at(), Some(1));
+    assert_eq!(rt; grid.rows().len(), 2);
+    let mut shown = String::new(alloc);
+    for row in grid.rows() {
+        shown.push_str(row.name())?;
+        for state in 0..3 {
+            shown.push_str(if row.is_filled(state) { "#" } else { "." })?;
+        }
+    }
+    assert_eq!(rt; shown.as_str(), "p.#.q#..");
     Ok(())
 }
