@@ -1,0 +1,4 @@
+pub mod Status
+pub mod Input
+pub mod Output
+pub mod View

@@ -1,0 +1,139 @@
+// What the program shows, over memory. The expected pictures were drawn by hand.
+use crate::request::requested;
+use crate::status::Status;
+use crate::view::run;
+use clap::error::ErrorKind;
+use ltl_io::{MemorySink, MemorySource};
+use std::alloc::{AllocError, Global};
+use std::test::Fail;
+
+fn list(alloc: Global, words: &str) -> Result<Vec<String>, AllocError> {
+    let mut all = Vec::new(alloc);
+    for word in words.split_whitespace() {
+        all.push(String::from_str(alloc, word)?)?;
+    }
+    Ok(all)
+}
+
+/// The status and the output, where the words are taken.
+fn shown(alloc: Global, words: &str, input: &[u8]) -> Result<(Status, Vec<u8>), Fail> {
+    let words = list(alloc, words)?;
+    let Ok(request) = requested(alloc, &words) else {
+        return Err(Fail::new("the words are not taken"));
+    };
+    let mut source = MemorySource::new(input.to_vec(alloc)?, 1000, Vec::new(alloc));
+    let mut sink = MemorySink::new(alloc, 65_536, 7, Vec::new(alloc))?;
+    let status = run(alloc, &request, &mut source, &mut sink);
+    Ok((status, sink.content().to_vec(alloc)?))
+}
+
+#[test]
+fn pictures(rt: HostRuntime) -> Result<(), Fail> {
+    let alloc = rt.alloc();
+    let table: [(&str, &str, &str, Status); 11] = [
+        (
+            "black_view",
+            "SAT 2\n{\"kind\":\"infinite\",\"loop\":[[],[\"p\"]],\"stem\":[[\"p\"]]}\n",
+            "SAT 2\n  0|1 2\np #|. #\n   ^--<\n",
+            Status::Good,
+        ),
+        (
+            "black_view --only q,p,r",
+            "{\"kind\":\"finite\",\"states\":[[\"p\"],[\"q\"]]}",
+            "  0 1\nq . #\np # .\nr . .\n",
+            Status::Good,
+        ),
+        (
+            "black_view --width=3",
+            "{\"kind\":\"finite\",\"states\":[[\"p\"],[]]}",
+            "  0\np #\n\n  1\np .\n",
+            Status::Good,
+        ),
+        ("black_view", "UNSAT 2\n", "UNSAT 2\n", Status::NoTrace),
+        ("black_view", "", "", Status::NoTrace),
+        // a core has a brace, and begins no line with it
+        (
+            "black_view",
+            "UNSAT 2\ncore ((G F p & G !p) & {0})\n",
+            "UNSAT 2\ncore ((G F p & G !p) & {0})\n",
+            Status::NoTrace,
+        ),
+        (
+            "black_view",
+            "SAT 1\n{\"kind\":\"infinite\",\"loop\":[],\"stem\":[]}\n",
+            "SAT 1\ntrace fault: loop is empty\n",
+            Status::Text,
+        ),
+        ("black_view", "{\n", "trace fault: not JSON\n", Status::Text),
+        (
+            "black_view",
+            "{}",
+            "trace fault: not a trace\n",
+            Status::Text,
+        ),
+        (
+            "black_view",
+            "{\"kind\":\"finite\",\"states\":[]}",
+            "trace fault: states is empty\n",
+            Status::Text,
+        ),
+        // letters that are named by several words
+        (
+            "black_view --only p --only q",
+            "X p\n{\"kind\":\"finite\",\"states\":[[\"p\"]]}",
+            "X p\n  0\np #\nq .\n",
+            Status::Good,
+        ),
+    ];
+    for (words, input, wanted, status) in table {
+        let (given, text) = shown(alloc, words, input.as_bytes())?;
+        assert!(rt; given == status && *text == *wanted.as_bytes(), "{wanted}");
+    }
+    Ok(())
+}
+
+// A picture in SVG stands alone.
+#[test]
+fn diagrams(rt: HostRuntime) -> Result<(), Fail> {
+    let alloc = rt.alloc();
+    let input = b"SAT 0\n{\"kind\":\"infinite\",\"loop\":[[]],\"stem\":[[\"p\"]]}\n";
+    let (status, text) = shown(alloc, "black_view --svg", input)?;
+    assert_eq!(rt; status, Status::Good);
+    let (head, _rest) = text.split_at(text.len().min(5));
+    assert_eq!(rt; head, b"<?xml".as_slice());
+    Ok(())
+}
+
+#[test]
+fn words(rt: HostRuntime) -> Result<(), Fail> {
+    let alloc = rt.alloc();
+    let table: [(&str, ErrorKind); 4] = [
+        ("black_view --help", ErrorKind::DisplayHelp),
+        ("black_view --version", ErrorKind::DisplayVersion),
+        ("black_view --width wide", ErrorKind::ValueValidation),
+        ("black_view trace", ErrorKind::UnknownArgument),
+    ];
+    for (words, kind) in table {
+        let words = list(alloc, words)?;
+        let refused = requested(alloc, &words).err().map(|error| error.kind());
+        assert!(rt; refused == Some(kind));
+    }
+    Ok(())
+}
+
+#[test]
+fn codes(rt: HostRuntime) {
+    let table = [
+        (Status::Good, 0),
+        (Status::NoTrace, 1),
+        (Status::Usage, 2),
+        (Status::Text, 3),
+        (Status::Limit, 4),
+        (Status::ReadFault, 5),
+        (Status::WriteFault, 6),
+        (Status::NoMemory, 7),
+    ];
+    for (status, code) in table {
+        assert_eq!(rt; status.code(), code);
+    }
+}
