@@ -82,7 +82,7 @@ fn check_together<R: Threads + Sync, G: Gate + Sync>(
     ensures letters { (depth : ℕ) → IsErrOf result (Letters depth)
         → IsAnswer (tree_at table.now root) kind bytes.now (TooManyLetters depth) }
 {
-    let view = match CertView::read(alloc, bytes) {
+    let view = match CertView::read_by(rt, alloc, bytes, workers) {
         Ok(view) => view,
         Err(CertRefused::Form(byte)) => return Err(CheckRefused::Form(byte)),
         Err(CertRefused::NoMemory) => return Err(CheckRefused::NoMemory),

@@ -84,7 +84,7 @@ at_lines bytes left place at none =
     omega (arith, ap lines_at at.same_place, place_low at.scan.1 [], ap length whole)
 
 -- the scan and its shape take the same step
-step_shape : (s : Scan) (b : ℕ) → shaped (step s b) ≡ small_advance s.0 (place_of s.1) b
+pub step_shape : (s : Scan) (b : ℕ) → shaped (step s b) ≡ small_advance s.0 (place_of s.1) b
 step_shape ([], p) b = place_shape p b
 step_shape (x ∷ xs, p) b = go (b == x)
   where
@@ -96,11 +96,11 @@ advanced : (bytes left : List ℕ) (place : Place) (b : ℕ) (at : IsAt bytes le
 advanced bytes left place b at = step_shape at.scan b ∙ ap₂ (λ l p. small_advance l p b) (sym at.same_left) (sym at.same_place)
 
 -- the two parts of an answer
-abbrev first_of : Next → List ℕ → List ℕ
+abbrev pub first_of : Next → List ℕ → List ℕ
 first_of None l = l
 first_of (Some t) l = t.0
 
-abbrev second_of : Next → Place → Place
+abbrev pub second_of : Next → Place → Place
 second_of None p = p
 second_of (Some t) p = t.1
 

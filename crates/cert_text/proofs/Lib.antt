@@ -8,6 +8,9 @@ pub mod Written
 pub mod Shapes
 pub mod Forming
 pub mod Skips
+pub mod Runs
+pub mod Later
+pub mod Joins
 pub mod Ended
 pub mod Slices
 pub mod Standing

@@ -1,5 +1,5 @@
 -- Going over short numbers at once leaves the pass at the place where it was.
-use Rattle.std.proofs.Common.{◌≡◌, ℕ, zero, suc, ◌+◌, ◌-◌, ◌*◌, ◌^◌, ◌<◌, ◌≤◌, ◌⊎◌, inl, inr, Bool, true, false, List, [], ◌∷◌, ◌++◌, length, take, drop, get_or, map, All, Some, refl, sym, ap, ◌∙◌, subst, arith, append_assoc}
+use Rattle.std.proofs.Common.{◌≡◌, ℕ, suc, ◌+◌, ◌-◌, ◌*◌, ◌^◌, ◌<◌, ◌≤◌, ◌⊎◌, inl, inr, Bool, true, false, List, [], ◌∷◌, ◌++◌, length, take, drop, get_or, map, All, Some, refl, sym, ap, ◌∙◌, subst, arith, append_assoc}
 use Rattle.std.specs.Prelude.{codes, decimal}
 use Rattle.std.specs.List.{flat_map}
 use Rattle.std.proofs.Math.Seq.{take-add, take-suc}
@@ -10,7 +10,7 @@ use Rattle.std.proofs.lemmas.Grind.{flat_map-append}
 use Rattle.cnf_base.specs.declared.literal.Literal.{Literal}
 use Rattle.cnf_base.specs.declared.literal.Hint.{Hint}
 use Rattle.cnf_base.specs.declared.literal.Hint.TheVariants as hints
-use Rattle.cert_text.specs.Text.{Certificate, greatest_u64, IsHint, number_of, sign_text, literal_text, hint_text}
+use Rattle.cert_text.specs.Text.{Certificate, greatest_u64, IsHint, number_of, sign_text, hint_text}
 use Rattle.cert_text.specs.Scan.{OfDepth, AtVersion, AtKind, AtNumber, InNumber, AtPart, AtLiteral, AtHint, AtEnd, Scan, literal, hint, start, run}
 use Rattle.cert_text.specs.Scan as scan
 use Rattle.cert_text.specs.Shape.{place_of}
@@ -155,7 +155,7 @@ none_short (h ∷ more) all = let is = All-head (IsShort 0) h more all in absurd
 stays : (p : scan.Place) (more : List Hint) → more ≡ [] → (q : scan.Place) × (place_of q ≡ place_of p) × (run ([], p) (flat_map hint_text more) ≡ Some ([], q))
 stays p more none = (p, refl, ap (λ xs. run ([], p) (flat_map hint_text xs)) none)
 
-goes_on : (p : scan.Place) (more : List Hint) → All (IsShort (digits_at (place_of p))) more → (q : scan.Place) × (place_of q ≡ place_of p) × (run ([], p) (flat_map hint_text more) ≡ Some ([], q))
+pub goes_on : (p : scan.Place) (more : List Hint) → All (IsShort (digits_at (place_of p))) more → (q : scan.Place) × (place_of q ≡ place_of p) × (run ([], p) (flat_map hint_text more) ≡ Some ([], q))
 goes_on AtVersion more all = stays AtVersion more (none_short more all)
 goes_on (AtKind version) more all = stays (AtKind version) more (none_short more all)
 goes_on (AtNumber role) more all = stays (AtNumber role) more (none_short more all)

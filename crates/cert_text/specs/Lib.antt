@@ -9,3 +9,4 @@ pub mod Reading
 pub mod Items
 pub mod View
 pub mod Skipped
+pub mod Passes

@@ -5,8 +5,10 @@
 mod finding;
 pub mod glance;
 pub mod item;
+mod joining;
 pub mod laws;
 mod marks;
+mod passing;
 mod printing;
 pub mod reader;
 pub mod refused;

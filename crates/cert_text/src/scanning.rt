@@ -262,7 +262,7 @@ fn next(place: Place, byte: u8) -> Option<(&'static [u8], Place)>
 
 /// The same behind bytes that must come.
 #[inline(always)]
-fn advance(left: &'static [u8], place: Place, byte: u8) -> Option<(&'static [u8], Place)>
+pub(crate) fn advance(left: &'static [u8], place: Place, byte: u8) -> Option<(&'static [u8], Place)>
     requires range { IsInRange place }
     requires lines { left.now ≡ [] → lines_at place + 1 < 2 ^ 64 }
     ensures { MatchOption result (small_advance left.now place byte ≡ None) (λ r. small_advance left.now place byte ≡ Some (r.0.now, r.1)) }

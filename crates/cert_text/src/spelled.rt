@@ -1,4 +1,5 @@
-// Slices of a certificate text as literals, hints and numbers of lines. They take no memory.
+// Slices of a certificate text as literals, hints and numbers of lines. They take no memory. What reads a
+// literal or a hint is inlined, since a checker does little else.
 ghost use Rattle.std.specs.Prelude.{◌≡◌, ℕ, Bool, ◌<◌, ◌≤◌, [], ◌∷◌, ◌++◌, List, length, decimal};
 ghost use Rattle.cert_text.specs.Text.{greatest_u64};
 ghost use Rattle.cert_text.specs.Reading.{EndsNumber, IsSigned, signed_text, AreLiterals, literals_in, AreHints, hints_in, AreNumbers, numbers_in};
@@ -7,6 +8,7 @@ use cnf_base::{Hint, Letter, Literal};
 use std::marker::Model;
 
 /// The number at the front, up to a space or the end, and its length.
+#[inline(always)]
 fn number(digits: &[u8]) -> (u64, usize)
     ensures within { result.1 ≤ length digits.now }
     ensures value { (n : ℕ) (more : List ℕ) → n ≤ greatest_u64 → digits.now ≡ decimal n ++ more → EndsNumber more → (result.0 ≡ n) × (result.1 ≡ length (decimal n)) }
@@ -22,6 +24,7 @@ fn number(digits: &[u8]) -> (u64, usize)
 }
 
 /// Whether a minus sign is at the front, the number behind it, and what is left behind the number's space.
+#[inline(always)]
 fn signed(bytes: &[u8]) -> (bool, u64, &[u8])
     requires { IsSigned bytes.now }
     ensures { (b : Bool) (n : ℕ) (more : List ℕ) → n ≤ greatest_u64 → bytes.now ≡ signed_text b n more → (result.0 ≡ b) × (result.1 ≡ n) × (result.2.now ≡ more) }
@@ -35,6 +38,7 @@ fn signed(bytes: &[u8]) -> (bool, u64, &[u8])
     (false, value, &bytes[len + 1..])
 }
 
+#[inline(always)]
 fn first_literal(bytes: &[u8]) -> (Literal, &[u8])
     requires literals { AreLiterals bytes.now }
     requires some { 0 < length bytes.now }
@@ -49,6 +53,7 @@ fn first_literal(bytes: &[u8]) -> (Literal, &[u8])
     (literal, rest)
 }
 
+#[inline(always)]
 fn first_hint(bytes: &[u8]) -> (Hint, &[u8])
     requires hints { AreHints bytes.now }
     requires some { 0 < length bytes.now }
@@ -119,6 +124,7 @@ impl<'t> Iterator for Literals<'t> {
 
     ghost remaining = { item_count (λ rest. rest) };
 
+    #[inline(always)]
     fn next(&mut self) -> Option<Literal> {
         if self.rest.is_empty() {
             return None;
@@ -174,6 +180,7 @@ impl<'t> Iterator for Hints<'t> {
 
     ghost remaining = { item_count (λ rest. rest) };
 
+    #[inline(always)]
     fn next(&mut self) -> Option<Hint> {
         if self.rest.is_empty() {
             return None;

@@ -1,15 +1,18 @@
 // A certificate text with the places of its lines, for readers that go to any line.
 ghost use Rattle.std.specs.Prelude.{◌≡◌, ℕ, ◌+◌, ◌-◌, ◌≤◌, ◌↔◌, [], List, length, slice_index_or, is_some, IsTrue, Err, IfOk};
-ghost use Rattle.cert_text.specs.Text.{IsTextOf, IsCertificate, IsFormFault};
+ghost use Rattle.cert_text.specs.Text.{Certificate, IsTextOf, IsCertificate, IsFormFault};
+ghost use Rattle.cert_text.specs.Shape.{form_of};
 ghost use Rattle.cert_text.specs.Live.{lines_of, hints_of, live_line, last_user};
 ghost use Rattle.cert_text.specs.declared.refused.CertRefused.TheVariants as refusals;
 
 use crate::finding::find;
+use crate::joining::form_by;
 use crate::marks::{Span, mark_parts, targets_at};
 use crate::{CertRefused, Form, Hints, Literals, form};
 use ltl_syntax::Kind;
-use std::alloc::Global;
+use std::alloc::{AllocError, Global};
 use std::marker::Model;
+use std::thread::Threads;
 
 /// A certificate text of version 1 or 2. Beside the text, which it borrows, it keeps 24 bytes for each line
 /// and 8 for each target. Lines and targets are numbered from 1. Each answer takes the same time for any
@@ -42,10 +45,34 @@ impl<'t> CertView<'t> {
         ensures ok { IfOk result (λ view. IsTextOf bytes.now view) }
         ensures form { (b : ℕ) → result ≡ Err (refusals.Form b) → IsFormFault bytes.now b }
     {
-        let said = match form(bytes) {
-            Ok(said) => said,
-            Err(byte) => return Err(CertRefused::Form(byte)),
-        };
+        match form(bytes) {
+            Ok(said) => Ok(CertView::with_form(alloc, bytes, said)?),
+            Err(byte) => Err(CertRefused::Form(byte)),
+        }
+    }
+
+    /// The same by so many workers, who share the judging of the bytes.
+    pub fn read_by<R: Threads + Sync>(
+        rt: &R,
+        alloc: Global,
+        bytes: &'t [u8],
+        workers: u32,
+    ) -> Result<CertView<'t>, CertRefused>
+        requires some { 1 ≤ workers }
+        ensures ok { IfOk result (λ view. IsTextOf bytes.now view) }
+        ensures form { (b : ℕ) → result ≡ Err (refusals.Form b) → IsFormFault bytes.now b }
+    {
+        match form_by(rt, alloc, bytes, workers as usize) {
+            Ok(said) => Ok(CertView::with_form(alloc, bytes, said)?),
+            Err(refused) => Err(refused),
+        }
+    }
+
+    /// The view of a text of this form.
+    fn with_form(alloc: Global, bytes: &'t [u8], said: Form) -> Result<CertView<'t>, AllocError>
+        requires { (c : Certificate) × IsTextOf bytes.now c × (said ≡ form_of c) }
+        ensures { IfOk result (λ view. IsTextOf bytes.now view) }
+    {
         let mut spans = Vec::with_capacity(alloc, said.lines as usize)?;
         let mut ends = Vec::with_capacity(alloc, said.lines as usize)?;
         let close = mark_parts(bytes, &mut spans, &mut ends)?;

@@ -262,3 +262,25 @@ half_high es n middle e up below is more i low inside =
       | inl same ↦ subst (λ k. n ≤ number_at es k) (sym same) (omega (arith, at, more))
       | inr other ↦ omega (arith, at, more, ascends 0 es up middle i (omega (arith, low, other)) inside)
     ]
+
+-- numbers are as far apart as their places, or farther
+apart : (es : List Entry) → Ascends 0 es → (i k : ℕ) → i + k < length es → number_at es i + k ≤ number_at es (i + k)
+apart es up i zero low = let e : i + 0 ≡ i = omega arith in omega (arith, ap (number_at es) e)
+apart es up i (suc k) low =
+    omega (arith, apart es up i k (omega (arith, low)), ascends 0 es up (i + k) (i + suc k) (omega arith) low)
+
+-- the first and the last number, and what lies between
+pub behind_first : (es : List Entry) (n first i : ℕ) → Ascends 0 es → i < length es → first ≡ number_at es 0 → n ≤ first + i → n ≤ number_at es i
+behind_first es n first i up low is near =
+    let there : 0 + i ≡ i = omega arith in
+    omega (arith, apart es up 0 i (omega (arith, low)), ap (number_at es) there, is, near)
+
+pub before_last : (es : List Entry) (n last i : ℕ) → Ascends 0 es → i < length es → last ≡ number_at es (length es - 1) → last < n + (length es - 1 - i) → number_at es i < n
+before_last es n last i up low is far =
+    let there : i + (length es - 1 - i) ≡ length es - 1 = omega (arith, low) in
+    omega (arith, apart es up i (length es - 1 - i) (omega (arith, low)), ap (number_at es) there, is, far)
+
+pub first_last : (es : List Entry) (first last : ℕ) → Ascends 0 es → 0 < length es → first ≡ number_at es 0 → last ≡ number_at es (length es - 1) → first + (length es - 1) ≤ last
+first_last es first last up some a b =
+    let there : 0 + (length es - 1) ≡ length es - 1 = omega arith in
+    omega (arith, apart es up 0 (length es - 1) (omega (arith, some)), ap (number_at es) there, a, b)

@@ -81,13 +81,14 @@ impl Assignment {
         ensures { result ≡ value_of self.now literal }
     {
         let value = self.values[literal.letter.0 as usize];
-        if !literal.negated {
-            return value;
+        if let Truth::Unset = value {
+            return Truth::Unset;
         }
-        match value {
-            Truth::Unset => Truth::Unset,
-            Truth::True => Truth::False,
-            Truth::False => Truth::True,
+        let is_true = matches!(value, Truth::True);
+        if is_true == literal.negated {
+            Truth::False
+        } else {
+            Truth::True
         }
     }
 

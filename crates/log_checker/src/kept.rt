@@ -1,5 +1,5 @@
 // The live lines, ascending by number. What is deleted is only marked, and goes once half of all is marked:
-// so a delete costs a binary search for each number, and room is kept for no more than twice the lines that
+// so a delete costs a binary search for each number at most, and room is kept for no more than twice the lines that
 // are live.
 ghost use Rattle.std.specs.Prelude.{◌≡◌, ℕ, suc, ◌<◌, ◌≤◌, ◌==◌, not, [], ◌∷◌, ◌++◌, length, filter};
 ghost use Rattle.std.specs.Prelude.{slice_index_or, IfOk, OnOk, OnErr, MatchOption, Some, None};
@@ -38,6 +38,36 @@ impl<'t> Model for Kept<'t> {
     ghost invariant = { λ a. IsKept a.lines a.entries.items a.dead };
 }
 
+/// Where the first place is whose number is not less: from the first of these to the second. Numbers are
+/// distinct, so how far this one is from the first and from the last tells how many can stand between. Where
+/// little was deleted that is one place.
+fn bounds(entries: &Vec<Entry<'_>>, number: u64) -> (usize, usize)
+    requires { Ascends 0 entries.now.items }
+    ensures order { result.0 ≤ result.1 }
+    ensures within { result.1 ≤ length entries.now.items }
+    ensures less { (i : ℕ) → i < result.0 → number_at entries.now.items i < number }
+    ensures more { (i : ℕ) → result.1 ≤ i → i < length entries.now.items →
+        number ≤ number_at entries.now.items i }
+{
+    let count = entries.len();
+    if count == 0 {
+        return (0, 0);
+    }
+    let first = entries[0].number;
+    let last = entries[count - 1].number;
+    if number <= first {
+        return (0, 0);
+    }
+    if number > last {
+        return (count, count);
+    }
+    let behind = last - number;
+    let ahead = number - first;
+    let low = ((count - 1) as u64).saturating_sub(behind);
+    let high = ahead.min(count as u64);
+    (low as usize, high as usize)
+}
+
 /// The first place whose number is not less.
 fn place_of(entries: &Vec<Entry<'_>>, number: u64) -> usize
     requires { Ascends 0 entries.now.items }
@@ -46,8 +76,7 @@ fn place_of(entries: &Vec<Entry<'_>>, number: u64) -> usize
     ensures more { (i : ℕ) → result ≤ i → i < length entries.now.items →
         number ≤ number_at entries.now.items i }
 {
-    let mut low = 0;
-    let mut high = entries.len();
+    let (mut low, mut high) = bounds(entries, number);
     'halves: while low < high {
         let middle = low + (high - low) / 2;
         if entries[middle].number < number {
