@@ -9,13 +9,13 @@ ghost use Rattle.cert_check.specs.Answer.{answer_of, IsFirstTarget, IsJudged};
 ghost use Rattle.cert_check.specs.Walk.{IsGoodKept};
 
 use crate::listing::stored_for;
+use crate::on_demand::OnDemand;
 use crate::targets::{allowed, are_among, by_targets};
 use crate::verdict::{Reason, Verdict};
 use cert_text::{Form, Item, Items, Targets};
 use clause_index::Indexed;
-use cnf_base::Clauses;
 use enc_layout::Layout;
-use log_checker::LiveChecker;
+use log_checker::{LiveChecker, NamedClauses};
 use ltl_closure::Closure;
 use std::alloc::{AllocError, Global};
 
@@ -81,12 +81,12 @@ pub fn judge(
     let clauses = Indexed::of(closure, form.depth);
     match stored_for(alloc, &clauses, bytes.len()) {
         Some(list) => judge_over(alloc, closure, &list, form, bytes),
-        None => judge_over(alloc, closure, &clauses, form, bytes),
+        None => judge_over(alloc, closure, &OnDemand::of(&clauses), form, bytes),
     }
 }
 
 /// The same over these clauses, however they are found.
-fn judge_over<C: Clauses>(
+fn judge_over<C: NamedClauses>(
     alloc: Global,
     closure: &Closure<'_>,
     clauses: &C,

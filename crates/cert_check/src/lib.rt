@@ -5,6 +5,7 @@ mod alone;
 mod checking;
 pub mod laws;
 mod listing;
+mod on_demand;
 mod targets;
 #[cfg(test)]
 mod tests;

@@ -7,13 +7,13 @@ ghost use Rattle.cert_check.specs.Lawful.{IsGoodTarget};
 ghost use Rattle.cert_check.specs.Answer.{answer_of, IsFirstTarget, IsJudged};
 
 use crate::listing::stored_for;
+use crate::on_demand::OnDemand;
 use crate::targets::{allowed, are_among, by_targets};
 use crate::verdict::{Reason, Verdict};
 use cert_text::CertView;
 use clause_index::Indexed;
-use cnf_base::Clauses;
 use enc_layout::Layout;
-use log_checker::{Lines, Scratch, check_lines};
+use log_checker::{Lines, NamedClauses, Scratch, check_lines};
 use ltl_closure::Closure;
 use ltl_io::Gate;
 use std::alloc::{AllocError, Global};
@@ -74,12 +74,15 @@ pub fn judge<R: Threads + Sync, G: Gate + Sync>(
     let clauses = Indexed::of(closure, view.depth());
     match stored_for(alloc, &clauses, bytes) {
         Some(list) => judge_over(rt, alloc, closure, &list, view, workers, gate),
-        None => judge_over(rt, alloc, closure, &clauses, view, workers, gate),
+        None => {
+            let clauses = OnDemand::of(&clauses);
+            judge_over(rt, alloc, closure, &clauses, view, workers, gate)
+        }
     }
 }
 
 /// The same over these clauses, however they are found.
-fn judge_over<R: Threads + Sync, C: Clauses + Sync, G: Gate + Sync>(
+fn judge_over<R: Threads + Sync, C: NamedClauses + Sync, G: Gate + Sync>(
     rt: &R,
     alloc: Global,
     closure: &Closure<'_>,

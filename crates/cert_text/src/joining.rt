@@ -1,7 +1,8 @@
 // The form of a long text, by several workers. Behind the header the text is cut behind newlines, and each
 // worker goes over a piece. Where each piece but the last one comes to where a part may begin, and the last
 // one to the end, the pieces are one text. Otherwise the pass over the whole text tells what is wrong.
-ghost use Rattle.std.specs.Prelude.{◌≡◌, ◌≢◌, ℕ, ◌+◌, ◌<◌, ◌≤◌, ◌^◌, [], Err, IsTrue, length, take, slice_index_or, IfOk, IfSome};
+ghost use Rattle.std.specs.Prelude.{◌≡◌, ℕ, ◌<◌, ◌≤◌, [], Err, IsTrue, length, take};
+ghost use Rattle.std.specs.Prelude.{slice_index_or, IfOk, IfSome};
 ghost use Rattle.cert_text.specs.Text.{Certificate, IsTextOf, IsFormFault};
 ghost use Rattle.cert_text.specs.Shape.{form_of};
 ghost use Rattle.cert_text.specs.Passes.{LeadsTo, IsPassed, with_lines};
@@ -40,7 +41,8 @@ fn header(bytes: &[u8], start: usize) -> Option<Head>
     }
 }
 
-/// So many pieces, each but the last ones with as many bytes, up to the end of a line.
+/// So many pieces behind `start`, each with its share of the bytes and up to the end of a line. What is made
+/// of them is right however they are cut.
 fn cut(alloc: Global, bytes: &[u8], start: usize, workers: usize) -> Result<Vec<Piece>, AllocError>
     requires start { start ≤ length bytes.now }
     requires some { 1 ≤ workers }
@@ -73,7 +75,8 @@ fn pass_pieces<R: Threads + Sync>(
     requires start { start ≤ length bytes.now }
     requires led { LeadsTo (take start bytes.now) [] (places.Part head) }
     requires some { 1 ≤ workers }
-    ensures { (i : ℕ) (d : Piece) → i < length pieces.new.items → IsPassed bytes.now head (slice_index_or pieces.new.items i d) }
+    ensures { (i : ℕ) (d : Piece) → i < length pieces.new.items →
+        IsPassed bytes.now head (slice_index_or pieces.new.items i d) }
 {
     thread::for_each_mut(
         rt,
@@ -93,12 +96,14 @@ fn is_under(found: Head, head: Head) -> bool
         && found.targets == head.targets
 }
 
-/// What the text says at a glance, where the pieces follow one another from `start` to the end and are one text.
+/// What the text says at a glance, where the pieces follow one another from `start` to the end and are one
+/// text.
 fn joined(bytes: &[u8], head: Head, start: usize, pieces: &Vec<Piece>) -> Option<Form>
     requires start { start ≤ length bytes.now }
     requires led { LeadsTo (take start bytes.now) [] (places.Part head) }
     requires none { head.lines ≡ 0 }
-    requires passed { (i : ℕ) (d : Piece) → i < length pieces.now.items → IsPassed bytes.now head (slice_index_or pieces.now.items i d) }
+    requires passed { (i : ℕ) (d : Piece) → i < length pieces.now.items →
+        IsPassed bytes.now head (slice_index_or pieces.now.items i d) }
     ensures { IfSome result (λ f. (c : Certificate) × IsTextOf bytes.now c × (f ≡ form_of c)) }
 {
     let mut at = start;

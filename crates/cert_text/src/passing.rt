@@ -18,7 +18,8 @@ pub struct Piece {
 
 /// To where the pass goes on over these bytes from some place, where nothing must come behind them.
 pub fn pass(bytes: &[u8], first: &'static [u8], from: Place) -> Option<Place>
-    requires { (before : List ℕ) × LeadsTo before first.now from × (length before + length bytes.now < 2 ^ 64) }
+    requires { (before : List ℕ) × LeadsTo before first.now from
+        × (length before + length bytes.now < 2 ^ 64) }
     ensures { IfSome result (λ place. small_run first.now from bytes.now ≡ Some ([], place)) }
 {
     let mut left = first;

@@ -13,7 +13,43 @@ ghost use Rattle.log_checker.specs.Judging.{IsOutcome, IsLineOutcome, IsHintOutc
 use crate::Outcome;
 use crate::assignment::{Assignment, Truth};
 use cert_text::{Hints, Literals};
-use cnf_base::{Clauses, Hint, Literal};
+use cnf_base::{ClauseList, Clauses, Hint, Literal};
+
+/// The clauses that hints may name, numbered from 1. Each is asked for once at a hint, so that whoever works
+/// a clause out does it once, and not for each literal.
+pub trait NamedClauses {
+    ghost use Rattle.std.specs.Prelude.{◌≡◌, ◌≤◌, List, length};
+    ghost use Rattle.cnf_base.specs.declared.literal.Literal.{Literal};
+    ghost use Rattle.cnf_base.specs.Known.{AreKnown};
+    ghost use Rattle.cnf_base.specs.Step.{clause_at};
+    ghost use Rattle.log_checker.specs.Values.{letters_in, falses_in};
+    ghost use Rattle.log_checker.specs.Judging.{IsOutcome};
+
+    ghost clauses: { Self → List (List Literal) };
+
+    /// The number of the last clause, 0 where there is none.
+    fn last_number(&self) -> u64
+        ensures { result ≡ length (clauses self.now) };
+
+    /// What the clause of this number is under these values.
+    fn outcome(&self, assignment: &Assignment, number: u64) -> Outcome
+        requires from_one { 1 ≤ number }
+        requires in_list { number ≤ length (clauses self.now) }
+        requires known { AreKnown (letters_in assignment.now) (clauses self.now) }
+        ensures { IsOutcome (falses_in assignment.now) (clause_at (clauses self.now) number) result };
+}
+
+impl NamedClauses for ClauseList {
+    ghost clauses = { λ list. list };
+
+    fn last_number(&self) -> u64 {
+        self.count()
+    }
+
+    fn outcome(&self, assignment: &Assignment, number: u64) -> Outcome {
+        of_clause(assignment, self, number)
+    }
+}
 
 /// The lines that hints may name.
 pub trait NamedLines {
@@ -30,7 +66,7 @@ pub trait NamedLines {
 
 /// Whether the line with these literals and hints is a hinted step. Nothing is asked of the values before,
 /// and they are no answer behind; no memory is taken.
-pub fn judge<C: Clauses, L: NamedLines>(
+pub fn judge<C: NamedClauses, L: NamedLines>(
     assignment: &mut Assignment,
     clauses: &C,
     lines: &L,
@@ -70,7 +106,7 @@ fn assume(assignment: &mut Assignment, literals: Literals<'_>) -> bool
 }
 
 /// Whether the hints lead to a false clause.
-fn refute<C: Clauses, L: NamedLines>(
+fn refute<C: NamedClauses, L: NamedLines>(
     assignment: &mut Assignment,
     clauses: &C,
     lines: &L,
@@ -93,7 +129,7 @@ fn refute<C: Clauses, L: NamedLines>(
 }
 
 /// What the clause is that the hint names.
-fn of_hint<C: Clauses, L: NamedLines>(
+fn of_hint<C: NamedClauses, L: NamedLines>(
     assignment: &Assignment,
     clauses: &C,
     lines: &L,
@@ -105,10 +141,10 @@ fn of_hint<C: Clauses, L: NamedLines>(
 {
     match hint {
         Hint::Clause(number) => {
-            if number < 1 || number > clauses.count() {
+            if number < 1 || number > clauses.last_number() {
                 return Outcome::Neither;
             }
-            of_clause(assignment, clauses, number)
+            clauses.outcome(assignment, number)
         }
         Hint::Line(number) => match lines.find(number) {
             None => Outcome::Neither,
@@ -153,7 +189,7 @@ fn of_line(assignment: &Assignment, literals: Literals<'_>) -> Outcome
 }
 
 /// What a clause is with one more literal.
-fn with_literal(assignment: &Assignment, outcome: Outcome, literal: Literal) -> Outcome
+pub fn with_literal(assignment: &Assignment, outcome: Outcome, literal: Literal) -> Outcome
     requires { literal.letter.0 < length assignment.now }
     ensures { (clause : List Literal) → IsOutcome (falses_in assignment.now) clause outcome →
         IsOutcome (falses_in assignment.now) (clause ++ literal ∷ []) result }

@@ -13,6 +13,8 @@ mod shared;
 #[cfg(test)]
 mod tests;
 
+pub use assignment::Assignment;
+pub use judge::{NamedClauses, with_literal};
 pub use lines::{Lines, Scratch, check_lines};
 pub use live::LiveChecker;
 pub use outcome::Outcome;

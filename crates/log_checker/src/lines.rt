@@ -7,9 +7,9 @@ ghost use Rattle.log_checker.specs.Judging.{IsLinesAnswer};
 ghost use Rattle.log_checker.specs.Pieces.{IsFirstOf, IsJudged};
 
 use crate::assignment::Assignment;
+use crate::judge::NamedClauses;
 use crate::pieces::{Area, judge_piece};
 use cert_text::CertView;
-use cnf_base::Clauses;
 use ltl_io::Gate;
 use std::alloc::{AllocError, Global};
 use std::marker::Model;
@@ -67,7 +67,7 @@ impl Scratch {
 /// Judges each line over the clauses and the lines that are live at it. The lines are cut into as many
 /// consecutive pieces as the scratch has workers, numbered from 0. Each piece, an empty one too, tells the
 /// gate that it begins.
-pub fn check_lines<R: Threads + Sync, C: Clauses + Sync, G: Gate + Sync>(
+pub fn check_lines<R: Threads + Sync, C: NamedClauses + Sync, G: Gate + Sync>(
     rt: &R,
     view: &CertView<'_>,
     clauses: &C,
@@ -84,7 +84,7 @@ pub fn check_lines<R: Threads + Sync, C: Clauses + Sync, G: Gate + Sync>(
 }
 
 /// Judges as many pieces as there are areas, each in a thread of its own where one can be made.
-fn judge_pieces<R: Threads + Sync, C: Clauses + Sync, G: Gate + Sync>(
+fn judge_pieces<R: Threads + Sync, C: NamedClauses + Sync, G: Gate + Sync>(
     rt: &R,
     view: &CertView<'_>,
     clauses: &C,

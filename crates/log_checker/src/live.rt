@@ -6,10 +6,9 @@ ghost use Rattle.cnf_base.specs.Known.{AreKnown};
 ghost use Rattle.log_checker.specs.Judging.{fresh, found, with_item, IsGoodItem, line_number, line_literals};
 
 use crate::assignment::Assignment;
-use crate::judge::judge;
+use crate::judge::{NamedClauses, judge};
 use crate::kept::Kept;
 use cert_text::{Item, Literals};
-use cnf_base::Clauses;
 use std::alloc::{AllocError, Global};
 use std::marker::Model;
 
@@ -49,7 +48,7 @@ impl<'t> LiveChecker<'t> {
     /// Takes the next item of the text. A line is kept, whether it is a hinted step over the live lines or
     /// not, and the answer is whether it is one; a delete drops the lines that it names. The answer to a
     /// delete and to the close is true. After want of memory the checker is as before.
-    pub fn take<C: Clauses>(&mut self, item: Item<'t>, clauses: &C) -> Result<bool, AllocError>
+    pub fn take<C: NamedClauses>(&mut self, item: Item<'t>, clauses: &C) -> Result<bool, AllocError>
         requires { AreKnown self.old.letters (C.clauses clauses.now) }
         ensures taken { OnOk result (self.new ≡ with_item self.old item.entry) }
         ensures judged { IfOk result (λ good. IsGoodItem (C.clauses clauses.now) self.old item.entry good) }

@@ -8,9 +8,8 @@ ghost use Rattle.log_checker.specs.Judging.{IsFirstBad};
 ghost use Rattle.log_checker.specs.Pieces.{start_at, IsJudged};
 
 use crate::assignment::Assignment;
-use crate::judge::{NamedLines, judge};
+use crate::judge::{NamedClauses, NamedLines, judge};
 use cert_text::{CertView, Literals};
-use cnf_base::Clauses;
 use ltl_io::Gate;
 
 /// What one worker works in, and what it answers.
@@ -62,7 +61,7 @@ fn start_of(lines: u64, workers: u64, piece: u64) -> u64
 }
 
 /// The first of these lines that is no hinted step. Lines are counted from 0 here.
-fn first_bad<C: Clauses>(
+fn first_bad<C: NamedClauses>(
     assignment: &mut Assignment,
     view: &CertView<'_>,
     clauses: &C,
@@ -85,7 +84,7 @@ fn first_bad<C: Clauses>(
 }
 
 /// Whether the line is a hinted step over the lines that are live at it.
-fn is_good<C: Clauses>(
+fn is_good<C: NamedClauses>(
     assignment: &mut Assignment,
     view: &CertView<'_>,
     clauses: &C,
@@ -109,7 +108,7 @@ fn is_good<C: Clauses>(
 }
 
 /// Judges the lines of one of so many pieces, and leaves the answer in the area.
-pub fn judge_piece<C: Clauses, G: Gate>(
+pub fn judge_piece<C: NamedClauses, G: Gate>(
     view: &CertView<'_>,
     clauses: &C,
     gate: &G,

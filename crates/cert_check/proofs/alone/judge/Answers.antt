@@ -1,4 +1,6 @@
-use Rattle.std.proofs.Common.{◌∙◌}
+use Rattle.std.proofs.Common.{ap, ◌∙◌}
+use Rattle.enc_layout.specs.Clauses.{clause_list}
+use Rattle.clause_index.specs.Indexed.{IndexedValue}
 use Rattle.cert_check.proofs.Judging.{same_list}
 use Rattle.cert_check.proofs.alone.judge.Goals as goal
 
@@ -6,4 +8,5 @@ pub judge_over-requires-clause-clauses : goal.judge_over-requires-clause-clauses
 judge_over-requires-clause-clauses c = c.in-Some.ensures ∙ same_list c.of-clauses.ensures.formula c.of-clauses.ensures.kind c.of-clauses.ensures.depth
 
 pub judge_over-requires-in-None-clause-clauses : goal.judge_over-requires-in-None-clause-clauses
-judge_over-requires-in-None-clause-clauses c = same_list c.of-clauses.ensures.formula c.of-clauses.ensures.kind c.of-clauses.ensures.depth
+judge_over-requires-in-None-clause-clauses c =
+    ap (λ (x : IndexedValue). clause_list x.formula x.kind x.depth) c.of.ensures ∙ same_list c.of-clauses.ensures.formula c.of-clauses.ensures.kind c.of-clauses.ensures.depth

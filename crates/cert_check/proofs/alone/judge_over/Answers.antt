@@ -25,12 +25,12 @@ items-init g c =
 
 pub take-requires : goal.take-requires
 take-requires g c =
-    subst (λ n. AreKnown n (g.C.Clauses.clauses c.args.clauses.now)) (sym c.items.invariant.walked.letters_are)
+    subst (λ n. AreKnown n (g.C.NamedClauses.clauses c.args.clauses.now)) (sym c.items.invariant.walked.letters_are)
     (subst (AreKnown (letters_through c.args.closure.now.kind (counts c.args.closure.now.formula) c.args.form.depth)) (sym c.requires.clauses) (list_known c.args.closure.now.formula c.args.closure.now.kind c.args.form.depth))
 
 pub take-requires-in-Delete : goal.take-requires-in-Delete
 take-requires-in-Delete g c =
-    subst (λ n. AreKnown n (g.C.Clauses.clauses c.args.clauses.now)) (sym c.items.invariant.walked.letters_are)
+    subst (λ n. AreKnown n (g.C.NamedClauses.clauses c.args.clauses.now)) (sym c.items.invariant.walked.letters_are)
     (subst (AreKnown (letters_through c.args.closure.now.kind (counts c.args.closure.now.formula) c.args.form.depth)) (sym c.requires.clauses) (list_known c.args.closure.now.formula c.args.closure.now.kind c.args.form.depth))
 
 pub items-preserved : goal.items-preserved

@@ -14,7 +14,7 @@ check_lines-requires-after_bounds g c κs within =
     let f = c.args.closure.now.formula in
     let kind = c.args.closure.now.kind in
     let letters = ap (λ (x : ScratchValue). x.letters) c.in_ok-scratch.ensures ∙ (c.letters_through-letters.ensures ∙ (ap (λ (l : LayoutValue). letters_through l.kind l.counts c.depth.result) c.of.ensures.layout ∙ ap (letters_through kind (counts f)) c.depth.ensures)) in
-    subst (λ n. AreKnown n (g.C.Clauses.clauses c.args.clauses.now)) (sym letters) (subst (AreKnown (letters_through kind (counts f) c.args.view.now.depth)) (sym c.requires.clauses) (list_known f kind c.args.view.now.depth))
+    subst (λ n. AreKnown n (g.C.NamedClauses.clauses c.args.clauses.now)) (sym letters) (subst (AreKnown (letters_through kind (counts f) c.args.view.now.depth)) (sym c.requires.clauses) (list_known f kind c.args.view.now.depth))
 
 pub returns-in-FirstBad : goal.returns-in-FirstBad
 returns-in-FirstBad g c =

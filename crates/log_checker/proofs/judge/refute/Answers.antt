@@ -12,7 +12,7 @@ use Rattle.log_checker.proofs.judge.refute.Goals as goal
 
 pub returns-in-AllFalse-clause-refuted : goal.returns-in-AllFalse-clause-refuted
 returns-in-AllFalse-clause-refuted g c =
-    let clauses = g.C.Clauses.clauses c.args.clauses.now in
+    let clauses = g.C.NamedClauses.clauses c.args.clauses.now in
     let lines = g.L.NamedLines.lines c.args.lines.now in
     let F = falses_in c.hints.assignment in
     let is = subst (λ n. IsHintOutcome clauses lines (n - 1) F c.in-Some.hint c.of_hint.result) c.hints.invariant.2 c.of_hint.ensures in
@@ -22,7 +22,7 @@ returns-in-AllFalse-clause-refuted g c =
 
 pub falsify-requires-clause-known : goal.falsify-requires-clause-known
 falsify-requires-clause-known g c =
-    let clauses = g.C.Clauses.clauses c.args.clauses.now in
+    let clauses = g.C.NamedClauses.clauses c.args.clauses.now in
     let lines = g.L.NamedLines.lines c.args.lines.now in
     let values = c.hints.assignment in
     let is = subst (IsHintOutcome clauses lines (letters_in values) (falses_in values) c.in-Some.hint) c.in-Forces.is c.of_hint.ensures in
@@ -31,7 +31,7 @@ falsify-requires-clause-known g c =
 
 pub falsify-requires-clause-unset : goal.falsify-requires-clause-unset
 falsify-requires-clause-unset g c =
-    let clauses = g.C.Clauses.clauses c.args.clauses.now in
+    let clauses = g.C.NamedClauses.clauses c.args.clauses.now in
     let lines = g.L.NamedLines.lines c.args.lines.now in
     let values = c.hints.assignment in
     let is = subst (IsHintOutcome clauses lines (letters_in values) (falses_in values) c.in-Some.hint) c.in-Forces.is c.of_hint.ensures in
@@ -39,7 +39,7 @@ falsify-requires-clause-unset g c =
 
 pub hints-preserved : goal.hints-preserved
 hints-preserved g c =
-    let clauses = g.C.Clauses.clauses c.args.clauses.now in
+    let clauses = g.C.NamedClauses.clauses c.args.clauses.now in
     let lines = g.L.NamedLines.lines c.args.lines.now in
     let values = c.hints.assignment in
     let u = c.in-Forces.literal in
@@ -58,7 +58,7 @@ hints-preserved g c =
 
 pub returns-in-Neither-clause-refuted : goal.returns-in-Neither-clause-refuted
 returns-in-Neither-clause-refuted g c =
-    let clauses = g.C.Clauses.clauses c.args.clauses.now in
+    let clauses = g.C.NamedClauses.clauses c.args.clauses.now in
     let lines = g.L.NamedLines.lines c.args.lines.now in
     let F = falses_in c.hints.assignment in
     let is = subst (λ n. IsHintOutcome clauses lines (n - 1) F c.in-Some.hint c.of_hint.result) c.hints.invariant.2 c.of_hint.ensures in

@@ -7,4 +7,4 @@ abbrev pub invariant-hints : goal.invariant-hints
 invariant-hints g l =
     (goal.iterator-hints g).can_next l.rest × (goal.iterator-hints g).is_finite l.rest
     × (length l.assignment ≡ length l.fn.assignment)
-    × Remain (g.C.Clauses.clauses l.clauses) (g.L.NamedLines.lines l.lines) (letters_in l.fn.assignment) (falses_in l.assignment) l.rest (falses_in l.fn.assignment) l.fn.hints
+    × Remain (g.C.NamedClauses.clauses l.clauses) (g.L.NamedLines.lines l.lines) (letters_in l.fn.assignment) (falses_in l.assignment) l.rest (falses_in l.fn.assignment) l.fn.hints

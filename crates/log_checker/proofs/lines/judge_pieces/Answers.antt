@@ -6,7 +6,7 @@ use Rattle.log_checker.proofs.lines.judge_pieces.Goals as goal
 
 pub for_each_mut-requires-clause-accepts : goal.for_each_mut-requires-clause-accepts
 for_each_mut-requires-clause-accepts g c κs within = λ i p low at κs' r r' name values ranges n fits κs'' out.
-    let clauses = g.C.Clauses.clauses c.args.clauses.now in
+    let clauses = g.C.NamedClauses.clauses c.args.clauses.now in
     let same = c.as_mut_slice.ensures.value in
     let count = ap length same in
     let here = at ∙ ap (λ xs. get_or xs i p.now) same in (

@@ -6,7 +6,7 @@ use Rattle.log_checker.proofs.pieces.first_bad.Goals as goal
 
 pub lines-preserved : goal.lines-preserved
 lines-preserved g c =
-    let clauses = g.C.Clauses.clauses c.args.clauses.now in
+    let clauses = g.C.NamedClauses.clauses c.args.clauses.now in
     let parts = c.args.view.now.parts in
     let Good = IsGoodLine clauses (letters_in c.args.assignment.now) parts in
     let law = subst (λ n. IsTrue c.is_good.result ↔ IsGoodLine clauses (n - 1) parts (c.lines.index + 1 - 1)) c.lines.invariant.0 c.is_good.ensures.good in

@@ -6,7 +6,7 @@ use Rattle.log_checker.proofs.pieces.is_good.Goals as goal
 
 pub returns-clause-good : goal.returns-clause-good
 returns-clause-good g c =
-    let clauses = g.C.Clauses.clauses c.args.clauses.now in
+    let clauses = g.C.NamedClauses.clauses c.args.clauses.now in
     let lines = live_at c.args.view.now.parts (c.args.line - 1) in
     let line = get_or (lines_of c.args.view.now.parts) (c.args.line - 1) [] in
     let letters = letters_in c.args.assignment.now in

@@ -7,7 +7,7 @@ use Rattle.log_checker.proofs.live.LiveChecker.take.Goals as goal
 
 pub returns-in_ok-push-in-Line-clause-judged : goal.returns-in_ok-push-in-Line-clause-judged
 returns-in_ok-push-in-Line-clause-judged g c =
-    let clauses = g.C.Clauses.clauses c.args.clauses.now in
+    let clauses = g.C.NamedClauses.clauses c.args.clauses.now in
     let good = c.judge-good.result in
     let hints = c.in-Line.hints in
     let a = c.self.inside.assignment in
