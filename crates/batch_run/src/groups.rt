@@ -15,7 +15,7 @@ use std::thread;
 use std::thread::Threads;
 
 /// How many groups are decided before the answers are taken.
-const GROUPS: u32 = 64;
+const GROUPS: u32 = 4096;
 
 /// What is said of the lines of one worker, one of each group. There are fewer where there is no memory.
 #[derive(Drop)]
