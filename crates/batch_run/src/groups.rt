@@ -15,7 +15,7 @@ use std::thread;
 use std::thread::Threads;
 
 /// How many groups are decided before the answers are taken.
-const GROUPS: u32 = 4096;
+const GROUPS: u32 = 65536;
 
 /// What is said of the lines of one worker, one of each group. There are fewer where there is no memory.
 #[derive(Drop)]
@@ -41,8 +41,8 @@ pub fn answers<R: Threads + Sync, G: Gate + Sync>(
     requires few { workers ≤ 16 }
     ensures { IfOk result (λ found. AreAnswers kind asked text.now found.items) }
 {
-    let most = workers * GROUPS;
-    let mut lanes = lanes(alloc, workers)?;
+    let most = most_lines(workers, text.len());
+    let mut lanes = lanes(alloc, workers, most)?;
     let mut lines = Vec::with_capacity(alloc, most as usize)?;
     let mut answers = Vec::new(alloc);
     let mut rest = Rest { text, number: 1 };
@@ -65,14 +65,28 @@ pub fn answers<R: Threads + Sync, G: Gate + Sync>(
     Ok(answers)
 }
 
-/// A lane for each worker, with room for a line of each group.
-fn lanes(alloc: Global, workers: u32) -> Result<Vec<Lane>, AllocError>
+/// How many lines are decided before the answers are taken: those of all these groups, or as many as there can be in
+/// so many bytes, where each takes a byte and the end of the line before it.
+fn most_lines(workers: u32, bytes: usize) -> u32
+    requires some { 1 ≤ workers }
+    requires few { workers ≤ 16 }
+    requires size { bytes ≤ 16777216 }
+    ensures some { 1 ≤ result }
+{
+    let lines = bytes as u32 / 2 + 1;
+    lines.min(workers * GROUPS)
+}
+
+/// A lane for each worker, with room for its lines among so many.
+fn lanes(alloc: Global, workers: u32, most: u32) -> Result<Vec<Lane>, AllocError>
+    requires { 1 ≤ workers }
     ensures { IfOk result (λ lanes. length lanes.items ≡ workers) }
 {
+    let room = most as usize / workers as usize + 1;
     let mut lanes = Vec::with_capacity(alloc, workers as usize)?;
     'workers: for _worker in 0..workers {
         lanes.push(Lane {
-            outcomes: Vec::with_capacity(alloc, GROUPS as usize)?,
+            outcomes: Vec::with_capacity(alloc, room)?,
         })?;
     }
     Ok(lanes)

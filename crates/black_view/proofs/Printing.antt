@@ -1,5 +1,5 @@
 -- What is printed of an input, from what the code has.
-use Rattle.std.proofs.Common.{◌≡◌, ◌≢◌, ℕ, ◌≤◌, ◌<◌, List, [], ◌++◌, length, take, drop, codes, Result, Ok, Err, None, Contains, ◌↔◌, sym, ap, subst, ◌∙◌}
+use Rattle.std.proofs.Common.{◌≡◌, ◌≢◌, ℕ, ◌≤◌, ◌<◌, List, [], ◌++◌, length, take, drop, codes, Result, Ok, Err, None, Contains, ◌↔◌, IfOk, OnOk, sym, ap, subst, ◌∙◌}
 use Rattle.std.proofs.lemmas.List.{append-nil}
 use Rattle.ltl_word.specs.declared.trace.Trace.{Trace}
 use Rattle.ltl_word.specs.declared.json.TraceFault.{TraceFault}
@@ -7,12 +7,12 @@ use Rattle.ltl_word.specs.declared.json.TraceFault.TheVariants as faults
 use Rattle.ltl_word.specs.Json.{IsReading}
 use Rattle.ltl_word.specs.State.{IsAscending}
 use Rattle.ltl_word.specs.Trace.{Names}
-use Rattle.trace_view.specs.Grid.{GridValue, Occurs}
+use Rattle.trace_view.specs.Grid.{GridValue, IsGridOf, Occurs, cells_for}
 use Rattle.black_view.specs.declared.request.Request.{Request}
 use Rattle.black_view.specs.declared.status.Status.{Status}
 use Rattle.black_view.specs.declared.status.Status.TheVariants as statuses
 use Rattle.black_view.specs.Input.{HasNoTrace, IsTraceAt}
-use Rattle.black_view.specs.Output.{IsViewed, IsDrawn, IsAskedGrid, IsTooLarge, picture_of, fault_line, max_bytes, AreChosen, AreLetters, drawn, too_large, too_long, without, refused, read}
+use Rattle.black_view.specs.Output.{IsViewed, IsDrawn, IsAskedGrid, IsTooLarge, picture_of, fault_line, max_bytes, max_cells, AreChosen, AreLetters, drawn, too_large, too_long, without, refused, read}
 
 -- a relation on a status and a text, at equal ones
 moved : (R : Status → List ℕ → Type 0) (s s' : Status) (x x' : List ℕ) → s ≡ s' → x ≡ x' → R s' x' → R s x
@@ -52,3 +52,9 @@ pub all_letters : (request : Request) (t : Trace) (set names : Names) → reques
     → ((name : List ℕ) → Contains set name ↔ Occurs t name) → AreLetters request t names
 all_letters request t set names none same ascending all =
     subst (λ o. AreChosen o t names) (sym none) (ascending, subst (λ (ns : Names). (name : List ℕ) → Contains ns name ↔ Occurs t name) (sym same) all)
+
+-- a grid of the letters that are asked for, where it has few enough cells
+pub asked_grid : {E : Type 0} (request : Request) (t : Trace) (letters : Names) (r : Result GridValue E) → AreLetters request t letters
+    → IfOk r (IsGridOf t letters) → OnOk r (cells_for t letters ≤ max_cells) → IfOk r (IsAskedGrid request t)
+asked_grid request t letters (Ok g) asked lawful few = record { letters = letters; asked = asked; lawful = lawful; few = few }
+asked_grid request t letters (Err e) asked lawful few = tt

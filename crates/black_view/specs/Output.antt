@@ -30,11 +30,12 @@ max_cells = 16777216
 abbrev pub max_bytes : ℕ
 max_bytes = 16777216
 
--- the grid of these letters
+-- the grid of these letters, which has few enough cells
 pub record IsAskedGrid (request : Request) (t : Trace) (g : GridValue) : Type 0 where
   pub letters : Names
   pub asked : AreLetters request t letters
   pub lawful : IsGridOf t letters g
+  pub few : cells_for t letters ≤ max_cells
 
 -- it would have too many cells
 pub record IsTooLarge (request : Request) (t : Trace) : Type 0 where

@@ -121,6 +121,77 @@ fn words(rt: HostRuntime) -> Result<(), Fail> {
     Ok(())
 }
 
+/// Words of one option, whose value is the name `p` so many times.
+fn asked(alloc: Global, count: usize) -> Result<Vec<String>, AllocError> {
+    let mut only = String::from_str(alloc, "--only=p")?;
+    for _letter in 1..count {
+        only.push_str(",p")?;
+    }
+    let mut words = list(alloc, "black_view")?;
+    words.push(only)?;
+    Ok(words)
+}
+
+/// A finite trace of so many states in which nothing is true, behind a line.
+fn silent(alloc: Global, states: usize) -> Result<Vec<u8>, AllocError> {
+    let mut text = b"SAT 9\n{\"kind\":\"finite\",\"states\":[[]".to_vec(alloc)?;
+    for _state in 1..states {
+        text.extend_from_slice(b",[]")?;
+    }
+    text.extend_from_slice(b"]}\n")?;
+    Ok(text)
+}
+
+// One byte too many, and one letter too many: a row of numbers and 4,096 letters over 4,096 states.
+#[test]
+fn limits(rt: HostRuntime) -> Result<(), Fail> {
+    let alloc = rt.alloc();
+    let spaces = vec![in alloc; b' '; 16_777_217]?;
+    let table = [
+        (
+            list(alloc, "black_view")?,
+            spaces,
+            b"limit text 16777216\n".as_slice(),
+        ),
+        (
+            asked(alloc, 4096)?,
+            silent(alloc, 4096)?,
+            b"SAT 9\nlimit cells 16777216\n",
+        ),
+    ];
+    for (words, input, wanted) in table {
+        let Ok(request) = requested(alloc, &words) else {
+            return Err(Fail::new("the words are not taken"));
+        };
+        let mut source = MemorySource::new(input, 65_536, Vec::new(alloc));
+        let mut sink = MemorySink::new(alloc, 64, 64, Vec::new(alloc))?;
+        let status = run(alloc, &request, &mut source, &mut sink);
+        assert!(rt; status == Status::Limit && sink.content() == wanted);
+    }
+    Ok(())
+}
+
+// A read that fails leaves nothing written, and a write that fails a front.
+#[test]
+fn failing_devices(rt: HostRuntime) -> Result<(), Fail> {
+    let alloc = rt.alloc();
+    let table: [(&[u64], &[u64], Status, &[u8]); 2] = [
+        (&[2], &[], Status::ReadFault, b""),
+        (&[], &[2], Status::WriteFault, b"UNS"),
+    ];
+    for (reads, writes, wanted, front) in table {
+        let Ok(request) = requested(alloc, &list(alloc, "black_view")?) else {
+            return Err(Fail::new("the words are not taken"));
+        };
+        let input = b"UNSAT 2\n".to_vec(alloc)?;
+        let mut source = MemorySource::new(input, 3, reads.to_vec(alloc)?);
+        let mut sink = MemorySink::new(alloc, 64, 3, writes.to_vec(alloc)?)?;
+        let status = run(alloc, &request, &mut source, &mut sink);
+        assert!(rt; status == wanted && sink.content() == front);
+    }
+    Ok(())
+}
+
 #[test]
 fn codes(rt: HostRuntime) {
     let table = [

@@ -1,4 +1,5 @@
-ghost use Rattle.std.specs.Prelude.{◌≡◌, ◌≤◌, ◌<◌, ◌+◌, IsTrue, All, length, ◌↔◌};
+// Talks with the solver that were worked by hand, and a log that is followed line by line.
+ghost use Rattle.std.specs.Prelude.{◌≡◌, ◌≤◌, ◌+◌, IsTrue, All, length};
 ghost use Rattle.cnf_base.specs.Known.{IsKnown};
 ghost use Rattle.cdcl.specs.Solving.{IsConsistent};
 
@@ -10,15 +11,134 @@ use std::alloc::{AllocError, Global};
 use std::process::Abort;
 use std::test::Fail;
 
-fn plus(letter: u32) -> Literal {
+/// What is asked of the solver, and what has to come of it.
+#[derive(Clone, Copy)]
+enum Call {
+    /// The literals become inputs, a zero after each.
+    Add,
+    /// Under the literals, values are found that make the others true as well.
+    Grants,
+    /// Under the literals, none are found.
+    Refuses,
+}
+
+/// A call, what it is given, and what has to be true then: numbers of letters, with a minus sign where negated.
+type Row = (Call, &'static [i32], &'static [i32]);
+
+/// The letters that are known from here on, the calls, and how many lines they may add.
+type Turn = (u32, &'static [Row], u64);
+
+const ANY: u64 = u64::MAX;
+
+/// Pigeon p is in hole h where letter 4p + h is true: each of the five is in one of the four, and no two are in one.
+const PIGEONS: &[Row] = &[
+    (
+        Call::Add,
+        &[
+            1, 2, 3, 4, 0, 5, 6, 7, 8, 0, 9, 10, 11, 12, 0, 13, 14, 15, 16, 0, 17, 18, 19, 20, 0,
+        ],
+        &[],
+    ),
+    (
+        Call::Add,
+        &[
+            -5, -1, 0, -9, -1, 0, -13, -1, 0, -17, -1, 0, -9, -5, 0, -13, -5, 0, -17, -5, 0, -13,
+            -9, 0, -17, -9, 0, -17, -13, 0,
+        ],
+        &[],
+    ),
+    (
+        Call::Add,
+        &[
+            -6, -2, 0, -10, -2, 0, -14, -2, 0, -18, -2, 0, -10, -6, 0, -14, -6, 0, -18, -6, 0, -14,
+            -10, 0, -18, -10, 0, -18, -14, 0,
+        ],
+        &[],
+    ),
+    (
+        Call::Add,
+        &[
+            -7, -3, 0, -11, -3, 0, -15, -3, 0, -19, -3, 0, -11, -7, 0, -15, -7, 0, -19, -7, 0, -15,
+            -11, 0, -19, -11, 0, -19, -15, 0,
+        ],
+        &[],
+    ),
+    (
+        Call::Add,
+        &[
+            -8, -4, 0, -12, -4, 0, -16, -4, 0, -20, -4, 0, -12, -8, 0, -16, -8, 0, -20, -8, 0, -16,
+            -12, 0, -20, -12, 0, -20, -16, 0,
+        ],
+        &[],
+    ),
+    (Call::Refuses, &[], &[]),
+];
+
+const TALKS: &[&[Turn]] = &[
+    &[(
+        3,
+        &[
+            (Call::Add, &[1, 2, 0, -1, 3, 0], &[]),
+            (Call::Refuses, &[1, -3], &[]),
+            (Call::Grants, &[1], &[3]),
+            (Call::Add, &[-1, 0], &[]),
+            (Call::Refuses, &[1], &[]),
+            (Call::Grants, &[], &[2]),
+            (Call::Add, &[-2, 0], &[]),
+            (Call::Refuses, &[], &[]),
+        ],
+        ANY,
+    )],
+    // No letters, a repeated literal, two that are opposites, and the empty clause.
+    &[
+        (0, &[(Call::Grants, &[], &[])], ANY),
+        (
+            3,
+            &[
+                (Call::Add, &[1, 1, 2, 0, 3, -3, 0, -1, -1, 0], &[]),
+                (Call::Grants, &[3], &[2]),
+                (Call::Grants, &[-3], &[2]),
+                (Call::Refuses, &[-3, -2], &[]),
+                (Call::Add, &[0], &[]),
+                (Call::Refuses, &[3], &[]),
+            ],
+            ANY,
+        ),
+    ],
+    // What was refused is refused again by one line.
+    &[
+        (
+            2,
+            &[
+                (Call::Add, &[1, 2, 0, 1, -2, 0, -1, 2, 0], &[]),
+                (Call::Grants, &[], &[1, 2]),
+                (Call::Add, &[-1, -2, 0], &[]),
+                (Call::Refuses, &[], &[]),
+            ],
+            ANY,
+        ),
+        (
+            2,
+            &[(Call::Refuses, &[], &[]), (Call::Refuses, &[], &[])],
+            2,
+        ),
+    ],
+    &[(20, PIGEONS, ANY)],
+];
+
+fn literal(number: i32) -> Literal {
     Literal {
-        letter: Letter(letter),
-        negated: false,
+        letter: Letter(number.unsigned_abs()),
+        negated: number < 0,
     }
 }
 
-fn minus(letter: u32) -> Literal {
-    plus(letter).opposite()
+fn literals(alloc: Global, numbers: &[i32]) -> Result<Vec<Literal>, AllocError> {
+    let mut literals: Vec<Literal> = Vec::new(alloc);
+    for number in numbers {
+        literals.push(literal(*number))?;
+    }
+    Ok(literals)
 }
 
 /// Whether the literals are of letters from 1 to the count.
@@ -48,143 +168,115 @@ fn are_consistent(literals: &[Literal]) -> bool
     true
 }
 
-/// Whether the values that were found make a literal of the clause true.
-fn makes_true(solver: &Solver, letters: u32, clause: &[Literal]) -> bool
-    requires { length solver.now.model ≡ letters + 1 }
-{
-    for literal in clause {
-        if literal.letter.0 <= letters && solver.value(literal.letter) != literal.negated {
-            return true;
-        }
-    }
-    false
-}
-
-/// Whether the values that were found make each of the literals true.
-fn makes_all_true(solver: &Solver, letters: u32, literals: &[Literal]) -> bool
-    requires { length solver.now.model ≡ letters + 1 }
-{
+/// Whether each literal is among the others.
+fn are_among(literals: &[Literal], others: &[Literal]) -> bool {
     for literal in literals {
-        if !makes_true(solver, letters, &[*literal]) {
+        if !has(others, *literal) {
             return false;
         }
     }
     true
 }
 
-/// Whether the values that were found make each input true.
-fn makes_inputs_true(solver: &Solver, letters: u32) -> bool
-    requires { length solver.now.model ≡ letters + 1 }
-{
-    let view = solver.log().view();
-    for index in 0..view.inputs() {
-        if !makes_true(solver, letters, view.input(index + 1)) {
-            return false;
-        }
-    }
-    true
-}
-
-/// Whether each literal is the opposite of an assumption.
-fn are_negated(assumptions: &[Literal], literals: &[Literal]) -> bool {
+/// The literals that are not among the others, each once.
+fn without(
+    alloc: Global,
+    literals: &[Literal],
+    others: &[Literal],
+) -> Result<Vec<Literal>, AllocError> {
+    let mut left: Vec<Literal> = Vec::new(alloc);
     for literal in literals {
-        if !has(assumptions, literal.opposite()) {
-            return false;
+        if !has(others, *literal) && !has(&left, *literal) {
+            left.push(*literal)?;
         }
     }
-    true
+    Ok(left)
 }
 
+fn opposites(alloc: Global, literals: &[Literal]) -> Result<Vec<Literal>, AllocError> {
+    let mut opposites: Vec<Literal> = Vec::new(alloc);
+    for literal in literals {
+        opposites.push(literal.opposite())?;
+    }
+    Ok(opposites)
+}
+
+/// Adds the clauses, each up to its zero.
 fn add(
     rt: &impl Abort,
+    alloc: Global,
     solver: &mut Solver,
     letters: u32,
-    clause: &[Literal],
+    numbers: &[i32],
 ) -> Result<(), AllocError>
     requires { solver.old.letters ≡ letters }
     ensures { solver.new.letters ≡ letters }
 {
-    assert!(rt; are_known(letters, clause));
-    match solver.add(clause) {
-        Ok(_) => Ok(()),
-        Err(_) => Err(AllocError),
-    }
-}
-
-/// Asks, and finds values that make the assumptions, these literals and the inputs true.
-fn grants(
-    rt: &impl Abort,
-    solver: &mut Solver,
-    letters: u32,
-    assumptions: &[Literal],
-    wanted: &[Literal],
-) -> Result<(), AllocError>
-    requires { solver.old.letters ≡ letters }
-    ensures { solver.new.letters ≡ letters }
-{
-    assert!(rt; are_known(letters, assumptions));
-    assert!(rt; are_consistent(assumptions));
-    match solver.solve(assumptions) {
-        Ok(Answer::Sat) => {
-            assert!(rt; makes_all_true(solver, letters, assumptions));
-            assert!(rt; makes_all_true(solver, letters, wanted));
-            assert!(rt; makes_inputs_true(solver, letters));
-            return Ok(());
-        }
-        Ok(Answer::Unsat(_)) => {
-            assert!(rt; false);
-            return Ok(());
-        }
-        Err(_) => return Err(AllocError),
-    }
-}
-
-/// Asks, and finds a line of opposites of assumptions.
-fn refuses(
-    rt: &impl Abort,
-    solver: &mut Solver,
-    letters: u32,
-    assumptions: &[Literal],
-) -> Result<(), AllocError>
-    requires { solver.old.letters ≡ letters }
-    ensures { solver.new.letters ≡ letters }
-{
-    assert!(rt; are_known(letters, assumptions));
-    assert!(rt; are_consistent(assumptions));
-    match solver.solve(assumptions) {
-        Ok(Answer::Sat) => {
-            assert!(rt; false);
-            return Ok(());
-        }
-        Ok(Answer::Unsat(line)) => {
-            assert!(rt; are_negated(assumptions, solver.log().view().literals(line)));
-            return Ok(());
-        }
-        Err(_) => return Err(AllocError),
-    }
-}
-
-/// What is asked of the solver, and what has to come of it.
-#[derive(Clone, Copy)]
-enum Call {
-    /// The literals become an input.
-    Add,
-    /// Under the literals, values are found that make the others true as well.
-    Grants,
-    /// Under the literals, none are found.
-    Refuses,
-}
-
-/// The literals of these numbers, a negated one with a minus sign.
-fn literals(alloc: Global, numbers: &[i32]) -> Result<Vec<Literal>, AllocError> {
-    let mut literals: Vec<Literal> = Vec::new(alloc);
+    let mut clause: Vec<Literal> = Vec::new(alloc);
     for number in numbers {
-        literals.push(Literal {
-            letter: Letter(number.unsigned_abs()),
-            negated: *number < 0,
+        if *number != 0 {
+            clause.push(literal(*number))?;
+            continue;
+        }
+        assert!(rt; are_known(letters, &clause));
+        solver.add(&clause)?;
+        clause.truncate(0);
+    }
+    Ok(())
+}
+
+/// The literals that the values make true.
+fn found(alloc: Global, solver: &Solver, letters: u32) -> Result<Vec<Literal>, AllocError>
+    requires { length solver.now.model ≡ letters + 1 }
+{
+    let mut found: Vec<Literal> = Vec::new(alloc);
+    for index in 0..letters {
+        let letter = Letter(index + 1);
+        found.push(Literal {
+            letter,
+            negated: !solver.value(letter),
         })?;
     }
-    Ok(literals)
+    Ok(found)
+}
+
+/// Asks: true and the literals that were found, or false and the literals of the line.
+fn ask(
+    rt: &impl Abort,
+    alloc: Global,
+    solver: &mut Solver,
+    letters: u32,
+    given: &[Literal],
+) -> Result<(bool, Vec<Literal>), AllocError>
+    requires { solver.old.letters ≡ letters }
+    ensures { solver.new.letters ≡ letters }
+{
+    assert!(rt; are_known(letters, given));
+    assert!(rt; are_consistent(given));
+    match solver.solve(given)? {
+        Answer::Sat => {
+            let literals = found(alloc, solver, letters)?;
+            return Ok((true, literals));
+        }
+        Answer::Unsat(line) => {
+            let literals = without(alloc, solver.log().view().literals(line), &[])?;
+            return Ok((false, literals));
+        }
+    }
+}
+
+/// Whether no input is false where these literals are true.
+fn meet_inputs(
+    alloc: Global,
+    view: &LogView<'_>,
+    literals: &[Literal],
+) -> Result<bool, AllocError> {
+    for index in 0..view.inputs() {
+        if are_among(&opposites(alloc, view.input(index + 1))?, literals) {
+            return Ok(false);
+        }
+    }
+    Ok(true)
 }
 
 fn take(
@@ -192,18 +284,39 @@ fn take(
     alloc: Global,
     solver: &mut Solver,
     letters: u32,
-    row: &(Call, &[i32], &[i32]),
+    row: &Row,
 ) -> Result<(), AllocError>
     requires { solver.old.letters ≡ letters }
     ensures { solver.new.letters ≡ letters }
 {
-    let given = literals(alloc, row.1)?;
-    let wanted = literals(alloc, row.2)?;
-    match row.0 {
-        Call::Add => add(rt, solver, letters, &given),
-        Call::Grants => grants(rt, solver, letters, &given, &wanted),
-        Call::Refuses => refuses(rt, solver, letters, &given),
+    if matches!(row.0, Call::Add) {
+        return add(rt, alloc, solver, letters, row.1);
     }
+    let given = literals(alloc, row.1)?;
+    let (sat, literals) = ask(rt, alloc, solver, letters, &given)?;
+    judge(rt, alloc, &solver.log().view(), row, &given, sat, &literals)
+}
+
+/// Looks at what was answered: at the values, or at the line.
+fn judge(
+    rt: &impl Abort,
+    alloc: Global,
+    view: &LogView<'_>,
+    row: &Row,
+    given: &[Literal],
+    sat: bool,
+    answer: &[Literal],
+) -> Result<(), AllocError> {
+    if sat {
+        assert!(rt; matches!(row.0, Call::Grants));
+        assert!(rt; are_among(given, answer));
+        assert!(rt; are_among(&literals(alloc, row.2)?, answer));
+        assert!(rt; meet_inputs(alloc, view, answer)?);
+    } else {
+        assert!(rt; matches!(row.0, Call::Refuses));
+        assert!(rt; are_among(&opposites(alloc, answer)?, given));
+    }
+    Ok(())
 }
 
 /// Makes the calls in their order.
@@ -212,113 +325,13 @@ fn play(
     alloc: Global,
     solver: &mut Solver,
     letters: u32,
-    rows: &[(Call, &[i32], &[i32])],
+    rows: &[Row],
 ) -> Result<(), AllocError>
     requires { solver.old.letters ≡ letters }
     ensures { solver.new.letters ≡ letters }
 {
     for row in rows {
         take(rt, alloc, solver, letters, row)?;
-    }
-    Ok(())
-}
-
-#[test]
-fn answers_in_turn(rt: HostRuntime) -> Result<(), Fail> {
-    let alloc = rt.alloc();
-    let rows: [(Call, &[i32], &[i32]); 9] = [
-        (Call::Add, &[1, 2], &[]),
-        (Call::Add, &[-1, 3], &[]),
-        (Call::Refuses, &[1, -3], &[]),
-        (Call::Grants, &[1], &[3]),
-        (Call::Add, &[-1], &[]),
-        (Call::Refuses, &[1], &[]),
-        (Call::Grants, &[], &[2]),
-        (Call::Add, &[-2], &[]),
-        (Call::Refuses, &[], &[]),
-    ];
-    let mut solver = Solver::new(alloc);
-    solver.letters(3)?;
-    play(&rt, alloc, &mut solver, 3, &rows)?;
-    Ok(())
-}
-
-/// No letters, the empty clause, a repeated literal, and two that are opposites.
-#[test]
-fn takes_odd_clauses(rt: HostRuntime) -> Result<(), Fail> {
-    let alloc = rt.alloc();
-    let rows: [(Call, &[i32], &[i32]); 8] = [
-        (Call::Add, &[1, 1, 2], &[]),
-        (Call::Add, &[3, -3], &[]),
-        (Call::Add, &[-1, -1], &[]),
-        (Call::Grants, &[3], &[2]),
-        (Call::Grants, &[-3], &[2]),
-        (Call::Refuses, &[-3, -2], &[]),
-        (Call::Add, &[], &[]),
-        (Call::Refuses, &[3], &[]),
-    ];
-    let mut solver = Solver::new(alloc);
-    grants(&rt, &mut solver, 0, &[], &[])?;
-    solver.letters(3)?;
-    play(&rt, alloc, &mut solver, 3, &rows)?;
-    Ok(())
-}
-
-#[test]
-fn answers_again_by_one_line(rt: HostRuntime) -> Result<(), Fail> {
-    let alloc = rt.alloc();
-    let first: [(Call, &[i32], &[i32]); 6] = [
-        (Call::Add, &[1, 2], &[]),
-        (Call::Add, &[1, -2], &[]),
-        (Call::Add, &[-1, 2], &[]),
-        (Call::Grants, &[], &[1, 2]),
-        (Call::Add, &[-1, -2], &[]),
-        (Call::Refuses, &[], &[]),
-    ];
-    let again: [(Call, &[i32], &[i32]); 2] = [(Call::Refuses, &[], &[]), (Call::Refuses, &[], &[])];
-    let mut solver = Solver::new(alloc);
-    solver.letters(2)?;
-    play(&rt, alloc, &mut solver, 2, &first)?;
-    let lines = solver.log().view().lines();
-    play(&rt, alloc, &mut solver, 2, &again)?;
-    let now = solver.into_log().view().lines();
-    assert!(rt; now <= lines.saturating_add(2));
-    Ok(())
-}
-
-/// Pigeon p is in hole h where letter 4p + h is true: each of the five is in one of the four.
-fn house(rt: &impl Abort, solver: &mut Solver) -> Result<(), AllocError>
-    requires { solver.old.letters ≡ 20 }
-    ensures { solver.new.letters ≡ 20 }
-{
-    for p in 0..5_u32 {
-        add(
-            rt,
-            solver,
-            20,
-            &[
-                plus(4 * p + 1),
-                plus(4 * p + 2),
-                plus(4 * p + 3),
-                plus(4 * p + 4),
-            ],
-        )?;
-    }
-    Ok(())
-}
-
-/// No two pigeons are in one hole.
-fn keep_apart(rt: &impl Abort, solver: &mut Solver) -> Result<(), AllocError>
-    requires { solver.old.letters ≡ 20 }
-    ensures { solver.new.letters ≡ 20 }
-{
-    for number in 0..100_u32 {
-        let h = number / 25 + 1;
-        let p = number % 5;
-        let q = number / 5 % 5;
-        if q < p {
-            add(rt, solver, 20, &[minus(4 * p + h), minus(4 * q + h)])?;
-        }
     }
     Ok(())
 }
@@ -337,17 +350,6 @@ fn clause_of<'a>(rt: &impl Abort, view: &LogView<'a>, hint: Hint) -> &'a [Litera
     }
 }
 
-/// The literals that are not among the false ones.
-fn left(alloc: Global, clause: &[Literal], falses: &[Literal]) -> Result<Vec<Literal>, AllocError> {
-    let mut open: Vec<Literal> = Vec::new(alloc);
-    for literal in clause {
-        if !has(falses, *literal) {
-            open.push(*literal)?;
-        }
-    }
-    Ok(open)
-}
-
 /// Whether unit propagation over the line's hints alone, from the opposites of its literals, ends in a conflict.
 fn is_step(
     rt: &impl Abort,
@@ -357,11 +359,10 @@ fn is_step(
 ) -> Result<bool, AllocError>
     requires from_one { 1 ≤ line }
     requires in_list { line ≤ length view.now.lines }
-    requires paired { line ≤ length view.now.hints }
 {
-    let mut falses = left(alloc, view.literals(line), &[])?;
+    let mut falses = without(alloc, view.literals(line), &[])?;
     for hint in view.hints(line) {
-        let open = left(alloc, clause_of(rt, view, *hint), &falses)?;
+        let open = without(alloc, clause_of(rt, view, *hint), &falses)?;
         if open.len() == 0 {
             return Ok(true);
         }
@@ -373,18 +374,32 @@ fn is_step(
     Ok(false)
 }
 
-#[test]
-fn keeps_pigeons_apart(rt: HostRuntime) -> Result<(), Fail> {
-    let alloc = rt.alloc();
-    let mut solver = Solver::new(alloc);
-    solver.letters(20)?;
-    house(&rt, &mut solver)?;
-    keep_apart(&rt, &mut solver)?;
-    refuses(&rt, &mut solver, 20, &[])?;
-    let log = solver.into_log();
-    let view = log.view();
+fn follow(rt: &impl Abort, alloc: Global, view: &LogView<'_>) -> Result<(), AllocError> {
     for index in 0..view.lines() {
-        assert!(rt; is_step(&rt, alloc, &view, index + 1)?);
+        assert!(rt; is_step(rt, alloc, view, index + 1)?);
+    }
+    Ok(())
+}
+
+/// One solver takes the turns; each line of its log then follows from the lines before it.
+fn talk(rt: &impl Abort, alloc: Global, turns: &[Turn]) -> Result<(), AllocError> {
+    let mut solver = Solver::new(alloc);
+    let mut known = 0;
+    for (letters, rows, more) in turns {
+        assert!(rt; known <= *letters);
+        solver.letters(*letters)?;
+        known = *letters;
+        let lines = solver.log().view().lines();
+        play(rt, alloc, &mut solver, known, rows)?;
+        assert!(rt; solver.log().view().lines() <= lines.saturating_add(*more));
+    }
+    follow(rt, alloc, &solver.into_log().view())
+}
+
+#[test]
+fn answers_in_turn(rt: HostRuntime) -> Result<(), Fail> {
+    for turns in TALKS {
+        talk(&rt, rt.alloc(), turns)?;
     }
     Ok(())
 }

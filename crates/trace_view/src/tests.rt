@@ -31,7 +31,7 @@ fn names(alloc: Global, texts: &[&str]) -> Result<Vec<Name>, AllocError> {
 #[test]
 fn texts(rt: HostRuntime) -> Result<(), Fail> {
     let alloc = rt.alloc();
-    let table: [(&[u8], Option<&[&str]>, usize, &str); 9] = [
+    let table: [(&[u8], Option<&[&str]>, usize, &str); 10] = [
         (
             br#"{"kind":"infinite","loop":[[],["p"]],"stem":[["p"]]}"#,
             None,
@@ -92,6 +92,13 @@ fn texts(rt: HostRuntime) -> Result<(), Fail> {
             None,
             80,
             "   0  1  2  3  4  5  6  7  8| 9 10\np  .  .  .  .  .  .  .  .  .| #  .\n                            ^----<\n",
+        ),
+        // forty letters, of which the even ones are true at first and the odd ones then
+        (
+            br#"{"kind":"infinite","loop":[["p01","p03","p05","p07","p09","p11","p13","p15","p17","p19","p21","p23","p25","p27","p29","p31","p33","p35","p37","p39"]],"stem":[["p00","p02","p04","p06","p08","p10","p12","p14","p16","p18","p20","p22","p24","p26","p28","p30","p32","p34","p36","p38"]]}"#,
+            None,
+            80,
+            "    0|1\np00 #|.\np01 .|#\np02 #|.\np03 .|#\np04 #|.\np05 .|#\np06 #|.\np07 .|#\np08 #|.\np09 .|#\np10 #|.\np11 .|#\np12 #|.\np13 .|#\np14 #|.\np15 .|#\np16 #|.\np17 .|#\np18 #|.\np19 .|#\np20 #|.\np21 .|#\np22 #|.\np23 .|#\np24 #|.\np25 .|#\np26 #|.\np27 .|#\np28 #|.\np29 .|#\np30 #|.\np31 .|#\np32 #|.\np33 .|#\np34 #|.\np35 .|#\np36 #|.\np37 .|#\np38 #|.\np39 .|#\n     ^<\n",
         ),
     ];
     for (json, only, width, wanted) in table {

@@ -9,13 +9,43 @@ use ltl_syntax::{BinaryOp, FormulaTable, Kind, Node, UnaryOp};
 use std::alloc::Global;
 use std::process::Abort;
 
-/// A decision without what shows it.
-#[derive(Clone, Copy, PartialEq, Eq, Debug)]
-enum Verdict {
-    Sat(u32),
-    Unsat(u32),
-    Undecided(u32),
-}
+/// Whether there is a trace, where that is known, and the depth.
+type Verdict = (Option<bool>, u32);
+
+/// The nodes of a formula, its kind, the last depth that is tried, and what is decided.
+type Row = (&'static [Node], Kind, u32, Verdict);
+
+/// `p & !p`
+const CLASH: &[Node] = &[
+    Node::Letter(0),
+    Node::Letter(0),
+    Node::Unary(UnaryOp::Not, 1),
+    Node::Binary(BinaryOp::And, 0, 2),
+];
+
+/// `wX false`
+const LAST: &[Node] = &[Node::Const(false), Node::Unary(UnaryOp::WeakNext, 0)];
+
+/// `G F p & G !p`
+const BROKEN: &[Node] = &[
+    Node::Letter(0),
+    Node::Unary(UnaryOp::Eventually, 0),
+    Node::Unary(UnaryOp::Always, 1),
+    Node::Letter(0),
+    Node::Unary(UnaryOp::Not, 3),
+    Node::Unary(UnaryOp::Always, 4),
+    Node::Binary(BinaryOp::And, 2, 5),
+];
+
+const ROWS: &[Row] = &[
+    (&[Node::Letter(0)], Kind::Infinite, 8, (Some(true), 0)),
+    (CLASH, Kind::Infinite, 8, (Some(false), 0)),
+    (LAST, Kind::Infinite, 8, (Some(false), 1)),
+    (LAST, Kind::Finite, 8, (Some(true), 0)),
+    (BROKEN, Kind::Infinite, 1, (None, 1)),
+    (BROKEN, Kind::Infinite, 8, (Some(false), 2)),
+    (BROKEN, Kind::Finite, 8, (Some(false), 1)),
+];
 
 fn is_plain(text: &str) -> bool
     ensures { IsTrue result → IsPlain text.now }
@@ -26,9 +56,13 @@ fn is_plain(text: &str) -> bool
     }
 }
 
-fn name(rt: &impl Abort, table: &mut FormulaTable, text: &str) {
-    assert!(rt; table.letters() < u32::MAX && is_plain(text));
-    let _number = table.name(text).expect(rt, "memory");
+/// A table with the letter p.
+fn table_of_p(rt: &impl Abort, alloc: Global) -> FormulaTable {
+    let mut table = FormulaTable::new(alloc);
+    let name = "p";
+    assert!(rt; table.letters() < u32::MAX && is_plain(name));
+    table.name(name).expect(rt, "memory");
+    table
 }
 
 fn push(rt: &impl Abort, table: &mut FormulaTable, node: Node) -> u32 {
@@ -36,71 +70,36 @@ fn push(rt: &impl Abort, table: &mut FormulaTable, node: Node) -> u32 {
     table.push(node).expect(rt, "a place")
 }
 
-/// A table with the letter p, the nodes, and the number of the last.
-fn table_of(rt: &impl Abort, alloc: Global, nodes: &[Node]) -> (FormulaTable, u32) {
-    let mut table = FormulaTable::new(alloc);
-    name(rt, &mut table, "p");
-    let mut root = 0;
-    for node in nodes {
-        root = push(rt, &mut table, *node);
-    }
-    (table, root)
-}
-
-fn verdict_of(decision: Decision) -> Verdict {
+fn verdict_of(decision: &Decision) -> Verdict {
     match decision {
-        Decision::Sat { depth, .. } => Verdict::Sat(depth),
-        Decision::Unsat { depth, .. } => Verdict::Unsat(depth),
-        Decision::Undecided { depth } => Verdict::Undecided(depth),
+        Decision::Sat { depth, .. } => (Some(true), *depth),
+        Decision::Unsat { depth, .. } => (Some(false), *depth),
+        Decision::Undecided { depth } => (None, *depth),
     }
 }
 
 fn decided(rt: &impl Abort, alloc: Global, closure: &Closure<'_>, limit: u32) -> Verdict {
-    let layout = Layout::of(closure);
     assert!(rt; limit <= 1000);
-    assert!(rt; layout.fits(limit));
-    verdict_of(decide(alloc, closure, limit).expect(rt, "memory"))
+    assert!(rt; Layout::of(closure).fits(limit));
+    verdict_of(&decide(alloc, closure, limit).expect(rt, "memory"))
 }
 
 /// What is decided of the formula of the last node.
-fn decided_at(rt: &impl Abort, alloc: Global, nodes: &[Node], kind: Kind, limit: u32) -> Verdict {
-    let (table, root) = table_of(rt, alloc, nodes);
+fn decided_of(rt: &impl Abort, alloc: Global, row: &Row) -> Verdict {
+    let mut table = table_of_p(rt, alloc);
+    let mut root = 0;
+    for node in row.0 {
+        root = push(rt, &mut table, *node);
+    }
     assert!(rt; root < table.len());
-    let closure = Closure::of(alloc, &table, root, kind).expect(rt, "memory");
-    decided(rt, alloc, &closure, limit)
+    let closure = Closure::of(alloc, &table, root, row.1).expect(rt, "memory");
+    decided(rt, alloc, &closure, row.2)
 }
 
 #[test]
 fn decides(rt: HostRuntime) {
-    let alloc = rt.alloc();
-    let letter = [Node::Letter(0)];
-    let clash = [
-        Node::Letter(0),
-        Node::Letter(0),
-        Node::Unary(UnaryOp::Not, 1),
-        Node::Binary(BinaryOp::And, 0, 2),
-    ];
-    let last = [Node::Const(false), Node::Unary(UnaryOp::WeakNext, 0)];
-    // `G F p & G !p`
-    let broken = [
-        Node::Letter(0),
-        Node::Unary(UnaryOp::Eventually, 0),
-        Node::Unary(UnaryOp::Always, 1),
-        Node::Letter(0),
-        Node::Unary(UnaryOp::Not, 3),
-        Node::Unary(UnaryOp::Always, 4),
-        Node::Binary(BinaryOp::And, 2, 5),
-    ];
-    let rows: [(&[Node], Kind, u32, Verdict); 7] = [
-        (&letter, Kind::Infinite, 8, Verdict::Sat(0)),
-        (&clash, Kind::Infinite, 8, Verdict::Unsat(0)),
-        (&last, Kind::Infinite, 8, Verdict::Unsat(1)),
-        (&last, Kind::Finite, 8, Verdict::Sat(0)),
-        (&broken, Kind::Infinite, 1, Verdict::Undecided(1)),
-        (&broken, Kind::Infinite, 8, Verdict::Unsat(2)),
-        (&broken, Kind::Finite, 8, Verdict::Unsat(1)),
-    ];
-    for (nodes, kind, limit, wanted) in &rows {
-        assert!(rt; decided_at(&rt, alloc, nodes, *kind, *limit) == *wanted);
+    for row in ROWS {
+        let (found, depth) = decided_of(&rt, rt.alloc(), row);
+        assert!(rt; found == row.3.0 && depth == row.3.1);
     }
 }
