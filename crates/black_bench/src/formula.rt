@@ -14,13 +14,20 @@ pub fn read_formula<S: Source>(alloc: Global, source: &mut S) -> Result<(Formula
     let Ok(text) = read_whole(alloc, source, 1_048_576) else {
         return Err(5);
     };
+    formula_of(alloc, &text)
+}
+
+/// The formula that a text spells.
+pub fn formula_of(alloc: Global, text: &[u8]) -> Result<(FormulaTable, u32), u8>
+    ensures { IfOk result (λ r. r.1 < length r.0.nodes) }
+{
     if text.len() > 1_048_576 {
         return Err(4);
     }
-    let Ok(found) = tokens(alloc, &text) else {
+    let Ok(found) = tokens(alloc, text) else {
         return Err(3);
     };
-    match parse(alloc, &text, &found) {
+    match parse(alloc, text, &found) {
         Ok((table, root)) => Ok((table, root)),
         Err(_) => Err(3),
     }

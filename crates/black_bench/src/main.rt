@@ -1,8 +1,10 @@
-//! Measures parts of the product, on what standard input gives. The first word picks the part, the second one is a depth.
+//! Measures parts of the product, on what standard input gives. The first word picks the part, the second one is a depth, or
+//! how many workers check a certificate.
 #![tactic(auto)]
 
 ghost use Rattle.std.specs.Prelude.{◌≤◌, ⊤, MatchOption};
 
+mod certificate;
 mod clauses;
 mod formula;
 mod known;
@@ -10,6 +12,7 @@ mod questions;
 mod reading;
 mod tableau;
 
+use crate::certificate::check_certificate;
 use crate::clauses::{count_clauses, print_clauses};
 use crate::formula::read_formula;
 use crate::questions::answer_questions;
@@ -19,6 +22,7 @@ use ltl_io::StdSource;
 use ltl_syntax::Kind;
 use std::env;
 use std::process::ExitCode;
+use std::thread::Threads;
 
 /// What is measured.
 #[derive(Clone, Copy, Drop)]
@@ -33,6 +37,8 @@ enum Bench {
     Tableau,
     /// The solver's answers to questions.
     Solver,
+    /// The verdict on a certificate.
+    Check,
 }
 
 /// The depth where no word gives one.
@@ -55,8 +61,20 @@ fn bench_of(word: &str) -> Option<Bench> {
         "dimacs" => Some(Bench::Dimacs),
         "tableau" => Some(Bench::Tableau),
         "solver" => Some(Bench::Solver),
+        "check" => Some(Bench::Check),
         _ => None,
     }
+}
+
+/// From 1 to 16 workers.
+fn workers_of(number: u32) -> u32
+    ensures some { 1 ≤ result }
+    ensures few { result ≤ 16 }
+{
+    if number < 1 {
+        return 1;
+    }
+    if number < 16 { number } else { 16 }
 }
 
 /// The words: what is measured, and the depth.
@@ -75,11 +93,11 @@ fn words(rt: &HostRuntime) -> Option<(Bench, u32)>
 }
 
 fn main(rt: HostRuntime) -> ExitCode {
-    ExitCode::from(measure(&rt))
+    ExitCode::from(measure(&rt, &rt))
 }
 
 /// Measures, and gives the exit status: 0, or that of `black` where it would refuse.
-fn measure(rt: &HostRuntime) -> u8 {
+fn measure<R: Threads + Sync>(rt: &HostRuntime, threads: &R) -> u8 {
     let Some((bench, depth)) = words(rt) else {
         return 2;
     };
@@ -87,6 +105,12 @@ fn measure(rt: &HostRuntime) -> u8 {
     let mut source = StdSource::new(rt.stdin());
     if let Bench::Solver = bench {
         return answer_questions(rt, alloc, &mut source);
+    }
+    if let Bench::Check = bench {
+        return match check_certificate(threads, alloc, &mut source, workers_of(depth)) {
+            Ok(verified) => status(println!(rt; "{}", verified).is_ok()),
+            Err(status) => status,
+        };
     }
     let (table, root) = match read_formula(alloc, &mut source) {
         Ok(found) => found,
@@ -100,7 +124,7 @@ fn measure(rt: &HostRuntime) -> u8 {
         Bench::Clauses => count_clauses(rt, alloc, &closure, depth),
         Bench::Dimacs => print_clauses(rt, alloc, &closure, depth),
         Bench::Tableau => decide_formula(rt, alloc, &closure, depth),
-        Bench::Solver => 2,
+        Bench::Solver | Bench::Check => 2,
     }
 }
 

@@ -1,6 +1,6 @@
 // `batch` on texts that were worked by hand.
 use super::meeting::Meeting;
-use super::{list, shows};
+use super::{Row, list, show_rows};
 use crate::{Status, run};
 use ltl_io::{MemorySink, MemorySource};
 use std::process::Abort;
@@ -10,27 +10,22 @@ const LINES: &[u8] = b"p & !p\n\nG F p & G !p\np &\n";
 
 const ANSWERS: &[u8] = b"1 UNSAT 0\n3 UNSAT 2\n4 grammar fault at byte 3\n";
 
+const BATCHES: &[Row] = &[
+    ("batch", LINES, ANSWERS, Status::Text),
+    ("batch --workers 16", LINES, ANSWERS, Status::Text),
+    ("batch", b"", b"", Status::Good),
+    (
+        "batch --depth 1",
+        b"X[2] false",
+        b"1 UNDECIDED 1\n",
+        Status::Good,
+    ),
+    ("batch --finite", b"G p\r\n", b"1 SAT 0\n", Status::Good),
+];
+
 #[test]
 fn batches(rt: HostRuntime) -> Result<(), Fail> {
-    let alloc = rt.alloc();
-    let table: [(&str, &[u8], &[u8], Status); 5] = [
-        ("batch", LINES, ANSWERS, Status::Text),
-        ("batch --workers 16", LINES, ANSWERS, Status::Text),
-        ("batch", b"", b"", Status::Good),
-        (
-            "batch --depth 1",
-            b"X[2] false",
-            b"1 UNDECIDED 1\n",
-            Status::Good,
-        ),
-        ("batch --finite", b"G p\r\n", b"1 SAT 0\n", Status::Good),
-    ];
-    for (words, input, output, status) in &table {
-        shows(&rt, alloc, words, input, output, *status)?;
-    }
-    let long = vec![in alloc; b'\n'; 16_777_217]?;
-    let limit = b"limit batch 16777216\n";
-    shows(&rt, alloc, "batch", &long, limit, Status::Limit)
+    show_rows(&rt, rt.alloc(), BATCHES)
 }
 
 #[test]
