@@ -11,10 +11,10 @@ use Rattle.cnf_base.specs.Known.{IsKnown, AreKnown}
 use Rattle.cnf_base.proofs.Soundness.{some_element}
 use Rattle.clause_log.specs.LogValue.{LogValue, IsLog}
 use Rattle.clause_log.proofs.LogLemmas.{lines_follow}
-use Rattle.cdcl_state.specs.Trail.{StateValue, literals_of, IsModel, positive}
-use Rattle.cdcl_state.specs.Learnt.{literal_at}
-use Rattle.cdcl_state.specs.declared.assigned.Entry.{Entry}
-use Rattle.cdcl_state.proofs.Settled.{place_of}
+use Rattle.cdcl_state.specs.StateValue.{StateValue, IsModel, positive}
+use Rattle.cdcl_trail.specs.Trail.{literals_of, literal_at}
+use Rattle.cdcl_trail.specs.declared.assigned.Entry.{Entry}
+use Rattle.cdcl_trail.proofs.Standing.{place_of}
 use Rattle.cdcl.specs.Solving.{AreTrue, IsNegated, IsSatisfiable, IsAfter, IsFound}
 use Rattle.cdcl.specs.SolverValue.{SolverValue, IsAnswer}
 use Rattle.cdcl.specs.declared.solve.Answer.{Answer}

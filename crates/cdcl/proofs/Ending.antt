@@ -9,13 +9,14 @@ use Rattle.cnf_base.specs.Literal.{opposite}
 use Rattle.cnf_base.specs.Step.{IsHintedStep}
 use Rattle.cnf_base.proofs.SameLiteral.{opposite_opposite}
 use Rattle.clause_log.specs.LogValue.{greatest_u32}
-use Rattle.cdcl_state.specs.Trail.{StateValue, literals_of, IsBack}
-use Rattle.cdcl_state.specs.Learnt.{blank_entry, literal_at, IsDecision, IsFront}
-use Rattle.cdcl_state.specs.Analysis.{refuted_at, IsRefuted}
-use Rattle.cdcl_state.specs.declared.assigned.Entry.{Entry}
-use Rattle.cdcl_state.specs.declared.analyze.Learnt.{Learnt}
-use Rattle.cdcl_state.proofs.Measure.{measure, restart_falls}
-use Rattle.cdcl_state.proofs.Walk.{true_place}
+use Rattle.cdcl_state.specs.StateValue.{StateValue, IsBack}
+use Rattle.cdcl_trail.specs.Trail.{literals_of, blank_entry, literal_at, IsDecision}
+use Rattle.cdcl_state.specs.Turns.{IsFront, IsRefuted}
+use Rattle.cdcl_analyze.specs.Analysis.{refuted_at}
+use Rattle.cdcl_trail.specs.declared.assigned.Entry.{Entry}
+use Rattle.cdcl_analyze.specs.declared.analyze.Learnt.{Learnt}
+use Rattle.cdcl_trail.proofs.Measure.{measure, restart_falls}
+use Rattle.cdcl_trail.proofs.Standing.{true_place}
 use Rattle.cdcl.specs.Choice.{IsAssumedTop, IsFreeTop}
 use Rattle.cdcl.specs.Solving.{IsNegated, IsConsistent, IsLast, IsFound}
 use Rattle.cdcl.specs.declared.solve.Answer.{Answer}

@@ -13,11 +13,13 @@ use Rattle.cnf_base.specs.Known.{IsKnown, AreKnown}
 use Rattle.cnf_base.proofs.SameLiteral.{opposite_opposite}
 use Rattle.cnf_base.proofs.MoreClauses.{refutes_more}
 use Rattle.clause_log.specs.LogValue.{LogValue, greatest_u32, with_line}
-use Rattle.cdcl_state.specs.Trail.{StateValue, with_trail, with_log, literals_of, IsReason, IsSettled, AreSet, Propagated}
-use Rattle.cdcl_state.specs.Learnt.{blank_entry, literal_at, IsDecision, IsLearnt, IsTurn, IsUnturned, IsDecided}
-use Rattle.cdcl_state.specs.declared.assigned.Entry.{Entry}
-use Rattle.cdcl_state.specs.declared.analyze.Learnt.{Learnt}
-use Rattle.cdcl_state.proofs.Weight.{weight, weight_push, weight_swap}
+use Rattle.cdcl_state.specs.StateValue.{StateValue, with_trail, with_log, IsSettled, AreSet, Propagated}
+use Rattle.cdcl_trail.specs.Trail.{literals_of, IsReason, blank_entry, literal_at, IsDecision}
+use Rattle.cdcl_analyze.specs.Learnt.{IsLearnt}
+use Rattle.cdcl_state.specs.Turns.{IsTurn, IsUnturned, IsDecided}
+use Rattle.cdcl_trail.specs.declared.assigned.Entry.{Entry}
+use Rattle.cdcl_analyze.specs.declared.analyze.Learnt.{Learnt}
+use Rattle.cdcl_trail.proofs.Weight.{weight, weight_push, weight_swap}
 use Rattle.cdcl.specs.Solving.{IsLonger, IsAfter, IsNegated}
 
 -- P holds of the literals before each decision and of the decision

@@ -3,9 +3,10 @@ use Rattle.std.specs.Prelude.{◌≢◌, ◌⊎◌, List, All, Contains, None}
 use Rattle.cnf_base.specs.declared.literal.Literal.{Literal}
 use Rattle.cnf_base.specs.Literal.{opposite}
 use Rattle.cnf_base.specs.Known.{IsKnown}
-use Rattle.cdcl_state.specs.Trail.{StateValue, literals_of, IsUnset, AreSet}
-use Rattle.cdcl_state.specs.Learnt.{IsTop}
-use Rattle.cdcl_state.specs.declared.assigned.Entry.{Entry}
+use Rattle.cdcl_state.specs.StateValue.{StateValue, AreSet}
+use Rattle.cdcl_trail.specs.Trail.{literals_of, IsUnset}
+use Rattle.cdcl_state.specs.Turns.{IsTop}
+use Rattle.cdcl_trail.specs.declared.assigned.Entry.{Entry}
 use Rattle.cdcl.specs.declared.choice.Choice.{Choice}
 use Rattle.cdcl.specs.declared.choice.Choice.TheVariants.{Assume, Refuted, Search, Done}
 

@@ -7,12 +7,12 @@ ghost use Rattle.cnf_base.specs.declared.literal.Hint.{Hint};
 ghost use Rattle.cnf_base.specs.Step.{IsHintedStep};
 ghost use Rattle.cnf_base.specs.Known.{IsKnown};
 ghost use Rattle.clause_log.specs.LogValue.{greatest_u32};
-ghost use Rattle.cdcl_state.specs.Trail.{IsBack};
+ghost use Rattle.cdcl_state.specs.StateValue.{IsBack};
 ghost use Rattle.cdcl.specs.Solving.{IsAfter, IsFound, IsLast, IsNegated, IsConsistent};
 
 use crate::choice::{Choice, choose, is_assumed};
 use crate::restart::Pace;
-use cdcl_state::analyze::{Cut, Learnt};
+use cdcl_analyze::analyze::{Cut, Learnt};
 use cdcl_state::state::State;
 use cnf_base::Literal;
 use std::alloc::{AllocError, Global};

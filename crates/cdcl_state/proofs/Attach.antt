@@ -11,16 +11,16 @@ use Rattle.cnf_base.specs.Literal.{opposite}
 use Rattle.cnf_base.specs.Step.{named, numbered}
 use Rattle.cnf_base.specs.Known.{IsKnown, AreKnown}
 use Rattle.clause_log.specs.LogValue.{LogValue, with_input, with_line}
-use Rattle.cdcl_state.specs.Trail.{literals_of, IsTrail, IsReason, StandsAt, HasLevel}
-use Rattle.cdcl_state.specs.Learnt.{literal_at, place_level}
+use Rattle.cdcl_trail.specs.Trail.{literals_of, IsTrail, IsReason, StandsAt, HasLevel, literal_at, place_level}
 use Rattle.cdcl_watches.specs.Watching.{IsWatch, AreApart, WatchValue, clause_of, list_of, code, with_clause, with_watch, blank}
-use Rattle.cdcl_state.specs.Assigned.{AssignedValue}
-use Rattle.cdcl_state.specs.Visit.{HasTrue, IsStored, IsGuarded, HaveSame, IsUnwatched, IsRewound, blank_hint}
-use Rattle.cdcl_state.specs.Sure.{IsSure, IsTrueBy}
-use Rattle.cdcl_state.specs.State.{IsState, IsOne, IsListed, AreLong, AreShort, AreFirm}
-use Rattle.cdcl_state.specs.declared.assigned.Entry.{Entry}
+use Rattle.cdcl_trail.specs.Assigned.{AssignedValue}
+use Rattle.cdcl_propagate.specs.Visit.{HasTrue, IsStored, IsGuarded, HaveSame, blank_hint}
+use Rattle.cdcl_state.specs.State.{IsUnwatched, IsRewound, IsState, IsListed, AreLong}
+use Rattle.cdcl_propagate.specs.Sure.{IsSure, IsTrueBy}
+use Rattle.cdcl_propagate.specs.Units.{IsOne, AreShort, AreFirm}
+use Rattle.cdcl_trail.specs.declared.assigned.Entry.{Entry}
 use Rattle.cdcl_watches.proofs.Moves.{first_two}
-use Rattle.cdcl_state.proofs.Ready.{code_known}
+use Rattle.cdcl_propagate.proofs.Ready.{code_known}
 
 some_same : {X : Type 0} {x y : X} {o : Option X} → o ≡ Some x → o ≡ Some y → x ≡ y
 some_same a b = cc

@@ -6,8 +6,8 @@ use Rattle.cnf_base.specs.declared.literal.Literal.{Literal}
 use Rattle.cdcl_watches.specs.Watching.{blank}
 use Rattle.std.specs.List.{swap}
 use Rattle.cdcl_watches.proofs.Moves.{all_swapped, contains_swapped}
-use Rattle.cdcl_state.specs.Visit.{HaveSame}
-use Rattle.cdcl_state.specs.State.{IsOne}
+use Rattle.cdcl_propagate.specs.Visit.{HaveSame}
+use Rattle.cdcl_propagate.specs.Units.{IsOne}
 
 module _ (clause old new : List Literal) (i : ℕ) (low : i < length clause) (kept : All (Contains new) old) where
   pub distinct_there : Contains new (get_or clause i blank) → All (Contains old) (take i clause) → All (Contains new) (take (i + 1) clause)

@@ -1,38 +1,21 @@
 -- Where a learnt clause of any literals forces its first.
-use Rattle.std.proofs.Common.{◌≡◌, ℕ, ◌<◌, ◌≤◌, ◌+◌, ◌⊎◌, inl, inr, List, Bool, Option, Some, None, map, take, All, AllPairs, Contains, length, get_or, refl, sym, ap, ◌∙◌, subst, arith, IfSome, length-take-le}
+use Rattle.std.proofs.Common.{◌≡◌, ℕ, ◌<◌, ◌≤◌, inl, inr, List, Bool, Option, Some, map, All, AllPairs, Contains, length, get_or, refl, sym, ap, ◌∙◌, subst, arith}
 use Rattle.std.proofs.lemmas.Bool.{cases_lt}
 use Rattle.std.proofs.lemmas.List.{get_or-map, length-map, get_or_default}
 use Rattle.cnf_base.specs.declared.literal.Literal.{Literal}
-use Rattle.cnf_base.specs.declared.literal.Hint.{Hint}
 use Rattle.cnf_base.specs.declared.literal.Hint.TheVariants.{Line}
 use Rattle.cnf_base.specs.Literal.{opposite}
 use Rattle.cnf_base.specs.Step.{named}
 use Rattle.cnf_base.proofs.SameLiteral.{opposite_opposite}
 use Rattle.clause_log.specs.LogValue.{LogValue}
-use Rattle.cdcl_state.specs.Trail.{StateValue, literals_of, HasLevel, IsReason, StandsAt, IsTrail, MayStand, IsBack, AreValues}
-use Rattle.cdcl_state.specs.Learnt.{blank_entry, literal_at, IsDecision}
-use Rattle.cdcl_state.specs.declared.assigned.Entry.{Entry}
-use Rattle.cdcl_state.proofs.Assign.{level_there, entry_there}
-use Rattle.cdcl_state.proofs.Walk.{true_place, places_apart}
-use Rattle.cdcl_state.proofs.Turn.{level_at, levels_rise, front_trail, kept_at, low_kept, high_dropped, first_dropped}
-use Rattle.cdcl_state.specs.Learnt.{IsInside, IsTarget}
-
--- a level is at most one more than its place
-pub level_bound : (inputs lines : List (List Literal)) (trail : List Entry) → IsTrail inputs lines trail → (p n : ℕ) → p < n → n ≤ length trail → (b : ℕ) → level_at trail p ≡ b → b ≤ n
-level_bound inputs lines trail is_trail p n low short b is = omega (arith, sym is, small (get_or trail p blank_entry).reason refl)
-  where
-    here : StandsAt inputs lines (take p trail) (get_or trail p blank_entry)
-    here = is_trail p blank_entry (omega arith)
-
-    before : length (take p trail) ≡ p
-    before = length-take-le p trail (omega arith)
-
-    small : (o : Option Hint) → (get_or trail p blank_entry).reason ≡ o → level_at trail p ≤ p + 1
-    small None free = omega (arith, here.decision free, before)
-    small (Some h) forced =
-        let e = get_or trail p blank_entry in
-        let told = subst (λ o. IfSome o (λ h. IsReason inputs lines (literals_of (take p trail)) e.literal h × (e.level ≤ length (take p trail)) × ((e.level ≡ 0) ⊎ HasLevel (take p trail) e.level))) forced here.reason in
-        omega (arith, told.1, before)
+use Rattle.cdcl_state.specs.StateValue.{StateValue, MayStand, IsBack}
+use Rattle.cdcl_trail.specs.Trail.{literals_of, HasLevel, IsReason, IsTrail, AreValues, blank_entry, literal_at, IsDecision, IsInside}
+use Rattle.cdcl_trail.specs.declared.assigned.Entry.{Entry}
+use Rattle.cdcl_trail.proofs.Assign.{level_there, entry_there}
+use Rattle.cdcl_trail.proofs.Standing.{true_place, places_apart}
+use Rattle.cdcl_trail.proofs.Levels.{level_at, levels_rise, level_bound}
+use Rattle.cdcl_state.proofs.Back.{front_trail, kept_at, low_kept, high_dropped, first_dropped}
+use Rattle.cdcl_state.specs.Turns.{IsTarget}
 
 pub jump_stands : (values : List (Option Bool)) (old new : StateValue) (b line : ℕ) (clause : List Literal) (places : List ℕ) (u : Literal)
     → AreValues values old.trail → IsTrail old.log.inputs old.log.lines old.trail → IsBack old new b → IsTarget old.trail places b

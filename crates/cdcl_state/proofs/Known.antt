@@ -7,15 +7,15 @@ use Rattle.cnf_base.specs.declared.literal.Hint.{Hint}
 use Rattle.cnf_base.specs.Literal.{opposite}
 use Rattle.cnf_base.specs.Known.{IsKnown, AreKnown}
 use Rattle.clause_log.specs.LogValue.{LogValue}
-use Rattle.cdcl_state.specs.Trail.{IsTrail, AreValues}
-use Rattle.cdcl_state.specs.Learnt.{blank_entry, literal_at, IsLearnt}
-use Rattle.cdcl_state.specs.Analysis.{AreFromOne, refuted_at}
+use Rattle.cdcl_trail.specs.Trail.{IsTrail, AreValues, blank_entry, literal_at}
+use Rattle.cdcl_analyze.specs.Learnt.{IsLearnt}
+use Rattle.cdcl_analyze.specs.Analysis.{AreFromOne, refuted_at}
 use Rattle.cdcl_state.specs.State.{AreKnownDecisions}
-use Rattle.cdcl_state.specs.declared.assigned.Entry.{Entry}
-use Rattle.cdcl_state.specs.declared.analyze.Learnt.{Learnt}
-use Rattle.cdcl_state.proofs.Bridge.{named_has}
-use Rattle.cdcl_state.proofs.Bound.{bounded_by}
-use Rattle.cdcl_state.proofs.Steps.{reason_at}
+use Rattle.cdcl_trail.specs.declared.assigned.Entry.{Entry}
+use Rattle.cdcl_analyze.specs.declared.analyze.Learnt.{Learnt}
+use Rattle.cdcl_trail.proofs.Bridge.{named_has}
+use Rattle.cdcl_trail.proofs.Bound.{bounded_by}
+use Rattle.cdcl_trail.proofs.Standing.{reason_at}
 
 pub opposite_known : (letters : ℕ) (l : Literal) → IsKnown letters l → IsKnown letters (opposite l)
 opposite_known letters l known = record { from_one = known.from_one; within = known.within }

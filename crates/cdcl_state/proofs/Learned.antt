@@ -8,17 +8,17 @@ use Rattle.cnf_base.specs.declared.literal.Hint.TheVariants.{Line}
 use Rattle.cnf_base.specs.Literal.{opposite}
 use Rattle.cnf_base.specs.Known.{AreKnown}
 use Rattle.clause_log.specs.LogValue.{LogValue}
-use Rattle.cdcl_state.specs.Trail.{AreValues, IsBack, MayStand}
-use Rattle.cdcl_state.specs.Learnt.{literal_at, IsInside, IsDecision, IsTarget, IsAsserting}
-use Rattle.cdcl_state.specs.Analysis.{state_of}
+use Rattle.cdcl_trail.specs.Trail.{AreValues, literal_at, IsInside, IsDecision}
+use Rattle.cdcl_state.specs.StateValue.{IsBack, MayStand, state_of}
+use Rattle.cdcl_state.specs.Turns.{IsTarget, IsAsserting}
 use Rattle.cdcl_watches.specs.Watching.{AreApart, WatchValue, with_clause, blank}
-use Rattle.cdcl_state.specs.Assigned.{AssignedValue}
-use Rattle.cdcl_state.specs.Sure.{IsSure}
+use Rattle.cdcl_trail.specs.Assigned.{AssignedValue}
+use Rattle.cdcl_propagate.specs.Sure.{IsSure}
 use Rattle.cdcl_state.specs.State.{IsState}
-use Rattle.cdcl_state.specs.declared.assigned.Entry.{Entry}
-use Rattle.cdcl_state.proofs.Walk.{places_apart}
+use Rattle.cdcl_trail.specs.declared.assigned.Entry.{Entry}
+use Rattle.cdcl_trail.proofs.Standing.{places_apart}
 use Rattle.cdcl_state.proofs.Jump.{jump_stands}
-use Rattle.cdcl_state.proofs.Turn.{level_at}
+use Rattle.cdcl_trail.proofs.Levels.{level_at}
 use Rattle.cdcl_state.proofs.States.{state_back, back_of, state_pushed}
 use Rattle.cdcl_state.proofs.Attach.{IsMore, trail_more, state_long}
 use Rattle.cdcl_state.proofs.Learning.{target_below, second_kept, learnt_sure, state_raise}

@@ -8,17 +8,19 @@ use Rattle.cnf_base.specs.declared.literal.Hint.{Hint}
 use Rattle.cnf_base.specs.Literal.{opposite}
 use Rattle.cnf_base.proofs.SameLiteral.{opposite_opposite}
 use Rattle.clause_log.specs.LogValue.{LogValue}
-use Rattle.cdcl_state.specs.Trail.{StateValue, AreValues, IsTrail, IsBack}
-use Rattle.cdcl_state.specs.Learnt.{blank_entry, literal_at, IsInside, IsDecision, IsTarget, IsAsserting}
+use Rattle.cdcl_state.specs.StateValue.{StateValue, IsBack}
+use Rattle.cdcl_trail.specs.Trail.{AreValues, IsTrail, blank_entry, literal_at, IsInside, IsDecision}
+use Rattle.cdcl_state.specs.Turns.{IsTarget, IsAsserting}
 use Rattle.cdcl_watches.specs.Watching.{WatchValue, blank}
-use Rattle.cdcl_state.specs.Assigned.{AssignedValue}
-use Rattle.cdcl_state.specs.Sure.{IsSure}
+use Rattle.cdcl_trail.specs.Assigned.{AssignedValue}
+use Rattle.cdcl_propagate.specs.Sure.{IsSure}
 use Rattle.cdcl_state.specs.State.{IsState}
-use Rattle.cdcl_state.specs.declared.assigned.Entry.{Entry}
+use Rattle.cdcl_trail.specs.declared.assigned.Entry.{Entry}
 use Rattle.cdcl_watches.proofs.Moves.{first_two}
-use Rattle.cdcl_state.proofs.Walk.{places_apart}
-use Rattle.cdcl_state.proofs.Turn.{level_at, kept_at, low_kept, decision_level}
-use Rattle.cdcl_state.proofs.Sure.{guarded_sure}
+use Rattle.cdcl_trail.proofs.Standing.{places_apart}
+use Rattle.cdcl_trail.proofs.Levels.{level_at, decision_level}
+use Rattle.cdcl_state.proofs.Back.{kept_at, low_kept}
+use Rattle.cdcl_propagate.proofs.Sure.{guarded_sure}
 use Rattle.cdcl_state.proofs.States.{sure_push}
 use Rattle.cdcl_state.proofs.Attach.{sure_added}
 

@@ -1,30 +1,12 @@
-pub mod Told
-pub mod Bridge
-pub mod Assign
-pub mod Places
-pub mod Bits
-pub mod Bound
-pub mod Weight
-pub mod Measure
-pub mod Walk
-pub mod Steps
-pub mod Refuted
-pub mod States
-pub mod Alone
-pub mod Known
-pub mod Attach
-pub mod Distinct
-pub mod Learning
-pub mod Learned
-pub mod Marking
-pub mod Retreat
-pub mod Short
-pub mod Room
-pub mod Turn
-pub mod Jump
-pub mod Guard
-pub mod Settled
-pub mod Sure
-pub mod Ready
-pub mod At
-pub mod SureVisit
+mod Attach
+mod Distinct
+mod Known
+mod Learned
+mod Learning
+mod Marking
+mod Retreat
+mod Room
+mod Short
+mod States
+mod Back
+mod Jump

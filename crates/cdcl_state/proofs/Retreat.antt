@@ -3,9 +3,8 @@ use Rattle.std.proofs.Common.{◌≡◌, ℕ, ◌+◌, ◌<◌, ◌≤◌, inl, 
 use Rattle.std.proofs.lemmas.Bool.{cases_lt}
 use Rattle.std.proofs.lemmas.List.{get_or-take, get_or_default, length-take-le}
 use Rattle.cnf_base.specs.declared.literal.Literal.{Literal}
-use Rattle.cdcl_state.specs.Trail.{IsTrail}
-use Rattle.cdcl_state.specs.Learnt.{blank_entry, literal_at, IsDecision}
-use Rattle.cdcl_state.specs.declared.assigned.Entry.{Entry}
+use Rattle.cdcl_trail.specs.Trail.{IsTrail, blank_entry, literal_at, IsDecision}
+use Rattle.cdcl_trail.specs.declared.assigned.Entry.{Entry}
 
 -- below the place each decision is one of the literals
 abbrev pub AreKeptBelow : List Literal → List Entry → ℕ → Type 0

@@ -7,11 +7,12 @@ use Rattle.cnf_base.specs.declared.literal.Literal.{Literal}
 use Rattle.cnf_base.specs.declared.literal.Hint.{Hint}
 use Rattle.cnf_base.specs.Known.{IsKnown, AreKnown}
 use Rattle.clause_log.specs.LogValue.{LogValue}
-use Rattle.cdcl_state.specs.Trail.{literals_of, positive}
+use Rattle.cdcl_trail.specs.Trail.{literals_of}
+use Rattle.cdcl_state.specs.StateValue.{positive}
 use Rattle.cdcl_watches.specs.Watching.{WatchValue}
-use Rattle.cdcl_state.specs.Assigned.{AssignedValue}
+use Rattle.cdcl_trail.specs.Assigned.{AssignedValue}
 use Rattle.cdcl_state.specs.State.{IsState}
-use Rattle.cdcl_state.specs.declared.assigned.Entry.{Entry}
+use Rattle.cdcl_trail.specs.declared.assigned.Entry.{Entry}
 
 pub state_widened : (letters : ℕ) (a b : AssignedValue) (w v : WatchValue) (names units : List Hint) (log : LogValue) (head sure done firm marked wide : ℕ) → IsState letters a w names units log head sure done firm marked
     → b.trail ≡ a.trail → v.clauses ≡ w.clauses → length v.lists ≡ 2 * length b.values → length a.values ≤ length b.values → length b.values ≤ 2 ^ 32 → length b.values ≤ wide

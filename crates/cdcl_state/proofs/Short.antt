@@ -6,10 +6,12 @@ use Rattle.cnf_base.specs.declared.literal.Literal.{Literal}
 use Rattle.cnf_base.specs.declared.literal.Hint.TheVariants.{Line}
 use Rattle.cnf_base.specs.Literal.{opposite}
 use Rattle.clause_log.specs.LogValue.{LogValue, with_line}
-use Rattle.cdcl_state.specs.Trail.{StateValue, with_trail, with_log, IsTrail, IsBack, AreValues, MayStand}
-use Rattle.cdcl_state.specs.Learnt.{literal_at, IsDecision, IsLearnt, IsAsserting, IsTurn, IsUnturned}
-use Rattle.cdcl_state.specs.declared.assigned.Entry.{Entry}
-use Rattle.cdcl_state.specs.declared.analyze.Learnt.{Learnt}
+use Rattle.cdcl_state.specs.StateValue.{StateValue, with_trail, with_log, IsBack, MayStand}
+use Rattle.cdcl_trail.specs.Trail.{IsTrail, AreValues, literal_at, IsDecision}
+use Rattle.cdcl_analyze.specs.Learnt.{IsLearnt}
+use Rattle.cdcl_state.specs.Turns.{IsAsserting, IsTurn, IsUnturned}
+use Rattle.cdcl_trail.specs.declared.assigned.Entry.{Entry}
+use Rattle.cdcl_analyze.specs.declared.analyze.Learnt.{Learnt}
 use Rattle.cdcl_state.proofs.Attach.{line_more, trail_more}
 use Rattle.cdcl_state.proofs.Jump.{jump_stands}
 use Rattle.cdcl_state.proofs.Learning.{decisions_asserting}

@@ -9,22 +9,22 @@ use Rattle.cnf_base.specs.Literal.{opposite}
 use Rattle.cnf_base.specs.Step.{named}
 use Rattle.cnf_base.specs.Known.{IsKnown, AreKnown}
 use Rattle.clause_log.specs.LogValue.{LogValue}
-use Rattle.cdcl_state.specs.Trail.{literals_of, AreValues, IsTrail, IsBack, IsSettled, IsConflict, IsReason, IsUnset, StandsAt, Propagated}
-use Rattle.cdcl_state.specs.Learnt.{blank_entry, literal_at}
-use Rattle.cdcl_state.specs.Analysis.{AreBelow, state_of}
+use Rattle.cdcl_trail.specs.Trail.{literals_of, AreValues, IsTrail, IsConflict, IsReason, IsUnset, StandsAt, blank_entry, literal_at}
+use Rattle.cdcl_state.specs.StateValue.{IsBack, IsSettled, Propagated, state_of}
+use Rattle.cdcl_trail.specs.Values.{AreBelow}
 use Rattle.cdcl_watches.specs.Watching.{WatchValue, IsWatching, clause_of}
-use Rattle.cdcl_state.specs.Assigned.{AssignedValue}
-use Rattle.cdcl_state.specs.Visit.{HasTrue, IsReady, IsStored, IsGrown, IsGuarded, HaveSame, blank_hint}
-use Rattle.cdcl_state.specs.Sure.{IsSure}
-use Rattle.cdcl_state.specs.State.{IsState, IsOne, AreLong, AreFirm, AreKnownDecisions}
-use Rattle.cdcl_state.specs.declared.assigned.Entry.{Entry}
-use Rattle.cdcl_state.proofs.Guard.{not_both}
-use Rattle.cdcl_state.proofs.Settled.{settled_watched}
-use Rattle.cdcl_state.proofs.Sure.{sure_back, guarded_sure}
-use Rattle.cdcl_state.proofs.Turn.{level_at, levels_rise}
-use Rattle.cdcl_state.proofs.Refuted.{trail_take}
-use Rattle.cdcl_state.proofs.Assign.{trail_push}
-use Rattle.cdcl_state.proofs.Jump.{level_bound}
+use Rattle.cdcl_trail.specs.Assigned.{AssignedValue}
+use Rattle.cdcl_propagate.specs.Visit.{HasTrue, IsReady, IsStored, IsGrown, IsGuarded, HaveSame, blank_hint}
+use Rattle.cdcl_propagate.specs.Sure.{IsSure}
+use Rattle.cdcl_state.specs.State.{IsState, AreLong, AreKnownDecisions}
+use Rattle.cdcl_propagate.specs.Units.{IsOne, AreFirm}
+use Rattle.cdcl_trail.specs.declared.assigned.Entry.{Entry}
+use Rattle.cdcl_trail.proofs.Standing.{not_both}
+use Rattle.cdcl_propagate.proofs.Settled.{settled_watched}
+use Rattle.cdcl_state.proofs.Back.{sure_back}
+use Rattle.cdcl_propagate.proofs.Sure.{guarded_sure}
+use Rattle.cdcl_trail.proofs.Levels.{level_at, levels_rise, level_bound}
+use Rattle.cdcl_trail.proofs.Assign.{trail_take, trail_push}
 
 some_same : {X : Type 0} {x y : X} {o : Option X} → o ≡ Some x → o ≡ Some y → x ≡ y
 some_same a b = cc

@@ -1,11 +1,3 @@
-pub mod Values
-pub mod Trail
-pub mod Learnt
-pub mod Assigned
-pub mod Entries
-pub mod Marks
-pub mod Waiting
-pub mod Visit
-pub mod Sure
+pub mod StateValue
+pub mod Turns
 pub mod State
-pub mod Analysis

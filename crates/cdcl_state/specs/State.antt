@@ -1,20 +1,18 @@
 -- What holds of a state: the log is watched, but for its clauses of one literal or none.
-use Rattle.std.specs.Prelude.{◌≡◌, ℕ, ◌^◌, ◌<◌, ◌≤◌, ◌⊎◌, List, length, take, Some, None, All, Contains, slice_index_or}
+use Rattle.std.specs.Prelude.{◌≡◌, ℕ, ◌^◌, ◌<◌, ◌≤◌, ◌⊎◌, List, length, take, Some, None, All, slice_index_or, ◌≢◌}
 use Rattle.cnf_base.specs.declared.literal.Literal.{Literal}
 use Rattle.cnf_base.specs.declared.literal.Hint.{Hint}
 use Rattle.cnf_base.specs.Step.{named}
 use Rattle.cnf_base.specs.Known.{IsKnown, AreKnown}
 use Rattle.clause_log.specs.LogValue.{LogValue}
-use Rattle.cdcl_state.specs.Trail.{literals_of}
-use Rattle.cdcl_watches.specs.Watching.{WatchValue}
-use Rattle.cdcl_state.specs.Assigned.{AssignedValue}
-use Rattle.cdcl_state.specs.Sure.{IsSure}
-use Rattle.cdcl_state.specs.Visit.{HasTrue, IsReady, blank_hint}
-use Rattle.cdcl_state.specs.declared.assigned.Entry.{Entry}
-
--- all literals of the clause are one
-abbrev pub IsOne : List Literal → Type 0
-IsOne clause = (l m : Literal) → Contains clause l → Contains clause m → l ≡ m
+use Rattle.cdcl_trail.specs.Trail.{literals_of, literal_at}
+use Rattle.cdcl_watches.specs.Watching.{WatchValue, blank}
+use Rattle.cdcl_trail.specs.Assigned.{AssignedValue}
+use Rattle.cdcl_propagate.specs.Sure.{IsSure}
+use Rattle.cdcl_propagate.specs.Visit.{IsReady, blank_hint}
+use Rattle.cdcl_trail.specs.declared.assigned.Entry.{Entry}
+use Rattle.cnf_base.specs.Literal.{opposite}
+use Rattle.cdcl_propagate.specs.Units.{IsOne, AreShort, AreFirm}
 
 -- the name stands at a place of the list
 abbrev pub IsListed : List Hint → Hint → Type 0
@@ -28,17 +26,20 @@ AreAll inputs lines names units = (hint : Hint) (clause : List Literal) → name
 abbrev pub AreLong : List (List Literal) → List (List Literal) → List Hint → Type 0
 AreLong inputs lines names = (c : ℕ) (clause : List Literal) → c < length names → named inputs lines (slice_index_or names c blank_hint) ≡ Some clause → ¬ IsOne clause
 
--- each short clause is one of the log's, and has one literal alone, or none
-abbrev pub AreShort : List (List Literal) → List (List Literal) → List Hint → Type 0
-AreShort inputs lines units = (u : ℕ) → u < length units → (clause : List Literal) × (named inputs lines (slice_index_or units u blank_hint) ≡ Some clause) × IsOne clause
-
--- the first short clauses have a true literal
-abbrev pub AreFirm : List (List Literal) → List (List Literal) → List Hint → ℕ → List Literal → Type 0
-AreFirm inputs lines units done true_ones = (u : ℕ) (clause : List Literal) → u < done → named inputs lines (slice_index_or units u blank_hint) ≡ Some clause → HasTrue true_ones clause
-
 -- a decision's letter is known
 abbrev pub AreKnownDecisions : ℕ → List Entry → Type 0
 AreKnownDecisions letters trail = All (λ e. e.reason ≡ None → IsKnown letters e.literal) trail
+
+-- no entry below the place makes one of the first two literals false
+abbrev pub IsUnwatched : List Entry → List Literal → ℕ → Type 0
+IsUnwatched trail clause place = (k : ℕ) → k < place → (literal_at trail k ≢ opposite (slice_index_or clause 0 blank)) × (literal_at trail k ≢ opposite (slice_index_or clause 1 blank))
+
+-- the marks went back to where neither of the first two literals is false
+pub record IsRewound (trail : List Entry) (clause : List Literal) (old_head old_sure head sure : ℕ) : Type 0 where
+  pub head_falls : head ≤ old_head
+  pub sure_falls : sure ≤ old_sure
+  pub low : sure ≤ head
+  pub free : IsUnwatched trail clause head
 
 pub record IsState (letters : ℕ) (a : AssignedValue) (w : WatchValue) (names units : List Hint) (log : LogValue) (head sure done firm marked : ℕ) : Type 0 where
   pub ready : IsReady log.inputs log.lines names head a w

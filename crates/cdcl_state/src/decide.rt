@@ -1,10 +1,11 @@
 // The next decision: of the letters without a value the most active one is held ready. Nothing is promised of it but safety: who asks
 // for a letter tests whether it has a value.
 ghost use Rattle.std.specs.Prelude.{◌≡◌, ◌≢◌, ◌<◌, ◌↔◌, IsTrue, None, length};
-ghost use Rattle.cdcl_state.specs.Trail.{literals_of, IsUnset, positive};
+ghost use Rattle.cdcl_trail.specs.Trail.{literals_of, IsUnset};
+ghost use Rattle.cdcl_state.specs.StateValue.{positive};
 
-use crate::assigned::Assigned;
 use cdcl_activity::choices::Choices;
+use cdcl_trail::assigned::Assigned;
 use cnf_base::{Hint, Letter, Literal};
 
 /// Holds the most active letter without a value ready, if there is one. The one that was held before goes back, if it has

@@ -1,20 +1,9 @@
-//! The trail of a clause solver, its log, and propagation by watched literals.
+//! The state of a clause solver: trail, log and watched clauses together, kept in step as clauses come, conflicts are learnt
+//! from and decisions are taken back.
 #![tactic(auto)]
 
-pub mod analyze;
-pub mod assigned;
 pub mod decide;
-pub mod entries;
-pub mod hints;
-pub mod marks;
-pub mod minimize;
-pub mod names;
-pub mod propagate;
 pub mod repeats;
 pub mod state;
 pub mod store;
-pub mod units;
-pub mod values;
-pub mod visit;
-pub mod waiting;
 pub mod widen;

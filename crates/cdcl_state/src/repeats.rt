@@ -2,7 +2,7 @@
 ghost use Rattle.std.specs.Prelude.{◌≡◌, ℕ, ◌<◌, length, All, false};
 ghost use Rattle.cdcl_watches.specs.Watching.{AreApart};
 
-use crate::marks::Marks;
+use cdcl_analyze::marks::Marks;
 use cnf_base::Literal;
 
 /// Marks the letters of the clause up to the first that is marked already, and says whether there is one.

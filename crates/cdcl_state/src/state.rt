@@ -1,23 +1,24 @@
 // The state of the solver: the trail, the log, and the log's clauses in the order in which they are watched.
 ghost use Rattle.std.specs.Prelude.{◌≡◌, ◌≢◌, ◌+◌, ◌<◌, ◌≤◌, [], ◌⊎◌, All, AllPairs, length, MatchOption, IfSome, IfOk, OnErr, OnOk};
 ghost use Rattle.cnf_base.specs.Known.{IsKnown, AreKnown};
-ghost use Rattle.cdcl_state.specs.Trail.{IsSettled, Propagated, IsConflict, literals_of, IsUnset, HasValue, AreSet, IsModel, with_log, with_letters};
+ghost use Rattle.cdcl_state.specs.StateValue.{IsSettled, Propagated, AreSet, IsModel, with_log, with_letters};
+ghost use Rattle.cdcl_trail.specs.Trail.{IsConflict, literals_of, IsUnset, HasValue};
 ghost use Rattle.cnf_base.specs.Step.{IsHintedStep};
 ghost use Rattle.clause_log.specs.LogValue.{IsLog, greatest_u32, with_line, with_input};
 ghost use Rattle.cdcl_watches.specs.Watching.{AreApart};
-ghost use Rattle.cdcl_state.specs.Visit.{HaveSame};
-ghost use Rattle.cdcl_state.specs.Learnt.{IsDecided};
+ghost use Rattle.cdcl_propagate.specs.Visit.{HaveSame};
+ghost use Rattle.cdcl_state.specs.Turns.{IsDecided};
 
-use crate::assigned::{Assigned, Entry};
 use crate::decide::offer;
-use crate::marks::Marks;
-use crate::names::Names;
-use crate::propagate::propagate;
 use crate::state::backjump::settle;
 use crate::store::{distinct, is_ready, lead, rewind, store, take_back};
-use crate::units::visit_units;
 use crate::widen::widen;
 use cdcl_activity::choices::Choices;
+use cdcl_analyze::marks::Marks;
+use cdcl_propagate::names::Names;
+use cdcl_propagate::propagate::propagate;
+use cdcl_propagate::units::visit_units;
+use cdcl_trail::assigned::{Assigned, Entry};
 use cdcl_watches::watches::Watches;
 use clause_log::Log;
 use cnf_base::{Hint, Letter, Literal};
@@ -54,7 +55,7 @@ pub struct State {
 
 impl Model for State {
     ghost use Rattle.std.specs.Prelude.{length};
-    ghost use Rattle.cdcl_state.specs.Trail.{StateValue};
+    ghost use Rattle.cdcl_state.specs.StateValue.{StateValue};
     ghost use Rattle.cdcl_state.specs.State.{IsState};
 
     ghost Value = { StateValue };

@@ -2,13 +2,14 @@
 ghost use Rattle.std.specs.Prelude.{◌≡◌, ◌≢◌, ℕ, ◌<◌, ◌≤◌, ◌⊎◌, ◌↔◌, IsTrue, List, [], ◌∷◌, ◌++◌, length, take, All, Contains, OnOk, if◌then◌else◌, is_ok};
 ghost use Rattle.cdcl_watches.specs.Watching.{code, AreApart, IsAdded, WatchValue, with_clause};
 ghost use Rattle.cnf_base.specs.Literal.{opposite};
-ghost use Rattle.cdcl_state.specs.Learnt.{literal_at};
-ghost use Rattle.cdcl_state.specs.Visit.{HaveSame, IsRewound};
+ghost use Rattle.cdcl_trail.specs.Trail.{literal_at};
+ghost use Rattle.cdcl_propagate.specs.Visit.{HaveSame};
+ghost use Rattle.cdcl_state.specs.State.{IsRewound};
 
-use crate::assigned::Assigned;
-use crate::marks::Marks;
-use crate::names::Names;
 use crate::repeats::repeats;
+use cdcl_analyze::marks::Marks;
+use cdcl_propagate::names::Names;
+use cdcl_trail::assigned::Assigned;
 use cdcl_watches::watches::Watches;
 use cnf_base::{Hint, Literal};
 use std::alloc::AllocError;

@@ -1,9 +1,11 @@
 // Room for more letters: a value, two lists of watchers and a mark for each. What is there keeps its place.
-ghost use Rattle.std.specs.Prelude.{◌≡◌, ◌<◌, ◌≤◌, ◌*◌, ◌^◌, ◌+◌, length, OnOk};
+ghost use Rattle.std.specs.Prelude.{◌≡◌, ℕ, ◌<◌, ◌≤◌, ◌⊎◌, ◌↔◌, ◌*◌, ◌^◌, ◌+◌, length, OnOk};
+ghost use Rattle.cdcl_activity.specs.Order.{IsWaiting};
+ghost use Rattle.cdcl_activity.specs.Choices.{IsNew};
 
-use crate::assigned::Assigned;
-use crate::marks::Marks;
 use cdcl_activity::choices::Choices;
+use cdcl_analyze::marks::Marks;
+use cdcl_trail::assigned::Assigned;
 use cdcl_watches::watches::Watches;
 use std::alloc::{AllocError, Global};
 
@@ -23,6 +25,8 @@ fn widen_one(
     ensures more { length assigned.old.values ≤ length assigned.new.values }
     ensures few { length assigned.new.values ≤ length assigned.old.values + 1 }
     ensures marks { length assigned.new.values ≤ length marks.new.stamps }
+    ensures held { choices.new.held ≡ choices.old.held }
+    ensures waiting { OnOk result (length choices.old.order.places < 2 ^ 32 → (x : ℕ) → IsWaiting choices.new.order x ↔ (IsNew choices.old x ⊎ IsWaiting choices.old.order x)) }
     ensures ok { OnOk result (length assigned.new.values ≡ length assigned.old.values + 1) }
 {
     marks.letter()?;
@@ -58,6 +62,7 @@ pub fn widen(
     ensures more { length assigned.old.values ≤ length assigned.new.values }
     ensures few { length assigned.new.values ≤ 2 ^ 32 }
     ensures marks { length assigned.new.values ≤ length marks.new.stamps }
+    ensures held { choices.new.held ≡ choices.old.held }
     ensures ok { OnOk result (count < length assigned.new.values) }
 {
     'more: while assigned.letters() <= count as usize {

@@ -1,13 +1,14 @@
 // Going back: the entries above a level come off the trail, and their letters may be decided again. The lists that were
 // visited for the entries that stay need no new visit. After Marques-Silva and Sakallah, GRASP (1999).
 ghost use Rattle.std.specs.Prelude.{◌≡◌, ◌≢◌, ℕ, ◌<◌, ◌≤◌, ◌⊎◌, All, Contains, IsTrue, None, length, slice_index_or};
-ghost use Rattle.cdcl_state.specs.Trail.{IsBack};
-ghost use Rattle.cdcl_state.specs.Learnt.{blank_entry, literal_at, IsDecision, IsFront};
+ghost use Rattle.cdcl_state.specs.StateValue.{IsBack};
+ghost use Rattle.cdcl_trail.specs.Trail.{blank_entry, literal_at, IsDecision};
+ghost use Rattle.cdcl_state.specs.Turns.{IsFront};
 
-use crate::assigned::{Assigned, Entry};
 use crate::state::State;
 use crate::store::has;
 use cdcl_activity::choices::Choices;
+use cdcl_trail::assigned::{Assigned, Entry};
 use cnf_base::Literal;
 
 impl State {

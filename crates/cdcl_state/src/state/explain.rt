@@ -3,14 +3,14 @@
 // solving (2003).
 ghost use Rattle.std.specs.Prelude.{◌≡◌, ◌≢◌, ℕ, [], ◌⊎◌, All, None, MatchOption, IfOk, Contains};
 ghost use Rattle.cnf_base.specs.Known.{IsKnown};
-ghost use Rattle.cdcl_state.specs.Trail.{IsConflict, literals_of};
-ghost use Rattle.cdcl_state.specs.Learnt.{literal_at, IsDecision, IsLearnt, IsAsserting, IsTop};
-ghost use Rattle.cdcl_state.specs.Analysis.{IsRefuted};
+ghost use Rattle.cdcl_trail.specs.Trail.{IsConflict, literals_of, literal_at, IsDecision};
+ghost use Rattle.cdcl_analyze.specs.Learnt.{IsLearnt};
+ghost use Rattle.cdcl_state.specs.Turns.{IsAsserting, IsTop, IsRefuted};
 ghost use Rattle.cnf_base.specs.Literal.{opposite};
-ghost use Rattle.cdcl_state.specs.declared.analyze.Cut.TheVariants.{Decisions};
+ghost use Rattle.cdcl_analyze.specs.declared.analyze.Cut.TheVariants.{Decisions};
 
-use crate::analyze::{Cut, Learnt, explain, explain_forced};
 use crate::state::State;
+use cdcl_analyze::analyze::{Cut, Learnt, explain, explain_forced};
 use cnf_base::{Hint, Literal};
 use std::alloc::{AllocError, Global};
 

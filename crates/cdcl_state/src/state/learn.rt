@@ -2,16 +2,18 @@
 // first literal is forced there, without a new visit of what stays. After Marques-Silva and Sakallah, GRASP (1999).
 ghost use Rattle.std.specs.Prelude.{◌≡◌, ◌<◌, ◌≤◌, [], ◌∷◌, ◌++◌, All, length, Some, OnErr, OnOk, IsTrue};
 ghost use Rattle.cnf_base.specs.Known.{IsKnown};
-ghost use Rattle.cdcl_state.specs.Trail.{MayStand, with_log, with_trail};
+ghost use Rattle.cdcl_state.specs.StateValue.{MayStand, with_log, with_trail};
 ghost use Rattle.clause_log.specs.LogValue.{with_line};
-ghost use Rattle.cdcl_state.specs.Learnt.{IsInside, IsLearnt, IsAsserting, IsTarget, IsTurn, IsUnturned};
+ghost use Rattle.cdcl_trail.specs.Trail.{IsInside};
+ghost use Rattle.cdcl_analyze.specs.Learnt.{IsLearnt};
+ghost use Rattle.cdcl_state.specs.Turns.{IsAsserting, IsTarget, IsTurn, IsUnturned};
 ghost use Rattle.cnf_base.specs.declared.literal.Hint.TheVariants.{Line};
 
-use crate::analyze::Learnt;
-use crate::assigned::Entry;
 use crate::state::backjump::{loosen, release, smaller};
 use crate::state::{State, next};
 use crate::store::{store, take_back};
+use cdcl_analyze::analyze::Learnt;
+use cdcl_trail::assigned::Entry;
 use cnf_base::{Hint, Literal};
 use std::alloc::AllocError;
 

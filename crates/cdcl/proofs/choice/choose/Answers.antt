@@ -3,7 +3,7 @@ use mathlib.Core.Bool.{false}
 use Rattle.std.proofs.lemmas.List.{take_all}
 use Rattle.std.proofs.lemmas.List.Elements.{All-more}
 use Rattle.cnf_base.specs.declared.literal.Literal.{Literal}
-use Rattle.cdcl_state.specs.Trail.{literals_of}
+use Rattle.cdcl_trail.specs.Trail.{literals_of}
 use Rattle.cdcl.proofs.choice.choose.Goals as goal
 
 abbrev blank : Literal

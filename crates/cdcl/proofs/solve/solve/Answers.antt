@@ -3,7 +3,7 @@ use mathlib.Core.Bool.{false≢true}
 use Rattle.std.specs.declared.alloc.AllocError.{AllocError}
 use Rattle.cnf_base.specs.declared.literal.Literal.{Literal}
 use Rattle.clause_log.specs.LogValue.{with_line}
-use Rattle.cdcl_state.specs.Trail.{StateValue, with_log}
+use Rattle.cdcl_state.specs.StateValue.{StateValue, with_log}
 use Rattle.cdcl.specs.declared.solve.Answer.{Answer}
 use Rattle.cdcl.specs.Solving.{IsFound, IsLast, IsNegated}
 use Rattle.cdcl.proofs.Search.{search_propagated, search_turned, search_assumed, search_free, assumed_negated, turn_falls, decision_falls, inputs_true}

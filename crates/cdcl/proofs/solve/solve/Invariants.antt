@@ -1,4 +1,4 @@
-use Rattle.cdcl_state.proofs.Measure.{measure}
+use Rattle.cdcl_trail.proofs.Measure.{measure}
 use Rattle.cdcl.proofs.Search.{IsSearch, places_of}
 use Rattle.cdcl.proofs.solve.solve.Given as goal
 

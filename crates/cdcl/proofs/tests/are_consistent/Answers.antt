@@ -3,7 +3,7 @@ use mathlib.Core.Bool.{false≢true}
 use Rattle.std.proofs.lemmas.List.{take_all}
 use Rattle.std.proofs.lemmas.List.Elements.{All-contains, All-more}
 use Rattle.cnf_base.specs.Literal.{opposite}
-use Rattle.cdcl_state.specs.Learnt.{blank_entry}
+use Rattle.cdcl_trail.specs.Trail.{blank_entry}
 use Rattle.cdcl.proofs.tests.are_consistent.Goals as goal
 
 pub loop-literal-preserved : goal.loop-literal-preserved

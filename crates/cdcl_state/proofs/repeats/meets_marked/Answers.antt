@@ -2,7 +2,7 @@ use Rattle.std.proofs.Common.{◌<◌, length, subst, sym, ◌∙◌, get_or, ar
 use mathlib.Core.Bool.{false≢true}
 use Rattle.std.proofs.lemmas.List.{take_all}
 use Rattle.cdcl_watches.specs.Watching.{AreApart, blank}
-use Rattle.cdcl_state.specs.Marks.{IsMarked}
+use Rattle.cdcl_analyze.specs.Marks.{IsMarked}
 use Rattle.cdcl_state.proofs.Marking.{marked_more, apart_more}
 use Rattle.cdcl_state.proofs.repeats.meets_marked.Goals as goal
 

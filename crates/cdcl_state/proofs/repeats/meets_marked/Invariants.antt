@@ -1,6 +1,6 @@
 use Rattle.std.proofs.Common.{◌≡◌, take, length, All}
 use Rattle.cdcl_watches.specs.Watching.{AreApart}
-use Rattle.cdcl_state.specs.Marks.{IsMarked}
+use Rattle.cdcl_analyze.specs.Marks.{IsMarked}
 use Rattle.cdcl_state.proofs.repeats.meets_marked.Given as goal
 
 abbrev pub invariant-loop-literal : goal.invariant-loop-literal

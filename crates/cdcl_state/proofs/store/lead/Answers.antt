@@ -4,7 +4,7 @@ use Rattle.std.proofs.lemmas.List.Edits.{length-swap}
 use Rattle.cnf_base.specs.declared.literal.Literal.{Literal}
 use Rattle.cdcl_watches.specs.Watching.{AreApart}
 use Rattle.cdcl_watches.proofs.Moves.{all_swapped, apart_swapped}
-use Rattle.cdcl_state.specs.Visit.{HaveSame}
+use Rattle.cdcl_propagate.specs.Visit.{HaveSame}
 use Rattle.cdcl_state.proofs.Distinct.{same_itself, same_swapped}
 use Rattle.cdcl_state.proofs.store.lead.Goals as goal
 

@@ -1,6 +1,6 @@
 use Rattle.std.proofs.Common.{◌≡◌, ◌≤◌, ◌<◌, length, All}
 use Rattle.cdcl_watches.specs.Watching.{AreApart}
-use Rattle.cdcl_state.specs.Visit.{HaveSame}
+use Rattle.cdcl_propagate.specs.Visit.{HaveSame}
 use Rattle.cdcl_state.proofs.store.lead.Given as goal
 
 abbrev pub invariant-along : goal.invariant-along

@@ -1,9 +1,8 @@
 use Rattle.std.proofs.Common.{Contains, sym, ◌∙◌, subst, arith}
 use mathlib.Core.Bool.{false≢true}
 use Rattle.cnf_base.specs.Literal.{opposite}
-use Rattle.cdcl_state.specs.Trail.{literals_of}
-use Rattle.cdcl_state.specs.Learnt.{blank_entry}
-use Rattle.cdcl_state.proofs.Assign.{entry_there}
+use Rattle.cdcl_trail.specs.Trail.{literals_of, blank_entry}
+use Rattle.cdcl_trail.proofs.Assign.{entry_there}
 use Rattle.cdcl_state.proofs.store.lower.Goals as goal
 
 pub returns-then-not-holds-clause-free : goal.returns-then-not-holds-clause-free

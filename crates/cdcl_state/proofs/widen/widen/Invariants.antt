@@ -9,6 +9,7 @@ invariant-more l = record {
   more : length l.fn.assigned.values ≤ length l.assigned.values;
   few : length l.assigned.values ≤ 2 ^ 32;
   marks : length l.assigned.values ≤ length l.marks.stamps;
+  held : l.choices.held ≡ l.fn.choices.held;
 }
 
 abbrev pub decreases-more : goal.decreases-more

@@ -1,7 +1,7 @@
 use Rattle.std.proofs.Common.{All, sym, subst}
 use Rattle.cnf_base.specs.Known.{IsKnown}
-use Rattle.cdcl_state.specs.Trail.{StateValue}
-use Rattle.cdcl_state.specs.Visit.{HaveSame}
+use Rattle.cdcl_state.specs.StateValue.{StateValue}
+use Rattle.cdcl_propagate.specs.Visit.{HaveSame}
 use Rattle.cdcl_state.proofs.Attach.{stored_below}
 use Rattle.cdcl_state.proofs.Distinct.{same_itself, same_again}
 use Rattle.cdcl_state.proofs.state.State.add.Goals as goal

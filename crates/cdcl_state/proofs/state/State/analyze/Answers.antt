@@ -1,11 +1,13 @@
 use Rattle.std.proofs.Common.{◌≡◌, ◌⊎◌, Result, Ok, Err, IfOk, List, [], All, refl, subst}
 use Rattle.std.specs.declared.alloc.AllocError.{AllocError}
 use Rattle.clause_log.specs.LogValue.{LogValue}
-use Rattle.cdcl_state.specs.Trail.{StateValue, IsTrail}
-use Rattle.cdcl_state.specs.Learnt.{IsDecision, IsLearnt, IsAsserting}
-use Rattle.cdcl_state.specs.declared.assigned.Entry.{Entry}
-use Rattle.cdcl_state.specs.declared.analyze.Learnt.{Learnt}
-use Rattle.cdcl_state.specs.declared.analyze.Cut.TheVariants.{Decisions}
+use Rattle.cdcl_state.specs.StateValue.{StateValue}
+use Rattle.cdcl_trail.specs.Trail.{IsTrail, IsDecision}
+use Rattle.cdcl_analyze.specs.Learnt.{IsLearnt}
+use Rattle.cdcl_state.specs.Turns.{IsAsserting}
+use Rattle.cdcl_trail.specs.declared.assigned.Entry.{Entry}
+use Rattle.cdcl_analyze.specs.declared.analyze.Learnt.{Learnt}
+use Rattle.cdcl_analyze.specs.declared.analyze.Cut.TheVariants.{Decisions}
 use Rattle.cdcl_state.proofs.Short.{learnt_asserting}
 use Rattle.cdcl_state.proofs.state.State.analyze.Goals as goal
 

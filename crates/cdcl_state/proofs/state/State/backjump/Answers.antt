@@ -1,6 +1,5 @@
 use Rattle.std.proofs.Common.{length, subst}
-use Rattle.cdcl_state.specs.Trail.{StateValue, IsBack}
-use Rattle.cdcl_state.specs.Analysis.{state_of}
+use Rattle.cdcl_state.specs.StateValue.{StateValue, IsBack, state_of}
 use Rattle.cdcl_state.proofs.States.{state_back, back_of}
 use Rattle.cdcl_state.proofs.state.State.backjump.Goals as goal
 

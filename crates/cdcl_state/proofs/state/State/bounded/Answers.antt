@@ -1,5 +1,5 @@
 use Rattle.std.proofs.Common.{◌≤◌, ◌+◌, length, subst}
-use Rattle.cdcl_state.specs.Trail.{StateValue}
+use Rattle.cdcl_state.specs.StateValue.{StateValue}
 use Rattle.cdcl_state.proofs.Known.{trail_known, trail_short}
 use Rattle.cdcl_state.proofs.state.State.bounded.Goals as goal
 

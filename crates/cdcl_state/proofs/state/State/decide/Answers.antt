@@ -1,8 +1,8 @@
 use Rattle.std.proofs.Common.{◌+◌, is_ok, None, length, sym, ap, subst, arith}
 use Rattle.cnf_base.specs.Known.{IsKnown}
-use Rattle.cdcl_state.specs.Trail.{StateValue}
-use Rattle.cdcl_state.specs.declared.assigned.Entry.{Entry}
-use Rattle.cdcl_state.proofs.Bound.{trail_bounded}
+use Rattle.cdcl_state.specs.StateValue.{StateValue}
+use Rattle.cdcl_trail.specs.declared.assigned.Entry.{Entry}
+use Rattle.cdcl_trail.proofs.Bound.{trail_bounded}
 use Rattle.cdcl_state.proofs.States.{state_assigned, decision_stands}
 use Rattle.cdcl_state.proofs.state.State.decide.Goals as goal
 

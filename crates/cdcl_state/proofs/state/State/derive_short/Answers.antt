@@ -3,7 +3,7 @@ use Rattle.std.proofs.lemmas.List.{length_push}
 use Rattle.cnf_base.specs.declared.literal.Hint.TheVariants.{Line}
 use Rattle.cnf_base.specs.Known.{IsKnown}
 use Rattle.clause_log.specs.LogValue.{LogValue, with_line}
-use Rattle.cdcl_state.specs.Trail.{StateValue}
+use Rattle.cdcl_state.specs.StateValue.{StateValue}
 use Rattle.cdcl_state.proofs.Attach.{line_more, state_short, known_more}
 use Rattle.cdcl_state.proofs.Distinct.{one_short}
 use Rattle.cdcl_state.proofs.state.State.derive_short.Goals as goal

@@ -1,6 +1,6 @@
 use Rattle.std.proofs.Common.{All, subst}
 use Rattle.cnf_base.specs.Known.{IsKnown}
-use Rattle.cdcl_state.specs.Trail.{StateValue}
+use Rattle.cdcl_state.specs.StateValue.{StateValue}
 use Rattle.cdcl_state.proofs.Known.{trail_known, known_from_one, learnt_known}
 use Rattle.cdcl_state.proofs.state.State.explain.Goals as goal
 

@@ -2,10 +2,10 @@ use Rattle.std.proofs.Common.{◌≢◌, ℕ, All, sym, ap, ◌∙◌, subst}
 use Rattle.std.proofs.lemmas.List.{get_or_default}
 use Rattle.cnf_base.specs.Literal.{opposite}
 use Rattle.cnf_base.specs.Known.{IsKnown}
-use Rattle.cdcl_state.specs.Trail.{StateValue}
-use Rattle.cdcl_state.specs.Learnt.{blank_entry, literal_at, IsDecision}
-use Rattle.cdcl_state.specs.Analysis.{refuted_at}
-use Rattle.cdcl_state.specs.declared.assigned.Entry.{Entry}
+use Rattle.cdcl_state.specs.StateValue.{StateValue}
+use Rattle.cdcl_trail.specs.Trail.{blank_entry, literal_at, IsDecision}
+use Rattle.cdcl_analyze.specs.Analysis.{refuted_at}
+use Rattle.cdcl_trail.specs.declared.assigned.Entry.{Entry}
 use Rattle.cdcl_state.proofs.Known.{trail_known, known_from_one, learnt_known, refuted_known}
 use Rattle.cdcl_state.proofs.state.State.explain_false.Goals as goal
 

@@ -1,6 +1,6 @@
 use Rattle.std.proofs.Common.{is_ok, length, sym, subst}
-use Rattle.cdcl_state.specs.Trail.{StateValue, MayStand}
-use Rattle.cdcl_state.specs.declared.assigned.Entry.{Entry}
+use Rattle.cdcl_state.specs.StateValue.{StateValue, MayStand}
+use Rattle.cdcl_trail.specs.declared.assigned.Entry.{Entry}
 use Rattle.cdcl_state.proofs.States.{state_assigned}
 use Rattle.cdcl_state.proofs.Short.{forced_by}
 use Rattle.cdcl_state.proofs.state.State.force.Goals as goal

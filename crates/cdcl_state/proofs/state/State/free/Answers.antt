@@ -1,8 +1,9 @@
 use Rattle.std.proofs.Common.{◌≡◌, inl, inr, not, ap, ◌∙◌, arith}
 use Rattle.std.proofs.lemmas.Bool.{cases_lt}
-use Rattle.cdcl_state.specs.Trail.{StateValue, literals_of}
-use Rattle.cdcl_state.proofs.Assign.{same_letter}
-use Rattle.cdcl_state.proofs.Bridge.{set_from_value}
+use Rattle.cdcl_state.specs.StateValue.{StateValue}
+use Rattle.cdcl_trail.specs.Trail.{literals_of}
+use Rattle.cdcl_trail.proofs.Assign.{same_letter}
+use Rattle.cdcl_trail.proofs.Bridge.{set_from_value}
 use Rattle.cdcl_state.proofs.state.State.free.Goals as goal
 
 pub loop-letter-preserved : goal.loop-letter-preserved

@@ -1,7 +1,7 @@
 use Rattle.std.proofs.Common.{◌≤◌, ◌<◌, ◌⊎◌, Contains}
 use Rattle.cnf_base.specs.declared.literal.Literal.{Literal}
 use Rattle.cnf_base.specs.Literal.{opposite}
-use Rattle.cdcl_state.specs.Trail.{literals_of}
+use Rattle.cdcl_trail.specs.Trail.{literals_of}
 use Rattle.cdcl_state.proofs.state.State.free.Given as goal
 
 abbrev pub invariant-loop-letter : goal.invariant-loop-letter

@@ -4,11 +4,11 @@ use Rattle.std.proofs.lemmas.List.Elements.{All-contains_itself}
 use Rattle.cnf_base.specs.declared.literal.Hint.TheVariants.{Line}
 use Rattle.cnf_base.specs.Known.{IsKnown}
 use Rattle.clause_log.specs.LogValue.{LogValue, with_line}
-use Rattle.cdcl_state.specs.Trail.{StateValue, with_log}
-use Rattle.cdcl_state.specs.Learnt.{IsLearnt, IsAsserting, IsTarget, IsTurn}
-use Rattle.cdcl_state.specs.Analysis.{state_of}
+use Rattle.cdcl_state.specs.StateValue.{StateValue, with_log, state_of}
+use Rattle.cdcl_analyze.specs.Learnt.{IsLearnt}
+use Rattle.cdcl_state.specs.Turns.{IsAsserting, IsTarget, IsTurn}
 use Rattle.cdcl_watches.specs.Watching.{AreApart, IsAdded, with_clause, blank}
-use Rattle.cdcl_state.specs.declared.assigned.Entry.{Entry}
+use Rattle.cdcl_trail.specs.declared.assigned.Entry.{Entry}
 use Rattle.cdcl_state.proofs.Attach.{line_more, known_more, stored_fits}
 use Rattle.cdcl_state.proofs.Learned.{learnt_apart, learned_stands, learned_cut, learned}
 use Rattle.cdcl_state.proofs.States.{state_same}

@@ -1,9 +1,10 @@
 use Rattle.std.proofs.Common.{◌≡◌, sym, ap₂, ◌∙◌, subst}
 use Rattle.std.proofs.lemmas.List.Elements.{All-contains_itself}
 use Rattle.clause_log.specs.LogValue.{with_line}
-use Rattle.cdcl_state.specs.Trail.{StateValue, IsTrail, AreValues, with_log}
-use Rattle.cdcl_state.specs.Learnt.{IsTurn}
-use Rattle.cdcl_state.specs.Visit.{HaveSame}
+use Rattle.cdcl_state.specs.StateValue.{StateValue, with_log}
+use Rattle.cdcl_trail.specs.Trail.{IsTrail, AreValues}
+use Rattle.cdcl_state.specs.Turns.{IsTurn}
+use Rattle.cdcl_propagate.specs.Visit.{HaveSame}
 use Rattle.cdcl_state.proofs.Short.{forced_by, lined, short_stands, short_turned}
 use Rattle.cdcl_state.proofs.state.State.learn_short.Goals as goal
 

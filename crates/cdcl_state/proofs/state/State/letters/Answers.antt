@@ -1,5 +1,5 @@
 use Rattle.std.proofs.Common.{◌≤◌, length, sym, subst}
-use Rattle.cdcl_state.specs.Trail.{StateValue}
+use Rattle.cdcl_state.specs.StateValue.{StateValue}
 use Rattle.cdcl_state.proofs.Room.{state_widened, state_lettered}
 use Rattle.cdcl_state.proofs.state.State.letters.Goals as goal
 

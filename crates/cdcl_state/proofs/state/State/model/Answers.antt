@@ -1,6 +1,7 @@
 use Rattle.std.proofs.Common.{◌≡◌, ◌↔◌, true, length, ap, subst, arith, Contains}
 use Rattle.std.proofs.lemmas.List.{length_push}
-use Rattle.cdcl_state.specs.Trail.{StateValue, literals_of, positive}
+use Rattle.cdcl_state.specs.StateValue.{StateValue, positive}
+use Rattle.cdcl_trail.specs.Trail.{literals_of}
 use Rattle.cdcl_state.proofs.Room.{model_more}
 use Rattle.cdcl_state.proofs.state.State.model.Goals as goal
 

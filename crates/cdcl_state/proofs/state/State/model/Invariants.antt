@@ -1,6 +1,7 @@
 use Rattle.std.proofs.Common.{◌≡◌, ◌↔◌, ℕ, ◌<◌, ◌≤◌, true, Contains, length, get_or}
 use mathlib.Core.Bool.{false}
-use Rattle.cdcl_state.specs.Trail.{literals_of, positive}
+use Rattle.cdcl_trail.specs.Trail.{literals_of}
+use Rattle.cdcl_state.specs.StateValue.{positive}
 use Rattle.cdcl_state.proofs.state.State.model.Given as goal
 
 abbrev pub invariant-loop-letter : goal.invariant-loop-letter

@@ -1,6 +1,7 @@
 use Rattle.std.proofs.Common.{subst}
-use Rattle.cdcl_state.specs.Trail.{StateValue, IsTrail}
-use Rattle.cdcl_state.proofs.Turn.{no_decisions}
+use Rattle.cdcl_state.specs.StateValue.{StateValue}
+use Rattle.cdcl_trail.specs.Trail.{IsTrail}
+use Rattle.cdcl_trail.proofs.Levels.{no_decisions}
 use Rattle.cdcl_state.proofs.state.State.reset.Goals as goal
 
 pub returns-clause-forced : goal.returns-clause-forced

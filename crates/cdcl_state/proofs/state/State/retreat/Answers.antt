@@ -1,6 +1,6 @@
 use Rattle.std.proofs.Common.{◌≡◌, ◌≤◌, None, All, Contains, length, take, sym, ap, ◌∙◌, subst, arith}
-use Rattle.cdcl_state.specs.Trail.{StateValue}
-use Rattle.cdcl_state.specs.declared.assigned.Entry.{Entry}
+use Rattle.cdcl_state.specs.StateValue.{StateValue}
+use Rattle.cdcl_trail.specs.declared.assigned.Entry.{Entry}
 use Rattle.cdcl_state.proofs.Retreat.{kept_whole, kept_front}
 use Rattle.cdcl_state.proofs.state.State.retreat.Goals as goal
 

@@ -1,5 +1,5 @@
 use Rattle.std.proofs.Common.{◌≢◌, ℕ, ◌<◌, ◌≤◌, None, length, get_or}
-use Rattle.cdcl_state.specs.Learnt.{blank_entry}
+use Rattle.cdcl_trail.specs.Trail.{blank_entry}
 use Rattle.cdcl_state.proofs.state.State.top.Given as goal
 
 abbrev pub invariant-down : goal.invariant-down

@@ -1,7 +1,8 @@
 use Rattle.std.proofs.Common.{Contains, sym, subst}
 use mathlib.Core.Bool.{false≢true}
 use Rattle.cnf_base.specs.Literal.{opposite}
-use Rattle.cdcl_state.specs.Trail.{StateValue, literals_of}
+use Rattle.cdcl_state.specs.StateValue.{StateValue}
+use Rattle.cdcl_trail.specs.Trail.{literals_of}
 use Rattle.cdcl_state.proofs.state.State.value.Goals as goal
 
 pub returns-then-holds : goal.returns-then-holds

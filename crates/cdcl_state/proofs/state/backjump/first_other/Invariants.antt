@@ -1,5 +1,5 @@
 use Rattle.std.proofs.Common.{◌≡◌, ℕ, ◌<◌, None, Contains, get_or}
-use Rattle.cdcl_state.specs.Learnt.{blank_entry, literal_at}
+use Rattle.cdcl_trail.specs.Trail.{blank_entry, literal_at}
 use Rattle.cdcl_state.proofs.state.backjump.first_other.Given as goal
 
 abbrev pub invariant-loop-place : goal.invariant-loop-place

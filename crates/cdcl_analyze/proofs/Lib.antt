@@ -1,0 +1,4 @@
+mod Walk
+mod Steps
+mod Refuted
+mod Bits

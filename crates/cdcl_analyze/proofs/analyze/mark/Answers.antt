@@ -1,0 +1,24 @@
+use Rattle.std.proofs.Common.{◌∙◌, take, All, subst, arith}
+use Rattle.std.proofs.lemmas.List.{take_all}
+use Rattle.std.proofs.lemmas.List.Elements.{All-more, All-weaker}
+use Rattle.cdcl_analyze.specs.Marks.{IsMarked}
+use Rattle.cdcl_analyze.proofs.analyze.mark.Goals as goal
+
+pub loop-literal-preserved : goal.loop-literal-preserved
+loop-literal-preserved c =
+    let clause = c.args.clause.now in
+    let i = c.loop-literal.literal-index in
+    let new = c.mark_letter.new.marks in
+    record {
+      kept = λ x is. c.in_ok-mark_letter.ensures.kept x (c.loop-literal.invariant.kept x is);
+      size = c.mark_letter.ensures.size ∙ c.loop-literal.invariant.size;
+      seen = All-more (λ m. IsMarked new m.letter.0) clause i _ (omega arith)
+          (All-weaker (λ m. IsMarked c.loop-literal.marks m.letter.0) (λ m. IsMarked new m.letter.0) (λ m is. c.in_ok-mark_letter.ensures.kept m.letter.0 is) (take i clause) c.loop-literal.invariant.seen)
+          c.in_ok-mark_letter.ensures.marked;
+      waiting = λ end waits. c.in_ok-mark_letter.ensures.waiting end (c.loop-literal.invariant.waiting end waits);
+    }
+
+pub returns-clause-all : goal.returns-clause-all
+returns-clause-all c =
+    let clause = c.args.clause.now in
+    subst (All (λ m. IsMarked c.loop-literal.marks m.letter.0)) (take_all c.loop-literal.literal-index clause (omega arith)) c.loop-literal.invariant.seen

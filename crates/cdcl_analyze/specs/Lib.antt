@@ -1,0 +1,4 @@
+pub mod Marks
+pub mod Waiting
+pub mod Learnt
+pub mod Analysis

@@ -1,0 +1,311 @@
+// Why a conflict came: the walk down the trail resolves what reasons forced, until the clause that is left has
+// one literal of the conflict's level (the first unique implication point), or decisions alone.
+// The reasons that were resolved, in the order of the trail, and then the conflict are the clause's hints.
+// After Marques-Silva and Sakallah, GRASP (1999), and, for the hints, Goldberg and Novikov, Verification of proofs of
+// unsatisfiability for CNF formulas (2003).
+ghost use Rattle.std.specs.Prelude.{◌≡◌, ℕ, ◌^◌, ◌<◌, ◌≤◌, List, [], ◌∷◌, ◌++◌, length, All, IsSome, Some, OnOk, IfOk, true, false, slice_index_or};
+ghost use Rattle.cnf_base.specs.Step.{named};
+ghost use Rattle.cdcl_trail.specs.Trail.{IsTrail, IsConflict, literals_of, blank_entry, IsDecision};
+ghost use Rattle.cdcl_analyze.specs.Learnt.{IsLearnt};
+ghost use Rattle.cdcl_trail.specs.Values.{IsBelow, AreBelow};
+ghost use Rattle.cdcl_analyze.specs.Analysis.{AreFromOne, AreWaiting, IsLike, IsWalk, refuted_at};
+ghost use Rattle.cdcl_analyze.specs.Marks.{IsMarked};
+ghost use Rattle.cdcl_trail.specs.declared.assigned.Entry.{Entry};
+ghost use Rattle.cdcl_analyze.specs.declared.analyze.Cut.TheVariants.{Decisions};
+
+use crate::marks::Marks;
+use crate::minimize::is_covered;
+use cdcl_activity::choices::Choices;
+use cdcl_trail::assigned::{Assigned, Entry};
+use cdcl_trail::named::clause_of;
+use clause_log::{Log, LogView};
+use cnf_base::{Hint, Literal};
+use std::alloc::{AllocError, Global};
+
+/// A clause that explains a conflict, with its hints.
+#[derive(Drop)]
+pub struct Learnt {
+    pub clause: Vec<Literal>,
+    pub hints: Vec<Hint>,
+    /// The places of the trail at which the opposites of the clause's literals stand, the last first.
+    pub places: Vec<usize>,
+}
+
+/// Which of the marked literals a learnt clause keeps.
+#[derive(Clone, Copy, Drop)]
+pub enum Cut {
+    /// Those of decisions alone.
+    Decisions,
+    /// Of this level the last one that alone leads to the conflict, and those of lower levels but 0.
+    FirstUnique(usize),
+}
+
+/// Counts a letter that is marked anew, if its level is that of the cut.
+fn count(cut: Cut, reached: usize, open: &mut usize) {
+    match cut {
+        Cut::Decisions => {}
+        Cut::FirstUnique(level) => {
+            if reached == level {
+                *open = open.saturating_add(1);
+            }
+        }
+    }
+}
+
+/// Marks the letter, lets its place wait, and makes it more active, if it had no mark.
+fn mark_letter(
+    assigned: &Assigned,
+    cut: Cut,
+    letter: u32,
+    marks: &mut Marks,
+    choices: &mut Choices,
+    open: &mut usize,
+) -> Result<(), AllocError>
+    requires known { letter < length assigned.now.values }
+    requires size { length assigned.now.values ≤ length marks.old.stamps }
+    ensures size { length marks.new.stamps ≡ length marks.old.stamps }
+    ensures kept { OnOk result ((x : ℕ) → IsMarked marks.old x → IsMarked marks.new x) }
+    ensures marked { OnOk result (IsMarked marks.new letter) }
+    ensures waiting { OnOk result ((end : ℕ) → AreWaiting assigned.now.trail end marks.old → AreWaiting assigned.now.trail end marks.new) }
+{
+    if marks.has(letter as usize) {
+        return Ok(());
+    }
+    let place = assigned.place_of(letter as usize);
+    let level = assigned.level_at(place);
+    count(cut, level, open);
+    marks.join(level);
+    marks.mark(letter as usize, place)?;
+    choices.bump(letter);
+    Ok(())
+}
+
+/// Marks the letters of the clause, and counts those that are new on the level of the cut.
+fn mark(
+    assigned: &Assigned,
+    cut: Cut,
+    clause: &[Literal],
+    marks: &mut Marks,
+    choices: &mut Choices,
+    open: &mut usize,
+) -> Result<(), AllocError>
+    requires known { All (IsBelow (length assigned.now.values)) clause.now }
+    requires size { length assigned.now.values ≤ length marks.old.stamps }
+    ensures size { length marks.new.stamps ≡ length marks.old.stamps }
+    ensures kept { OnOk result ((x : ℕ) → IsMarked marks.old x → IsMarked marks.new x) }
+    ensures all { OnOk result (All (λ l. IsMarked marks.new l.letter.0) clause.now) }
+    ensures waiting { OnOk result ((end : ℕ) → AreWaiting assigned.now.trail end marks.old → AreWaiting assigned.now.trail end marks.new) }
+{
+    for literal in clause {
+        mark_letter(assigned, cut, literal.letter.0, marks, choices, open)?;
+    }
+    Ok(())
+}
+
+/// Whether an entry that has this reason is to be resolved away: of the cut's level all but the last one that is open,
+/// and of lower levels those that follow from the rest.
+fn resolves(
+    assigned: &Assigned,
+    view: &LogView<'_>,
+    cut: Cut,
+    entry: Entry,
+    hint: Hint,
+    marks: &mut Marks,
+    open: &mut usize,
+) -> bool
+    ensures all { cut ≡ Decisions → result ≡ true }
+    ensures same { marks.new ≡ marks.old }
+{
+    match cut {
+        Cut::Decisions => {
+            return true;
+        }
+        Cut::FirstUnique(level) => {
+            if entry.level != level {
+                return entry.level == 0
+                    || is_covered(assigned, view, entry.literal.letter.0 as usize, hint, marks);
+            }
+            if *open <= 1 {
+                return false;
+            }
+            *open -= 1;
+            return true;
+        }
+    }
+}
+
+/// Keeps a literal, whose opposite stands at the place, in the clause.
+fn keep(learnt: &mut Learnt, literal: Literal, place: usize) -> Result<(), AllocError>
+    ensures clause { OnOk result (learnt.new.clause.items ≡ learnt.old.clause.items ++ literal ∷ []) }
+    ensures places { OnOk result (learnt.new.places.items ≡ learnt.old.places.items ++ place ∷ []) }
+    ensures hints { OnOk result (learnt.new.hints.items ≡ learnt.old.hints.items) }
+{
+    learnt.clause.push(literal)?;
+    learnt.places.push(place)?;
+    Ok(())
+}
+
+/// Adds a hint behind the others.
+fn cite(learnt: &mut Learnt, hint: Hint) -> Result<(), AllocError>
+    ensures clause { OnOk result (learnt.new.clause.items ≡ learnt.old.clause.items) }
+    ensures places { OnOk result (learnt.new.places.items ≡ learnt.old.places.items) }
+    ensures hints { OnOk result (learnt.new.hints.items ≡ learnt.old.hints.items ++ hint ∷ []) }
+{
+    learnt.hints.push(hint)?;
+    Ok(())
+}
+
+/// Goes down the marked places of the trail below `from`, and resolves their literals or keeps them in the clause.
+fn walk(
+    assigned: &Assigned,
+    log: &Log,
+    cut: Cut,
+    from: usize,
+    marks: &mut Marks,
+    choices: &mut Choices,
+    open: &mut usize,
+    learnt: &mut Learnt,
+) -> Result<(), AllocError>
+    requires is_trail { IsTrail log.now.inputs log.now.lines assigned.now.trail }
+    requires known_inputs { AreBelow (length assigned.now.values) log.now.inputs }
+    requires known_lines { AreBelow (length assigned.now.values) log.now.lines }
+    requires few { length assigned.now.values ≤ 2 ^ 32 }
+    requires from { from ≤ length assigned.now.trail }
+    requires size { length assigned.now.values ≤ length marks.old.stamps }
+    requires waiting { AreWaiting assigned.now.trail from marks.old }
+    ensures size { length marks.new.stamps ≡ length marks.old.stamps }
+    ensures walked { OnOk result ((t : List Entry) → IsLike log.now.inputs log.now.lines assigned.now.trail t from → IsWalk log.now.inputs log.now.lines t from (IsMarked marks.old) learnt.old.clause.items learnt.old.hints.items learnt.old.places.items → IsWalk log.now.inputs log.now.lines t 0 (IsMarked marks.new) learnt.new.clause.items learnt.new.hints.items learnt.new.places.items) }
+    ensures decided { OnOk result ((t : List Entry) → IsLike log.now.inputs log.now.lines assigned.now.trail t from → cut ≡ Decisions → All (IsDecision t) learnt.old.places.items → All (IsDecision t) learnt.new.places.items) }
+{
+    assigned.told();
+    let view = log.view();
+    let mut end = from;
+    'down: while let Some(place) = marks.pop(end) {
+        end = place;
+        let entry = assigned.entry(place);
+        match entry.reason {
+            Some(hint) => {
+                if resolves(assigned, &view, cut, entry, hint, marks, open) {
+                    cite(learnt, hint)?;
+                    mark(assigned, cut, clause_of(&view, hint), marks, choices, open)?;
+                    continue 'down;
+                }
+                keep(learnt, entry.literal.opposite(), place)?;
+                continue 'down;
+            }
+            None => {
+                keep(learnt, entry.literal.opposite(), place)?;
+                continue 'down;
+            }
+        }
+    }
+    Ok(())
+}
+
+/// Explains a conflict.
+pub fn explain(
+    alloc: Global,
+    assigned: &Assigned,
+    log: &Log,
+    cut: Cut,
+    marks: &mut Marks,
+    choices: &mut Choices,
+    conflict: Hint,
+) -> Result<Learnt, AllocError>
+    requires is_trail { IsTrail log.now.inputs log.now.lines assigned.now.trail }
+    requires known_inputs { AreBelow (length assigned.now.values) log.now.inputs }
+    requires known_lines { AreBelow (length assigned.now.values) log.now.lines }
+    requires few { length assigned.now.values ≤ 2 ^ 32 }
+    requires size { length assigned.now.values ≤ length marks.old.stamps }
+    requires from_one { AreFromOne assigned.now.trail }
+    requires conflict { IsConflict log.now.inputs log.now.lines (literals_of assigned.now.trail) conflict }
+    ensures size { length marks.new.stamps ≡ length marks.old.stamps }
+    ensures learnt { IfOk result (IsLearnt log.now assigned.now.trail) }
+    ensures decided { IfOk result (λ learnt. cut ≡ Decisions → All (IsDecision assigned.now.trail) learnt.places.items) }
+{
+    assigned.told();
+    let view = log.view();
+    marks.begin();
+    let mut open: usize = 0;
+    let mut learnt = Learnt {
+        clause: Vec::new(alloc),
+        hints: Vec::new(alloc),
+        places: Vec::new(alloc),
+    };
+    cite(&mut learnt, conflict)?;
+    mark(
+        assigned,
+        cut,
+        clause_of(&view, conflict),
+        marks,
+        choices,
+        &mut open,
+    )?;
+    walk(
+        assigned,
+        log,
+        cut,
+        assigned.len(),
+        marks,
+        choices,
+        &mut open,
+        &mut learnt,
+    )?;
+    learnt.hints.reverse();
+    Ok(learnt)
+}
+
+/// Explains by decisions why the literal at a place is true, as a conflict with the decision that it is false.
+pub fn explain_forced(
+    alloc: Global,
+    assigned: &Assigned,
+    log: &Log,
+    marks: &mut Marks,
+    choices: &mut Choices,
+    place: usize,
+    hint: Hint,
+) -> Result<Learnt, AllocError>
+    requires is_trail { IsTrail log.now.inputs log.now.lines assigned.now.trail }
+    requires known_inputs { AreBelow (length assigned.now.values) log.now.inputs }
+    requires known_lines { AreBelow (length assigned.now.values) log.now.lines }
+    requires few { length assigned.now.values ≤ 2 ^ 32 }
+    requires size { length assigned.now.values ≤ length marks.old.stamps }
+    requires from_one { AreFromOne assigned.now.trail }
+    requires place { place < length assigned.now.trail }
+    requires forced { (slice_index_or assigned.now.trail place blank_entry).reason ≡ Some hint }
+    ensures size { length marks.new.stamps ≡ length marks.old.stamps }
+    ensures learnt { IfOk result (IsLearnt log.now (refuted_at assigned.now.trail place)) }
+    ensures decided { IfOk result (λ learnt. All (IsDecision (refuted_at assigned.now.trail place)) learnt.places.items) }
+{
+    assigned.told();
+    let view = log.view();
+    marks.begin();
+    let mut open: usize = 0;
+    let mut learnt = Learnt {
+        clause: Vec::new(alloc),
+        hints: Vec::new(alloc),
+        places: Vec::new(alloc),
+    };
+    keep(&mut learnt, assigned.entry(place).literal, place)?;
+    cite(&mut learnt, hint)?;
+    mark(
+        assigned,
+        Cut::Decisions,
+        clause_of(&view, hint),
+        marks,
+        choices,
+        &mut open,
+    )?;
+    walk(
+        assigned,
+        log,
+        Cut::Decisions,
+        place,
+        marks,
+        choices,
+        &mut open,
+        &mut learnt,
+    )?;
+    learnt.hints.reverse();
+    Ok(learnt)
+}

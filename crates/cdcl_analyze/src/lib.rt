@@ -1,0 +1,7 @@
+//! Why a conflict came: a walk down the trail resolves reasons into a clause that is learnt, with its hints.
+#![tactic(auto)]
+
+pub mod analyze;
+pub mod marks;
+mod minimize;
+mod waiting;

@@ -1,0 +1,168 @@
+// The letters that an analysis has come to, and the places of the trail that it has still to go over, the last one first.
+// A letter is marked by the number of the analysis, so that the next one begins with no marks, whatever became of this one.
+// What the analysis found out of other letters is remembered in the same way; nothing is promised of that.
+ghost use Rattle.std.specs.Prelude.{◌≡◌, ℕ, ◌+◌, ◌<◌, ◌≤◌, [], ◌⊎◌, ◌↔◌, All, length, IsTrue, MatchOption, OnOk};
+ghost use Rattle.cdcl_analyze.specs.Marks.{IsMarked};
+ghost use Rattle.cdcl_analyze.specs.Waiting.{IsWaiting, IsNext};
+
+use crate::waiting::Waiting;
+use std::alloc::{AllocError, Global};
+use std::marker::Model;
+
+/// What is marked, and what waits.
+#[derive(Drop)]
+pub struct Marks {
+    /// The number of the analysis that marked a letter last.
+    stamps: Vec<u32>,
+    /// The number of this analysis. It is even.
+    stamp: u32,
+    /// Places of the trail that wait.
+    waiting: Waiting,
+    /// The number of the analysis that asked last whether a letter's value follows, and one more where it does.
+    outcomes: Vec<u32>,
+    /// The levels on which a marked letter stands, modulo 64, one bit each.
+    levels: u64,
+}
+
+impl Model for Marks {
+    ghost use Rattle.std.specs.Prelude.{◌≤◌, All};
+    ghost use Rattle.cdcl_analyze.specs.Marks.{MarksValue};
+
+    ghost Value = { MarksValue };
+
+    ghost view = { λ a. record { stamps = a.stamps.items; stamp = a.stamp; waiting = a.waiting } };
+
+    ghost invariant = { λ a. All (λ s. s ≤ a.stamp) a.stamps.items };
+}
+
+impl Marks {
+    /// No letters.
+    pub fn new(alloc: Global) -> Self
+        ensures { length result.stamps ≡ 0 }
+    {
+        Marks {
+            stamps: Vec::new(alloc),
+            stamp: 0,
+            waiting: Waiting::new(alloc),
+            outcomes: Vec::new(alloc),
+            levels: 0,
+        }
+    }
+
+    /// Makes room for one letter more.
+    pub fn letter(&mut self) -> Result<(), AllocError>
+        ensures kept { length self.old.stamps ≤ length self.new.stamps }
+        ensures room { OnOk result (length self.new.stamps ≡ length self.old.stamps + 1) }
+    {
+        self.outcomes.push(0)?;
+        self.stamps.push(0)?;
+        Ok(())
+    }
+
+    /// Begins an analysis: no letter is marked, and no place waits.
+    pub fn begin(&mut self)
+        ensures room { length self.new.stamps ≡ length self.old.stamps }
+        ensures none { (x : ℕ) → ¬ IsMarked self.new x }
+        ensures empty { self.new.waiting ≡ [] }
+    {
+        self.waiting.clear();
+        self.levels = 0;
+        match self.stamp.checked_add(2) {
+            Some(stamp) => {
+                self.stamp = stamp;
+            }
+            None => {
+                clear(&mut self.stamps);
+                clear(&mut self.outcomes);
+                self.stamp = 2;
+            }
+        }
+    }
+
+    /// Whether the letter is marked.
+    pub fn has(&self, letter: usize) -> bool
+        ensures { letter < length self.now.stamps → (IsTrue result ↔ IsMarked self.now letter) }
+    {
+        match self.stamps.get(letter) {
+            Some(stamp) => *stamp == self.stamp,
+            None => false,
+        }
+    }
+
+    /// Marks the letter, and lets its place wait.
+    pub(crate) fn mark(&mut self, letter: usize, place: usize) -> Result<(), AllocError>
+        requires { letter < length self.old.stamps }
+        ensures room { length self.new.stamps ≡ length self.old.stamps }
+        ensures marked { OnOk result (IsMarked self.new letter) }
+        ensures kept { OnOk result ((x : ℕ) → IsMarked self.old x → IsMarked self.new x) }
+        ensures only { OnOk result ((x : ℕ) → IsMarked self.new x → (x ≡ letter) ⊎ IsMarked self.old x) }
+        ensures waits { OnOk result ((p : ℕ) → (p ≡ place) ⊎ IsWaiting self.old.waiting p → IsWaiting self.new.waiting p) }
+    {
+        self.waiting.push(place)?;
+        self.stamps[letter] = self.stamp;
+        Ok(())
+    }
+
+    /// Marks the letter; nothing waits for it.
+    pub fn note(&mut self, letter: usize)
+        requires { letter < length self.old.stamps }
+        ensures room { length self.new.stamps ≡ length self.old.stamps }
+        ensures marked { IsMarked self.new letter }
+        ensures kept { (x : ℕ) → IsMarked self.old x → IsMarked self.new x }
+    {
+        self.stamps[letter] = self.stamp;
+    }
+
+    /// Notes that a marked letter stands on the level.
+    pub(crate) fn join(&mut self, level: usize)
+        ensures { self.new ≡ self.old }
+    {
+        self.levels |= 1 << (level % 64) as u32;
+    }
+
+    /// Whether a marked letter may stand on the level.
+    pub(crate) fn may_have(&self, level: usize) -> bool {
+        self.levels >> (level % 64) as u32 & 1 != 0
+    }
+
+    /// Whether the letter's value follows, if this analysis has asked.
+    pub(crate) fn outcome(&self, letter: usize) -> Option<bool> {
+        match self.outcomes.get(letter) {
+            None => None,
+            Some(outcome) => {
+                if *outcome < self.stamp {
+                    return None;
+                }
+                Some(*outcome != self.stamp)
+            }
+        }
+    }
+
+    /// Remembers whether the letter's value follows.
+    pub(crate) fn remember(&mut self, letter: usize, follows: bool)
+        ensures { self.new ≡ self.old }
+    {
+        if letter < self.outcomes.len() {
+            self.outcomes[letter] = self.stamp.saturating_add(follows as u32);
+        }
+    }
+
+    /// The last place below `end` that waits. Those from `end` on wait no longer.
+    pub(crate) fn pop(&mut self, end: usize) -> Option<usize>
+        ensures room { length self.new.stamps ≡ length self.old.stamps }
+        ensures marks { (x : ℕ) → IsMarked self.new x ↔ IsMarked self.old x }
+        ensures next { MatchOption result ((p : ℕ) → p < end → ¬ IsWaiting self.old.waiting p) (IsNext self.old.waiting self.new.waiting end) }
+    {
+        self.waiting.pop(end)
+    }
+}
+
+/// Sets all numbers to 0, so that analyses can be counted from the beginning.
+fn clear(stamps: &mut [u32])
+    ensures size { length stamps.new ≡ length stamps.old }
+    ensures zero { All (λ s. s ≡ 0) stamps.new }
+{
+    for i in 0..stamps.len() {
+        stamps[i] = 0;
+    }
+}

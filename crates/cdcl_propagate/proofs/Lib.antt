@@ -1,0 +1,7 @@
+mod Guard
+mod At
+pub mod Ready
+mod SureVisit
+mod Alone
+pub mod Sure
+pub mod Settled

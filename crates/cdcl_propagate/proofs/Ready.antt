@@ -1,0 +1,98 @@
+-- From one place of the trail to the next.
+use Rattle.std.proofs.Common.{◌≡◌, ◌≢◌, ℕ, ◌<◌, ◌≤◌, ◌+◌, ◌-◌, ◌*◌, inl, inr, List, [], ◌++◌, Option, MatchOption, Bool, true, false, None, length, get_or, refl, sym, ap, ◌∙◌, subst, arith, length-append}
+use Rattle.std.proofs.lemmas.Bool.{cases_lt}
+use Rattle.std.proofs.lemmas.List.{append-nil, append_assoc, get_or_default, get_or_append_left}
+use Rattle.std.proofs.lemmas.List.Elements.{All-nil, All-append}
+use Rattle.cnf_base.specs.declared.literal.Literal.{Literal}
+use Rattle.cnf_base.specs.declared.literal.Hint.{Hint}
+use Rattle.cnf_base.specs.Literal.{opposite}
+use Rattle.cnf_base.proofs.SameLiteral.{opposite_opposite}
+use Rattle.cdcl_trail.specs.Trail.{literals_of, AreValues, IsConflict, blank_entry}
+use Rattle.cdcl_trail.specs.declared.assigned.Entry.{Entry}
+use Rattle.cdcl_propagate.specs.declared.visit.Visited.{Visited}
+use Rattle.cdcl_propagate.specs.declared.visit.Visited.TheVariants.{Stays, Moved, Conflict}
+use Rattle.cdcl_watches.specs.Watching.{IsWatch, IsWatching, clause_of, list_of, code, WatchValue}
+use Rattle.cdcl_trail.specs.Assigned.{AssignedValue}
+use Rattle.cdcl_propagate.specs.Visit.{HasTrue, IsVisiting, IsVisited, IsReady, IsGrown, false_at, list_length}
+
+pub grown_none : (t : List Entry) → IsGrown t t
+grown_none t = record { more = []; trail = sym (append-nil t); forced = All-nil (λ (e : Entry). e.reason ≢ None) }
+
+pub grown_more : (s t u : List Entry) → IsGrown s t → IsGrown t u → IsGrown s u
+grown_more s t u one two = record {
+  more = one.more ++ two.more;
+  trail = two.trail ∙ ap (λ x. x ++ two.more) one.trail ∙ append_assoc s one.more two.more;
+  forced = All-append (λ (e : Entry). e.reason ≢ None) one.more two.more one.forced two.forced;
+}
+
+pub grown_at : (s t : List Entry) (k : ℕ) → IsGrown s t → k < length s → false_at t k ≡ false_at s k
+grown_at s t k grown low = ap (λ x. false_at x k) grown.trail ∙ ap (λ (e : Entry). opposite e.literal) (get_or_append_left s grown.more blank_entry k low)
+
+pub grown_longer : (s t : List Entry) → IsGrown s t → length s ≤ length t
+grown_longer s t grown = omega (arith, ap length grown.trail, length-append s grown.more)
+
+module _ (inputs lines : List (List Literal)) (names : List Hint) (k : ℕ) (a : AssignedValue) (w : WatchValue) where
+  -- before the list is visited
+  pub begin_visit : k < length a.trail → IsReady inputs lines names k a w → IsVisiting inputs lines names k 0 a w
+  begin_visit there r = record {
+    is_trail = r.is_trail;
+    stored = r.stored;
+    guarded = r.guarded;
+    within = there;
+    sized = r.sized;
+    done = λ j from below. absurd (omega (arith, from));
+  }
+
+  pub still_ready : (i : ℕ) → IsVisiting inputs lines names k i a w → IsReady inputs lines names k a w
+  still_ready i v = record { is_trail = v.is_trail; stored = v.stored; guarded = v.guarded; within = omega (arith, v.within); sized = v.sized }
+
+  -- the whole list was visited
+  pub end_visit : (i : ℕ) → length (list_of w.lists (false_at a.trail k)) ≤ i → IsWatching w.clauses w.lists → IsVisiting inputs lines names k i a w → IsReady inputs lines names (k + 1) a w
+  end_visit i all watching v = record {
+    is_trail = v.is_trail;
+    stored = v.stored;
+    guarded = λ c p x known watch below is_false. elim (cases_lt p k) [
+      | inl old ↦ v.guarded c p x known watch old is_false
+      | inr high ↦
+          let f = false_at a.trail k in
+          let last : p ≡ k = omega arith in
+          let x_is : x ≡ f = sym (opposite_opposite x) ∙ ap opposite (sym is_false) ∙ ap (λ n. false_at a.trail n) last in
+          let there = watching.watched c f known (subst (IsWatch (clause_of w.clauses c)) x_is watch) in
+          let is : get_or (list_of w.lists f) there.0 0 ≡ c = get_or_default (list_of w.lists f) there.0 0 c there.1 ∙ there.2 in
+          subst (λ n. HasTrue (literals_of a.trail) (clause_of w.clauses n)) is (v.done there.0 (omega (arith, all, there.1)) there.1)
+    ];
+    within = omega (arith, v.within);
+    sized = v.sized;
+  }
+
+-- a known letter has its lists
+pub code_known : (l : Literal) (n : ℕ) → l.letter.0 < n → code l < 2 * n
+code_known l n low = go l.negated refl
+  where
+    go : (b : Bool) → l.negated ≡ b → code l < 2 * n
+    go true is = rw is (omega arith)
+    go false is = rw is (omega arith)
+
+-- the literal that is false from a place on has its list
+pub list_known : (values : List (Option Bool)) (trail : List Entry) (k : ℕ) (lists : List (List ℕ)) → AreValues values trail → k < length trail → length lists ≡ 2 * length values → code (false_at trail k) < length lists
+list_known values trail k lists are low sized = omega (arith, code_known (false_at trail k) (length values) (are.known k blank_entry low), sized)
+
+pub none_case : {X A : Type 0} (P : X → Type 0) (o : Option X) → o ≡ None → MatchOption o A P → A
+none_case {X} {A} P o is h = let Q : Option X → Type 0 = λ q. MatchOption q A P in subst Q is h
+
+-- what a visit left, by what it found
+module _ (inputs lines : List (List Literal)) (names : List Hint) (k i count : ℕ) (a : AssignedValue) (w : WatchValue) (found : Visited) where
+  pub stays_case : found ≡ Stays → IsVisited inputs lines names k i count a w found → IsVisiting inputs lines names k (i + 1) a w × (list_length a.trail w k ≡ count)
+  stays_case is h = subst (IsVisited inputs lines names k i count a w) is h
+
+  pub moved_case : found ≡ Moved → IsVisited inputs lines names k i count a w found → IsVisiting inputs lines names k i a w × (list_length a.trail w k + 1 ≡ count)
+  moved_case is h = subst (IsVisited inputs lines names k i count a w) is h
+
+  pub conflict_case : (hint : Hint) → found ≡ Conflict hint → IsVisited inputs lines names k i count a w found → IsConflict inputs lines (literals_of a.trail) hint
+  conflict_case hint is h = subst (IsVisited inputs lines names k i count a w) is h
+
+-- what is left of the list grows shorter
+pub shorter : (old new : List (List ℕ)) (l f g : Literal) (i j : ℕ) → l ≡ f → l ≡ g → i < length (list_of old l)
+    → length (list_of new g) - j < length (list_of old f) - i → length (list_of new l) - j < length (list_of old l) - i
+shorter old new l f g i j of_old of_new low less =
+    omega (arith, less, ap (λ m. length (list_of old m)) of_old, ap (λ m. length (list_of new m)) of_new)

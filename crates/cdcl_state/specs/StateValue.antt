@@ -1,0 +1,67 @@
+-- What a caller sees of a state, and how states before and after a call compare.
+use Rattle.std.specs.Prelude.{◌↔◌, ◌≡◌, ◌≢◌, ℕ, ◌+◌, ◌<◌, ◌≤◌, ◌⊎◌, Bool, true, false, List, length, take, ◌++◌, All, Contains, None, slice_index_or}
+use Rattle.cnf_base.specs.declared.literal.Literal.{Literal}
+use Rattle.cnf_base.specs.declared.literal.Hint.{Hint}
+use Rattle.cnf_base.specs.Literal.{opposite}
+use Rattle.cnf_base.specs.Known.{IsKnown}
+use Rattle.clause_log.specs.LogValue.{LogValue}
+use Rattle.cdcl_trail.specs.declared.assigned.Entry.{Entry}
+use Rattle.cdcl_trail.specs.Trail.{literals_of, IsReason, IsConflict, IsUnset, StandsAt}
+
+-- the letters from 1 to `letters` are known; the trail's literals are true, in order; the log's clauses hold
+pub record StateValue : Type 0 where
+  pub letters : ℕ
+  pub trail : List Entry
+  pub log : LogValue
+
+abbrev pub with_trail : StateValue → List Entry → StateValue
+with_trail s trail = record { letters = s.letters; trail = trail; log = s.log }
+
+abbrev pub with_letters : StateValue → ℕ → StateValue
+with_letters s letters = record { letters = letters; trail = s.trail; log = s.log }
+
+abbrev pub with_log : StateValue → LogValue → StateValue
+with_log s log = record { letters = s.letters; trail = s.trail; log = log }
+
+-- the state of these letters, trail and log
+abbrev pub state_of : ℕ → List Entry → LogValue → StateValue
+state_of letters trail log = record { letters = letters; trail = trail; log = log }
+
+-- no clause is false, and none has one literal without a value while all its others are false
+abbrev pub IsSettled : StateValue → Type 0
+IsSettled s = (hint : Hint)
+    → (¬ IsConflict s.log.inputs s.log.lines (literals_of s.trail) hint)
+    × ((u : Literal) → IsReason s.log.inputs s.log.lines (literals_of s.trail) u hint → ¬ IsUnset (literals_of s.trail) u)
+
+-- the entry may be put behind the trail
+pub record MayStand (s : StateValue) (e : Entry) : Type 0 where
+  pub stands : StandsAt s.log.inputs s.log.lines s.trail e
+  pub unset : IsUnset (literals_of s.trail) e.literal
+
+-- entries that have reasons were put behind the trail
+pub record Propagated (old new : StateValue) : Type 0 where
+  pub letters : new.letters ≡ old.letters
+  pub log : new.log ≡ old.log
+  pub more : List Entry
+  pub trail : new.trail ≡ old.trail ++ more
+  pub forced : All (λ e. e.reason ≢ None) more
+
+-- the new trail is the front of the old one whose entries have at most this level
+pub record IsBack (old new : StateValue) (level : ℕ) : Type 0 where
+  pub front : new ≡ with_trail old (take (length new.trail) old.trail)
+  pub short : length new.trail ≤ length old.trail
+  pub low : All (λ e. e.level ≤ level) new.trail
+  pub high : (d : Entry) → length new.trail < length old.trail → level < (slice_index_or old.trail (length new.trail) d).level
+
+-- each known literal is true, or its opposite is
+abbrev pub AreSet : StateValue → Type 0
+AreSet s = (l : Literal) → IsKnown s.letters l → Contains (literals_of s.trail) l ⊎ Contains (literals_of s.trail) (opposite l)
+
+-- the literal of the letter that is not negated
+abbrev pub positive : ℕ → Literal
+positive letter = record { letter = record { 0 = letter }; negated = false }
+
+-- a known letter is true exactly where its literal is among the true ones
+pub record IsModel (s : StateValue) (model : List Bool) : Type 0 where
+  pub size : length model ≡ s.letters + 1
+  pub told : (x : ℕ) → 1 ≤ x → x ≤ s.letters → (slice_index_or model x false ≡ true) ↔ Contains (literals_of s.trail) (positive x)

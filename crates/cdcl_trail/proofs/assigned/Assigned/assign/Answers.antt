@@ -1,0 +1,20 @@
+use Rattle.std.proofs.Common.{◌≡◌, [], ◌∷◌, ◌++◌, not, Some, length, set, subst, arith}
+use Rattle.cdcl_trail.specs.Assigned.{ArePlaces}
+use Rattle.cdcl_trail.proofs.Assign.{values_push}
+use Rattle.cdcl_trail.proofs.Places.{places_push}
+use Rattle.cdcl_trail.proofs.assigned.Assigned.assign.Goals as goal
+
+pub invariant_of-self-2 : goal.invariant_of-self-2
+invariant_of-self-2 c =
+    let unset = rw (← c.self.view_is) at c.requires.unset in
+    let known = rw (← c.self.view_is) at c.requires.known in
+    let values = c.self.inside.values in
+    let trail = c.self.inside.trail in
+    let e = c.args.entry in
+    let places = c.self.inside.places.items in
+    let len : length trail ≡ c.len-place.result = omega arith in
+    rw (c.in_ok-push.ensures, c.set.ensures) (
+      values_push values trail e c.self.invariant.0 unset known,
+      subst (λ n. ArePlaces (set places e.literal.letter.0 n) (set values e.literal.letter.0 (Some (not e.literal.negated))) (trail ++ e ∷ [])) len
+          (places_push places values trail e (Some (not e.literal.negated)) c.self.invariant.1 unset known),
+    )

@@ -1,0 +1,23 @@
+use Rattle.std.proofs.Common.{◌≡◌, ◌<◌, ◌+◌, ◌-◌, ◌++◌, ◌∷◌, [], length, None, sym, ap, ap₂, ◌∙◌, subst, arith}
+use Rattle.std.proofs.lemmas.List.{take_more, take_all}
+use Rattle.cdcl_trail.specs.Trail.{AreValues, blank_entry}
+use Rattle.cdcl_trail.specs.Assigned.{ArePlaces, AssignedValue}
+use Rattle.cdcl_trail.proofs.Assign.{values_pop}
+use Rattle.cdcl_trail.proofs.Places.{places_pop}
+use Rattle.cdcl_trail.proofs.assigned.Assigned.undo.Goals as goal
+
+pub invariant_of-self : goal.invariant_of-self
+invariant_of-self c =
+    let values = c.self.inside.values in
+    let trail = c.self.inside.trail in
+    let rest = c.truncate.new.self in
+    let entry = c.get.result in
+    let n = c.len-count.result - 1 in
+    let same : length c.args.self.now.trail ≡ length trail = ap (λ (a : AssignedValue). length a.trail) (sym c.self.view_is) in
+    let low : n < length trail = omega (arith, c.requires, same) in
+    let whole : trail ≡ rest ++ entry ∷ [] =
+    sym (take_all (n + 1) trail (omega (arith, low))) ∙ take_more trail n blank_entry low ∙ ap₂ (λ ts e. ts ++ e ∷ []) (sym c.truncate.ensures) (sym c.get.ensures) in
+    rw c.clear.ensures (
+      values_pop values rest entry (subst (AreValues values) whole c.self.invariant.0),
+      places_pop c.self.inside.places.items values rest entry entry.literal.letter.0 None (subst (ArePlaces c.self.inside.places.items values) whole c.self.invariant.1),
+    )

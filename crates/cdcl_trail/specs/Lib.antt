@@ -1,0 +1,4 @@
+pub mod Values
+pub mod Trail
+pub mod Assigned
+pub mod Entries

@@ -1,0 +1,139 @@
+// The entries of the trail in sixteen bytes each: an analysis reads levels and reasons here and there, so what matters
+// is that many of them fit into a cache.
+ghost use Rattle.std.specs.Prelude.{◌≡◌, ◌<◌, [], ◌∷◌, ◌++◌, length, take, if◌then◌else◌, is_ok, IfSome, slice_index_or};
+ghost use Rattle.cdcl_trail.specs.Entries.{reason_of};
+ghost use Rattle.cdcl_trail.specs.Trail.{blank_entry, place_level, place_reason};
+
+use crate::assigned::Entry;
+use crate::hints::{lengthen, shorten};
+use cnf_base::{Hint, Literal};
+use std::alloc::{AllocError, Global};
+use std::marker::Model;
+
+/// The greatest level that fits.
+const MAX_LEVEL: usize = 4294967295;
+
+/// An entry, its reason by its number.
+#[derive(Clone, Copy, Drop)]
+struct Packed {
+    literal: Literal,
+    level: u32,
+    reason: u32,
+}
+
+/// The number of a reason, if it fits into 32 bits.
+fn shorten_reason(reason: Option<Hint>) -> Option<u32>
+    ensures { IfSome result (λ number. reason_of number ≡ reason) }
+{
+    match reason {
+        None => Some(0),
+        Some(hint) => match shorten(hint) {
+            None => None,
+            Some(number) => Some(number + 1),
+        },
+    }
+}
+
+/// The reason of a number.
+fn lengthen_reason(number: u32) -> Option<Hint>
+    ensures { result ≡ reason_of number }
+{
+    if number == 0 {
+        return None;
+    }
+    Some(lengthen(number - 1))
+}
+
+/// A list of entries, whose levels and hints have numbers of 32 bits: what does not fit is refused.
+#[derive(Drop)]
+pub struct Entries {
+    items: Vec<Packed>,
+}
+
+impl Model for Entries {
+    ghost use Rattle.std.specs.Prelude.{List, map};
+    ghost use Rattle.cdcl_trail.specs.declared.assigned.Entry.{Entry};
+    ghost use Rattle.cdcl_trail.specs.Entries.{reason_of};
+
+    ghost Value = { List Entry };
+
+    ghost view = { λ a. map (λ p. record { literal = p.literal; level = p.level; reason = reason_of p.reason }) a.items.items };
+}
+
+impl Entries {
+    /// No entries.
+    pub fn new(alloc: Global) -> Self
+        ensures { result ≡ [] }
+    {
+        Entries {
+            items: Vec::new(alloc),
+        }
+    }
+
+    /// The number of entries.
+    pub fn len(&self) -> usize
+        ensures { result ≡ length self.now }
+    {
+        self.items.len()
+    }
+
+    /// The entry at a place.
+    pub fn get(&self, place: usize) -> Entry
+        requires { place < length self.now }
+        ensures { result ≡ slice_index_or self.now place blank_entry }
+    {
+        let packed = self.items[place];
+        Entry {
+            literal: packed.literal,
+            level: packed.level as usize,
+            reason: lengthen_reason(packed.reason),
+        }
+    }
+
+    /// The level of the entry at a place; 0 where there is none.
+    pub fn level(&self, place: usize) -> usize
+        ensures { result ≡ place_level self.now place }
+    {
+        match self.items.get(place) {
+            Some(packed) => packed.level as usize,
+            None => 0,
+        }
+    }
+
+    /// The reason of the entry at a place; none where there is no entry.
+    pub fn reason(&self, place: usize) -> Option<Hint>
+        ensures { result ≡ place_reason self.now place }
+    {
+        match self.items.get(place) {
+            Some(packed) => lengthen_reason(packed.reason),
+            None => None,
+        }
+    }
+
+    /// Puts the entry behind the others.
+    pub fn push(&mut self, entry: Entry) -> Result<(), AllocError>
+        ensures { self.new ≡ (if is_ok result then self.old ++ entry ∷ [] else self.old) }
+    {
+        if entry.level > MAX_LEVEL {
+            return Err(AllocError);
+        }
+        match shorten_reason(entry.reason) {
+            None => return Err(AllocError),
+            Some(reason) => {
+                self.items.push(Packed {
+                    literal: entry.literal,
+                    level: entry.level as u32,
+                    reason,
+                })?;
+                Ok(())
+            }
+        }
+    }
+
+    /// Keeps the first `count` entries, or all where there are no more.
+    pub fn truncate(&mut self, count: usize)
+        ensures { self.new ≡ take count self.old }
+    {
+        self.items.truncate(count);
+    }
+}
