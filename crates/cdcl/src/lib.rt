@@ -2,11 +2,13 @@
 #![tactic(auto)]
 
 pub mod choice;
+pub mod known;
 pub mod restart;
 pub mod solve;
 pub mod solver;
 #[cfg(test)]
 mod tests;
 
+pub use known::{are_consistent, are_known};
 pub use solve::Answer;
 pub use solver::Solver;
