@@ -1,4 +1,5 @@
 //! Laws of the letters and the clause list. Each function is empty: its contract is the law, and a proof cites it by a call.
+ghost use Rattle.enc_layout.specs.Rows.{WorkedLists, WorkedCounts};
 ghost use Rattle.enc_layout.specs.Laws.{NumbersArePlaces, LettersAreCounted, FirstStatesFit, LowerDepthsFit, LettersAreKnown, ListsBegin, ListsGrow, StepsAreParts, AssignmentsRun, AssignmentsAccept, AssignmentsLoop, AssignmentsEmpty, AssignmentsEnd, AssignmentsAreUnpruned, RunsAreAssigned, AcceptedRunsAreAssigned, UnprunedRunsAreAssigned, RunQuestionsAnswer, AcceptedQuestionsAnswer, UnprunedQuestionsAnswer};
 
 /// Numbers and letters agree, and each letter of the list is known. Depth 0 is within the limit, and what is below a depth within it.
@@ -40,4 +41,10 @@ pub fn questions()
     ensures run { RunQuestionsAnswer }
     ensures accepted { AcceptedQuestionsAnswer }
     ensures unpruned { UnprunedQuestionsAnswer }
+{}
+
+/// What the definitions give for lists and counts that were worked by hand.
+pub fn worked_lists()
+    ensures lists { WorkedLists }
+    ensures counts { WorkedCounts }
 {}
