@@ -3,5 +3,7 @@
 
 pub mod laws;
 mod layout;
+mod one_step;
 
 pub use layout::{Layout, Part};
+pub use one_step::Step;

@@ -1,37 +1,19 @@
 -- The numbers that the clauses name are those of entries, places and eventualities.
-use Rattle.std.proofs.Common.{◌≡◌, ℕ, ◌+◌, ◌*◌, ◌/◌, ◌<◌, ◌≤◌, arith, refl, false, IsTrue, sym, subst, List, length, get_or, All, Contains}
+use Rattle.std.proofs.Common.{◌≡◌, ℕ, ◌<◌, refl, false, IsTrue, sym, subst, List, length, get_or, All, Contains}
 use Rattle.std.proofs.lemmas.List.Elements.{Contains-get_or}
-use Rattle.std.proofs.lemmas.Nat.{mul-le}
-use Rattle.ltl_syntax.specs.declared.node.Kind.{Kind}
-use Rattle.ltl_syntax.specs.declared.node.Kind.TheVariants as Kinds
 use Rattle.ltl_syntax.specs.Formula.{Formula}
 use Rattle.ltl_closure.specs.Norm.{Norm, NConst, NNext, NUntil}
 use Rattle.ltl_closure.specs.Closure.{closure, eventualities, is_eventuality}
 use Rattle.ltl_closure.specs.Entries.{place_in, numbers_of, ClosureValue}
 use Rattle.ltl_closure.specs.Run.{request_of, right_of}
 use Rattle.ltl_closure.proofs.Lists.{Contains-from_filter}
-use Rattle.enc_layout.specs.Letters.{Counts, LayoutValue, Fits, pair_count, letters_through}
+use Rattle.enc_layout.specs.Letters.{LayoutValue}
 use Rattle.enc_layout.specs.Clauses.{layout_of, carried, eventuality}
 use Rattle.enc_layout.specs.Numbered.{IsNumber}
 use Rattle.enc_layout.proofs.Carries.{carried_in, right_in, eventuality_in}
 use Rattle.enc_layout.proofs.Standing.{known_number, numbers_known, entries_count}
 use Rattle.enc_layout.proofs.Writing.{third_child}
 use Rattle.loop_encode.specs.ByNumber.{carried_number, right_number, request_number}
-
--- a carry has no more places than there are letters
-places_within : (kind : Kind) (c : Counts) (i : ℕ) → 0 < i → c.places ≤ letters_through kind c i
-places_within kind c i some =
-    let product : 1 * 2 ≤ i * (i + 1) = mul-le 1 2 i (i + 1) some (omega arith) in
-    let pairs : 1 ≤ i * (i + 1) / 2 = omega (arith, product) in
-    let all = mul-le 1 (pair_count kind c) (i * (i + 1) / 2) (pair_count kind c) pairs (omega arith) in
-    omega (arith, all, pair kind)
-  where
-    pair : (kind : Kind) → c.places ≤ pair_count kind c
-    pair Kinds.Infinite = omega arith
-    pair Kinds.Finite = omega arith
-
-pub places_few : (layout : LayoutValue) (i : ℕ) → 0 < i → Fits layout i → layout.counts.places ≤ 16777216
-places_few layout i some fits = omega (arith, fits, places_within layout.kind layout.counts i some)
 
 -- the number at an index of a list of members' numbers
 pub member_number : (f : Formula) (es : List Norm) (numbers : List ℕ) → numbers ≡ numbers_of f es → ((e : Norm) → Contains es e → Contains (closure f) e)

@@ -3,30 +3,30 @@
 ghost use Rattle.std.specs.Prelude.{◌≡◌, ◌<◌, ◌≤◌, [], ◌∷◌, ◌++◌, map, OnOk, OnErr};
 ghost use Rattle.ltl_syntax.specs.declared.node.Kind.TheVariants as Kinds;
 ghost use Rattle.ltl_closure.specs.Closure.{nexts};
-ghost use Rattle.enc_layout.specs.Letters.{EmptyAt, Fits};
-ghost use Rattle.enc_layout.specs.Clauses.{Minus, letter_of, layout_of, clauses_in, accepted_clause, part_e};
+ghost use Rattle.enc_layout.specs.Letters.{EmptyAt};
+ghost use Rattle.enc_layout.specs.Clauses.{Minus, letter_of, layout_of, accepted_clause, part_e};
+ghost use Rattle.enc_layout.specs.Steps.{clauses_at};
 ghost use Rattle.enc_layout.specs.Numbered.{IsNumber, Extends};
 ghost use Rattle.loop_encode.specs.ByNumber.{end_by};
 
 use cnf_base::ClauseList;
-use enc_layout::{Layout, Part};
+use enc_layout::{Part, Step};
 use ltl_closure::{Closure, Entry};
 use ltl_syntax::Kind;
 use std::alloc::AllocError;
 
 /// An accepted run asks for nothing more, or loops to some earlier state.
-fn push_accepted(layout: &Layout, step: u32, out: &mut ClauseList) -> Result<(), AllocError>
-    requires infinite { layout.now.kind ≡ Kinds.Infinite }
-    requires few { step ≤ 1000 }
-    requires fits { Fits layout.now step }
-    ensures ok { OnOk result (out.new ≡ out.old ++ clauses_in layout.now.kind layout.now.counts (accepted_clause step ∷ [])) }
+fn push_accepted(step: &Step<'_>, out: &mut ClauseList) -> Result<(), AllocError>
+    requires infinite { step.now.layout.kind ≡ Kinds.Infinite }
+    ensures ok { OnOk result (out.new ≡ out.old ++ clauses_at step.now
+        (accepted_clause step.now.number ∷ [])) }
     ensures err { OnErr result (Extends out.old out.new) }
 {
-    let accepted = layout.positive(step, Part::Accepted);
-    let empty = layout.positive(step, Part::Empty);
+    let accepted = step.positive(Part::Accepted);
+    let empty = step.positive(Part::Empty);
     out.push(&[accepted.opposite(), empty])?;
-    for earlier in 0..step {
-        let closes = layout.positive(step, Part::Loop(earlier));
+    for earlier in 0..step.number() {
+        let closes = step.positive(Part::Loop(earlier));
         out.lengthen(closes)?;
     }
     Ok(())
@@ -35,20 +35,19 @@ fn push_accepted(layout: &Layout, step: u32, out: &mut ClauseList) -> Result<(),
 /// Where nothing more is asked, no next request is true.
 fn push_empty(
     closure: &Closure<'_>,
-    layout: &Layout,
-    step: u32,
+    step: &Step<'_>,
     out: &mut ClauseList,
 ) -> Result<(), AllocError>
-    requires own { layout.now ≡ layout_of closure.now }
-    requires infinite { layout.now.kind ≡ Kinds.Infinite }
-    requires few { step ≤ 1000 }
-    requires fits { Fits layout.now step }
-    ensures ok { OnOk result (out.new ≡ out.old ++ clauses_in layout.now.kind layout.now.counts (map (λ t. Minus (EmptyAt step) ∷ Minus (letter_of closure.now.formula step t) ∷ []) (nexts closure.now.formula))) }
+    requires own { step.now.layout ≡ layout_of closure.now }
+    requires infinite { step.now.layout.kind ≡ Kinds.Infinite }
+    ensures ok { OnOk result (out.new ≡ out.old ++ clauses_at step.now
+        (map (λ t. Minus (EmptyAt step.now.number) ∷ Minus (letter_of closure.now.formula step.now.number t) ∷ [])
+        (nexts closure.now.formula))) }
     ensures err { OnErr result (Extends out.old out.new) }
 {
-    let empty = layout.positive(step, Part::Empty);
+    let empty = step.positive(Part::Empty);
     for request in closure.nexts() {
-        let asked = layout.entry(step, *request);
+        let asked = step.entry(*request);
         out.push(&[empty.opposite(), asked.opposite()])?;
     }
     Ok(())
@@ -56,38 +55,34 @@ fn push_empty(
 
 fn push_infinite(
     closure: &Closure<'_>,
-    layout: &Layout,
-    step: u32,
+    step: &Step<'_>,
     out: &mut ClauseList,
 ) -> Result<(), AllocError>
-    requires own { layout.now ≡ layout_of closure.now }
-    requires infinite { layout.now.kind ≡ Kinds.Infinite }
-    requires few { step ≤ 1000 }
-    requires fits { Fits layout.now step }
-    ensures ok { OnOk result (out.new ≡ out.old ++ clauses_in layout.now.kind layout.now.counts (part_e closure.now.formula layout.now.kind step)) }
+    requires own { step.now.layout ≡ layout_of closure.now }
+    requires infinite { step.now.layout.kind ≡ Kinds.Infinite }
+    ensures ok { OnOk result (out.new ≡ out.old ++ clauses_at step.now
+        (part_e closure.now.formula step.now.layout.kind step.now.number)) }
     ensures err { OnErr result (Extends out.old out.new) }
 {
-    push_accepted(layout, step, out)?;
-    push_empty(closure, layout, step, out)
+    push_accepted(step, out)?;
+    push_empty(closure, step, out)
 }
 
 fn push_end(
-    layout: &Layout,
-    step: u32,
+    step: &Step<'_>,
     number: u32,
     entry: Entry,
     out: &mut ClauseList,
 ) -> Result<(), AllocError>
-    requires few { step ≤ 1000 }
-    requires fits { Fits layout.now step }
-    requires number { IsNumber layout.now.counts.entries number }
-    ensures ok { OnOk result (out.new ≡ out.old ++ clauses_in layout.now.kind layout.now.counts (end_by step number entry)) }
+    requires number { IsNumber step.now.layout.counts.entries number }
+    ensures ok { OnOk result (out.new ≡ out.old ++ clauses_at step.now
+        (end_by step.now.number number entry)) }
     ensures err { OnErr result (Extends out.old out.new) }
 {
     match entry {
         Entry::Next { weak: false, .. } => {
-            let accepted = layout.positive(step, Part::Accepted);
-            let asked = layout.entry(step, number);
+            let accepted = step.positive(Part::Accepted);
+            let asked = step.entry(number);
             out.push(&[accepted.opposite(), asked.opposite()])
         }
         _ => Ok(()),
@@ -97,20 +92,18 @@ fn push_end(
 /// An accepted run on a finite trace ends where no strong next request is true.
 fn push_finite(
     closure: &Closure<'_>,
-    layout: &Layout,
-    step: u32,
+    step: &Step<'_>,
     out: &mut ClauseList,
 ) -> Result<(), AllocError>
-    requires own { layout.now ≡ layout_of closure.now }
-    requires finite { layout.now.kind ≡ Kinds.Finite }
-    requires few { step ≤ 1000 }
-    requires fits { Fits layout.now step }
-    ensures ok { OnOk result (out.new ≡ out.old ++ clauses_in layout.now.kind layout.now.counts (part_e closure.now.formula layout.now.kind step)) }
+    requires own { step.now.layout ≡ layout_of closure.now }
+    requires finite { step.now.layout.kind ≡ Kinds.Finite }
+    ensures ok { OnOk result (out.new ≡ out.old ++ clauses_at step.now
+        (part_e closure.now.formula step.now.layout.kind step.now.number)) }
     ensures err { OnErr result (Extends out.old out.new) }
 {
     let entries = closure.entries();
     for request in closure.nexts() {
-        push_end(layout, step, *request, entries[*request as usize - 1], out)?;
+        push_end(step, *request, entries[*request as usize - 1], out)?;
     }
     Ok(())
 }
@@ -118,18 +111,16 @@ fn push_finite(
 /// Appends by what rule the run up to the step is accepted.
 pub fn push_acceptance(
     closure: &Closure<'_>,
-    layout: &Layout,
-    step: u32,
+    step: &Step<'_>,
     out: &mut ClauseList,
 ) -> Result<(), AllocError>
-    requires own { layout.now ≡ layout_of closure.now }
-    requires few { step ≤ 1000 }
-    requires fits { Fits layout.now step }
-    ensures ok { OnOk result (out.new ≡ out.old ++ clauses_in layout.now.kind layout.now.counts (part_e closure.now.formula layout.now.kind step)) }
+    requires own { step.now.layout ≡ layout_of closure.now }
+    ensures ok { OnOk result (out.new ≡ out.old ++ clauses_at step.now
+        (part_e closure.now.formula step.now.layout.kind step.now.number)) }
     ensures err { OnErr result (Extends out.old out.new) }
 {
     match closure.kind() {
-        Kind::Infinite => push_infinite(closure, layout, step, out),
-        Kind::Finite => push_finite(closure, layout, step, out),
+        Kind::Infinite => push_infinite(closure, step, out),
+        Kind::Finite => push_finite(closure, step, out),
     }
 }

@@ -2,14 +2,15 @@
 // requests, each at a place of its own. Where the letter of equal carries is true, they agree at each place; where it is not, the letter
 // of some place is true, and the carries differ there.
 ghost use Rattle.std.specs.Prelude.{◌≡◌, ◌+◌, ◌<◌, ◌≤◌, [], ◌∷◌, ◌++◌, length, OnOk, OnErr};
-ghost use Rattle.enc_layout.specs.Letters.{Equal, Fits, below};
-ghost use Rattle.enc_layout.specs.Clauses.{Plus, layout_of, clauses_in, carried, place_clauses};
+ghost use Rattle.enc_layout.specs.Letters.{Equal, below};
+ghost use Rattle.enc_layout.specs.Clauses.{Plus, layout_of, carried, place_clauses};
+ghost use Rattle.enc_layout.specs.Steps.{clauses_at};
 ghost use Rattle.enc_layout.specs.Numbered.{IsNumber, Extends};
 ghost use Rattle.loop_encode.specs.Rows.{comparison_rows};
 ghost use Rattle.loop_encode.specs.ByNumber.{argument_by, carried_number, place_by, differs_by};
 
 use cnf_base::{ClauseList, Literal};
-use enc_layout::{Layout, Part};
+use enc_layout::{Part, Step};
 use ltl_closure::{Closure, Entry};
 use std::alloc::AllocError;
 
@@ -52,74 +53,62 @@ fn push_comparison(
     out.push(&[equal.opposite(), first, second.opposite()])
 }
 
-#[tactic(auto, using(enc_layout::proofs::ByKind::letters_less))]
 fn push_place(
-    layout: &Layout,
-    step: u32,
+    step: &Step<'_>,
     earlier: u32,
     place: u32,
     entry: u32,
     out: &mut ClauseList,
 ) -> Result<(), AllocError>
-    requires few { step ≤ 1000 }
-    requires fits { Fits layout.now step }
-    requires earlier { earlier < step }
-    requires place { (0 < place) × (place ≤ layout.now.counts.places) }
-    requires number { IsNumber layout.now.counts.entries entry }
-    ensures ok { OnOk result (out.new ≡ out.old ++ clauses_in layout.now.kind layout.now.counts (place_by step earlier place entry)) }
+    requires earlier { earlier < step.now.number }
+    requires place { (0 < place) × (place ≤ step.now.layout.counts.places) }
+    requires number { IsNumber step.now.layout.counts.entries entry }
+    ensures ok { OnOk result (out.new ≡ out.old ++ clauses_at step.now
+        (place_by step.now.number earlier place entry)) }
     ensures err { OnErr result (Extends out.old out.new) }
 {
     push_comparison(
         out,
-        layout.positive(step, Part::Differs(earlier, place)),
-        layout.positive(step, Part::Equal(earlier)),
-        layout.entry(earlier, entry),
-        layout.entry(step, entry),
+        step.positive(Part::Differs(earlier, place)),
+        step.positive(Part::Equal(earlier)),
+        step.up_to(earlier).entry(entry),
+        step.entry(entry),
     )
 }
 
 /// Appends what is said of each place of the two carries.
 pub fn push_places(
     closure: &Closure<'_>,
-    layout: &Layout,
-    step: u32,
+    step: &Step<'_>,
     earlier: u32,
     places: u32,
     out: &mut ClauseList,
 ) -> Result<(), AllocError>
-    requires own { layout.now ≡ layout_of closure.now }
-    requires few { step ≤ 1000 }
-    requires fits { Fits layout.now step }
-    requires earlier { earlier < step }
+    requires own { step.now.layout ≡ layout_of closure.now }
+    requires earlier { earlier < step.now.number }
     requires all { places ≡ length (carried closure.now.formula) }
-    ensures ok { OnOk result (out.new ≡ out.old ++ clauses_in layout.now.kind layout.now.counts (below places (place_clauses closure.now.formula step earlier))) }
+    ensures ok { OnOk result (out.new ≡ out.old ++ clauses_at step.now
+        (below places (place_clauses closure.now.formula step.now.number earlier))) }
     ensures err { OnErr result (Extends out.old out.new) }
 {
     for index in 0..places {
         let entry = carried_entry(closure, index as usize);
-        push_place(layout, step, earlier, index + 1, entry, out)?;
+        push_place(step, earlier, index + 1, entry, out)?;
     }
     Ok(())
 }
 
 /// Appends that the carries are equal or differ at some of their places.
-pub fn push_equal(
-    layout: &Layout,
-    step: u32,
-    earlier: u32,
-    places: u32,
-    out: &mut ClauseList,
-) -> Result<(), AllocError>
-    requires few { step ≤ 1000 }
-    requires fits { Fits layout.now step }
-    requires earlier { earlier < step }
-    requires all { places ≡ layout.now.counts.places }
-    ensures ok { OnOk result (out.new ≡ out.old ++ clauses_in layout.now.kind layout.now.counts ((Plus (Equal earlier step) ∷ below places (differs_by step earlier)) ∷ [])) }
+pub fn push_equal(step: &Step<'_>, earlier: u32, out: &mut ClauseList) -> Result<(), AllocError>
+    requires earlier { earlier < step.now.number }
+    ensures ok { OnOk result (out.new ≡ out.old ++ clauses_at step.now
+        ((Plus (Equal earlier step.now.number)
+        ∷ below step.now.layout.counts.places (differs_by step.now.number earlier)) ∷ [])) }
     ensures err { OnErr result (Extends out.old out.new) }
 {
-    out.push(&[layout.positive(step, Part::Equal(earlier))])?;
-    for place in 0..places {
-        let differs = layout.positive(step, Part::Differs(earlier, place + 1));
+    out.push(&[step.positive(Part::Equal(earlier))])?;
+    for place in 0..step.places() {
+        let differs = step.positive(Part::Differs(earlier, place + 1));
         out.lengthen(differs)?;
     }
     Ok(())

@@ -3,14 +3,15 @@
 ghost use Rattle.std.specs.Prelude.{◌≡◌, ◌+◌, ◌<◌, ◌≤◌, [], ◌∷◌, ◌++◌, length, OnOk, OnErr};
 ghost use Rattle.ltl_syntax.specs.declared.node.Kind.TheVariants as Kinds;
 ghost use Rattle.ltl_closure.specs.Closure.{eventualities};
-ghost use Rattle.enc_layout.specs.Letters.{Fits, below};
-ghost use Rattle.enc_layout.specs.Clauses.{layout_of, clauses_in, fulfilled_clauses, loop_clause, closing_clauses};
+ghost use Rattle.enc_layout.specs.Letters.{below};
+ghost use Rattle.enc_layout.specs.Clauses.{layout_of, fulfilled_clauses, loop_clause, closing_clauses};
+ghost use Rattle.enc_layout.specs.Steps.{clauses_at};
 ghost use Rattle.enc_layout.specs.Numbered.{IsNumber, Extends};
 ghost use Rattle.loop_encode.specs.Rows.{same_rows, either_rows};
 ghost use Rattle.loop_encode.specs.ByNumber.{right_by, request_by, right_number, request_number, fulfilled_by, loop_by};
 
 use cnf_base::{ClauseList, Literal};
-use enc_layout::{Layout, Part};
+use enc_layout::{Part, Step};
 use ltl_closure::{Closure, Entry};
 use ltl_syntax::Kind;
 use std::alloc::AllocError;
@@ -67,28 +68,26 @@ fn push_either(
     out.push(&[letter.opposite(), value, before])
 }
 
-#[tactic(auto, using(enc_layout::proofs::ByKind::letters_less))]
 fn push_fulfilled(
-    layout: &Layout,
-    step: u32,
+    step: &Step<'_>,
     earlier: u32,
     number: u32,
     right: u32,
     out: &mut ClauseList,
 ) -> Result<(), AllocError>
-    requires infinite { layout.now.kind ≡ Kinds.Infinite }
-    requires few { step ≤ 1000 }
-    requires fits { Fits layout.now step }
-    requires earlier { earlier < step }
-    requires number { (0 < number) × (number ≤ layout.now.counts.eventualities) }
-    requires right { IsNumber layout.now.counts.entries right }
-    ensures ok { OnOk result (out.new ≡ out.old ++ clauses_in layout.now.kind layout.now.counts (fulfilled_by step earlier number right)) }
+    requires infinite { step.now.layout.kind ≡ Kinds.Infinite }
+    requires earlier { earlier < step.now.number }
+    requires number { (0 < number) × (number ≤ step.now.layout.counts.eventualities) }
+    requires right { IsNumber step.now.layout.counts.entries right }
+    ensures ok { OnOk result (out.new ≡ out.old ++ clauses_at step.now
+        (fulfilled_by step.now.number earlier number right)) }
     ensures err { OnErr result (Extends out.old out.new) }
 {
-    let fulfilled = layout.positive(step, Part::Fulfilled(earlier, number));
-    let value = layout.entry(step, right);
-    if earlier + 1 < step {
-        let before = layout.positive(step - 1, Part::Fulfilled(earlier, number));
+    let here = step.number();
+    let fulfilled = step.positive(Part::Fulfilled(earlier, number));
+    let value = step.entry(right);
+    if earlier + 1 < here {
+        let before = step.before().positive(Part::Fulfilled(earlier, number));
         push_either(out, fulfilled, value, before)
     } else {
         push_same(out, fulfilled, value)
@@ -98,111 +97,103 @@ fn push_fulfilled(
 /// Appends which eventualities are fulfilled after the earlier state.
 fn push_fulfilments(
     closure: &Closure<'_>,
-    layout: &Layout,
-    step: u32,
+    step: &Step<'_>,
     earlier: u32,
     out: &mut ClauseList,
 ) -> Result<(), AllocError>
-    requires own { layout.now ≡ layout_of closure.now }
-    requires infinite { layout.now.kind ≡ Kinds.Infinite }
-    requires few { step ≤ 1000 }
-    requires fits { Fits layout.now step }
-    requires earlier { earlier < step }
-    ensures ok { OnOk result (out.new ≡ out.old ++ clauses_in layout.now.kind layout.now.counts (below (length (eventualities closure.now.formula)) (fulfilled_clauses closure.now.formula step earlier))) }
+    requires own { step.now.layout ≡ layout_of closure.now }
+    requires infinite { step.now.layout.kind ≡ Kinds.Infinite }
+    requires earlier { earlier < step.now.number }
+    ensures ok { OnOk result (out.new ≡ out.old ++ clauses_at step.now
+        (below (length (eventualities closure.now.formula))
+        (fulfilled_clauses closure.now.formula step.now.number earlier))) }
     ensures err { OnErr result (Extends out.old out.new) }
 {
-    for index in 0..closure.eventualities().len() {
-        let right = eventuality_at(closure, index).right;
-        push_fulfilled(layout, step, earlier, index as u32 + 1, right, out)?;
+    for index in 0..step.eventualities() {
+        let right = eventuality_at(closure, index as usize).right;
+        push_fulfilled(step, earlier, index + 1, right, out)?;
     }
     Ok(())
 }
 
 fn push_asked(
-    layout: &Layout,
-    step: u32,
+    step: &Step<'_>,
     earlier: u32,
     number: u32,
     request: u32,
     out: &mut ClauseList,
 ) -> Result<(), AllocError>
-    requires infinite { layout.now.kind ≡ Kinds.Infinite }
-    requires few { step ≤ 1000 }
-    requires fits { Fits layout.now step }
-    requires earlier { earlier < step }
-    requires number { (0 < number) × (number ≤ layout.now.counts.eventualities) }
-    requires request { IsNumber layout.now.counts.entries request }
-    ensures ok { OnOk result (out.new ≡ out.old ++ clauses_in layout.now.kind layout.now.counts (loop_by step earlier number request)) }
+    requires infinite { step.now.layout.kind ≡ Kinds.Infinite }
+    requires earlier { earlier < step.now.number }
+    requires number { (0 < number) × (number ≤ step.now.layout.counts.eventualities) }
+    requires request { IsNumber step.now.layout.counts.entries request }
+    ensures ok { OnOk result (out.new ≡ out.old ++ clauses_at step.now
+        (loop_by step.now.number earlier number request)) }
     ensures err { OnErr result (Extends out.old out.new) }
 {
-    let closes = layout.positive(step, Part::Loop(earlier));
-    let asked = layout.entry(step, request);
-    let fulfilled = layout.positive(step, Part::Fulfilled(earlier, number));
+    let closes = step.positive(Part::Loop(earlier));
+    let asked = step.entry(request);
+    let fulfilled = step.positive(Part::Fulfilled(earlier, number));
     out.push(&[closes.opposite(), asked.opposite(), fulfilled])
 }
 
 /// Appends that a loop fulfills each eventuality that is asked for at its end.
 fn push_all_asked(
     closure: &Closure<'_>,
-    layout: &Layout,
-    step: u32,
+    step: &Step<'_>,
     earlier: u32,
     out: &mut ClauseList,
 ) -> Result<(), AllocError>
-    requires own { layout.now ≡ layout_of closure.now }
-    requires infinite { layout.now.kind ≡ Kinds.Infinite }
-    requires few { step ≤ 1000 }
-    requires fits { Fits layout.now step }
-    requires earlier { earlier < step }
-    ensures ok { OnOk result (out.new ≡ out.old ++ clauses_in layout.now.kind layout.now.counts (below (length (eventualities closure.now.formula)) (λ m. loop_clause closure.now.formula step earlier m ∷ []))) }
+    requires own { step.now.layout ≡ layout_of closure.now }
+    requires infinite { step.now.layout.kind ≡ Kinds.Infinite }
+    requires earlier { earlier < step.now.number }
+    ensures ok { OnOk result (out.new ≡ out.old ++ clauses_at step.now
+        (below (length (eventualities closure.now.formula))
+        (λ m. loop_clause closure.now.formula step.now.number earlier m ∷ []))) }
     ensures err { OnErr result (Extends out.old out.new) }
 {
-    for index in 0..closure.eventualities().len() {
-        let request = eventuality_at(closure, index).request;
-        push_asked(layout, step, earlier, index as u32 + 1, request, out)?;
+    for index in 0..step.eventualities() {
+        let request = eventuality_at(closure, index as usize).request;
+        push_asked(step, earlier, index + 1, request, out)?;
     }
     Ok(())
 }
 
 fn push_loop(
     closure: &Closure<'_>,
-    layout: &Layout,
-    step: u32,
+    step: &Step<'_>,
     earlier: u32,
     out: &mut ClauseList,
 ) -> Result<(), AllocError>
-    requires own { layout.now ≡ layout_of closure.now }
-    requires infinite { layout.now.kind ≡ Kinds.Infinite }
-    requires few { step ≤ 1000 }
-    requires fits { Fits layout.now step }
-    requires earlier { earlier < step }
-    ensures ok { OnOk result (out.new ≡ out.old ++ clauses_in layout.now.kind layout.now.counts (closing_clauses closure.now.formula layout.now.kind step earlier)) }
+    requires own { step.now.layout ≡ layout_of closure.now }
+    requires infinite { step.now.layout.kind ≡ Kinds.Infinite }
+    requires earlier { earlier < step.now.number }
+    ensures ok { OnOk result (out.new ≡ out.old ++ clauses_at step.now
+        (closing_clauses closure.now.formula step.now.layout.kind step.now.number earlier)) }
     ensures err { OnErr result (Extends out.old out.new) }
 {
-    push_fulfilments(closure, layout, step, earlier, out)?;
-    let closes = layout.positive(step, Part::Loop(earlier));
-    let equal = layout.positive(step, Part::Equal(earlier));
+    push_fulfilments(closure, step, earlier, out)?;
+    let closes = step.positive(Part::Loop(earlier));
+    let equal = step.positive(Part::Equal(earlier));
     out.push(&[closes.opposite(), equal])?;
-    push_all_asked(closure, layout, step, earlier, out)
+    push_all_asked(closure, step, earlier, out)
 }
 
 /// Appends what is fulfilled between the two states and when a run may loop, which infinite traces alone do.
 pub fn push_closing(
     closure: &Closure<'_>,
-    layout: &Layout,
-    step: u32,
+    step: &Step<'_>,
     earlier: u32,
     out: &mut ClauseList,
 ) -> Result<(), AllocError>
-    requires own { layout.now ≡ layout_of closure.now }
-    requires few { step ≤ 1000 }
-    requires fits { Fits layout.now step }
-    requires earlier { earlier < step }
-    ensures ok { OnOk result (out.new ≡ out.old ++ clauses_in layout.now.kind layout.now.counts (closing_clauses closure.now.formula layout.now.kind step earlier)) }
+    requires own { step.now.layout ≡ layout_of closure.now }
+    requires earlier { earlier < step.now.number }
+    ensures ok { OnOk result (out.new ≡ out.old ++ clauses_at step.now
+        (closing_clauses closure.now.formula step.now.layout.kind step.now.number earlier)) }
     ensures err { OnErr result (Extends out.old out.new) }
 {
     match closure.kind() {
-        Kind::Infinite => push_loop(closure, layout, step, earlier, out),
+        Kind::Infinite => push_loop(closure, step, earlier, out),
         Kind::Finite => Ok(()),
     }
 }

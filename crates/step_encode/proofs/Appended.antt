@@ -58,10 +58,11 @@ module _ (layout : LayoutValue) (old mid new : List (List Signed)) where
       (pieces_more layout.kind layout.counts old mid new (nexts_part step entries numbers) (yesterdays_part step entries others) a b)
 
   pub first_states_done : (closure : ClosureValue) (entries : List Entry) → AreEntries closure.names closure.formula entries → (step : ℕ) → step ≡ 0
-      → mid ≡ old ++ rows (gates_part entries 0) → new ≡ mid ++ rows (part_c closure.formula 0) → new ≡ old ++ rows (state_clauses closure.formula step)
+      → mid ≡ old ++ rows (gates_part entries step) → new ≡ mid ++ rows (part_c closure.formula 0) → new ≡ old ++ rows (state_clauses closure.formula step)
   first_states_done closure entries are step zero' a b =
+      let gates = subst (λ n. mid ≡ old ++ rows (gates_part entries n)) zero' a in
       subst (λ n. new ≡ old ++ rows (state_clauses closure.formula n)) (sym zero')
-      (subst (λ cs. new ≡ old ++ rows cs) (first_states closure entries are) (pieces_more layout.kind layout.counts old mid new (gates_part entries 0) (part_c closure.formula 0) a b))
+      (subst (λ cs. new ≡ old ++ rows cs) (first_states closure entries are) (pieces_more layout.kind layout.counts old mid new (gates_part entries 0) (part_c closure.formula 0) gates b))
 
   pub later_states_done : (closure : ClosureValue) (entries : List Entry) → AreEntries closure.names closure.formula entries → (step : ℕ) → 0 < step
       → (more : List (List Signed)) (h e : Signed) → h ≡ literal_in layout.kind layout.counts (Minus (Here step)) → e ≡ literal_in layout.kind layout.counts (Plus (Here (step - 1)))

@@ -1,13 +1,14 @@
 // The gates of entries: an entry's letter is true exactly where its operator says so of the letters of its operands and its request.
 ghost use Rattle.std.specs.Prelude.{◌≡◌, ◌≤◌, ◌++◌, length, All, OnOk, OnErr};
-ghost use Rattle.enc_layout.specs.Letters.{EntryAt, Fits};
-ghost use Rattle.enc_layout.specs.Clauses.{Plus, literal_in, clauses_in, strong_gate, weak_gate};
+ghost use Rattle.enc_layout.specs.Letters.{EntryAt};
+ghost use Rattle.enc_layout.specs.Clauses.{Plus, literal_in, strong_gate, weak_gate};
+ghost use Rattle.enc_layout.specs.Steps.{clauses_at};
 ghost use Rattle.enc_layout.specs.Numbered.{IsNumber, IsInside, Extends};
 ghost use Rattle.step_encode.specs.Gates.{negation_rows, and_rows, or_rows, strong_rows, weak_rows};
 ghost use Rattle.step_encode.specs.ByNumber.{entry_gate, gates_part};
 
 use cnf_base::{ClauseList, Literal};
-use enc_layout::{Layout, Part};
+use enc_layout::{Part, Step};
 use ltl_closure::Entry;
 use std::alloc::AllocError;
 
@@ -83,86 +84,82 @@ fn push_weak(
 
 /// The gate of an until or a since, over the entries of these numbers.
 fn push_strong_gate(
-    layout: &Layout,
-    step: u32,
+    step: &Step<'_>,
     number: u32,
     left: u32,
     right: u32,
     request: u32,
     out: &mut ClauseList,
 ) -> Result<(), AllocError>
-    requires few { step ≤ 1000 }
-    requires fits { Fits layout.now step }
-    requires number { IsNumber layout.now.counts.entries number }
-    requires left { IsNumber layout.now.counts.entries left }
-    requires right { IsNumber layout.now.counts.entries right }
-    requires request { IsNumber layout.now.counts.entries request }
-    ensures ok { OnOk result (out.new ≡ out.old ++ clauses_in layout.now.kind layout.now.counts (strong_gate (EntryAt step number) (EntryAt step left) (EntryAt step right) (EntryAt step request))) }
+    requires number { IsNumber step.now.layout.counts.entries number }
+    requires left { IsNumber step.now.layout.counts.entries left }
+    requires right { IsNumber step.now.layout.counts.entries right }
+    requires request { IsNumber step.now.layout.counts.entries request }
+    ensures ok { OnOk result (out.new ≡ out.old ++ clauses_at step.now
+        (strong_gate (EntryAt step.now.number number) (EntryAt step.now.number left)
+        (EntryAt step.now.number right) (EntryAt step.now.number request))) }
     ensures err { OnErr result (Extends out.old out.new) }
 {
     push_strong(
         out,
-        layout.entry(step, number),
-        layout.entry(step, left),
-        layout.entry(step, right),
-        layout.entry(step, request),
+        step.entry(number),
+        step.entry(left),
+        step.entry(right),
+        step.entry(request),
     )
 }
 
 /// The gate of a release or a trigger, over the entries of these numbers.
 fn push_weak_gate(
-    layout: &Layout,
-    step: u32,
+    step: &Step<'_>,
     number: u32,
     left: u32,
     right: u32,
     request: u32,
     out: &mut ClauseList,
 ) -> Result<(), AllocError>
-    requires few { step ≤ 1000 }
-    requires fits { Fits layout.now step }
-    requires number { IsNumber layout.now.counts.entries number }
-    requires left { IsNumber layout.now.counts.entries left }
-    requires right { IsNumber layout.now.counts.entries right }
-    requires request { IsNumber layout.now.counts.entries request }
-    ensures ok { OnOk result (out.new ≡ out.old ++ clauses_in layout.now.kind layout.now.counts (weak_gate (EntryAt step number) (EntryAt step left) (EntryAt step right) (EntryAt step request))) }
+    requires number { IsNumber step.now.layout.counts.entries number }
+    requires left { IsNumber step.now.layout.counts.entries left }
+    requires right { IsNumber step.now.layout.counts.entries right }
+    requires request { IsNumber step.now.layout.counts.entries request }
+    ensures ok { OnOk result (out.new ≡ out.old ++ clauses_at step.now
+        (weak_gate (EntryAt step.now.number number) (EntryAt step.now.number left)
+        (EntryAt step.now.number right) (EntryAt step.now.number request))) }
     ensures err { OnErr result (Extends out.old out.new) }
 {
     push_weak(
         out,
-        layout.entry(step, number),
-        layout.entry(step, left),
-        layout.entry(step, right),
-        layout.entry(step, request),
+        step.entry(number),
+        step.entry(left),
+        step.entry(right),
+        step.entry(request),
     )
 }
 
 /// The gate of an entry. A letter and a request have none.
 fn push_gate(
-    layout: &Layout,
-    step: u32,
+    step: &Step<'_>,
     number: u32,
     entry: Entry,
     out: &mut ClauseList,
 ) -> Result<(), AllocError>
-    requires few { step ≤ 1000 }
-    requires fits { Fits layout.now step }
-    requires number { IsNumber layout.now.counts.entries number }
-    requires inside { IsInside layout.now.counts.entries entry }
-    ensures ok { OnOk result (out.new ≡ out.old ++ clauses_in layout.now.kind layout.now.counts (entry_gate step number entry)) }
+    requires number { IsNumber step.now.layout.counts.entries number }
+    requires inside { IsInside step.now.layout.counts.entries entry }
+    ensures ok { OnOk result (out.new ≡ out.old ++ clauses_at step.now
+        (entry_gate step.now.number number entry)) }
     ensures err { OnErr result (Extends out.old out.new) }
 {
-    let gate = layout.entry(step, number);
+    let gate = step.entry(number);
     match entry {
         Entry::True => out.push(&[gate]),
         Entry::False => out.push(&[gate.opposite()]),
-        Entry::NotLetter(letter) => push_negation(out, gate, layout.entry(step, letter)),
+        Entry::NotLetter(letter) => push_negation(out, gate, step.entry(letter)),
         Entry::And(left, right) => {
-            let (left, right) = (layout.entry(step, left), layout.entry(step, right));
+            let (left, right) = (step.entry(left), step.entry(right));
             push_and(out, gate, left, right)
         }
         Entry::Or(left, right) => {
-            let (left, right) = (layout.entry(step, left), layout.entry(step, right));
+            let (left, right) = (step.entry(left), step.entry(right));
             push_or(out, gate, left, right)
         }
         Entry::Until {
@@ -174,7 +171,7 @@ fn push_gate(
             left,
             right,
             request,
-        } => push_strong_gate(layout, step, number, left, right, request, out),
+        } => push_strong_gate(step, number, left, right, request, out),
         Entry::Release {
             left,
             right,
@@ -184,28 +181,26 @@ fn push_gate(
             left,
             right,
             request,
-        } => push_weak_gate(layout, step, number, left, right, request, out),
+        } => push_weak_gate(step, number, left, right, request, out),
         Entry::Letter(_) | Entry::Fresh(_) | Entry::Next { .. } | Entry::Yesterday { .. } => Ok(()),
     }
 }
 
 /// Appends the gate of each entry, in their order.
 pub fn push_gates(
-    layout: &Layout,
-    step: u32,
+    step: &Step<'_>,
     entries: &[Entry],
     out: &mut ClauseList,
 ) -> Result<(), AllocError>
-    requires few { step ≤ 1000 }
-    requires fits { Fits layout.now step }
-    requires all { length entries.now ≡ layout.now.counts.entries }
+    requires all { length entries.now ≡ step.now.layout.counts.entries }
     requires short { length entries.now ≤ 1073741824 }
-    requires inside { All (IsInside layout.now.counts.entries) entries.now }
-    ensures ok { OnOk result (out.new ≡ out.old ++ clauses_in layout.now.kind layout.now.counts (gates_part entries.now step)) }
+    requires inside { All (IsInside step.now.layout.counts.entries) entries.now }
+    ensures ok { OnOk result (out.new ≡ out.old ++ clauses_at step.now
+        (gates_part entries.now step.now.number)) }
     ensures err { OnErr result (Extends out.old out.new) }
 {
     for (k, entry) in entries.iter().enumerate() {
-        push_gate(layout, step, k as u32 + 1, *entry, out)?;
+        push_gate(step, k as u32 + 1, *entry, out)?;
     }
     Ok(())
 }

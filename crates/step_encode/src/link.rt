@@ -1,14 +1,13 @@
 // The links between neighbouring states: a next request has the value that its argument has one state later, a yesterday request the
 // value that its argument had one state before. Before the first state a yesterday request is false, and a weak one true.
 ghost use Rattle.std.specs.Prelude.{◌≡◌, ◌<◌, ◌≤◌, ◌++◌, length, slice_index_or, All, OnOk, OnErr};
-ghost use Rattle.enc_layout.specs.Letters.{Fits};
-ghost use Rattle.enc_layout.specs.Clauses.{clauses_in};
+ghost use Rattle.enc_layout.specs.Steps.{clauses_at};
 ghost use Rattle.enc_layout.specs.Numbered.{IsNumber, IsInside, Extends};
 ghost use Rattle.step_encode.specs.Gates.{link_rows};
 ghost use Rattle.step_encode.specs.ByNumber.{start_entry, next_entry, yesterday_entry, starts_part, nexts_part, yesterdays_part};
 
 use cnf_base::{ClauseList, Literal};
-use enc_layout::{Layout, Part};
+use enc_layout::{Part, Step};
 use ltl_closure::Entry;
 use std::alloc::AllocError;
 
@@ -27,23 +26,21 @@ fn push_link(
 }
 
 fn push_start(
-    layout: &Layout,
+    step: &Step<'_>,
     number: u32,
     entry: Entry,
     out: &mut ClauseList,
 ) -> Result<(), AllocError>
-    requires fits { Fits layout.now 0 }
-    requires number { IsNumber layout.now.counts.entries number }
-    ensures ok { OnOk result (out.new ≡ out.old ++ clauses_in layout.now.kind layout.now.counts (start_entry number entry)) }
+    requires number { IsNumber step.now.layout.counts.entries number }
+    ensures ok { OnOk result (out.new ≡ out.old ++ clauses_at step.now (start_entry number entry)) }
     ensures err { OnErr result (Extends out.old out.new) }
 {
-    let here = layout.positive(0, Part::Here);
+    let first = step.up_to(0);
+    let here = first.positive(Part::Here);
     match entry {
-        Entry::Yesterday { weak: true, .. } => {
-            out.push(&[here.opposite(), layout.entry(0, number)])
-        }
+        Entry::Yesterday { weak: true, .. } => { out.push(&[here.opposite(), first.entry(number)]) }
         Entry::Yesterday { weak: false, .. } => {
-            out.push(&[here.opposite(), layout.entry(0, number).opposite()])
+            out.push(&[here.opposite(), first.entry(number).opposite()])
         }
         _ => Ok(()),
     }
@@ -51,48 +48,40 @@ fn push_start(
 
 /// What each of the yesterday requests is at the first state, in their order.
 pub fn push_starts(
-    layout: &Layout,
+    step: &Step<'_>,
     entries: &[Entry],
     requests: &[u32],
     out: &mut ClauseList,
 ) -> Result<(), AllocError>
-    requires fits { Fits layout.now 0 }
-    requires all { length entries.now ≡ layout.now.counts.entries }
-    requires known { All (IsNumber layout.now.counts.entries) requests.now }
-    ensures ok { OnOk result (out.new ≡ out.old ++ clauses_in layout.now.kind layout.now.counts (starts_part entries.now requests.now)) }
+    requires all { length entries.now ≡ step.now.layout.counts.entries }
+    requires known { All (IsNumber step.now.layout.counts.entries) requests.now }
+    ensures ok { OnOk result (out.new ≡ out.old ++ clauses_at step.now
+        (starts_part entries.now requests.now)) }
     ensures err { OnErr result (Extends out.old out.new) }
 {
     for request in requests {
-        push_start(layout, *request, entries[*request as usize - 1], out)?;
+        push_start(step, *request, entries[*request as usize - 1], out)?;
     }
     Ok(())
 }
 
-#[tactic(auto, using(enc_layout::proofs::ByKind::letters_less))]
 fn push_next(
-    layout: &Layout,
-    step: u32,
+    step: &Step<'_>,
     number: u32,
     entry: Entry,
     out: &mut ClauseList,
 ) -> Result<(), AllocError>
-    requires few { step ≤ 1000 }
-    requires later { 0 < step }
-    requires fits { Fits layout.now step }
-    requires number { IsNumber layout.now.counts.entries number }
-    requires inside { IsInside layout.now.counts.entries entry }
-    ensures ok { OnOk result (out.new ≡ out.old ++ clauses_in layout.now.kind layout.now.counts (next_entry step number entry)) }
+    requires later { 0 < step.now.number }
+    requires number { IsNumber step.now.layout.counts.entries number }
+    requires inside { IsInside step.now.layout.counts.entries entry }
+    ensures ok { OnOk result (out.new ≡ out.old ++ clauses_at step.now
+        (next_entry step.now.number number entry)) }
     ensures err { OnErr result (Extends out.old out.new) }
 {
     match entry {
         Entry::Next { argument, .. } => {
-            let here = layout.positive(step, Part::Here);
-            push_link(
-                out,
-                here,
-                layout.entry(step - 1, number),
-                layout.entry(step, argument),
-            )
+            let here = step.positive(Part::Here);
+            push_link(out, here, step.before().entry(number), step.entry(argument))
         }
         _ => Ok(()),
     }
@@ -100,52 +89,42 @@ fn push_next(
 
 /// The link of each of the next requests, in their order.
 pub fn push_nexts(
-    layout: &Layout,
-    step: u32,
+    step: &Step<'_>,
     entries: &[Entry],
     requests: &[u32],
     out: &mut ClauseList,
 ) -> Result<(), AllocError>
-    requires few { step ≤ 1000 }
-    requires later { 0 < step }
-    requires fits { Fits layout.now step }
-    requires all { length entries.now ≡ layout.now.counts.entries }
-    requires inside { All (IsInside layout.now.counts.entries) entries.now }
-    requires known { All (IsNumber layout.now.counts.entries) requests.now }
-    ensures ok { OnOk result (out.new ≡ out.old ++ clauses_in layout.now.kind layout.now.counts (nexts_part step entries.now requests.now)) }
+    requires later { 0 < step.now.number }
+    requires all { length entries.now ≡ step.now.layout.counts.entries }
+    requires inside { All (IsInside step.now.layout.counts.entries) entries.now }
+    requires known { All (IsNumber step.now.layout.counts.entries) requests.now }
+    ensures ok { OnOk result (out.new ≡ out.old ++ clauses_at step.now
+        (nexts_part step.now.number entries.now requests.now)) }
     ensures err { OnErr result (Extends out.old out.new) }
 {
     for request in requests {
-        push_next(layout, step, *request, entries[*request as usize - 1], out)?;
+        push_next(step, *request, entries[*request as usize - 1], out)?;
     }
     Ok(())
 }
 
-#[tactic(auto, using(enc_layout::proofs::ByKind::letters_less))]
 fn push_yesterday(
-    layout: &Layout,
-    step: u32,
+    step: &Step<'_>,
     number: u32,
     entry: Entry,
     out: &mut ClauseList,
 ) -> Result<(), AllocError>
-    requires few { step ≤ 1000 }
-    requires later { 0 < step }
-    requires fits { Fits layout.now step }
-    requires number { IsNumber layout.now.counts.entries number }
-    requires inside { IsInside layout.now.counts.entries entry }
-    ensures ok { OnOk result (out.new ≡ out.old ++ clauses_in layout.now.kind layout.now.counts (yesterday_entry step number entry)) }
+    requires later { 0 < step.now.number }
+    requires number { IsNumber step.now.layout.counts.entries number }
+    requires inside { IsInside step.now.layout.counts.entries entry }
+    ensures ok { OnOk result (out.new ≡ out.old ++ clauses_at step.now
+        (yesterday_entry step.now.number number entry)) }
     ensures err { OnErr result (Extends out.old out.new) }
 {
     match entry {
         Entry::Yesterday { argument, .. } => {
-            let here = layout.positive(step, Part::Here);
-            push_link(
-                out,
-                here,
-                layout.entry(step, number),
-                layout.entry(step - 1, argument),
-            )
+            let here = step.positive(Part::Here);
+            push_link(out, here, step.entry(number), step.before().entry(argument))
         }
         _ => Ok(()),
     }
@@ -153,23 +132,21 @@ fn push_yesterday(
 
 /// The link of each of the yesterday requests, in their order.
 pub fn push_yesterdays(
-    layout: &Layout,
-    step: u32,
+    step: &Step<'_>,
     entries: &[Entry],
     requests: &[u32],
     out: &mut ClauseList,
 ) -> Result<(), AllocError>
-    requires few { step ≤ 1000 }
-    requires later { 0 < step }
-    requires fits { Fits layout.now step }
-    requires all { length entries.now ≡ layout.now.counts.entries }
-    requires inside { All (IsInside layout.now.counts.entries) entries.now }
-    requires known { All (IsNumber layout.now.counts.entries) requests.now }
-    ensures ok { OnOk result (out.new ≡ out.old ++ clauses_in layout.now.kind layout.now.counts (yesterdays_part step entries.now requests.now)) }
+    requires later { 0 < step.now.number }
+    requires all { length entries.now ≡ step.now.layout.counts.entries }
+    requires inside { All (IsInside step.now.layout.counts.entries) entries.now }
+    requires known { All (IsNumber step.now.layout.counts.entries) requests.now }
+    ensures ok { OnOk result (out.new ≡ out.old ++ clauses_at step.now
+        (yesterdays_part step.now.number entries.now requests.now)) }
     ensures err { OnErr result (Extends out.old out.new) }
 {
     for request in requests {
-        push_yesterday(layout, step, *request, entries[*request as usize - 1], out)?;
+        push_yesterday(step, *request, entries[*request as usize - 1], out)?;
     }
     Ok(())
 }

@@ -9,29 +9,30 @@ use Rattle.loop_encode.proofs.Joined.{end_at, end_same, all_ends}
 use Rattle.loop_encode.proofs.accepting.push_finite.Goals as goal
 
 pub overflow_sub-request : goal.overflow_sub-request
-overflow_sub-request c = (nexts_all c.args.layout.now c.args.closure.now c.requires.own c.nexts-request-items.result.now c.nexts-request-items.ensures c.loop-request.request-index 0 c.loop-request-test.true).0
+overflow_sub-request c = (nexts_all c.args.step.now.layout c.args.closure.now c.requires.own c.nexts-request-items.result.now c.nexts-request-items.ensures c.loop-request.request-index 0 c.loop-request-test.true).0
 
 pub bounds-entries-request : goal.bounds-entries-request
 bounds-entries-request c =
-    let known = nexts_all c.args.layout.now c.args.closure.now c.requires.own c.nexts-request-items.result.now c.nexts-request-items.ensures c.loop-request.request-index 0 c.loop-request-test.true in
-    omega (arith, known.0, known.1, entries_count c.args.layout.now c.args.closure.now c.requires.own, c.entries-entries.ensures.closure.long)
+    let known = nexts_all c.args.step.now.layout c.args.closure.now c.requires.own c.nexts-request-items.result.now c.nexts-request-items.ensures c.loop-request.request-index 0 c.loop-request-test.true in
+    omega (arith, known.0, known.1, entries_count c.args.step.now.layout c.args.closure.now c.requires.own, c.entries-entries.ensures.closure.long)
 
-pub push_end-requires-clause-number : goal.push_end-requires-clause-number
-push_end-requires-clause-number c = nexts_all c.args.layout.now c.args.closure.now c.requires.own c.nexts-request-items.result.now c.nexts-request-items.ensures c.loop-request.request-index 0 c.loop-request-test.true
+pub push_end-requires : goal.push_end-requires
+push_end-requires c =
+    record { number = nexts_all c.args.step.now.layout c.args.closure.now c.requires.own c.nexts-request-items.result.now c.nexts-request-items.ensures c.loop-request.request-index 0 c.loop-request-test.true }
 
 pub loop-request-preserved : goal.loop-request-preserved
 loop-request-preserved c =
     let t = get_or c.nexts-request-items.result.now c.loop-request.request-index 0 in
-    pieces_below c.args.layout.now.kind c.args.layout.now.counts c.args.out.now c.loop-request.out c.push_end.new.out c.loop-request.request-index (end_at c.args.closure.now.formula c.args.step)
-    (end_by c.args.step t (entry_at c.entries-entries.result.now t))
-    (end_same c.args.closure.now.names c.args.closure.now.formula c.entries-entries.result.now c.entries-entries.ensures.closure c.args.step c.nexts-request-items.result.now c.nexts-request-items.ensures
+    pieces_below c.args.step.now.layout.kind c.args.step.now.layout.counts c.args.out.now c.loop-request.out c.push_end.new.out c.loop-request.request-index (end_at c.args.closure.now.formula c.args.step.now.number)
+    (end_by c.args.step.now.number t (entry_at c.entries-entries.result.now t))
+    (end_same c.args.closure.now.names c.args.closure.now.formula c.entries-entries.result.now c.entries-entries.ensures.closure c.args.step.now.number c.nexts-request-items.result.now c.nexts-request-items.ensures
     c.loop-request.request-index t c.loop-request-test.true refl) c.loop-request.invariant c.in_ok-push_end.ensures.ok
 
 pub returns-clause-ok : goal.returns-clause-ok
 returns-clause-ok c =
     let end : c.loop-request.request-index ≡ length c.nexts-request-items.result.now = omega (arith, c.loop-request-test.false, c.loop-request.auto.request-index-end) in
     c.loop-request.invariant
-    ∙ ap (λ cs. c.args.out.now ++ clauses_in c.args.layout.now.kind c.args.layout.now.counts cs)
-    (ap (λ n. below n (end_at c.args.closure.now.formula c.args.step)) end
-    ∙ (all_ends c.args.closure.now.names c.args.closure.now.formula c.entries-entries.result.now c.entries-entries.ensures.closure c.args.step c.nexts-request-items.result.now c.nexts-request-items.ensures
-    ∙ ap (λ k. part_e c.args.closure.now.formula k c.args.step) (sym c.requires.finite)))
+    ∙ ap (λ cs. c.args.out.now ++ clauses_in c.args.step.now.layout.kind c.args.step.now.layout.counts cs)
+    (ap (λ n. below n (end_at c.args.closure.now.formula c.args.step.now.number)) end
+    ∙ (all_ends c.args.closure.now.names c.args.closure.now.formula c.entries-entries.result.now c.entries-entries.ensures.closure c.args.step.now.number c.nexts-request-items.result.now c.nexts-request-items.ensures
+    ∙ ap (λ k. part_e c.args.closure.now.formula k c.args.step.now.number) (sym c.requires.finite)))

@@ -1,8 +1,8 @@
 use Rattle.std.proofs.Common.{◌≡◌, ◌++◌}
 use Rattle.enc_layout.specs.Letters.{below}
-use Rattle.enc_layout.specs.Clauses.{clauses_in}
+use Rattle.enc_layout.specs.Steps.{clauses_at}
 use Rattle.prune_encode.specs.ByNumber.{new_by}
 use Rattle.prune_encode.proofs.prune.push_news.Given as goal
 
 abbrev pub invariant-loop-m : goal.invariant-loop-m
-invariant-loop-m l = l.out ≡ l.fn.out ++ clauses_in l.layout.kind l.layout.counts (below l.m (new_by l.entries l.eventualities l.step l.earlier))
+invariant-loop-m l = l.out ≡ l.fn.out ++ clauses_at l.step (below l.m (new_by l.entries l.eventualities l.step.number l.earlier))
