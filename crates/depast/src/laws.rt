@@ -1,5 +1,6 @@
 //! Laws of formulas whose past operators are taken out. Each function is empty: its contract is the
 //! law, and a proof cites it by a call.
+ghost use Rattle.depast.specs.Rows.{WorkedRemovals};
 ghost use Rattle.depast.specs.Laws.{IsWithoutPast, NamesAreFew, FewNames, EachHasAxiom, FewWhereSmall};
 ghost use Rattle.depast.specs.Laws.{ResiduesAgree, AxiomsHold, TracesAreLifted, LiftedSatisfy};
 ghost use Rattle.depast.specs.Laws.{TracesAreLowered, LoweredSatisfy, AreEquisatisfiable};
@@ -35,4 +36,9 @@ pub fn lowering()
 /// A formula has a trace of a kind exactly where the one without past has.
 pub fn equisatisfiable()
     ensures { AreEquisatisfiable }
+{}
+
+/// What the definitions give for formulas whose past operators were taken out by hand.
+pub fn worked_removals()
+    ensures { WorkedRemovals }
 {}

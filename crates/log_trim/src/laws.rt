@@ -1,5 +1,6 @@
 //! Laws of the log of the lines that some lines of a log stand on. Each function is empty: its contract is
 //! the law, and a proof cites it by a call.
+ghost use Rattle.log_trim.specs.Examples.{WorkedTrimming};
 ghost use Rattle.log_trim.specs.Laws.{TrimmedIsLog, TrimmedKeeps, TargetsKeep, TrimmedIsKnown, TrimmedAreLines, TrimmedIsShorter, PushingStarts, PushingMay, PushingGoesOn, PushingSkips, PushingEnds, TableGoesOn, TableHas, SettingMarks, TargetIsMarked, MarkingStarts, NoHintsAdd, HintIsMarked, ClauseIsPassed, LineIsVisited, LineIsPassed, MarkingEnds, HintsAreEarlier, HintIsThere, NeededAreLines};
 
 /// The marked lines are a log, where what they name is marked.
@@ -10,6 +11,11 @@ pub fn trimming()
     ensures within { TrimmedIsKnown }
     ensures lines { TrimmedAreLines }
     ensures shorter { TrimmedIsShorter }
+{}
+
+/// What the definitions give for a log that was trimmed by hand.
+pub fn worked_trimming()
+    ensures { WorkedTrimming }
 {}
 
 /// How a loop forwards pushes the marked lines.

@@ -1,6 +1,7 @@
 //! Formulas of linear temporal logic with past: a flat table of nodes, and their text.
 #![tactic(auto)]
 
+pub mod laws;
 mod node;
 mod preorder;
 mod printing;
