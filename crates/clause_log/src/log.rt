@@ -3,7 +3,7 @@
 // a log says can be trusted whatever search produced it.
 ghost use Rattle.std.specs.Prelude.{◌≡◌, ◌≤◌, [], length, IfOk, OnErr};
 ghost use Rattle.cnf_base.specs.Step.{IsHintedStep, clause_at};
-ghost use Rattle.clause_log.specs.LogValue.{IsLog, with_input, with_line, greatest_u32, hints_at};
+ghost use Rattle.clause_log.specs.LogValue.{IsLog, with_input, with_line, with_lines, greatest_u32, hints_at};
 
 use cnf_base::{Hint, Literal, Rows};
 use std::alloc::{AllocError, Global};
@@ -63,6 +63,18 @@ impl Log {
                 self.lines.truncate(count);
                 Err(AllocError)
             }
+        }
+    }
+
+    /// The log with other lines, and their hints, in place of its own. The inputs stay where they are.
+    pub fn with_lines(self, lines: Rows<Literal>, hints: Rows<Hint>) -> Log
+        requires { IsLog (with_lines self lines hints) }
+        ensures { result ≡ with_lines self lines hints }
+    {
+        Log {
+            inputs: self.inputs,
+            lines,
+            hints,
         }
     }
 

@@ -4,11 +4,11 @@ use Rattle.std.proofs.lemmas.List.{take_more, map-append}
 use Rattle.cnf_base.specs.declared.literal.Literal.{Literal}
 use Rattle.cnf_base.specs.declared.literal.Hint.{Hint}
 use Rattle.cnf_base.specs.declared.literal.Hint.TheVariants.{Line}
-use Rattle.cnf_base.specs.Step.{IsHintedStep, clause_at}
-use Rattle.clause_log.specs.LogValue.{LogValue, IsLog, greatest_u32, with_line, hints_at}
-use Rattle.log_trim.specs.Kept.{Marks, new_number, renumbered, trimmed_to, IsClosed, AreNumbers}
+use Rattle.cnf_base.specs.Step.{clause_at}
+use Rattle.clause_log.specs.LogValue.{LogValue, IsLog, with_line, with_lines, hints_at}
+use Rattle.log_trim.specs.Kept.{Marks, new_number, renumbered, trimmed_to, AreNumbers}
 use Rattle.log_trim.specs.Marking.{marked, IsMarking, AddsHints, HasTargets, AreNeeded, AreLines, IsMarkedFrom, AreTheNeeded}
-use Rattle.log_trim.proofs.MarkedLines.{hint_earlier, may, goes_on, skips, table_on, table_has}
+use Rattle.log_trim.proofs.MarkedLines.{hint_earlier, goes_on, skips, table_on, table_has}
 use Rattle.log_trim.proofs.Marks.{setting, target_marked, hint_marked, line_visited, ended, all_added, moved, there, default_moves}
 
 -- what was read is the member, whatever the default
@@ -75,25 +75,19 @@ module _ (log : LogValue) (flags : List Bool) (k : ℕ) (is : IsLog log) (lt : k
   line_same : clause_at log.lines (k + 1) ≡ get_or log.lines k []
   line_same = let back : k + 1 - 1 ≡ k = omega arith in ap (λ n. get_or log.lines n []) back
 
-  pub push_may : (new : LogValue) (line : List Literal) (hints mapped : List Hint) → IsClosed log (marked flags) → get_or flags k false ≡ true → new ≡ trimmed_to (marked flags) log k → line ≡ clause_at log.lines (k + 1)
-      → hints ≡ mapped → mapped ≡ map (renumbered (marked flags) log.lines) (get_or log.hints k []) → IsHintedStep new.inputs new.lines greatest_u32 line hints
-  push_may new line hints mapped closed at e l h i =
-      subst (λ (n : LogValue). IsHintedStep n.inputs n.lines greatest_u32 line hints) (sym e)
-      (subst (λ (x : List Literal). IsHintedStep log.inputs (trimmed_to (marked flags) log k).lines greatest_u32 x hints) (sym (l ∙ line_same))
-      (subst (λ (hs : List Hint). IsHintedStep log.inputs (trimmed_to (marked flags) log k).lines greatest_u32 (get_or log.lines k []) hs) (sym (h ∙ i)) (may log (marked flags) is closed k lt at)))
-
-  pub push_on : (old new : LogValue) (line : List Literal) (hints mapped : List Hint) → get_or flags k false ≡ true → old ≡ trimmed_to (marked flags) log k → line ≡ clause_at log.lines (k + 1)
-      → hints ≡ mapped → mapped ≡ map (renumbered (marked flags) log.lines) (get_or log.hints k []) → new ≡ with_line old line hints → new ≡ trimmed_to (marked flags) log (k + 1)
-  push_on old new line hints mapped at e l h i n =
-      n ∙ (ap (λ (o : LogValue). with_line o line hints) e
+  pub push_on : (old next : List (List Literal)) (old_hints next_hints : List (List Hint)) (line : List Literal) (hints mapped : List Hint) → get_or flags k false ≡ true → with_lines log old old_hints ≡ trimmed_to (marked flags) log k
+      → line ≡ clause_at log.lines (k + 1) → hints ≡ mapped → mapped ≡ map (renumbered (marked flags) log.lines) (get_or log.hints k []) → next ≡ old ++ line ∷ [] → next_hints ≡ old_hints ++ hints ∷ []
+      → with_lines log next next_hints ≡ trimmed_to (marked flags) log (k + 1)
+  push_on old next old_hints next_hints line hints mapped at e l h i n m =
+      ap₂ (with_lines log) n m ∙ (ap (λ (o : LogValue). with_line o line hints) e
       ∙ (ap₂ (λ (x : List Literal) (hs : List Hint). with_line (trimmed_to (marked flags) log k) x hs) (l ∙ line_same) (h ∙ i)
       ∙ rw (add-one k) (goes_on log (marked flags) is k lt at)))
 
-  pub pass_on : (old new : LogValue) → get_or flags k false ≡ false → old ≡ trimmed_to (marked flags) log k → new ≡ old → new ≡ trimmed_to (marked flags) log (k + 1)
-  pass_on old new at e n = n ∙ (e ∙ rw (add-one k) (skips log (marked flags) is k lt at))
+  pub pass_on : (lines : List (List Literal)) (hints : List (List Hint)) → get_or flags k false ≡ false → with_lines log lines hints ≡ trimmed_to (marked flags) log k → with_lines log lines hints ≡ trimmed_to (marked flags) log (k + 1)
+  pass_on lines hints at e = e ∙ rw (add-one k) (skips log (marked flags) is k lt at)
 
-  pub table_step : (new seen : LogValue) (count : ℕ) (table next : List ℕ) → AreNumbers (marked flags) log.lines k table → new ≡ trimmed_to (marked flags) log (k + 1) → seen ≡ new → count ≡ length seen.lines → next ≡ table ++ count ∷ []
-      → AreNumbers (marked flags) log.lines (k + 1) next
-  table_step new seen count table next are e s c n =
-      let number : count ≡ new_number (marked flags) log.lines (k + 1) = c ∙ ap (λ (l : LogValue). length l.lines) (s ∙ e) in
+  pub table_step : (lines : List (List Literal)) (hints : List (List Hint)) (count : ℕ) (table next : List ℕ) → AreNumbers (marked flags) log.lines k table → with_lines log lines hints ≡ trimmed_to (marked flags) log (k + 1)
+      → count ≡ length lines → next ≡ table ++ count ∷ [] → AreNumbers (marked flags) log.lines (k + 1) next
+  table_step lines hints count table next are e c n =
+      let number : count ≡ new_number (marked flags) log.lines (k + 1) = c ∙ ap (λ (l : LogValue). length l.lines) e in
       subst (AreNumbers (marked flags) log.lines (k + 1)) (sym n) (rw (add-one k) (table_on (marked flags) log.lines k count table are (rw (add-one k) at number)))

@@ -51,7 +51,7 @@ fn three_lines(alloc: Global) -> Result<Log, AllocError>
 #[test]
 fn leaves_out_what_no_target_needs(rt: HostRuntime) -> Result<(), Fail> {
     let log = three_lines(rt.alloc())?;
-    let (new, numbers) = trim(rt.alloc(), &log.view(), &[3, 2])?;
+    let (new, numbers) = trim(rt.alloc(), log, &[3, 2])?;
     let view = new.view();
     assert_eq!(rt; numbers.as_slice(), [2, 1].as_slice());
     assert_eq!(rt; (view.inputs(), view.lines()), (3, 2));

@@ -1,17 +1,25 @@
 // The lines that given lines stand on (Heule, Hunt and Wetzler: Trimming while checking clausal proofs).
 // A hint names an earlier line, so one walk from the last line back marks all of them: whatever needs a
-// line was visited before it. A walk forwards then pushes the marked ones, and keeps in a table how many
-// there were up to each line, which is the new number of a marked line.
+// line was visited before it. A walk forwards then keeps the marked ones, and in a table how many there
+// were up to each line, which is the new number of a marked line.
 ghost use Rattle.std.specs.Prelude.{◌≡◌, ℕ, ◌<◌, ◌≤◌, ◌+◌, ◌*◌, [], length, map, slice_index_or, IfOk, OnOk, Contains};
 ghost use Rattle.cnf_base.specs.declared.literal.Hint.TheVariants.{Line};
 ghost use Rattle.clause_log.specs.LogValue.{IsLog};
-ghost use Rattle.log_trim.specs.Kept.{Marks, IsClosed, AreNumbers, renumbered, trimmed_to};
+ghost use Rattle.log_trim.specs.Kept.{Marks, IsClosed, AreNumbers, AreKept, renumbered};
 ghost use Rattle.log_trim.specs.Marking.{marked, AddsHints, AreTheNeeded, AreLines};
 ghost use Rattle.log_trim.specs.Trimmed.{IsTrimmed};
 
 use clause_log::{Log, LogView};
-use cnf_base::Hint;
+use cnf_base::{Hint, Literal, Rows};
 use std::alloc::{AllocError, Global};
+
+/// The marked lines so far, with their hints, and for each line of the log so far how many there were up to it.
+#[derive(Drop)]
+struct KeptLines {
+    lines: Rows<Literal>,
+    hints: Rows<Hint>,
+    table: Vec<u64>,
+}
 
 /// Marks the lines that the hints name.
 fn mark_hints(hints: &[Hint], flags: &mut Vec<bool>)
@@ -83,59 +91,63 @@ fn renumber(
     Ok(new)
 }
 
-/// Pushes a line, where it is marked, and puts its new number into the table.
-fn push_line(
+/// Puts a line behind the kept ones, where it is marked, and its new number into the table.
+fn keep_line(
     alloc: Global,
     view: &LogView<'_>,
     flags: &Vec<bool>,
     index: u64,
-    table: &mut Vec<u64>,
-    log: &mut Log,
+    kept: &mut KeptLines,
 ) -> Result<(), AllocError>
-    requires source { IsLog view.now }
-    requires closed { IsClosed view.now (marked flags.now.items) }
+    requires log { IsLog view.now }
     requires long { length flags.now.items ≡ length view.now.lines }
     requires line { index < length view.now.lines }
-    requires table { AreNumbers (marked flags.now.items) view.now.lines index table.old.items }
-    requires log { log.old ≡ trimmed_to (marked flags.now.items) view.now index }
-    ensures table { OnOk result
-        (AreNumbers (marked flags.now.items) view.now.lines (index + 1) table.new.items) }
-    ensures log { OnOk result (log.new ≡ trimmed_to (marked flags.now.items) view.now (index + 1)) }
+    requires kept { AreKept (marked flags.now.items) view.now index
+        kept.old.lines kept.old.hints kept.old.table.items }
+    ensures { OnOk result
+        (AreKept (marked flags.now.items) view.now (index + 1) kept.new.lines kept.new.hints kept.new.table.items) }
 {
     if flags[index as usize] {
-        let hints = renumber(alloc, view, flags, index, table)?;
-        log.derive(view.literals(index + 1), &hints)?;
+        let hints = renumber(alloc, view, flags, index, &kept.table)?;
+        kept.lines.push(view.literals(index + 1))?;
+        kept.hints.push(&hints)?;
     }
-    table.push(log.view().lines())?;
+    kept.table.push(kept.lines.len() as u64)?;
     Ok(())
+}
+
+/// The marked lines, in their order.
+fn keep_lines(alloc: Global, view: &LogView<'_>, flags: &Vec<bool>) -> Result<KeptLines, AllocError>
+    requires log { IsLog view.now }
+    requires long { length flags.now.items ≡ length view.now.lines }
+    ensures { IfOk result (λ kept. AreKept (marked flags.now.items) view.now (length view.now.lines)
+        kept.lines kept.hints kept.table.items) }
+{
+    let mut kept = KeptLines {
+        lines: Rows::new(alloc),
+        hints: Rows::new(alloc),
+        table: Vec::new(alloc),
+    };
+    'lines: for index in 0..view.lines() {
+        keep_line(alloc, view, flags, index, &mut kept)?;
+    }
+    Ok(kept)
 }
 
 /// The log of just the lines that the targets stand on, and the targets' new numbers. A target stands on
 /// itself and on whatever a hint of such a line names. The lines keep their order and their literals;
-/// hints name them by their new numbers, which run from 1. The inputs are copied, since a log owns its
-/// inputs.
-pub fn trim(
-    alloc: Global,
-    view: &LogView<'_>,
-    targets: &[u64],
-) -> Result<(Log, Vec<u64>), AllocError>
-    requires log { IsLog view.now }
-    requires targets { AreLines view.now targets.now }
-    ensures { IfOk result (λ r. (M : Marks) × IsTrimmed view.now targets.now r.0 r.1.items M) }
+/// hints name them by their new numbers, which run from 1. The inputs move over to the new log.
+pub fn trim(alloc: Global, log: Log, targets: &[u64]) -> Result<(Log, Vec<u64>), AllocError>
+    requires { AreLines log targets.now }
+    ensures { IfOk result (λ r. (M : Marks) × IsTrimmed log targets.now r.0 r.1.items M) }
 {
-    let flags = needed(alloc, view, targets)?;
-    let mut log = Log::new(alloc);
-    'inputs: for number in 0..view.inputs() {
-        log.add_input(view.input(number + 1))?;
-    }
-    let mut table = Vec::new(alloc);
-    'lines: for index in 0..view.lines() {
-        push_line(alloc, view, &flags, index, &mut table, &mut log)?;
-    }
+    let view = log.view();
+    let flags = needed(alloc, &view, targets)?;
+    let kept = keep_lines(alloc, &view, &flags)?;
     let mut numbers = Vec::new(alloc);
     'targets: for target in targets {
         let place = (*target - 1) as usize;
-        numbers.push(table[place])?;
+        numbers.push(kept.table[place])?;
     }
-    Ok((log, numbers))
+    Ok((log.with_lines(kept.lines, kept.hints), numbers))
 }

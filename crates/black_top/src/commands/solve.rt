@@ -102,7 +102,7 @@ fn decide<R: Threads + Sync, G: Gate + Sync>(
             targets,
         } => {
             let conflict = shown_core(rt, alloc, closure, asked, options, gate)?;
-            let text = shown_certificate(alloc, closure, depth, &log, &targets, options.cert)?;
+            let text = shown_certificate(alloc, closure, depth, log, &targets, options.cert)?;
             unsat(alloc, depth, conflict.as_deref(), text.as_deref())
         }
         Decision::Undecided { depth } => undecided(alloc, depth),
@@ -114,13 +114,13 @@ fn shown_certificate(
     alloc: Global,
     closure: &Closure<'_>,
     depth: u32,
-    log: &Log,
+    log: Log,
     targets: &[u64],
     cert: bool,
 ) -> Result<Option<Vec<u8>>, AllocError>
     requires few { depth ≤ 1000 }
     requires fits { Fits (layout_of closure.now) depth }
-    requires refutes { IsRefutation closure.now.formula closure.now.kind depth log.now targets.now }
+    requires refutes { IsRefutation closure.now.formula closure.now.kind depth log targets.now }
     ensures { IfOk result (λ shown. Certifies cert closure.now.formula closure.now.kind depth
         (option_map vec_items shown)) }
 {
@@ -136,16 +136,18 @@ pub fn certificate(
     alloc: Global,
     closure: &Closure<'_>,
     depth: u32,
-    log: &Log,
+    log: Log,
     targets: &[u64],
 ) -> Result<Vec<u8>, AllocError>
     requires few { depth ≤ 1000 }
     requires fits { Fits (layout_of closure.now) depth }
-    requires refutes { IsRefutation closure.now.formula closure.now.kind depth log.now targets.now }
+    requires refutes { IsRefutation closure.now.formula closure.now.kind depth log targets.now }
     ensures { IfOk result (λ text. IsLawfulAt closure.now.formula closure.now.kind depth text.items) }
 {
     cert_check::laws::trimmed();
-    let (needed, numbers) = trim(alloc, &log.view(), targets)?;
+    // The view says that each line is a hinted step.
+    let _ = log.view();
+    let (needed, numbers) = trim(alloc, log, targets)?;
     let view = needed.view();
     // The counts are numbers of 64 bits, so the text can name each clause and each line.
     let _counts = (view.inputs(), view.lines());

@@ -261,7 +261,7 @@ fn decide(
             if !cert {
                 return paths_hold(alloc, depth);
             }
-            proved(alloc, joined, closure, depth, &log, &targets)
+            proved(alloc, joined, closure, depth, log, &targets)
         }
     }
 }
@@ -272,7 +272,7 @@ fn proved(
     joined: &Joined,
     closure: &Closure<'_>,
     depth: u32,
-    log: &Log,
+    log: Log,
     targets: &[u64],
 ) -> Result<Output, AllocError>
     requires there { joined.now.whole < length joined.now.table.nodes }
@@ -280,7 +280,7 @@ fn proved(
     requires kind { closure.now.kind ≡ kinds.Infinite }
     requires few { depth ≤ 1000 }
     requires fits { Fits (layout_of closure.now) depth }
-    requires refutes { IsRefutation closure.now.formula closure.now.kind depth log.now targets.now }
+    requires refutes { IsRefutation closure.now.formula closure.now.kind depth log targets.now }
     ensures { IfOk result (λ out. (shown : Option Proof)
         × ProvesWhole true (tree_at joined.now.table joined.now.whole) depth shown
         × Shows out (paths_hold depth shown)) }

@@ -1,5 +1,4 @@
-use Rattle.std.proofs.Common.{ℕ, zero, suc, ◌≡◌, ◌<◌, ◌≤◌, [], ◌∷◌, get_or, length, ap, ◌∙◌, arith}
-use Rattle.clause_log.specs.LogValue.{LogValue}
+use Rattle.std.proofs.Common.{ℕ, zero, suc, ◌≡◌, ◌<◌, ◌≤◌, [], ◌∷◌, get_or, arith}
 use Rattle.log_trim.proofs.tests.leaves_out_what_no_target_needs.Goals as goal
 
 are_lines : (count : ℕ) → count ≡ 3 → (i : ℕ) → i < 2 → (0 < get_or (3 ∷ 2 ∷ []) i 0) × (get_or (3 ∷ 2 ∷ []) i 0 ≤ count)
@@ -7,5 +6,5 @@ are_lines count is zero low = (omega arith, omega (arith, is))
 are_lines count is (suc zero) low = (omega arith, omega (arith, is))
 are_lines count is (suc (suc i)) low = absurd (omega (arith, low))
 
-pub trim-requires-clause-targets : goal.trim-requires-clause-targets
-trim-requires-clause-targets g c = are_lines _ (ap (λ (l : LogValue). length l.lines) c.view.ensures.same ∙ c.in_ok-log.ensures)
+pub trim-requires : goal.trim-requires
+trim-requires g c = are_lines _ c.in_ok-log.ensures

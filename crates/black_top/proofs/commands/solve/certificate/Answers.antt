@@ -1,19 +1,16 @@
 use Rattle.std.proofs.Common.{ℕ, ◌≤◌, List, length, sym, subst, arith}
 use Rattle.ltl_syntax.specs.declared.node.Kind.{Kind}
 use Rattle.clause_log.specs.LogValue.{LogValue}
-use Rattle.log_trim.specs.Marking.{AreLines}
-use Rattle.log_trim.specs.Trimmed.{IsTrimmed}
 use Rattle.cert_text.specs.Text.{text_of}
 use Rattle.cert_text.specs.Writing.{written}
 use Rattle.cert_check.specs.Lawful.{IsLawfulAt}
 use Rattle.black_top.proofs.Certified.{lawful_text}
 use Rattle.black_top.proofs.commands.solve.certificate.Goals as goal
 
-pub trim-requires-clause-targets : goal.trim-requires-clause-targets
-trim-requires-clause-targets c =
+pub trim-requires : goal.trim-requires
+trim-requires c =
     let value = c.args.closure.now in
-    let lines = c.trimmed.ensures.lines value.formula value.kind c.args.depth c.args.log.now c.args.targets.now c.requires.refutes.closed in
-    subst (λ (log : LogValue). AreLines log c.args.targets.now) (sym c.view.ensures.same) lines
+    c.trimmed.ensures.lines value.formula value.kind c.args.depth c.args.log c.args.targets.now c.requires.refutes.closed
 
 pub returns : goal.returns
 returns c =
@@ -25,13 +22,12 @@ returns c =
     let new = c.in_ok-needed.needed in
     let numbers = c.in_ok-needed.numbers.items in
     let (M, kept) = c.in_ok-needed.ensures in
-    let trim = subst (λ (log : LogValue). IsTrimmed log targets new numbers M) c.view.ensures.same kept in
-    let view = c.view-view.result in
-    let at : length new.inputs ≤ 18446744073709551615 = subst (λ (log : LogValue). length log.inputs ≤ 18446744073709551615) c.view-view.ensures.same (omega (arith, c.inputs.ensures, c.inputs.type_inv)) in
-    let of : length new.lines ≤ 18446744073709551615 = subst (λ (log : LogValue). length log.lines ≤ 18446744073709551615) c.view-view.ensures.same (omega (arith, c.lines.ensures, c.lines.type_inv)) in
+    let view = c.view-view-2.result in
+    let at : length new.inputs ≤ 18446744073709551615 = subst (λ (log : LogValue). length log.inputs ≤ 18446744073709551615) c.view-view-2.ensures.same (omega (arith, c.inputs.ensures, c.inputs.type_inv)) in
+    let of : length new.lines ≤ 18446744073709551615 = subst (λ (log : LogValue). length log.lines ≤ 18446744073709551615) c.view-view-2.ensures.same (omega (arith, c.lines.ensures, c.lines.type_inv)) in
     let refutes = c.requires.refutes in
-    let lawful = c.trimmed.ensures.verify f kind depth c.args.log.now new targets numbers M c.view.ensures.steps trim refutes.inputs c.requires.fits refutes.letters refutes.closed c.requires.few at of in
+    let lawful = c.trimmed.ensures.verify f kind depth c.args.log new targets numbers M c.view-view.ensures.steps kept refutes.inputs c.requires.fits refutes.letters refutes.closed c.requires.few at of in
     let said = subst (λ (ns : List ℕ). IsLawfulAt f kind depth (text_of (written kind depth new.lines new.hints ns))) (sym c.deref.ensures.value) lawful in
-    let seen = subst (λ (log : LogValue). IsLawfulAt f kind depth (text_of (written kind depth log.lines log.hints c.deref.result.now))) (sym c.view-view.ensures.same) said in
+    let seen = subst (λ (log : LogValue). IsLawfulAt f kind depth (text_of (written kind depth log.lines log.hints c.deref.result.now))) (sym c.view-view-2.ensures.same) said in
     let named = subst (λ (k : Kind). IsLawfulAt f kind depth (text_of (written k depth view.lines view.hints c.deref.result.now))) (sym c.kind.ensures) seen in
     lawful_text (λ v. v.items) c.write.result f kind depth (text_of (written c.kind.result depth view.lines view.hints c.deref.result.now)) named c.write.ensures
