@@ -62,8 +62,6 @@ impl Solver {
         ensures added { IfOk result (λ number. (self.new ≡ record { letters = self.old.letters; log = with_input self.old.log clause.now; model = [] }) × (number ≡ length self.new.log.inputs)) }
         ensures refused { OnErr result (self.new ≡ self.old) }
     {
-        // Without decisions few literals are false, so that a clause is seldom watched by one that is.
-        self.state.reset();
         let number = self.state.add(self.alloc, clause)?;
         self.model.truncate(0);
         Ok(number)
