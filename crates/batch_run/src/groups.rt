@@ -1,6 +1,6 @@
-// Groups of as many consecutive formula lines as there are workers, whose lines are decided side by side. A worker goes
-// from its line of one group to that of the next and waits for nobody, so threads are made once for many groups. The answers are
-// taken in the order of the lines.
+// Groups of as many consecutive formula lines as there are workers, whose lines are decided side by side. A
+// worker goes from its line of one group to that of the next and waits for nobody, so threads are made once
+// for many groups. The answers are taken in the order of the lines.
 ghost use Rattle.std.specs.Prelude.{◌≡◌, ℕ, ◌+◌, ◌^◌, ◌<◌, ◌≤◌, [], length, IfOk, OnOk, slice_index_or};
 ghost use Rattle.batch_run.specs.Outcomes.{AreAnswers};
 ghost use Rattle.batch_run.specs.Grouping.{Passes, AreOutcomes, HasOutcomes, end_of, lines_of};
@@ -65,8 +65,8 @@ pub fn answers<R: Threads + Sync, G: Gate + Sync>(
     Ok(answers)
 }
 
-/// How many lines are decided before the answers are taken: those of all these groups, or as many as there can be in
-/// so many bytes, where each takes a byte and the end of the line before it.
+/// How many lines are decided before the answers are taken: those of all these groups, or as many as there
+/// can be in so many bytes, where each takes a byte and the end of the line before it.
 fn most_lines(workers: u32, bytes: usize) -> u32
     requires some { 1 ≤ workers }
     requires few { workers ≤ 16 }
@@ -111,7 +111,8 @@ fn fill<'t>(lines: &mut Vec<Line<'t>>, rest: &mut Rest<'t>, most: u32) -> Result
     Ok(())
 }
 
-/// Decides the lines, each worker in a thread of its own where one can be made. The pieces are numbered from `first`.
+/// Decides the lines, each worker in a thread of its own where one can be made. The pieces are numbered from
+/// `first`.
 fn decide_groups<R: Threads + Sync, G: Gate + Sync>(
     rt: &R,
     alloc: Global,
@@ -144,8 +145,8 @@ fn decide_groups<R: Threads + Sync, G: Gate + Sync>(
     );
 }
 
-/// Decides the lines of one worker: that of its own number, counted from 0, and then one of each further group, as
-/// far as memory reaches.
+/// Decides the lines of one worker: that of its own number, counted from 0, and then one of each further
+/// group, as far as memory reaches.
 fn decide_lane<G: Gate>(
     alloc: Global,
     lines: &Vec<Line<'_>>,

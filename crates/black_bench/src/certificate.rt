@@ -1,4 +1,5 @@
-// How a certificate is checked. The text is a formula in the first line, any second line, and the certificate.
+// How a certificate is checked. The text is a formula in the first line, any second line, and the
+// certificate.
 ghost use Rattle.std.specs.Prelude.{◌≤◌, length};
 
 use crate::formula::formula_of;

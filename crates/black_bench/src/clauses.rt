@@ -26,7 +26,8 @@ pub fn clause_list(
     Ok(list)
 }
 
-/// Prints how many clauses there are through the depth, or through the greatest one whose letters are few enough.
+/// Prints how many clauses there are through the depth, or through the greatest one whose letters are few
+/// enough.
 pub fn count_clauses(rt: &HostRuntime, alloc: Global, closure: &Closure<'_>, depth: u32) -> u8
     requires { depth ≤ 1000 }
 {
@@ -37,8 +38,8 @@ pub fn count_clauses(rt: &HostRuntime, alloc: Global, closure: &Closure<'_>, dep
     status(println!(rt; "{}", list.count()).is_ok())
 }
 
-/// Prints a line of the number of letters, that of clauses, and the last state's letters for 'here' and 'accepted', and then
-/// the clauses, one a line.
+/// Prints a line of the number of letters, that of clauses, and the last state's letters for 'here' and
+/// 'accepted', and then the clauses, one a line.
 pub fn print_clauses(rt: &HostRuntime, alloc: Global, closure: &Closure<'_>, depth: u32) -> u8
     requires { depth ≤ 1000 }
 {

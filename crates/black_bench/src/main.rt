@@ -1,5 +1,5 @@
-//! Measures parts of the product, on what standard input gives. The first word picks the part, the second one is a depth, or
-//! how many workers check a certificate.
+//! Measures parts of the product, on what standard input gives. The first word picks the part, the second one
+//! is a depth, or how many workers check a certificate.
 #![tactic(auto)]
 
 ghost use Rattle.std.specs.Prelude.{◌≤◌, ⊤, MatchOption};

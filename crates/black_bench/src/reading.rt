@@ -1,4 +1,5 @@
-// Lists of numbers from a text, each with a 0 behind it: clauses, and behind a `?` the assumptions of a question.
+// Lists of numbers from a text, each with a 0 behind it: clauses, and behind a `?` the assumptions of a
+// question.
 
 use cnf_base::{Letter, Literal};
 use std::alloc::{AllocError, Global};

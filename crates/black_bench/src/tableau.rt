@@ -1,5 +1,5 @@
-// What the tableau says of a formula, with what an UNSAT hands out: how many lines the solver learnt, how many literals and how
-// many hints they have.
+// What the tableau says of a formula, with what an UNSAT hands out: how many lines the solver learnt, how
+// many literals and how many hints they have.
 ghost use Rattle.std.specs.Prelude.{◌≤◌};
 
 use crate::status;

@@ -44,8 +44,8 @@ pub fn workers_change_no_answer()
     ensures { WorkersAreFree }
 {}
 
-/// What `depast` prints has no past operator, and a trace of a kind exactly where the formula has one; a lifted
-/// trace keeps what is true.
+/// What `depast` prints has no past operator, and a trace of a kind exactly where the formula has one; a
+/// lifted trace keeps what is true.
 pub fn past_removed()
     ensures sound { (f : Formula) → formula_size (depast f) ≤ 16384 → IsSound f }
     ensures kept { (f : Formula) (t u : Trace) → IsTrace t → IsLifted f t u → KeepsTruth f t u }

@@ -1,5 +1,5 @@
-// The formula of a token ring, as its printed text. Its parts are joined to the left, so that the parentheses of
-// all conjunctions open at the front.
+// The formula of a token ring, as its printed text. Its parts are joined to the left, so that the parentheses
+// of all conjunctions open at the front.
 ghost use Rattle.std.specs.Prelude.{◌≡◌, ◌+◌, ◌-◌, ◌≤◌, ◌<◌, ◌++◌, replicate, IfOk, OnOk};
 ghost use Rattle.ltl_syntax.specs.Print.{text_of};
 ghost use Rattle.enc_layout.specs.Letters.{below};
@@ -12,8 +12,8 @@ use std::alloc::{AllocError, Global};
 #[cfg(test)]
 mod tests;
 
-/// The text of the ring of so many places. A token stands at one of them, moves on to the next in each step, and
-/// from the last one to the first.
+/// The text of the ring of so many places. A token stands at one of them, moves on to the next in each step,
+/// and from the last one to the first.
 pub fn demo_text(alloc: Global, number: u32) -> Result<Vec<u8>, AllocError>
     requires low { 2 ≤ number }
     requires high { number ≤ 64 }

@@ -1,5 +1,5 @@
-//! The program `black_view`: draws the trace in what `black` prints. What the words ask for, standard input and
-//! standard output are given to `view::run`.
+//! The program `black_view`: draws the trace in what `black` prints. What the words ask for, standard input
+//! and standard output are given to `view::run`.
 #![tactic(auto)]
 
 mod input;

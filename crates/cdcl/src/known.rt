@@ -1,4 +1,5 @@
-// The tests for what the solver asks of a caller: that letters are known, and that no literal stands beside its opposite.
+// The tests for what the solver asks of a caller: that letters are known, and that no literal stands beside
+// its opposite.
 ghost use Rattle.std.specs.Prelude.{IsTrue, All, ◌↔◌};
 ghost use Rattle.cnf_base.specs.Known.{IsKnown};
 ghost use Rattle.cdcl.specs.Solving.{IsConsistent};

@@ -1,6 +1,6 @@
-// When the search begins anew: after as many conflicts as the next number of Luby's sequence says, times a fixed step,
-// and at most a thousand times. That bound is the first part of the measure by which the search ends.
-// After Luby, Sinclair and Zuckerman, Optimal speedup of Las Vegas algorithms (1993).
+// When the search begins anew: after as many conflicts as the next number of Luby's sequence says, times a
+// fixed step, and at most a thousand times. That bound is the first part of the measure by which the search
+// ends. After Luby, Sinclair and Zuckerman, Optimal speedup of Las Vegas algorithms (1993).
 ghost use Rattle.std.specs.Prelude.{◌≡◌, ◌+◌, ◌⊎◌, true, false};
 
 /// The conflicts of one question, as far as they decide when the search begins anew.
@@ -23,7 +23,8 @@ impl Pace {
 
     /// Counts a conflict, and says whether the search begins anew.
     pub fn count(&mut self) -> bool
-        ensures { ((result ≡ false) × (self.new.left ≡ self.old.left)) ⊎ ((result ≡ true) × (self.old.left ≡ self.new.left + 1)) }
+        ensures { ((result ≡ false) × (self.new.left ≡ self.old.left))
+            ⊎ ((result ≡ true) × (self.old.left ≡ self.new.left + 1)) }
     {
         self.conflicts = self.conflicts.saturating_add(1);
         if self.left == 0 {

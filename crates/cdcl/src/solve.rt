@@ -1,6 +1,6 @@
-// The search: propagate; explain a conflict, learn the clause and go back; decide where nothing is left to propagate.
-// While assumptions alone are decided, a conflict or a false assumption is explained by them, and that is the answer.
-// After Marques-Silva and Sakallah, GRASP (1999), and Een and Sorensson, MiniSat (2003).
+// The search: propagate; explain a conflict, learn the clause and go back; decide where nothing is left to
+// propagate. While assumptions alone are decided, a conflict or a false assumption is explained by them, and
+// that is the answer. After Marques-Silva and Sakallah, GRASP (1999), and Een and Sorensson, MiniSat (2003).
 ghost use Rattle.std.specs.Prelude.{◌≡◌, ◌≤◌, ◌+◌, ◌⊎◌, List, length, All, IfOk};
 ghost use Rattle.cnf_base.specs.declared.literal.Literal.{Literal};
 ghost use Rattle.cnf_base.specs.declared.literal.Hint.{Hint};
@@ -26,7 +26,8 @@ pub enum Answer {
 
 /// Puts the line behind the others, and answers by it.
 fn finish(state: &mut State, alloc: Global, learnt: &Learnt) -> Result<Answer, AllocError>
-    requires step { IsHintedStep state.old.log.inputs state.old.log.lines greatest_u32 learnt.now.clause.items learnt.now.hints.items }
+    requires step { IsHintedStep state.old.log.inputs state.old.log.lines greatest_u32
+        learnt.now.clause.items learnt.now.hints.items }
     requires known { All (IsKnown state.old.letters) learnt.now.clause.items }
     ensures kept { IsAfter state.old state.new }
     ensures near { length state.new.log.lines ≤ length state.old.log.lines + 1 }
@@ -38,7 +39,8 @@ fn finish(state: &mut State, alloc: Global, learnt: &Learnt) -> Result<Answer, A
 
 /// Begins anew where the pace says so.
 fn rest(state: &mut State, pace: &mut Pace)
-    ensures { ((state.new ≡ state.old) × (pace.new.left ≡ pace.old.left)) ⊎ (IsBack state.old state.new 0 × (pace.old.left ≡ pace.new.left + 1)) }
+    ensures { ((state.new ≡ state.old) × (pace.new.left ≡ pace.old.left))
+        ⊎ (IsBack state.old state.new 0 × (pace.old.left ≡ pace.new.left + 1)) }
 {
     if pace.count() {
         state.reset();
@@ -54,7 +56,9 @@ pub fn solve(
     requires known { All (IsKnown state.old.letters) assumptions.now }
     requires consistent { IsConsistent assumptions.now }
     ensures kept { IsAfter state.old state.new }
-    ensures near { (clause : List Literal) (hints : List Hint) → IsNegated assumptions.now clause → IsHintedStep state.old.log.inputs state.old.log.lines greatest_u32 clause hints → length state.new.log.lines ≤ length state.old.log.lines + 1 }
+    ensures near { (clause : List Literal) (hints : List Hint) → IsNegated assumptions.now clause
+        → IsHintedStep state.old.log.inputs state.old.log.lines greatest_u32 clause hints
+        → length state.new.log.lines ≤ length state.old.log.lines + 1 }
     ensures answer { IfOk result (IsFound state.new assumptions.now) }
 {
     // What an earlier question left stays as far as only assumptions of this one were decided.

@@ -1,5 +1,5 @@
-// The solver as its callers see it: inputs, lines, known letters, and the values that were found last. What was learnt
-// in one question stays for the next. Its memory is that of one allocator, which it keeps.
+// The solver as its callers see it: inputs, lines, known letters, and the values that were found last. What
+// was learnt in one question stays for the next. Its memory is that of one allocator, which it keeps.
 ghost use Rattle.std.specs.Prelude.{◌≡◌, ◌↔◌, ◌⊎◌, ◌≤◌, ◌<◌, ◌+◌, List, [], length, All, IfOk, OnOk, OnErr, false, slice_index_or};
 ghost use Rattle.cnf_base.specs.declared.literal.Literal.{Literal};
 ghost use Rattle.cnf_base.specs.declared.literal.Hint.{Hint};
@@ -36,7 +36,11 @@ impl Model for Solver {
 impl Solver {
     /// No letters, no inputs and no lines.
     pub fn new(alloc: Global) -> Self
-        ensures { result ≡ record { letters = 0; log = record { inputs = []; lines = []; hints = [] }; model = [] } }
+        ensures { result ≡ record {
+          letters = 0;
+          log = record { inputs = []; lines = []; hints = [] };
+          model = [];
+        } }
     {
         Solver {
             alloc,
@@ -56,10 +60,13 @@ impl Solver {
         Ok(())
     }
 
-    /// Puts the clause behind the inputs, and answers its number in the log. After a refusal all is as before.
+    /// Puts the clause behind the inputs, and answers its number in the log. After a refusal all is as
+    /// before.
     pub fn add(&mut self, clause: &[Literal]) -> Result<u64, AllocError>
         requires { All (IsKnown self.old.letters) clause.now }
-        ensures added { IfOk result (λ number. (self.new ≡ record { letters = self.old.letters; log = with_input self.old.log clause.now; model = [] }) × (number ≡ length self.new.log.inputs)) }
+        ensures added { IfOk result (λ number. (self.new
+            ≡ record { letters = self.old.letters; log = with_input self.old.log clause.now; model = [] })
+            × (number ≡ length self.new.log.inputs)) }
         ensures refused { OnErr result (self.new ≡ self.old) }
     {
         let number = self.state.add(self.alloc, clause)?;
@@ -67,13 +74,14 @@ impl Solver {
         Ok(number)
     }
 
-    /// Asks whether some assignment makes all inputs and assumptions true. The line that is answered otherwise has
-    /// negations of assumptions alone. Lines that were learnt stay, also after a refusal.
+    /// Asks whether some assignment makes all inputs and assumptions true. The line that is answered
+    /// otherwise has negations of assumptions alone. Lines that were learnt stay, also after a refusal.
     pub fn solve(&mut self, assumptions: &[Literal]) -> Result<Answer, AllocError>
         requires known { All (IsKnown self.old.letters) assumptions.now }
         requires consistent { IsConsistent assumptions.now }
 
-        ensures sat { IfOk result (λ answer. (answer ≡ Sat) ↔ IsSatisfiable self.old.log.inputs assumptions.now) }
+        ensures sat { IfOk result (λ answer. (answer ≡ Sat)
+            ↔ IsSatisfiable self.old.log.inputs assumptions.now) }
         ensures answer { IfOk result (IsAnswer self.new assumptions.now) }
 
         // Values are there after `Sat` alone.
@@ -85,7 +93,9 @@ impl Solver {
         ensures log { IsLonger self.old.log self.new.log }
 
         // A question that the lines answer already adds at most one.
-        ensures near { (clause : List Literal) (hints : List Hint) → IsNegated assumptions.now clause → IsHintedStep self.old.log.inputs self.old.log.lines greatest_u32 clause hints → length self.new.log.lines ≤ length self.old.log.lines + 1 }
+        ensures near { (clause : List Literal) (hints : List Hint) → IsNegated assumptions.now clause
+            → IsHintedStep self.old.log.inputs self.old.log.lines greatest_u32 clause hints
+            → length self.new.log.lines ≤ length self.old.log.lines + 1 }
     {
         self.model.truncate(0);
         let answer = solve(&mut self.state, self.alloc, assumptions)?;
@@ -102,8 +112,8 @@ impl Solver {
         }
     }
 
-    /// The value of a letter in the assignment that was found last: by the last call of `solve`, where that answered
-    /// `Sat` and nothing was added since.
+    /// The value of a letter in the assignment that was found last: by the last call of `solve`, where that
+    /// answered `Sat` and nothing was added since.
     pub fn value(&self, letter: Letter) -> bool
         requires { letter.0 < length self.now.model }
         ensures { result ≡ slice_index_or self.now.model letter.0 false }

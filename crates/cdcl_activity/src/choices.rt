@@ -1,6 +1,7 @@
-// Which literal is decided next: of the letters without a value one that stood in many recent conflicts, with the
-// value that it had last. Activities are whole numbers; those that wait are kept as a binary heap. After Een and Sorensson,
-// MiniSat (2003). Which one comes first is not promised: who asks for a letter tests whether it has a value.
+// Which literal is decided next: of the letters without a value one that stood in many recent conflicts, with
+// the value that it had last. Activities are whole numbers; those that wait are kept as a binary heap. After
+// Een and Sorensson, MiniSat (2003). Which one comes first is not promised: who asks for a letter tests
+// whether it has a value.
 ghost use Rattle.std.specs.Prelude.{◌≡◌, ◌≢◌, ◌↔◌, ◌⊎◌, ℕ, ◌^◌, ◌+◌, ◌/◌, ◌<◌, ◌≤◌, [], length, MatchOption, OnOk, OnErr};
 ghost use Rattle.cdcl_activity.specs.Order.{IsWaiting};
 ghost use Rattle.cdcl_activity.specs.Choices.{IsOffered, IsNew};
@@ -44,11 +45,14 @@ impl Choices {
         }
     }
 
-    /// Makes the next letter known, and lets it wait. There is no letter 0, and none behind the greatest number.
+    /// Makes the next letter known, and lets it wait. There is no letter 0, and none behind the greatest
+    /// number.
     pub fn letter(&mut self) -> Result<(), AllocError>
-        ensures size { OnOk result (length self.old.order.places < 2 ^ 32 → length self.new.order.places ≡ length self.old.order.places + 1) }
+        ensures size { OnOk result (length self.old.order.places < 2 ^ 32
+            → length self.new.order.places ≡ length self.old.order.places + 1) }
         ensures held { self.new.held ≡ self.old.held }
-        ensures waiting { OnOk result (length self.old.order.places < 2 ^ 32 → (x : ℕ) → IsWaiting self.new.order x ↔ (IsNew self.old x ⊎ IsWaiting self.old.order x)) }
+        ensures waiting { OnOk result (length self.old.order.places < 2 ^ 32 → (x : ℕ)
+            → IsWaiting self.new.order x ↔ (IsNew self.old x ⊎ IsWaiting self.old.order x)) }
         ensures full { 2 ^ 32 ≤ length self.old.order.places → self.new ≡ self.old }
         ensures refused { OnErr result (self.new ≡ self.old) }
     {
@@ -138,7 +142,8 @@ impl Choices {
     pub fn insert(&mut self, letter: u32)
         ensures size { length self.new.order.places ≡ length self.old.order.places }
         ensures held { self.new.held ≡ self.old.held }
-        ensures waiting { (x : ℕ) → IsWaiting self.new.order x ↔ (IsOffered self.old x letter ⊎ IsWaiting self.old.order x) }
+        ensures waiting { (x : ℕ) → IsWaiting self.new.order x
+            ↔ (IsOffered self.old x letter ⊎ IsWaiting self.old.order x) }
     {
         if letter as usize >= self.order.letters() {
             return;
@@ -155,7 +160,8 @@ impl Choices {
     pub fn release(&mut self, literal: Literal)
         ensures size { length self.new.order.places ≡ length self.old.order.places }
         ensures held { self.new.held ≡ self.old.held }
-        ensures waiting { (x : ℕ) → IsWaiting self.new.order x ↔ (IsOffered self.old x literal.letter.0 ⊎ IsWaiting self.old.order x) }
+        ensures waiting { (x : ℕ) → IsWaiting self.new.order x
+            ↔ (IsOffered self.old x literal.letter.0 ⊎ IsWaiting self.old.order x) }
     {
         let letter = literal.letter.0 as usize;
         if letter < self.phases.len() {
@@ -181,7 +187,8 @@ impl Choices {
     pub fn put_back(&mut self)
         ensures size { length self.new.order.places ≡ length self.old.order.places }
         ensures held { self.new.held ≡ 0 }
-        ensures waiting { 0 < self.old.held → (x : ℕ) → IsWaiting self.new.order x ↔ (IsOffered self.old x self.old.held ⊎ IsWaiting self.old.order x) }
+        ensures waiting { 0 < self.old.held → (x : ℕ) → IsWaiting self.new.order x
+            ↔ (IsOffered self.old x self.old.held ⊎ IsWaiting self.old.order x) }
         ensures none { self.old.held ≡ 0 → self.new ≡ self.old }
     {
         if self.held != 0 {
@@ -218,7 +225,8 @@ impl Choices {
         ensures size { length self.new.order.places ≡ length self.old.order.places }
         ensures held { self.new.held ≡ self.old.held }
         ensures none { MatchOption result (self.old.order.count ≡ 0) (IsWaiting self.old.order) }
-        ensures less { MatchOption result (self.new ≡ self.old) (λ l. (x : ℕ) → IsWaiting self.new.order x ↔ (IsWaiting self.old.order x × (x ≢ l))) }
+        ensures less { MatchOption result (self.new ≡ self.old)
+            (λ l. (x : ℕ) → IsWaiting self.new.order x ↔ (IsWaiting self.old.order x × (x ≢ l))) }
     {
         if self.order.waiting() == 0 {
             return None;

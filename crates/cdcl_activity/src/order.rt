@@ -1,5 +1,6 @@
-// All letters in an order: those that wait come first, as many as the count says, and the others behind them. Each letter stands at
-// one place, so that none waits twice, and there is room for all of them: a letter that comes back changes places with another.
+// All letters in an order: those that wait come first, as many as the count says, and the others behind them.
+// Each letter stands at one place, so that none waits twice, and there is room for all of them: a letter that
+// comes back changes places with another.
 ghost use Rattle.std.specs.Prelude.{◌≡◌, ◌≢◌, ◌↔◌, ◌⊎◌, ℕ, ◌^◌, ◌+◌, ◌<◌, ◌≤◌, [], length, MatchOption, OnOk, OnErr};
 ghost use Rattle.cdcl_activity.specs.Order.{OrderValue, IsWaiting, letter_at, place_of};
 
@@ -62,7 +63,8 @@ impl Order {
 
     /// The place at which the letter waits, if it does.
     pub fn place(&self, letter: u32) -> Option<usize>
-        ensures { MatchOption result (¬ IsWaiting self.now letter) (λ p. (p < self.now.count) × IsWaiting self.now letter) }
+        ensures { MatchOption result (¬ IsWaiting self.now letter)
+            (λ p. (p < self.now.count) × IsWaiting self.now letter) }
     {
         if letter as usize >= self.places.len() {
             return None;
@@ -102,7 +104,8 @@ impl Order {
         ensures count { self.new.count ≡ self.old.count }
         ensures first { place_of self.new.places (letter_at self.old.letters one) ≡ two }
         ensures second { place_of self.new.places (letter_at self.old.letters two) ≡ one }
-        ensures others { (x : ℕ) → x ≢ letter_at self.old.letters one → x ≢ letter_at self.old.letters two → place_of self.new.places x ≡ place_of self.old.places x }
+        ensures others { (x : ℕ) → x ≢ letter_at self.old.letters one → x ≢ letter_at self.old.letters two
+            → place_of self.new.places x ≡ place_of self.old.places x }
     {
         let a = self.letters[one];
         let b = self.letters[two];

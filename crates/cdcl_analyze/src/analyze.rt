@@ -1,8 +1,8 @@
-// Why a conflict came: the walk down the trail resolves what reasons forced, until the clause that is left has
-// one literal of the conflict's level (the first unique implication point), or decisions alone.
-// The reasons that were resolved, in the order of the trail, and then the conflict are the clause's hints.
-// After Marques-Silva and Sakallah, GRASP (1999), and, for the hints, Goldberg and Novikov, Verification of proofs of
-// unsatisfiability for CNF formulas (2003).
+// Why a conflict came: the walk down the trail resolves what reasons forced, until the clause that is left
+// has one literal of the conflict's level (the first unique implication point), or decisions alone. The
+// reasons that were resolved, in the order of the trail, and then the conflict are the clause's hints. After
+// Marques-Silva and Sakallah, GRASP (1999), and, for the hints, Goldberg and Novikov, Verification of proofs
+// of unsatisfiability for CNF formulas (2003).
 ghost use Rattle.std.specs.Prelude.{◌≡◌, ℕ, ◌^◌, ◌<◌, ◌≤◌, List, [], ◌∷◌, ◌++◌, length, All, IsSome, Some, OnOk, IfOk, true, false, slice_index_or};
 ghost use Rattle.cnf_base.specs.Step.{named};
 ghost use Rattle.cdcl_trail.specs.Trail.{IsTrail, IsConflict, literals_of, blank_entry, IsDecision};
@@ -66,7 +66,8 @@ fn mark_letter(
     ensures size { length marks.new.stamps ≡ length marks.old.stamps }
     ensures kept { OnOk result ((x : ℕ) → IsMarked marks.old x → IsMarked marks.new x) }
     ensures marked { OnOk result (IsMarked marks.new letter) }
-    ensures waiting { OnOk result ((end : ℕ) → AreWaiting assigned.now.trail end marks.old → AreWaiting assigned.now.trail end marks.new) }
+    ensures waiting { OnOk result ((end : ℕ) → AreWaiting assigned.now.trail end marks.old
+        → AreWaiting assigned.now.trail end marks.new) }
 {
     if marks.has(letter as usize) {
         return Ok(());
@@ -94,7 +95,8 @@ fn mark(
     ensures size { length marks.new.stamps ≡ length marks.old.stamps }
     ensures kept { OnOk result ((x : ℕ) → IsMarked marks.old x → IsMarked marks.new x) }
     ensures all { OnOk result (All (λ l. IsMarked marks.new l.letter.0) clause.now) }
-    ensures waiting { OnOk result ((end : ℕ) → AreWaiting assigned.now.trail end marks.old → AreWaiting assigned.now.trail end marks.new) }
+    ensures waiting { OnOk result ((end : ℕ) → AreWaiting assigned.now.trail end marks.old
+        → AreWaiting assigned.now.trail end marks.new) }
 {
     for literal in clause {
         mark_letter(assigned, cut, literal.letter.0, marks, choices, open)?;
@@ -102,8 +104,8 @@ fn mark(
     Ok(())
 }
 
-/// Whether an entry that has this reason is to be resolved away: of the cut's level all but the last one that is open,
-/// and of lower levels those that follow from the rest.
+/// Whether an entry that has this reason is to be resolved away: of the cut's level all but the last one that
+/// is open, and of lower levels those that follow from the rest.
 fn resolves(
     assigned: &Assigned,
     view: &LogView<'_>,
@@ -155,7 +157,8 @@ fn cite(learnt: &mut Learnt, hint: Hint) -> Result<(), AllocError>
     Ok(())
 }
 
-/// Goes down the marked places of the trail below `from`, and resolves their literals or keeps them in the clause.
+/// Goes down the marked places of the trail below `from`, and resolves their literals or keeps them in the
+/// clause.
 fn walk(
     assigned: &Assigned,
     log: &Log,
@@ -174,8 +177,14 @@ fn walk(
     requires size { length assigned.now.values ≤ length marks.old.stamps }
     requires waiting { AreWaiting assigned.now.trail from marks.old }
     ensures size { length marks.new.stamps ≡ length marks.old.stamps }
-    ensures walked { OnOk result ((t : List Entry) → IsLike log.now.inputs log.now.lines assigned.now.trail t from → IsWalk log.now.inputs log.now.lines t from (IsMarked marks.old) learnt.old.clause.items learnt.old.hints.items learnt.old.places.items → IsWalk log.now.inputs log.now.lines t 0 (IsMarked marks.new) learnt.new.clause.items learnt.new.hints.items learnt.new.places.items) }
-    ensures decided { OnOk result ((t : List Entry) → IsLike log.now.inputs log.now.lines assigned.now.trail t from → cut ≡ Decisions → All (IsDecision t) learnt.old.places.items → All (IsDecision t) learnt.new.places.items) }
+    ensures walked { OnOk result ((t : List Entry) → IsLike log.now.inputs log.now.lines assigned.now.trail t
+        from → IsWalk log.now.inputs log.now.lines t from
+        (IsMarked marks.old) learnt.old.clause.items learnt.old.hints.items learnt.old.places.items
+        → IsWalk log.now.inputs log.now.lines t 0 (IsMarked marks.new) learnt.new.clause.items
+        learnt.new.hints.items learnt.new.places.items) }
+    ensures decided { OnOk result ((t : List Entry) → IsLike log.now.inputs log.now.lines assigned.now.trail
+        t from → cut ≡ Decisions → All (IsDecision t) learnt.old.places.items
+        → All (IsDecision t) learnt.new.places.items) }
 {
     assigned.told();
     let view = log.view();
@@ -221,7 +230,8 @@ pub fn explain(
     requires conflict { IsConflict log.now.inputs log.now.lines (literals_of assigned.now.trail) conflict }
     ensures size { length marks.new.stamps ≡ length marks.old.stamps }
     ensures learnt { IfOk result (IsLearnt log.now assigned.now.trail) }
-    ensures decided { IfOk result (λ learnt. cut ≡ Decisions → All (IsDecision assigned.now.trail) learnt.places.items) }
+    ensures decided { IfOk result (λ learnt. cut ≡ Decisions
+        → All (IsDecision assigned.now.trail) learnt.places.items) }
 {
     assigned.told();
     let view = log.view();
@@ -255,7 +265,8 @@ pub fn explain(
     Ok(learnt)
 }
 
-/// Explains by decisions why the literal at a place is true, as a conflict with the decision that it is false.
+/// Explains by decisions why the literal at a place is true, as a conflict with the decision that it is
+/// false.
 pub fn explain_forced(
     alloc: Global,
     assigned: &Assigned,
@@ -275,7 +286,8 @@ pub fn explain_forced(
     requires forced { (slice_index_or assigned.now.trail place blank_entry).reason ≡ Some hint }
     ensures size { length marks.new.stamps ≡ length marks.old.stamps }
     ensures learnt { IfOk result (IsLearnt log.now (refuted_at assigned.now.trail place)) }
-    ensures decided { IfOk result (λ learnt. All (IsDecision (refuted_at assigned.now.trail place)) learnt.places.items) }
+    ensures decided { IfOk result (λ learnt. All (IsDecision (refuted_at assigned.now.trail place))
+        learnt.places.items) }
 {
     assigned.told();
     let view = log.view();

@@ -1,6 +1,7 @@
-// The letters that an analysis has come to, and the places of the trail that it has still to go over, the last one first.
-// A letter is marked by the number of the analysis, so that the next one begins with no marks, whatever became of this one.
-// What the analysis found out of other letters is remembered in the same way; nothing is promised of that.
+// The letters that an analysis has come to, and the places of the trail that it has still to go over, the
+// last one first. A letter is marked by the number of the analysis, so that the next one begins with no
+// marks, whatever became of this one. What the analysis found out of other letters is remembered in the same
+// way; nothing is promised of that.
 ghost use Rattle.std.specs.Prelude.{◌≡◌, ℕ, ◌+◌, ◌<◌, ◌≤◌, [], ◌⊎◌, ◌↔◌, All, length, IsTrue, MatchOption, OnOk};
 ghost use Rattle.cdcl_analyze.specs.Marks.{IsMarked};
 ghost use Rattle.cdcl_analyze.specs.Waiting.{IsWaiting, IsNext};
@@ -18,7 +19,8 @@ pub struct Marks {
     stamp: u32,
     /// Places of the trail that wait.
     waiting: Waiting,
-    /// The number of the analysis that asked last whether a letter's value follows, and one more where it does.
+    /// The number of the analysis that asked last whether a letter's value follows, and one more where it
+    /// does.
     outcomes: Vec<u32>,
     /// The levels on which a marked letter stands, modulo 64, one bit each.
     levels: u64,
@@ -96,7 +98,8 @@ impl Marks {
         ensures marked { OnOk result (IsMarked self.new letter) }
         ensures kept { OnOk result ((x : ℕ) → IsMarked self.old x → IsMarked self.new x) }
         ensures only { OnOk result ((x : ℕ) → IsMarked self.new x → (x ≡ letter) ⊎ IsMarked self.old x) }
-        ensures waits { OnOk result ((p : ℕ) → (p ≡ place) ⊎ IsWaiting self.old.waiting p → IsWaiting self.new.waiting p) }
+        ensures waits { OnOk result ((p : ℕ) → (p ≡ place) ⊎ IsWaiting self.old.waiting p
+            → IsWaiting self.new.waiting p) }
     {
         self.waiting.push(place)?;
         self.stamps[letter] = self.stamp;
@@ -151,7 +154,8 @@ impl Marks {
     pub(crate) fn pop(&mut self, end: usize) -> Option<usize>
         ensures room { length self.new.stamps ≡ length self.old.stamps }
         ensures marks { (x : ℕ) → IsMarked self.new x ↔ IsMarked self.old x }
-        ensures next { MatchOption result ((p : ℕ) → p < end → ¬ IsWaiting self.old.waiting p) (IsNext self.old.waiting self.new.waiting end) }
+        ensures next { MatchOption result ((p : ℕ) → p < end → ¬ IsWaiting self.old.waiting p)
+            (IsNext self.old.waiting self.new.waiting end) }
     {
         self.waiting.pop(end)
     }

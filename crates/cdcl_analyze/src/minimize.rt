@@ -1,7 +1,8 @@
-// A learnt clause without what follows from the rest of it: an entry of a lower level is resolved away where each other literal of
-// its reason is marked, or on level 0, or follows from such ones in turn; the walk goes on to each of these. What follows and what
-// doesn't is remembered for one analysis, so that each letter is asked once, and a letter on a level of which the clause has nothing
-// is not asked at all. After Sorensson and Biere, Minimizing learned clauses (2009). Nothing is promised of it but safety.
+// A learnt clause without what follows from the rest of it: an entry of a lower level is resolved away where
+// each other literal of its reason is marked, or on level 0, or follows from such ones in turn; the walk goes
+// on to each of these. What follows and what doesn't is remembered for one analysis, so that each letter is
+// asked once, and a letter on a level of which the clause has nothing is not asked at all. After Sorensson
+// and Biere, Minimizing learned clauses (2009). Nothing is promised of it but safety.
 ghost use Rattle.std.specs.Prelude.{◌≡◌};
 
 use crate::marks::Marks;

@@ -1,6 +1,7 @@
-// The places of the trail that an analysis has still to go over, the last one first: a bit of a word for each, so that
-// the walk down the trail passes sixty-four places at once where none waits, and a place needs no order among the others
-// to wait. Words are there as far as the last place that waits, and go as the walk comes down.
+// The places of the trail that an analysis has still to go over, the last one first: a bit of a word for
+// each, so that the walk down the trail passes sixty-four places at once where none waits, and a place needs
+// no order among the others to wait. Words are there as far as the last place that waits, and go as the walk
+// comes down.
 ghost use Rattle.std.specs.Prelude.{◌≡◌, ◌≢◌, ℕ, ◌+◌, ◌-◌, ◌^◌, ◌<◌, ◌≤◌, [], ◌⊎◌, length, MatchOption, OnOk};
 ghost use Rattle.std.specs.Int.{bit_at};
 ghost use Rattle.cdcl_analyze.specs.Waiting.{IsWaiting, IsNext};
@@ -94,7 +95,8 @@ impl Waiting {
 
     /// The last place below `end` that waits. It waits no longer, and those from `end` on neither.
     pub fn pop(&mut self, end: usize) -> Option<usize>
-        ensures { MatchOption result ((p : ℕ) → p < end → ¬ IsWaiting self.old p) (IsNext self.old self.new end) }
+        ensures { MatchOption result ((p : ℕ) → p < end → ¬ IsWaiting self.old p)
+            (IsNext self.old self.new end) }
     {
         'down: while self.words.len() > 0 {
             let last = self.words.len() - 1;

@@ -1,4 +1,5 @@
-//! Unit propagation over watched clauses: what the clauses force goes on the trail, until one is false or none is unit.
+//! Unit propagation over watched clauses: what the clauses force goes on the trail, until one is false or
+//! none is unit.
 #![tactic(auto)]
 
 pub mod names;

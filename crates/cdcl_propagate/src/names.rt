@@ -1,5 +1,5 @@
-// The names of the watched clauses in four bytes each: whenever a clause forces a literal its name is read, here and
-// there in the list, so what matters is that many of them fit into a cache.
+// The names of the watched clauses in four bytes each: whenever a clause forces a literal its name is read,
+// here and there in the list, so what matters is that many of them fit into a cache.
 ghost use Rattle.std.specs.Prelude.{◌≡◌, ◌<◌, [], ◌∷◌, ◌++◌, length, take, if◌then◌else◌, is_ok, slice_index_or};
 ghost use Rattle.cdcl_propagate.specs.Visit.{blank_hint};
 

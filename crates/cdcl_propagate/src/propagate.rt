@@ -1,6 +1,6 @@
-// Unit propagation: the literals that became false are taken in the order of the trail, and only the clauses that watch
-// them are visited. `sure` marks the places whose visits a way back need not repeat. After Moskewicz, Madigan, Zhao,
-// Zhang and Malik, Chaff (2001).
+// Unit propagation: the literals that became false are taken in the order of the trail, and only the clauses
+// that watch them are visited. `sure` marks the places whose visits a way back need not repeat. After
+// Moskewicz, Madigan, Zhao, Zhang and Malik, Chaff (2001).
 ghost use Rattle.std.specs.Prelude.{◌≡◌, ◌≢◌, ℕ, ◌+◌, ◌-◌, ◌*◌, ◌<◌, ◌≤◌, List, length, Option, Some, None, MatchOption, IfOk};
 ghost use Rattle.cdcl_trail.specs.Trail.{literals_of, IsConflict};
 ghost use Rattle.cdcl_propagate.specs.Sure.{IsSure};
@@ -27,8 +27,11 @@ fn visit_list(
     ensures grown { IsGrown assigned.old.trail assigned.new.trail }
     ensures letters { length assigned.new.values ≡ length assigned.old.values }
     ensures kept { IsReady log.now.inputs log.now.lines names.now place assigned.new watches.new }
-    ensures sure { (n : ℕ) → n ≤ place → IsSure watches.old.clauses assigned.old.trail n → IsSure watches.new.clauses assigned.new.trail n }
-    ensures found { IfOk result (λ found. MatchOption found (IsReady log.now.inputs log.now.lines names.now (place + 1) assigned.new watches.new) (IsConflict log.now.inputs log.now.lines (literals_of assigned.new.trail))) }
+    ensures sure { (n : ℕ) → n ≤ place → IsSure watches.old.clauses assigned.old.trail n
+        → IsSure watches.new.clauses assigned.new.trail n }
+    ensures found { IfOk result (λ found. MatchOption found
+        (IsReady log.now.inputs log.now.lines names.now (place + 1) assigned.new watches.new)
+        (IsConflict log.now.inputs log.now.lines (literals_of assigned.new.trail))) }
 {
     assigned.told();
     let falsified = assigned.entry(place).literal.opposite();
@@ -92,7 +95,8 @@ pub fn propagate(
     ensures kept { IsReady log.now.inputs log.now.lines names.now head.new assigned.new watches.new }
     ensures low { sure.new ≤ head.new }
     ensures sure { IsSure watches.new.clauses assigned.new.trail sure.new }
-    ensures found { IfOk result (λ found. MatchOption found (head.new ≡ length assigned.new.trail) (IsConflict log.now.inputs log.now.lines (literals_of assigned.new.trail))) }
+    ensures found { IfOk result (λ found. MatchOption found (head.new ≡ length assigned.new.trail)
+        (IsConflict log.now.inputs log.now.lines (literals_of assigned.new.trail))) }
 {
     'up: while *head < assigned.len() {
         assigned.told();

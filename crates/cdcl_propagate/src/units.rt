@@ -29,7 +29,9 @@ pub fn visit_units(
     ensures grown { IsGrown assigned.old.trail assigned.new.trail }
     ensures letters { length assigned.new.values ≡ length assigned.old.values }
     ensures is_trail { IsTrail log.now.inputs log.now.lines assigned.new.trail }
-    ensures found { IfOk result (λ found. MatchOption found (AreFirm log.now.inputs log.now.lines units.now (length units.now) (literals_of assigned.new.trail)) (IsConflict log.now.inputs log.now.lines (literals_of assigned.new.trail))) }
+    ensures found { IfOk result (λ found. MatchOption found
+        (AreFirm log.now.inputs log.now.lines units.now (length units.now) (literals_of assigned.new.trail))
+        (IsConflict log.now.inputs log.now.lines (literals_of assigned.new.trail))) }
 {
     'up: for index in done..units.len() {
         match visit_unit(assigned, log, units[index])? {
@@ -42,7 +44,9 @@ pub fn visit_units(
 
 /// The level of the last entry; 0 before the first.
 fn last_level(assigned: &Assigned) -> usize
-    ensures { ((length assigned.now.trail ≡ 0) × (result ≡ 0)) ⊎ ((0 < length assigned.now.trail) × (result ≡ place_level assigned.now.trail (length assigned.now.trail - 1))) }
+    ensures { ((length assigned.now.trail ≡ 0) × (result ≡ 0))
+        ⊎ ((0 < length assigned.now.trail) × (result ≡ place_level assigned.now.trail
+        (length assigned.now.trail - 1))) }
 {
     if assigned.len() == 0 {
         return 0;
@@ -55,11 +59,15 @@ fn visit_unit(assigned: &mut Assigned, log: &Log, hint: Hint) -> Result<Option<H
     requires is_trail { IsTrail log.now.inputs log.now.lines assigned.old.trail }
     requires known_inputs { AreBelow (length assigned.old.values) log.now.inputs }
     requires known_lines { AreBelow (length assigned.old.values) log.now.lines }
-    requires short { (clause : List Literal) × (named log.now.inputs log.now.lines hint ≡ Some clause) × IsOne clause }
+    requires short { (clause : List Literal) × (named log.now.inputs log.now.lines hint ≡ Some clause)
+        × IsOne clause }
     ensures grown { IsGrown assigned.old.trail assigned.new.trail }
     ensures letters { length assigned.new.values ≡ length assigned.old.values }
     ensures is_trail { IsTrail log.now.inputs log.now.lines assigned.new.trail }
-    ensures found { IfOk result (λ found. MatchOption found ((clause : List Literal) → named log.now.inputs log.now.lines hint ≡ Some clause → HasTrue (literals_of assigned.new.trail) clause) (IsConflict log.now.inputs log.now.lines (literals_of assigned.new.trail))) }
+    ensures found { IfOk result (λ found. MatchOption found
+        ((clause : List Literal) → named log.now.inputs log.now.lines hint ≡ Some clause
+        → HasTrue (literals_of assigned.new.trail) clause)
+        (IsConflict log.now.inputs log.now.lines (literals_of assigned.new.trail))) }
 {
     assigned.told();
     let view = log.view();

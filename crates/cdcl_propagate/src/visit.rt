@@ -1,8 +1,8 @@
-// A clause that watches a literal that became false: its blocker is true, or the other watched literal is, or another
-// literal is watched in its place, or the other is forced, or the clause is false. A blocker is a literal of the clause
-// that the list holds beside it: most clauses are true already, and a true blocker spares loading them. They are passed
-// in a loop of their own, which changes nothing. After Sorensson
-// and Een, MiniSat 2.1 (2008).
+// A clause that watches a literal that became false: its blocker is true, or the other watched literal is, or
+// another literal is watched in its place, or the other is forced, or the clause is false. A blocker is a
+// literal of the clause that the list holds beside it: most clauses are true already, and a true blocker
+// spares loading them. They are passed in a loop of their own, which changes nothing. After Sorensson and
+// Een, MiniSat 2.1 (2008).
 ghost use Rattle.std.specs.Prelude.{◌≡◌, ◌≢◌, ℕ, ◌+◌, ◌-◌, ◌*◌, ◌<◌, ◌≤◌, List, [], ◌∷◌, ◌++◌, ◌⊎◌, All, Contains, length, Option, Some, None, MatchOption, IfOk, IsTrue, slice_index_or, slice_set};
 ghost use Rattle.std.specs.List.{swap};
 ghost use Rattle.cnf_base.specs.Literal.{opposite};
@@ -30,11 +30,13 @@ pub enum Visited {
     Conflict(Hint),
 }
 
-/// The place of a literal behind the first two that is not false, looked for from the end: there a learnt clause has what
-/// became false first. Such a literal keeps its value, or stays without one, for longer, and so the clause is visited less often.
+/// The place of a literal behind the first two that is not false, looked for from the end: there a learnt
+/// clause has what became false first. Such a literal keeps its value, or stays without one, for longer, and
+/// so the clause is visited less often.
 fn find(assigned: &Assigned, clause: &Clause<'_>) -> Option<usize>
     requires { All (λ l. l.letter.0 < length assigned.now.values) clause.now }
-    ensures { MatchOption result (AreFalseFrom assigned.now.trail clause.now 2 (length clause.now)) (IsReplacement assigned.now.trail clause.now) }
+    ensures { MatchOption result (AreFalseFrom assigned.now.trail clause.now 2 (length clause.now))
+        (IsReplacement assigned.now.trail clause.now) }
 {
     let mut end = clause.len();
     'down: while end > 2 {
@@ -51,7 +53,8 @@ fn find(assigned: &Assigned, clause: &Clause<'_>) -> Option<usize>
 fn face(watches: &mut Watches, literal: Literal, place: usize)
     requires known { code literal < length watches.old.lists }
     requires place { place < length (list_of watches.old.lists literal) }
-    ensures { IsFaced watches.old watches.new (slice_index_or (list_of watches.old.lists literal) place 0) literal }
+    ensures { IsFaced watches.old watches.new (slice_index_or (list_of watches.old.lists literal) place 0)
+        literal }
 {
     watches.watching();
     if number(watches.clause(literal, place).get(1)) == number(literal) {
@@ -65,7 +68,8 @@ fn blocker_holds(assigned: &Assigned, watches: &Watches, literal: Literal, place
     requires known { code literal < length watches.now.lists }
     requires place { place < length (list_of watches.now.lists literal) }
     requires sized { length watches.now.lists ≡ 2 * length assigned.now.values }
-    ensures { IsTrue result → HasTrue (literals_of assigned.now.trail) (watcher_at watches.now literal place) }
+    ensures { IsTrue result → HasTrue (literals_of assigned.now.trail)
+        (watcher_at watches.now literal place) }
 {
     watches.watching();
     assigned.holds(watches.blocker(literal, place))
@@ -76,7 +80,8 @@ pub fn skip(assigned: &Assigned, watches: &Watches, literal: Literal, from: usiz
     requires known { code literal < length watches.now.lists }
     requires sized { length watches.now.lists ≡ 2 * length assigned.now.values }
     ensures on { from ≤ result }
-    ensures passed { (j : ℕ) → from ≤ j → j < result → HasTrue (literals_of assigned.now.trail) (watcher_at watches.now literal j) }
+    ensures passed { (j : ℕ) → from ≤ j → j < result → HasTrue (literals_of assigned.now.trail)
+        (watcher_at watches.now literal j) }
 {
     let mut i = from;
     'along: while i < watches.watchers(literal) {
@@ -102,8 +107,10 @@ pub fn visit(
     ensures grown { IsGrown assigned.old.trail assigned.new.trail }
     ensures letters { length assigned.new.values ≡ length assigned.old.values }
     ensures kept { IsVisiting log.now.inputs log.now.lines names.now place 0 assigned.new watches.new }
-    ensures sure { (n : ℕ) → n ≤ place → IsSure watches.old.clauses assigned.old.trail n → IsSure watches.new.clauses assigned.new.trail n }
-    ensures found { IfOk result (IsVisited log.now.inputs log.now.lines names.now place i (list_length assigned.old.trail watches.old place) assigned.new watches.new) }
+    ensures sure { (n : ℕ) → n ≤ place → IsSure watches.old.clauses assigned.old.trail n
+        → IsSure watches.new.clauses assigned.new.trail n }
+    ensures found { IfOk result (IsVisited log.now.inputs log.now.lines names.now place i
+        (list_length assigned.old.trail watches.old place) assigned.new watches.new) }
 {
     watches.watching();
     let falsified = assigned.entry(place).literal.opposite();

@@ -1,5 +1,5 @@
-// The next decision: of the letters without a value the most active one is held ready. Nothing is promised of it but safety: who asks
-// for a letter tests whether it has a value.
+// The next decision: of the letters without a value the most active one is held ready. Nothing is promised of
+// it but safety: who asks for a letter tests whether it has a value.
 ghost use Rattle.std.specs.Prelude.{◌≡◌, ◌≢◌, ◌<◌, ◌↔◌, IsTrue, None, length};
 ghost use Rattle.cdcl_trail.specs.Trail.{literals_of, IsUnset};
 ghost use Rattle.cdcl_state.specs.StateValue.{positive};
@@ -8,8 +8,9 @@ use cdcl_activity::choices::Choices;
 use cdcl_trail::assigned::Assigned;
 use cnf_base::{Hint, Letter, Literal};
 
-/// Holds the most active letter without a value ready, if there is one. The one that was held before goes back, if it has
-/// no value; if it has one, it waits again once it loses that. After a conflict nothing is decided, and so nothing is done.
+/// Holds the most active letter without a value ready, if there is one. The one that was held before goes
+/// back, if it has no value; if it has one, it waits again once it loses that. After a conflict nothing is
+/// decided, and so nothing is done.
 pub fn offer(choices: &mut Choices, assigned: &Assigned, conflict: Option<Hint>)
     ensures { conflict ≢ None → choices.new ≡ choices.old }
 {
@@ -34,7 +35,8 @@ pub fn offer(choices: &mut Choices, assigned: &Assigned, conflict: Option<Hint>)
 
 /// Whether the letter has no value.
 fn is_open(assigned: &Assigned, letter: u32) -> bool
-    ensures { IsTrue result ↔ ((letter < length assigned.now.values) × IsUnset (literals_of assigned.now.trail) (positive letter)) }
+    ensures { IsTrue result ↔ ((letter < length assigned.now.values)
+        × IsUnset (literals_of assigned.now.trail) (positive letter)) }
 {
     if letter as usize >= assigned.letters() {
         return false;

@@ -1,5 +1,5 @@
-//! The state of a clause solver: trail, log and watched clauses together, kept in step as clauses come, conflicts are learnt
-//! from and decisions are taken back.
+//! The state of a clause solver: trail, log and watched clauses together, kept in step as clauses come,
+//! conflicts are learnt from and decisions are taken back.
 #![tactic(auto)]
 
 pub mod decide;

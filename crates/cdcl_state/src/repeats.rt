@@ -1,4 +1,5 @@
-// Whether a letter stands in a clause twice, in time linear in the clause: its letters are marked one after another.
+// Whether a letter stands in a clause twice, in time linear in the clause: its letters are marked one after
+// another.
 ghost use Rattle.std.specs.Prelude.{◌≡◌, ℕ, ◌<◌, length, All, false};
 ghost use Rattle.cdcl_watches.specs.Watching.{AreApart};
 

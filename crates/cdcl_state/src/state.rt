@@ -62,13 +62,18 @@ impl Model for State {
 
     ghost view = { λ a. record { letters = a.letters; trail = a.assigned.trail; log = a.log } };
 
-    ghost invariant = { λ a. IsState a.letters a.assigned a.watches a.names a.units.items a.log a.head a.sure a.done a.firm (length a.marks.stamps) };
+    ghost invariant = { λ a. IsState a.letters a.assigned a.watches a.names a.units.items a.log a.head a.sure
+        a.done a.firm (length a.marks.stamps) };
 }
 
 impl State {
     /// No letters, no trail and an empty log.
     pub fn new(alloc: Global) -> Self
-        ensures { result ≡ record { letters = 0; trail = []; log = record { inputs = []; lines = []; hints = [] } } }
+        ensures { result ≡ record {
+          letters = 0;
+          trail = [];
+          log = record { inputs = []; lines = []; hints = [] };
+        } }
     {
         State {
             letters: 0,
@@ -89,7 +94,8 @@ impl State {
     /// Assigns what unit clauses force, until some clause is false or none is unit.
     pub fn propagate(&mut self) -> Result<Option<Hint>, AllocError>
         ensures grown { Propagated self.old self.new }
-        ensures found { IfOk result (λ found. MatchOption found (IsSettled self.new) (IsConflict self.new.log.inputs self.new.log.lines (literals_of self.new.trail))) }
+        ensures found { IfOk result (λ found. MatchOption found (IsSettled self.new)
+            (IsConflict self.new.log.inputs self.new.log.lines (literals_of self.new.trail))) }
     {
         match visit_units(&mut self.assigned, &self.log, &self.units, self.done)? {
             Some(hint) => return Ok(Some(hint)),
@@ -118,7 +124,8 @@ impl State {
     /// Whether the literal is true, if it has a value.
     pub fn value(&self, literal: Literal) -> Option<bool>
         requires { IsKnown self.now.letters literal }
-        ensures { MatchOption result (IsUnset (literals_of self.now.trail) literal) (HasValue (literals_of self.now.trail) literal) }
+        ensures { MatchOption result (IsUnset (literals_of self.now.trail) literal)
+            (HasValue (literals_of self.now.trail) literal) }
     {
         if self.assigned.holds(literal) {
             return Some(true);
@@ -129,10 +136,11 @@ impl State {
         None
     }
 
-    /// A literal of a known letter that has no value, if there is one: first of the letters that may be decided, and
-    /// where none is left, of all of them.
+    /// A literal of a known letter that has no value, if there is one: first of the letters that may be
+    /// decided, and where none is left, of all of them.
     pub fn free(&self) -> Option<Literal>
-        ensures { MatchOption result (AreSet self.now) (λ l. IsUnset (literals_of self.now.trail) l × IsKnown self.now.letters l) }
+        ensures { MatchOption result (AreSet self.now)
+            (λ l. IsUnset (literals_of self.now.trail) l × IsKnown self.now.letters l) }
     {
         let _ = &self.assigned;
         match self.ready() {
@@ -197,7 +205,9 @@ impl State {
     /// Puts the clause behind the inputs, and answers its number there.
     pub fn add(&mut self, alloc: Global, clause: &[Literal]) -> Result<u64, AllocError>
         requires { All (IsKnown self.old.letters) clause.now }
-        ensures added { IfOk result (λ number. (self.new ≡ with_log self.old (with_input self.old.log clause.now)) × (number ≡ length self.new.log.inputs)) }
+        ensures added { IfOk result (λ number. (self.new
+            ≡ with_log self.old (with_input self.old.log clause.now))
+            × (number ≡ length self.new.log.inputs)) }
         ensures refused { OnErr result (self.new ≡ self.old) }
     {
         if is_ready(&self.assigned, &mut self.marks, clause) {
@@ -213,7 +223,9 @@ impl State {
         requires known { All (IsKnown self.old.letters) clause.now }
         requires same { HaveSame clause.now stored.now }
         requires apart { AreApart stored.now }
-        ensures added { IfOk result (λ number. (self.new ≡ with_log self.old (with_input self.old.log clause.now)) × (number ≡ length self.new.log.inputs)) }
+        ensures added { IfOk result (λ number. (self.new
+            ≡ with_log self.old (with_input self.old.log clause.now))
+            × (number ≡ length self.new.log.inputs)) }
         ensures refused { OnErr result (self.new ≡ self.old) }
     {
         if stored.len() < 2 {
@@ -226,7 +238,9 @@ impl State {
         requires known { All (IsKnown self.old.letters) clause.now }
         requires same { HaveSame clause.now stored.now }
         requires short { length stored.now < 2 }
-        ensures added { IfOk result (λ number. (self.new ≡ with_log self.old (with_input self.old.log clause.now)) × (number ≡ length self.new.log.inputs)) }
+        ensures added { IfOk result (λ number. (self.new
+            ≡ with_log self.old (with_input self.old.log clause.now))
+            × (number ≡ length self.new.log.inputs)) }
         ensures refused { OnErr result (self.new ≡ self.old) }
     {
         let count = self.units.len();
@@ -248,7 +262,9 @@ impl State {
         requires same { HaveSame clause.now stored.now }
         requires long { 2 ≤ length stored.now }
         requires apart { AreApart stored.now }
-        ensures added { IfOk result (λ number. (self.new ≡ with_log self.old (with_input self.old.log clause.now)) × (number ≡ length self.new.log.inputs)) }
+        ensures added { IfOk result (λ number. (self.new
+            ≡ with_log self.old (with_input self.old.log clause.now))
+            × (number ≡ length self.new.log.inputs)) }
         ensures refused { OnErr result (self.new ≡ self.old) }
     {
         self.watches.watching();
@@ -279,9 +295,12 @@ impl State {
         clause: &[Literal],
         hints: &[Hint],
     ) -> Result<u64, AllocError>
-        requires step { IsHintedStep self.old.log.inputs self.old.log.lines greatest_u32 clause.now hints.now }
+        requires step { IsHintedStep self.old.log.inputs self.old.log.lines greatest_u32 clause.now
+            hints.now }
         requires known { All (IsKnown self.old.letters) clause.now }
-        ensures added { IfOk result (λ number. (self.new ≡ with_log self.old (with_line self.old.log clause.now hints.now)) × (number ≡ length self.new.log.lines)) }
+        ensures added { IfOk result (λ number. (self.new
+            ≡ with_log self.old (with_line self.old.log clause.now hints.now))
+            × (number ≡ length self.new.log.lines)) }
         ensures refused { OnErr result (self.new ≡ self.old) }
     {
         let mut stored: Vec<Literal> = Vec::new(alloc);
@@ -298,11 +317,14 @@ impl State {
         hints: &[Hint],
         stored: &[Literal],
     ) -> Result<u64, AllocError>
-        requires step { IsHintedStep self.old.log.inputs self.old.log.lines greatest_u32 clause.now hints.now }
+        requires step { IsHintedStep self.old.log.inputs self.old.log.lines greatest_u32 clause.now
+            hints.now }
         requires known { All (IsKnown self.old.letters) clause.now }
         requires same { HaveSame clause.now stored.now }
         requires short { length stored.now < 2 }
-        ensures added { IfOk result (λ number. (self.new ≡ with_log self.old (with_line self.old.log clause.now hints.now)) × (number ≡ length self.new.log.lines)) }
+        ensures added { IfOk result (λ number. (self.new
+            ≡ with_log self.old (with_line self.old.log clause.now hints.now))
+            × (number ≡ length self.new.log.lines)) }
         ensures refused { OnErr result (self.new ≡ self.old) }
     {
         let count = self.units.len();
@@ -325,12 +347,15 @@ impl State {
         hints: &[Hint],
         stored: &[Literal],
     ) -> Result<u64, AllocError>
-        requires step { IsHintedStep self.old.log.inputs self.old.log.lines greatest_u32 clause.now hints.now }
+        requires step { IsHintedStep self.old.log.inputs self.old.log.lines greatest_u32 clause.now
+            hints.now }
         requires known { All (IsKnown self.old.letters) clause.now }
         requires same { HaveSame clause.now stored.now }
         requires long { 2 ≤ length stored.now }
         requires apart { AreApart stored.now }
-        ensures added { IfOk result (λ number. (self.new ≡ with_log self.old (with_line self.old.log clause.now hints.now)) × (number ≡ length self.new.log.lines)) }
+        ensures added { IfOk result (λ number. (self.new
+            ≡ with_log self.old (with_line self.old.log clause.now hints.now))
+            × (number ≡ length self.new.log.lines)) }
         ensures refused { OnErr result (self.new ≡ self.old) }
     {
         self.watches.watching();

@@ -1,4 +1,5 @@
-// A clause comes into the state: each of its literals once, watched by the first two. A repeated literal is dropped.
+// A clause comes into the state: each of its literals once, watched by the first two. A repeated literal is
+// dropped.
 ghost use Rattle.std.specs.Prelude.{◌≡◌, ◌≢◌, ℕ, ◌<◌, ◌≤◌, ◌⊎◌, ◌↔◌, IsTrue, List, [], ◌∷◌, ◌++◌, length, take, All, Contains, OnOk, if◌then◌else◌, is_ok};
 ghost use Rattle.cdcl_watches.specs.Watching.{code, AreApart, IsAdded, WatchValue, with_clause};
 ghost use Rattle.cnf_base.specs.Literal.{opposite};
@@ -87,7 +88,8 @@ pub fn lead(assigned: &Assigned, clause: &mut Vec<Literal>)
     }
 }
 
-/// Whether the clause may be watched by its first two literals as it stands: no letter is in it twice, and neither of the two is false.
+/// Whether the clause may be watched by its first two literals as it stands: no letter is in it twice, and
+/// neither of the two is false.
 pub fn is_ready(assigned: &Assigned, marks: &mut Marks, clause: &[Literal]) -> bool
     requires known { All (λ l. l.letter.0 < length assigned.now.values) clause.now }
     requires marks { length assigned.now.values ≤ length marks.old.stamps }
@@ -113,7 +115,8 @@ pub fn store(
     requires long { 2 ≤ length clause.now }
     requires apart { AreApart clause.now }
     requires fits { All (λ l. code l < length watches.old.lists) clause.now }
-    ensures watches { watches.new ≡ (if is_ok result then with_clause watches.old clause.now else watches.old) }
+    ensures watches { watches.new ≡ (if is_ok result then with_clause watches.old clause.now else
+        watches.old) }
     ensures names { names.new ≡ (if is_ok result then names.old ++ hint ∷ [] else names.old) }
 {
     let count = names.len();

@@ -26,7 +26,8 @@ fn widen_one(
     ensures few { length assigned.new.values ≤ length assigned.old.values + 1 }
     ensures marks { length assigned.new.values ≤ length marks.new.stamps }
     ensures held { choices.new.held ≡ choices.old.held }
-    ensures waiting { OnOk result (length choices.old.order.places < 2 ^ 32 → (x : ℕ) → IsWaiting choices.new.order x ↔ (IsNew choices.old x ⊎ IsWaiting choices.old.order x)) }
+    ensures waiting { OnOk result (length choices.old.order.places < 2 ^ 32 → (x : ℕ)
+        → IsWaiting choices.new.order x ↔ (IsNew choices.old x ⊎ IsWaiting choices.old.order x)) }
     ensures ok { OnOk result (length assigned.new.values ≡ length assigned.old.values + 1) }
 {
     marks.letter()?;

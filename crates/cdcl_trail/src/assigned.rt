@@ -1,5 +1,5 @@
-// The trail: the literals that are true, in the order in which they became so, each with its level and its reason, and the
-// letters' values that it tells. After Marques-Silva and Sakallah, GRASP (1999).
+// The trail: the literals that are true, in the order in which they became so, each with its level and its
+// reason, and the letters' values that it tells. After Marques-Silva and Sakallah, GRASP (1999).
 ghost use Rattle.std.specs.Prelude.{◌≡◌, ◌≢◌, ℕ, ◌+◌, ◌-◌, ◌^◌, ◌<◌, ◌≤◌, List, [], ◌∷◌, ◌++◌, ◌⊎◌, All, length, take, Option, Some, None, MatchOption, not, if◌then◌else◌, is_ok, slice_index_or, slice_set, Contains, ◌↔◌, IsTrue};
 ghost use Rattle.cdcl_trail.specs.Trail.{IsUnset, literals_of, AreValues, blank_entry, literal_at, place_level, place_reason};
 
@@ -88,7 +88,8 @@ impl Assigned {
 
     /// Makes room for one letter more.
     pub fn letter(&mut self) -> Result<(), AllocError>
-        ensures values { self.new.values ≡ (if is_ok result then self.old.values ++ None ∷ [] else self.old.values) }
+        ensures values { self.new.values ≡ (if is_ok result then self.old.values ++ None
+            ∷ [] else self.old.values) }
         ensures trail { self.new.trail ≡ self.old.trail }
     {
         self.places.push(0)?;
@@ -108,7 +109,8 @@ impl Assigned {
     pub fn assign(&mut self, entry: Entry) -> Result<(), AllocError>
         requires unset { IsUnset (literals_of self.old.trail) entry.literal }
         requires known { entry.literal.letter.0 < length self.old.values }
-        ensures trail { self.new.trail ≡ (if is_ok result then self.old.trail ++ entry ∷ [] else self.old.trail) }
+        ensures trail { self.new.trail ≡ (if is_ok result then self.old.trail ++ entry
+            ∷ [] else self.old.trail) }
         ensures letters { length self.new.values ≡ length self.old.values }
     {
         let place = self.trail.len();
@@ -121,14 +123,16 @@ impl Assigned {
     /// The place of the trail at which the letter stands, if it stands there.
     pub fn place_of(&self, letter: usize) -> usize
         requires { letter < length self.now.values }
-        ensures { (k : ℕ) → k < length self.now.trail → (literal_at self.now.trail k).letter.0 ≡ letter → result ≡ k }
+        ensures { (k : ℕ) → k < length self.now.trail → (literal_at self.now.trail k).letter.0 ≡ letter
+            → result ≡ k }
     {
         self.places[letter]
     }
 
     /// Why the letter has its value, if it stands on the trail; a decision has no reason.
     pub fn reason_of(&self, letter: usize) -> Option<Hint>
-        ensures { (k : ℕ) → k < length self.now.trail → (literal_at self.now.trail k).letter.0 ≡ letter → result ≡ place_reason self.now.trail k }
+        ensures { (k : ℕ) → k < length self.now.trail → (literal_at self.now.trail k).letter.0 ≡ letter
+            → result ≡ place_reason self.now.trail k }
     {
         match self.places.get(letter) {
             Some(place) => self.trail.reason(*place),
@@ -138,7 +142,8 @@ impl Assigned {
 
     /// The level of the letter, if it stands on the trail.
     pub fn level_of(&self, letter: usize) -> usize
-        ensures { (k : ℕ) → k < length self.now.trail → (literal_at self.now.trail k).letter.0 ≡ letter → result ≡ place_level self.now.trail k }
+        ensures { (k : ℕ) → k < length self.now.trail → (literal_at self.now.trail k).letter.0 ≡ letter
+            → result ≡ place_level self.now.trail k }
     {
         match self.places.get(letter) {
             Some(place) => self.level_at(*place),
@@ -169,7 +174,8 @@ impl Assigned {
     pub fn front(&self, level: usize) -> usize
         ensures within { result ≤ length self.now.trail }
         ensures low { 0 < result → (slice_index_or self.now.trail (result - 1) blank_entry).level ≤ level }
-        ensures high { result < length self.now.trail → level < (slice_index_or self.now.trail result blank_entry).level }
+        ensures high { result < length self.now.trail → level
+            < (slice_index_or self.now.trail result blank_entry).level }
     {
         let mut count = self.trail.len();
         'down: while count > 0 {

@@ -1,5 +1,5 @@
-// The entries of the trail in sixteen bytes each: an analysis reads levels and reasons here and there, so what matters
-// is that many of them fit into a cache.
+// The entries of the trail in sixteen bytes each: an analysis reads levels and reasons here and there, so
+// what matters is that many of them fit into a cache.
 ghost use Rattle.std.specs.Prelude.{◌≡◌, ◌<◌, [], ◌∷◌, ◌++◌, length, take, if◌then◌else◌, is_ok, IfSome, slice_index_or};
 ghost use Rattle.cdcl_trail.specs.Entries.{reason_of};
 ghost use Rattle.cdcl_trail.specs.Trail.{blank_entry, place_level, place_reason};
@@ -57,7 +57,11 @@ impl Model for Entries {
 
     ghost Value = { List Entry };
 
-    ghost view = { λ a. map (λ p. record { literal = p.literal; level = p.level; reason = reason_of p.reason }) a.items.items };
+    ghost view = { λ a. map (λ p. record {
+      literal = p.literal;
+      level = p.level;
+      reason = reason_of p.reason;
+    }) a.items.items };
 }
 
 impl Entries {

@@ -1,5 +1,5 @@
-//! The trail of a clause solver: the literals that are true, in the order in which they became so, each with its level and
-//! its reason, and the letters' values.
+//! The trail of a clause solver: the literals that are true, in the order in which they became so, each with
+//! its level and its reason, and the letters' values.
 #![tactic(auto)]
 
 pub mod assigned;

@@ -1,6 +1,6 @@
-// The values of letters, a byte for each: propagation reads values more often than anything else, so what matters is
-// that many of them fit into a cache, and that a literal is compared without a branch. After Een and Sorensson, An
-// extensible SAT-solver (2003).
+// The values of letters, a byte for each: propagation reads values more often than anything else, so what
+// matters is that many of them fit into a cache, and that a literal is compared without a branch. After Een
+// and Sorensson, An extensible SAT-solver (2003).
 ghost use Rattle.std.specs.Prelude.{◌≡◌, ◌<◌, ◌↔◌, IsTrue, [], ◌∷◌, ◌++◌, length, Some, None, not, if◌then◌else◌, is_ok, slice_set};
 ghost use Rattle.cdcl_trail.specs.Values.{value_at, byte_of};
 

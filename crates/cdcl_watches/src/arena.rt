@@ -1,6 +1,6 @@
-// The clauses in one buffer of numbers, one behind the other: the head of a clause is its length and its number, and
-// the codes of its literals follow. Who has the place of a head comes to the clause by one read, with no table
-// between. After Een and Sorensson, An extensible SAT-solver (2003).
+// The clauses in one buffer of numbers, one behind the other: the head of a clause is its length and its
+// number, and the codes of its literals follow. Who has the place of a head comes to the clause by one read,
+// with no table between. After Een and Sorensson, An extensible SAT-solver (2003).
 ghost use Rattle.std.specs.Prelude.{◌≡◌, ℕ, ◌+◌, ◌-◌, ◌<◌, ◌≤◌, ◌^◌, List, [], ◌∷◌, ◌++◌, length, map, take, All, Contains, IfOk, OnOk, OnErr, slice_set};
 ghost use Rattle.std.specs.List.{swap};
 ghost use Rattle.cdcl_watches.specs.Watching.{code, clause_of, AreApart};
@@ -84,7 +84,8 @@ impl Arena {
     /// Puts the clause behind the others, and answers its head. Want of room is told as want of memory.
     pub fn push(&mut self, row: &[Literal]) -> Result<u32, AllocError>
         requires { All (λ l. code l < 2 ^ 32) row.now }
-        ensures pushed { IfOk result (λ head. self.new ≡ record { clauses = self.old.clauses ++ row.now ∷ []; heads = self.old.heads ++ head ∷ [] }) }
+        ensures pushed { IfOk result (λ head. self.new
+            ≡ record { clauses = self.old.clauses ++ row.now ∷ []; heads = self.old.heads ++ head ∷ [] }) }
         ensures refused { OnErr result (self.new ≡ self.old) }
     {
         let from = self.items.len();
@@ -113,7 +114,10 @@ impl Arena {
     /// Takes the last clause off.
     pub fn pop(&mut self)
         requires { 0 < length self.old.clauses }
-        ensures { self.new ≡ record { clauses = take (length self.old.clauses - 1) self.old.clauses; heads = take (length self.old.clauses - 1) self.old.heads } }
+        ensures { self.new ≡ record {
+          clauses = take (length self.old.clauses - 1) self.old.clauses;
+          heads = take (length self.old.clauses - 1) self.old.heads;
+        } }
     {
         let count = self.heads.len() - 1;
         let end = self.heads[count] as usize;
@@ -126,7 +130,8 @@ impl Arena {
         requires known { Contains self.old.heads head }
         requires first { i < length (clause_of self.old.clauses (number_of self.old.heads head)) }
         requires second { j < length (clause_of self.old.clauses (number_of self.old.heads head)) }
-        ensures clauses { self.new.clauses ≡ slice_set self.old.clauses (number_of self.old.heads head) (swap (clause_of self.old.clauses (number_of self.old.heads head)) i j) }
+        ensures clauses { self.new.clauses ≡ slice_set self.old.clauses (number_of self.old.heads head)
+            (swap (clause_of self.old.clauses (number_of self.old.heads head)) i j) }
         ensures heads { self.new.heads ≡ self.old.heads }
     {
         let from = head as usize + 2;
@@ -154,7 +159,8 @@ fn put_row(items: &mut Vec<u32>, number: u32, row: &[Literal]) -> Result<(), All
     requires fits { All (λ l. code l < 2 ^ 32) row.now }
     requires short { length row.now < 2 ^ 32 }
     ensures kept { take (length items.old.items) items.new.items ≡ items.old.items }
-    ensures put { OnOk result (items.new.items ≡ items.old.items ++ length row.now ∷ number ∷ map code row.now) }
+    ensures put { OnOk result (items.new.items ≡ items.old.items ++ length row.now ∷ number
+        ∷ map code row.now) }
 {
     items.push(row.len() as u32)?;
     items.push(number)?;

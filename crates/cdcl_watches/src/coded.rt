@@ -1,5 +1,6 @@
-// Literals by their numbers: twice the letter, and one more where it is negated. A number takes half the memory of a
-// literal, and lists of watchers are mostly memory that is read. After Een and Sorensson, An extensible SAT-solver (2003).
+// Literals by their numbers: twice the letter, and one more where it is negated. A number takes half the
+// memory of a literal, and lists of watchers are mostly memory that is read. After Een and Sorensson, An
+// extensible SAT-solver (2003).
 ghost use Rattle.std.specs.Prelude.{◌≡◌, ◌<◌, ◌^◌};
 ghost use Rattle.cdcl_watches.specs.Watching.{code, literal_of};
 

@@ -1,6 +1,6 @@
-// For each literal the list of the clauses that watch it. A watcher carries, beside the place of its clause, a literal
-// of it: where that literal is true the clause need not be looked at, which saves most reads of clauses. After
-// Sorensson and Een, MiniSat 2.1 (2008).
+// For each literal the list of the clauses that watch it. A watcher carries, beside the place of its clause,
+// a literal of it: where that literal is true the clause need not be looked at, which saves most reads of
+// clauses. After Sorensson and Een, MiniSat 2.1 (2008).
 ghost use Rattle.std.specs.Prelude.{◌≡◌, ℕ, ◌+◌, ◌-◌, ◌<◌, ◌≤◌, ◌^◌, List, [], ◌∷◌, ◌++◌, length, take, if◌then◌else◌, is_ok, slice_index_or, slice_set};
 ghost use Rattle.std.specs.List.{swap_remove};
 ghost use Rattle.cdcl_watches.specs.Watching.{code};
@@ -33,7 +33,8 @@ pub fn watch(head: u32, blocker: Literal) -> Watcher
     }
 }
 
-/// Lists of watchers, one for each literal. There is room for 4,294,967,296 of them, so many as there are codes.
+/// Lists of watchers, one for each literal. There is room for 4,294,967,296 of them, so many as there are
+/// codes.
 #[derive(Drop)]
 pub struct WatchLists {
     lists: Vec<Vec<Watcher>>,
@@ -108,7 +109,8 @@ impl WatchLists {
     pub fn set(&mut self, list: usize, place: usize, watcher: Watcher)
         requires list { list < length self.old }
         requires place { place < length (slice_index_or self.old list []) }
-        ensures { self.new ≡ slice_set self.old list (slice_set (slice_index_or self.old list []) place watcher) }
+        ensures { self.new ≡ slice_set self.old list (slice_set
+            (slice_index_or self.old list []) place watcher) }
     {
         self.lists[list][place] = watcher;
     }
@@ -116,7 +118,8 @@ impl WatchLists {
     /// Puts the watcher behind a list.
     pub fn push(&mut self, list: usize, watcher: Watcher) -> Result<(), AllocError>
         requires { list < length self.old }
-        ensures { self.new ≡ (if is_ok result then slice_set self.old list (slice_index_or self.old list [] ++ watcher ∷ []) else self.old) }
+        ensures { self.new ≡ (if is_ok result then slice_set self.old list
+            (slice_index_or self.old list [] ++ watcher ∷ []) else self.old) }
     {
         match self.lists[list].push(watcher) {
             Ok(()) => return Ok(()),
@@ -128,7 +131,8 @@ impl WatchLists {
     pub fn pop(&mut self, list: usize)
         requires list { list < length self.old }
         requires some { 0 < length (slice_index_or self.old list []) }
-        ensures { self.new ≡ slice_set self.old list (take (length (slice_index_or self.old list []) - 1) (slice_index_or self.old list [])) }
+        ensures { self.new ≡ slice_set self.old list (take (length (slice_index_or self.old list []) - 1)
+            (slice_index_or self.old list [])) }
     {
         let count = self.lists[list].len() - 1;
         self.lists[list].truncate(count);
@@ -138,7 +142,8 @@ impl WatchLists {
     pub fn swap_remove(&mut self, list: usize, place: usize)
         requires list { list < length self.old }
         requires place { place < length (slice_index_or self.old list []) }
-        ensures { self.new ≡ slice_set self.old list (swap_remove (slice_index_or self.old list []) place nobody) }
+        ensures { self.new ≡ slice_set self.old list (swap_remove
+            (slice_index_or self.old list []) place nobody) }
     {
         self.lists[list].swap_remove(place);
     }

@@ -1,6 +1,7 @@
-// Two watched literals: a clause stands in the lists of its first two literals and in no other, and the type keeps it so.
-// As long as neither is false, nothing else of the clause matters. After Moskewicz, Madigan, Zhao, Zhang and Malik,
-// Chaff (2001). Each place of a list also gives a literal of its clause; contracts promise no more of which one it is.
+// Two watched literals: a clause stands in the lists of its first two literals and in no other, and the type
+// keeps it so. As long as neither is false, nothing else of the clause matters. After Moskewicz, Madigan,
+// Zhao, Zhang and Malik, Chaff (2001). Each place of a list also gives a literal of its clause; contracts
+// promise no more of which one it is.
 ghost use Rattle.std.specs.Prelude.{◌≡◌, ℕ, ◌+◌, ◌-◌, ◌<◌, ◌≤◌, List, [], ◌∷◌, ◌++◌, length, All, Contains, if◌then◌else◌, is_ok, slice_index_or, slice_set};
 ghost use Rattle.std.specs.List.{swap, swap_remove};
 ghost use Rattle.cdcl_watches.specs.Watching.{code, list_of, clause_of, IsWatching, AreApart, IsAdded, IsWidened, WatchValue, with_clause, with_lists};
@@ -68,17 +69,20 @@ impl Watches {
     pub fn clause(&self, literal: Literal, place: usize) -> Clause<'_>
         requires known { code literal < length self.now.lists }
         requires place { place < length (list_of self.now.lists literal) }
-        ensures { result ≡ clause_of self.now.clauses (slice_index_or (list_of self.now.lists literal) place 0) }
+        ensures { result ≡ clause_of self.now.clauses (slice_index_or
+            (list_of self.now.lists literal) place 0) }
     {
         self.arena
             .clause(self.lists.get(number(literal), place).head)
     }
 
-    /// A literal of the clause at a place of the literal's list: where it is true, the clause need not be looked at.
+    /// A literal of the clause at a place of the literal's list: where it is true, the clause need not be
+    /// looked at.
     pub fn blocker(&self, literal: Literal, place: usize) -> Literal
         requires known { code literal < length self.now.lists }
         requires place { place < length (list_of self.now.lists literal) }
-        ensures { Contains (clause_of self.now.clauses (slice_index_or (list_of self.now.lists literal) place 0)) result }
+        ensures { Contains (clause_of self.now.clauses
+            (slice_index_or (list_of self.now.lists literal) place 0)) result }
     {
         decode(self.lists.get(number(literal), place).blocker)
     }
@@ -87,7 +91,8 @@ impl Watches {
     pub fn refresh(&mut self, literal: Literal, place: usize, index: usize)
         requires known { code literal < length self.old.lists }
         requires place { place < length (list_of self.old.lists literal) }
-        requires within { index < length (clause_of self.old.clauses (slice_index_or (list_of self.old.lists literal) place 0)) }
+        requires within { index < length (clause_of self.old.clauses
+            (slice_index_or (list_of self.old.lists literal) place 0)) }
         ensures { self.new ≡ self.old }
     {
         let list = number(literal);
@@ -101,8 +106,12 @@ impl Watches {
     pub fn turn(&mut self, literal: Literal, place: usize)
         requires known { code literal < length self.old.lists }
         requires place { place < length (list_of self.old.lists literal) }
-        requires long { 2 ≤ length (clause_of self.old.clauses (slice_index_or (list_of self.old.lists literal) place 0)) }
-        ensures clauses { self.new.clauses ≡ slice_set self.old.clauses (slice_index_or (list_of self.old.lists literal) place 0) (swap (clause_of self.old.clauses (slice_index_or (list_of self.old.lists literal) place 0)) 0 1) }
+        requires long { 2 ≤ length (clause_of self.old.clauses
+            (slice_index_or (list_of self.old.lists literal) place 0)) }
+        ensures clauses { self.new.clauses ≡ slice_set self.old.clauses
+            (slice_index_or (list_of self.old.lists literal) place 0)
+            (swap (clause_of self.old.clauses (slice_index_or (list_of self.old.lists literal) place 0)) 0
+            1) }
         ensures lists { self.new.lists ≡ self.old.lists }
     {
         let head = self.lists.get(number(literal), place).head;
@@ -120,11 +129,20 @@ impl Watches {
         requires known { code second < length self.old.lists }
         requires place { place < length (list_of self.old.lists second) }
         requires high { 2 ≤ j }
-        requires within { j < length (clause_of self.old.clauses (slice_index_or (list_of self.old.lists second) place 0)) }
-        requires second { second ≡ slice_index_or (clause_of self.old.clauses (slice_index_or (list_of self.old.lists second) place 0)) 1 second }
-        requires other { other ≡ slice_index_or (clause_of self.old.clauses (slice_index_or (list_of self.old.lists second) place 0)) j other }
-        ensures clauses { self.new.clauses ≡ (if is_ok result then slice_set self.old.clauses (slice_index_or (list_of self.old.lists second) place 0) (swap (clause_of self.old.clauses (slice_index_or (list_of self.old.lists second) place 0)) 1 j) else self.old.clauses) }
-        ensures lists { self.new.lists ≡ (if is_ok result then slice_set (slice_set self.old.lists (code other) (list_of self.old.lists other ++ slice_index_or (list_of self.old.lists second) place 0 ∷ [])) (code second) (swap_remove (list_of self.old.lists second) place 0) else self.old.lists) }
+        requires within { j < length (clause_of self.old.clauses
+            (slice_index_or (list_of self.old.lists second) place 0)) }
+        requires second { second ≡ slice_index_or (clause_of self.old.clauses
+            (slice_index_or (list_of self.old.lists second) place 0)) 1 second }
+        requires other { other ≡ slice_index_or (clause_of self.old.clauses
+            (slice_index_or (list_of self.old.lists second) place 0)) j other }
+        ensures clauses { self.new.clauses ≡ (if is_ok result then slice_set self.old.clauses
+            (slice_index_or (list_of self.old.lists second) place 0)
+            (swap (clause_of self.old.clauses (slice_index_or (list_of self.old.lists second) place 0)) 1 j)
+            else self.old.clauses) }
+        ensures lists { self.new.lists ≡ (if is_ok result then slice_set
+            (slice_set self.old.lists (code other) (list_of self.old.lists other
+            ++ slice_index_or (list_of self.old.lists second) place 0 ∷ [])) (code second)
+            (swap_remove (list_of self.old.lists second) place 0) else self.old.lists) }
     {
         self.lists.few();
         let head = self.lists.get(number(second), place).head;
@@ -184,7 +202,8 @@ impl Watches {
 
     /// Makes one more letter known: two literals that nothing watches.
     pub fn letter(&mut self, alloc: Global) -> Result<(), AllocError>
-        ensures { self.new ≡ (if is_ok result then with_lists self.old (self.old.lists ++ [] ∷ [] ∷ []) else self.old) }
+        ensures { self.new ≡ (if is_ok result then with_lists self.old
+            (self.old.lists ++ [] ∷ [] ∷ []) else self.old) }
     {
         self.lists.grow(alloc)?;
         match self.lists.grow(alloc) {

@@ -39,7 +39,9 @@ fn find_near(bytes: &[u8], at: usize, byte: u8) -> usize
 
 /// The place of the 0 behind the literals that begin the line.
 pub fn literals_end(line: &[u8]) -> usize
-    ensures { (literals : List SomeLiteral) (more : List ℕ) → All IsLiteral literals → line.now ≡ flat_map literal_text literals ++ 48 ∷ more → result ≡ length (flat_map literal_text literals) }
+    ensures { (literals : List SomeLiteral) (more : List ℕ) → All IsLiteral literals
+        → line.now ≡ flat_map literal_text literals ++ 48 ∷ more
+        → result ≡ length (flat_map literal_text literals) }
 {
     let mut end = 0;
     while end < line.len() && line[end] != b'0' {

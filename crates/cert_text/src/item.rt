@@ -29,7 +29,9 @@ pub enum Item<'t> {
 
 fn line_in(line: &[u8]) -> (Literals<'_>, Hints<'_>)
     requires { IsLineText line.now }
-    ensures { (literals : List SomeLiteral) (hints : List SomeHint) → All IsLiteral literals → All IsHint hints → line.now ≡ line_text literals hints → (result.0 ≡ literals) × (result.1 ≡ hints) }
+    ensures { (literals : List SomeLiteral) (hints : List SomeHint) → All IsLiteral literals
+        → All IsHint hints → line.now ≡ line_text literals hints
+        → (result.0 ≡ literals) × (result.1 ≡ hints) }
 {
     let middle = literals_end(line);
     let literals = Literals::new(&line[..middle]);

@@ -49,7 +49,8 @@ fn mark_part(
 ) -> Result<(), AllocError>
     requires part { IsPartLine line.now }
     requires fits { at + length line.now < 2 ^ 64 }
-    ensures { OnOk result ((part : Part) → IsItem (item_of part) → line.now ≡ item_line (item_of part) → IsMarked part at spans.old.items ends.old.items spans.new.items ends.new.items) }
+    ensures { OnOk result ((part : Part) → IsItem (item_of part) → line.now ≡ item_line (item_of part)
+        → IsMarked part at spans.old.items ends.old.items spans.new.items ends.new.items) }
 {
     if line[0] == b'd' {
         let count = ends.len() as u64;
@@ -71,8 +72,10 @@ pub(crate) fn mark_parts(
     requires text { IsTextOf bytes.now (certificate_in bytes.now) }
     requires no_spans { spans.old.items ≡ [] }
     requires no_ends { ends.old.items ≡ [] }
-    ensures close { IfOk result (λ close. close ≡ length (header_text (certificate_in bytes.now) ++ flat_map part_text (certificate_in bytes.now).parts)) }
-    ensures marks { OnOk result (AreMarks (certificate_in bytes.now) (certificate_in bytes.now).parts spans.new.items ends.new.items) }
+    ensures close { IfOk result (λ close. close ≡ length
+        (header_text (certificate_in bytes.now) ++ flat_map part_text (certificate_in bytes.now).parts)) }
+    ensures marks { OnOk result (AreMarks (certificate_in bytes.now)
+        (certificate_in bytes.now).parts spans.new.items ends.new.items) }
 {
     let mut at = find(bytes, 0, b'\n') + 1;
     while bytes[at] != b'c' {
@@ -86,7 +89,8 @@ pub(crate) fn mark_parts(
 /// The targets, where the close begins at `close`.
 pub(crate) fn targets_at(alloc: Global, bytes: &[u8], close: usize) -> Result<Vec<u64>, AllocError>
     requires text { IsTextOf bytes.now (certificate_in bytes.now) }
-    requires place { close ≡ length (header_text (certificate_in bytes.now) ++ flat_map part_text (certificate_in bytes.now).parts) }
+    requires place { close ≡ length (header_text (certificate_in bytes.now)
+        ++ flat_map part_text (certificate_in bytes.now).parts) }
     ensures { IfOk result (λ targets. targets.items ≡ (certificate_in bytes.now).targets) }
 {
     let targets = Targets::new(&bytes[close + 5..bytes.len() - 1]);

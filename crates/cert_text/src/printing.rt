@@ -118,7 +118,8 @@ fn kind_bytes(kind: Kind) -> &'static [u8]
 }
 
 pub fn push_header(out: &mut Vec<u8>, kind: Kind, depth: u32) -> Result<(), AllocError>
-    ensures { OnOk result (out.new.items ≡ out.old.items ++ (codes "ltlcert 2 " ++ (kind_text kind ++ (codes " " ++ (decimal depth ++ codes "\n"))))) }
+    ensures { OnOk result (out.new.items ≡ out.old.items
+        ++ (codes "ltlcert 2 " ++ (kind_text kind ++ (codes " " ++ (decimal depth ++ codes "\n"))))) }
 {
     out.extend_from_slice(b"ltlcert 2 ")?;
     out.extend_from_slice(kind_bytes(kind))?;

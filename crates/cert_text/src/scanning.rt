@@ -71,7 +71,8 @@ fn first(role: Role, byte: u8) -> Option<(&'static [u8], Place)>
 
 #[inline(always)]
 fn number(role: Role, byte: u8) -> Option<(&'static [u8], Place)>
-    ensures { MatchOption result (number_in role byte ≡ None) (λ r. number_in role byte ≡ Some (r.0.now, r.1)) }
+    ensures { MatchOption result (number_in role byte ≡ None)
+        (λ r. number_in role byte ≡ Some (r.0.now, r.1)) }
 {
     match role {
         Role::Depth { version, kind } if byte == b'0' => Some((
@@ -90,7 +91,8 @@ fn number(role: Role, byte: u8) -> Option<(&'static [u8], Place)>
 
 #[inline(always)]
 fn literal(head: Head, byte: u8) -> Option<(&'static [u8], Place)>
-    ensures { MatchOption result (literal_in head byte ≡ None) (λ r. literal_in head byte ≡ Some (r.0.now, r.1)) }
+    ensures { MatchOption result (literal_in head byte ≡ None)
+        (λ r. literal_in head byte ≡ Some (r.0.now, r.1)) }
 {
     match byte {
         b'0' => Some((b" ", Place::Hint(head))),
@@ -134,7 +136,8 @@ fn target_end(head: Head, value: u64, byte: u8) -> Option<(&'static [u8], Place)
 fn end(role: Role, value: u64, byte: u8) -> Option<(&'static [u8], Place)>
     requires number { value ≤ greatest_in role }
     requires few { IsFew role }
-    ensures { MatchOption result (end_in role value byte ≡ None) (λ r. end_in role value byte ≡ Some (r.0.now, r.1)) }
+    ensures { MatchOption result (end_in role value byte ≡ None)
+        (λ r. end_in role value byte ≡ Some (r.0.now, r.1)) }
 {
     match role {
         Role::Depth { version, kind } => {
@@ -177,7 +180,8 @@ fn end(role: Role, value: u64, byte: u8) -> Option<(&'static [u8], Place)>
 fn more(role: Role, value: u64, byte: u8) -> Option<(&'static [u8], Place)>
     requires number { value ≤ greatest_in role }
     requires few { IsFew role }
-    ensures { MatchOption result (small_step (places.More role value) byte ≡ None) (λ r. small_step (places.More role value) byte ≡ Some (r.0.now, r.1)) }
+    ensures { MatchOption result (small_step (places.More role value) byte ≡ None)
+        (λ r. small_step (places.More role value) byte ≡ Some (r.0.now, r.1)) }
 {
     if byte < b'0' || byte > b'9' {
         return end(role, value, byte);
@@ -237,7 +241,8 @@ fn hint(head: Head, byte: u8) -> Option<(&'static [u8], Place)>
 fn next(place: Place, byte: u8) -> Option<(&'static [u8], Place)>
     requires range { IsInRange place }
     requires lines { lines_at place + 1 < 2 ^ 64 }
-    ensures { MatchOption result (small_step place byte ≡ None) (λ r. small_step place byte ≡ Some (r.0.now, r.1)) }
+    ensures { MatchOption result (small_step place byte ≡ None)
+        (λ r. small_step place byte ≡ Some (r.0.now, r.1)) }
 {
     match place {
         Place::Version => match byte {
@@ -265,7 +270,8 @@ fn next(place: Place, byte: u8) -> Option<(&'static [u8], Place)>
 pub(crate) fn advance(left: &'static [u8], place: Place, byte: u8) -> Option<(&'static [u8], Place)>
     requires range { IsInRange place }
     requires lines { left.now ≡ [] → lines_at place + 1 < 2 ^ 64 }
-    ensures { MatchOption result (small_advance left.now place byte ≡ None) (λ r. small_advance left.now place byte ≡ Some (r.0.now, r.1)) }
+    ensures { MatchOption result (small_advance left.now place byte ≡ None)
+        (λ r. small_advance left.now place byte ≡ Some (r.0.now, r.1)) }
 {
     if left.is_empty() {
         return next(place, byte);
@@ -280,7 +286,8 @@ pub(crate) fn advance(left: &'static [u8], place: Place, byte: u8) -> Option<(&'
 /// certificate text continues, or the count of bytes where they begin a certificate text and are none. It
 /// takes no memory.
 pub fn form(bytes: &[u8]) -> Result<Form, u64>
-    ensures { MatchResult result (λ f. (c : Certificate) × IsTextOf bytes.now c × (f ≡ form_of c)) (λ b. IsFormFault bytes.now b) }
+    ensures { MatchResult result (λ f. (c : Certificate) × IsTextOf bytes.now c × (f ≡ form_of c))
+        (λ b. IsFormFault bytes.now b) }
 {
     let mut left: &'static [u8] = b"ltlcert ";
     let mut place = Place::Version;

@@ -11,7 +11,8 @@ use std::marker::Model;
 #[inline(always)]
 fn number(digits: &[u8]) -> (u64, usize)
     ensures within { result.1 ≤ length digits.now }
-    ensures value { (n : ℕ) (more : List ℕ) → n ≤ greatest_u64 → digits.now ≡ decimal n ++ more → EndsNumber more → (result.0 ≡ n) × (result.1 ≡ length (decimal n)) }
+    ensures value { (n : ℕ) (more : List ℕ) → n ≤ greatest_u64 → digits.now ≡ decimal n ++ more
+        → EndsNumber more → (result.0 ≡ n) × (result.1 ≡ length (decimal n)) }
 {
     let mut value: u64 = 0;
     let mut len: usize = 0;
@@ -27,7 +28,8 @@ fn number(digits: &[u8]) -> (u64, usize)
 #[inline(always)]
 fn signed(bytes: &[u8]) -> (bool, u64, &[u8])
     requires { IsSigned bytes.now }
-    ensures { (b : Bool) (n : ℕ) (more : List ℕ) → n ≤ greatest_u64 → bytes.now ≡ signed_text b n more → (result.0 ≡ b) × (result.1 ≡ n) × (result.2.now ≡ more) }
+    ensures { (b : Bool) (n : ℕ) (more : List ℕ) → n ≤ greatest_u64 → bytes.now ≡ signed_text b n more
+        → (result.0 ≡ b) × (result.1 ≡ n) × (result.2.now ≡ more) }
 {
     if bytes[0] == b'-' {
         let digits = &bytes[1..];

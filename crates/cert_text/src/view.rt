@@ -35,7 +35,8 @@ impl<'t> Model for CertView<'t> {
 
     ghost view = { λ a. certificate_in a.bytes.now };
 
-    ghost invariant = { λ a. IsView a.bytes.now (certificate_in a.bytes.now) a.form a.spans.items a.ends.items a.targets.items };
+    ghost invariant = { λ a. IsView a.bytes.now (certificate_in a.bytes.now) a.form a.spans.items
+        a.ends.items a.targets.items };
 }
 
 impl<'t> CertView<'t> {

@@ -23,7 +23,8 @@ fn push_ended(
     targets: &[u64],
     line: u64,
 ) -> Result<(), AllocError>
-    ensures { OnOk result (found.new.items ≡ found.old.items ++ (if is_ended last.now targets.now line number then number ∷ [] else [])) }
+    ensures { OnOk result (found.new.items ≡ found.old.items
+        ++ (if is_ended last.now targets.now line number then number ∷ [] else [])) }
 {
     if number > 0
         && number <= last.len() as u64
@@ -43,7 +44,8 @@ fn push_hinted(
     targets: &[u64],
     line: u64,
 ) -> Result<(), AllocError>
-    ensures { OnOk result (found.new.items ≡ found.old.items ++ filter (is_ended last.now targets.now line) (named_lines (hint ∷ []))) }
+    ensures { OnOk result (found.new.items ≡ found.old.items
+        ++ filter (is_ended last.now targets.now line) (named_lines (hint ∷ []))) }
 {
     match hint {
         Hint::Clause(_) => Ok(()),
@@ -60,7 +62,8 @@ fn ended_by(
     targets: &[u64],
     line: u64,
 ) -> Result<(), AllocError>
-    ensures { OnOk result (found.new.items ≡ filter (is_ended last.now targets.now line) (line ∷ named_lines hints.now)) }
+    ensures { OnOk result (found.new.items ≡ filter (is_ended last.now targets.now line)
+        (line ∷ named_lines hints.now)) }
 {
     found.clear();
     push_ended(found, line, last, targets, line)?;
@@ -78,8 +81,10 @@ fn ended(
     targets: &[u64],
     line: u64,
 ) -> Result<(), AllocError>
-    ensures { OnOk result ((hss : List (List SomeHint)) (k : ℕ) → AreLast hss (length hss) last.now → k < length hss → line ≡ k + 1 → hints.now ≡ slice_index_or hss k []
-        → ((m : ℕ) → Contains hints.now (hint_kinds.Line m) → m ≤ k) → found.new.items ≡ ended_at hss targets.now line) }
+    ensures { OnOk result ((hss : List (List SomeHint)) (k : ℕ) → AreLast hss (length hss) last.now
+        → k < length hss → line ≡ k + 1 → hints.now ≡ slice_index_or hss k []
+        → ((m : ℕ) → Contains hints.now (hint_kinds.Line m) → m ≤ k)
+        → found.new.items ≡ ended_at hss targets.now line) }
 {
     ended_by(found, hints, last, targets, line)?;
     found.sort()?;
@@ -99,7 +104,10 @@ fn push_step(
     requires log { IsLog view.now }
     requires last { AreLast view.now.hints (length view.now.hints) last.now }
     requires low { index < length view.now.lines }
-    ensures { OnOk result (out.new.items ≡ out.old.items ++ (part_text (text.Line (slice_index_or view.now.lines index []) (slice_index_or view.now.hints index [])) ++ flat_map part_text (delete_of (ended_at view.now.hints targets.now (index + 1))))) }
+    ensures { OnOk result (out.new.items ≡ out.old.items
+        ++ (part_text (text.Line (slice_index_or view.now.lines index [])
+        (slice_index_or view.now.hints index [])) ++ flat_map part_text
+        (delete_of (ended_at view.now.hints targets.now (index + 1))))) }
 {
     let line = index + 1;
     let hints = view.hints(line);
@@ -121,7 +129,8 @@ pub fn write(
     targets: &[u64],
 ) -> Result<Vec<u8>, AllocError>
     requires log { IsLog view.now }
-    ensures { IfOk result (λ whole. whole.items ≡ text_of (written kind depth view.now.lines view.now.hints targets.now)) }
+    ensures { IfOk result (λ whole. whole.items ≡ text_of
+        (written kind depth view.now.lines view.now.hints targets.now)) }
 {
     let last = last_uses(alloc, view)?;
     let mut found = Vec::new(alloc);

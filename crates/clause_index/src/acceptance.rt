@@ -22,7 +22,8 @@ fn loops(layout: &Layout, step: u32) -> Run
     requires few { step ≤ 1000 }
     requires later { 0 < step }
     requires fits { Fits layout.now step }
-    ensures { result ≡ map (literal_in layout.now.kind layout.now.counts) (below step (λ l. Plus (LoopTo l step) ∷ [])) }
+    ensures { result ≡ map (literal_in layout.now.kind layout.now.counts)
+        (below step (λ l. Plus (LoopTo l step) ∷ [])) }
 {
     let first = layout.letter(step, Part::Loop(0));
     if step == 1 {
@@ -54,7 +55,9 @@ fn empty(closure: &Closure<'_>, layout: &Layout, step: u32, index: u64) -> Found
     requires few { step ≤ 1000 }
     requires fits { Fits layout.now step }
     requires within { index < length (nexts closure.now.formula) }
-    ensures { literals result ≡ row_at layout.now (map (λ t. Minus (EmptyAt step) ∷ Minus (letter_of closure.now.formula step t) ∷ []) (nexts closure.now.formula)) index }
+    ensures { literals result ≡ row_at layout.now (map
+        (λ t. Minus (EmptyAt step) ∷ Minus (letter_of closure.now.formula step t) ∷ [])
+        (nexts closure.now.formula)) index }
 {
     let request = next_at(closure, index as usize);
     let empty = layout.negative(step, Part::Empty);

@@ -107,7 +107,8 @@ fn strong_gate(
     requires right { IsNumber layout.now.counts.entries right }
     requires request { IsNumber layout.now.counts.entries request }
     requires within { index < 4 }
-    ensures { literals result ≡ row_at layout.now (strong_gate (EntryAt step number) (EntryAt step left) (EntryAt step right) (EntryAt step request)) index }
+    ensures { literals result ≡ row_at layout.now (strong_gate (EntryAt step number) (EntryAt step left)
+        (EntryAt step right) (EntryAt step request)) index }
 {
     let gate = layout.entry(step, number);
     let (left, right) = (layout.entry(step, left), layout.entry(step, right));
@@ -131,7 +132,8 @@ fn weak_gate(
     requires right { IsNumber layout.now.counts.entries right }
     requires request { IsNumber layout.now.counts.entries request }
     requires within { index < 4 }
-    ensures { literals result ≡ row_at layout.now (weak_gate (EntryAt step number) (EntryAt step left) (EntryAt step right) (EntryAt step request)) index }
+    ensures { literals result ≡ row_at layout.now (weak_gate (EntryAt step number) (EntryAt step left)
+        (EntryAt step right) (EntryAt step request)) index }
 {
     let gate = layout.entry(step, number);
     let (left, right) = (layout.entry(step, left), layout.entry(step, right));

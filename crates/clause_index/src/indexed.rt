@@ -42,7 +42,11 @@ impl<'c> Model for Indexed<'c> {
 
     ghost coded = { coded_indexed };
 
-    ghost view = { λ x. record { formula = x.closure.now.formula; kind = x.closure.now.kind; depth = x.depth } };
+    ghost view = { λ x. record {
+      formula = x.closure.now.formula;
+      kind = x.closure.now.kind;
+      depth = x.depth;
+    } };
 
     ghost invariant = { λ x. IsIndexed x.closure.now x.layout x.sizes x.samples x.depth };
 }
@@ -61,8 +65,10 @@ fn find(
     requires fits { Fits layout.now place.step }
     requires few_nexts { length (nexts closure.now.formula) ≤ 98306 }
     requires few_eventualities { length (eventualities closure.now.formula) ≤ 98306 }
-    requires within { place.index < length (section_clauses closure.now.formula closure.now.kind place.step place.section) }
-    ensures { literals result ≡ row_at layout.now (section_clauses closure.now.formula closure.now.kind place.step place.section) place.index }
+    requires within { place.index < length (section_clauses closure.now.formula closure.now.kind place.step
+        place.section) }
+    ensures { literals result ≡ row_at layout.now (section_clauses closure.now.formula closure.now.kind
+        place.step place.section) place.index }
 {
     let (step, index) = (place.step, place.index);
     match place.section {
@@ -97,7 +103,8 @@ impl<'c> Indexed<'c> {
     pub fn clause(&self, number: u64) -> Found
         requires from_one { 1 ≤ number }
         requires in_list { number ≤ length (clause_list self.now.formula self.now.kind self.now.depth) }
-        ensures { literals result ≡ clause_at (clause_list self.now.formula self.now.kind self.now.depth) number }
+        ensures { literals result ≡ clause_at (clause_list self.now.formula self.now.kind self.now.depth)
+            number }
     {
         let place = place_of(self.sizes, self.depth, number - 1);
         find(self.closure, &self.layout, self.sizes, &self.samples, place)

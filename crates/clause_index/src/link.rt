@@ -62,7 +62,8 @@ fn next_link(closure: &Closure<'_>, layout: &Layout, step: u32, index: u64) -> F
     requires later { 0 < step }
     requires fits { Fits layout.now step }
     requires within { index < length (nexts closure.now.formula) * 2 }
-    ensures { literals result ≡ row_at layout.now (flat_map (next_clauses closure.now.formula (step - 1)) (nexts closure.now.formula)) index }
+    ensures { literals result ≡ row_at layout.now (flat_map (next_clauses closure.now.formula (step - 1))
+        (nexts closure.now.formula)) index }
 {
     let request = next_at(closure, (index / 2) as usize);
     let here = layout.positive(step, Part::Here);
@@ -77,7 +78,8 @@ fn yesterday_link(closure: &Closure<'_>, layout: &Layout, step: u32, index: u64)
     requires later { 0 < step }
     requires fits { Fits layout.now step }
     requires within { index < length (yesterdays closure.now.formula) * 2 }
-    ensures { literals result ≡ row_at layout.now (flat_map (before_clauses closure.now.formula (step - 1)) (yesterdays closure.now.formula)) index }
+    ensures { literals result ≡ row_at layout.now (flat_map (before_clauses closure.now.formula (step - 1))
+        (yesterdays closure.now.formula)) index }
 {
     let request = yesterday_at(closure, (index / 2) as usize);
     let here = layout.positive(step, Part::Here);

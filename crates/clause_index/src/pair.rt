@@ -73,7 +73,8 @@ fn place(closure: &Closure<'_>, layout: &Layout, step: u32, earlier: u32, index:
     requires fits { Fits layout.now step }
     requires earlier { earlier < step }
     requires within { index < length (carried closure.now.formula) * 4 }
-    ensures { literals result ≡ row_at layout.now (below (length (carried closure.now.formula)) (place_clauses closure.now.formula step earlier)) index }
+    ensures { literals result ≡ row_at layout.now (below (length (carried closure.now.formula))
+        (place_clauses closure.now.formula step earlier)) index }
 {
     let before = index / 4;
     let entry = carried_at(closure, before as usize);
@@ -86,7 +87,8 @@ fn equal(layout: &Layout, step: u32, earlier: u32, places: u32) -> Found
     requires fits { Fits layout.now step }
     requires earlier { earlier < step }
     requires all { places ≡ layout.now.counts.places }
-    ensures { literals result ≡ map (literal_in layout.now.kind layout.now.counts) (Plus (Equal earlier step) ∷ below places (λ q. Plus (Differs earlier step (suc q)) ∷ [])) }
+    ensures { literals result ≡ map (literal_in layout.now.kind layout.now.counts)
+        (Plus (Equal earlier step) ∷ below places (λ q. Plus (Differs earlier step (suc q)) ∷ [])) }
 {
     let equal = layout.positive(step, Part::Equal(earlier));
     if places == 0 {
@@ -167,7 +169,8 @@ fn fulfilled(closure: &Closure<'_>, layout: &Layout, step: u32, earlier: u32, in
     requires fits { Fits layout.now step }
     requires earlier { earlier < step }
     requires within { index < length (eventualities closure.now.formula) * fulfilled_size step earlier }
-    ensures { literals result ≡ row_at layout.now (below (length (eventualities closure.now.formula)) (fulfilled_clauses closure.now.formula step earlier)) index }
+    ensures { literals result ≡ row_at layout.now (below (length (eventualities closure.now.formula))
+        (fulfilled_clauses closure.now.formula step earlier)) index }
 {
     let size = fulfilled_size(step, earlier);
     let before = index / size;
@@ -190,7 +193,8 @@ fn asked(closure: &Closure<'_>, layout: &Layout, step: u32, earlier: u32, index:
     requires fits { Fits layout.now step }
     requires earlier { earlier < step }
     requires within { index < length (eventualities closure.now.formula) }
-    ensures { literals result ≡ row_at layout.now (below (length (eventualities closure.now.formula)) (λ m. loop_clause closure.now.formula step earlier m ∷ [])) index }
+    ensures { literals result ≡ row_at layout.now (below (length (eventualities closure.now.formula))
+        (λ m. loop_clause closure.now.formula step earlier m ∷ [])) index }
 {
     let request = eventuality_at(closure, index as usize).request;
     let closes = layout.negative(step, Part::Loop(earlier));
@@ -207,7 +211,8 @@ fn looping(closure: &Closure<'_>, layout: &Layout, step: u32, earlier: u32, inde
     requires fits { Fits layout.now step }
     requires earlier { earlier < step }
     requires within { index < length (closing_clauses closure.now.formula Kinds.Infinite step earlier) }
-    ensures { literals result ≡ row_at layout.now (closing_clauses closure.now.formula Kinds.Infinite step earlier) index }
+    ensures { literals result ≡ row_at layout.now (closing_clauses closure.now.formula Kinds.Infinite step
+        earlier) index }
 {
     let count = closure.eventualities().len() as u64;
     let fulfilments = count * fulfilled_size(step, earlier);
@@ -228,7 +233,8 @@ fn pair(closure: &Closure<'_>, layout: &Layout, step: u32, earlier: u32, index: 
     requires fits { Fits layout.now step }
     requires earlier { earlier < step }
     requires within { index < length (pair_clauses closure.now.formula closure.now.kind step earlier) }
-    ensures { literals result ≡ row_at layout.now (pair_clauses closure.now.formula closure.now.kind step earlier) index }
+    ensures { literals result ≡ row_at layout.now (pair_clauses closure.now.formula closure.now.kind step
+        earlier) index }
 {
     let places = (closure.nexts().len() + closure.yesterdays().len()) as u32;
     let compared = 4 * places as u64;

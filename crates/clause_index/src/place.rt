@@ -112,7 +112,8 @@ pub fn place_of(sizes: Sizes, depth: u32, index: u64) -> Place
     requires few { depth ≤ 1000 }
     requires within { index < before_step sizes.kind sizes (depth + 1) }
     ensures known { result.step ≤ depth }
-    ensures place { before_step sizes.kind sizes result.step + (before_section sizes.kind sizes result.step result.section + result.index) ≡ index }
+    ensures place { before_step sizes.kind sizes result.step
+        + (before_section sizes.kind sizes result.step result.section + result.index) ≡ index }
     ensures within { result.index < section_size sizes.kind sizes result.step result.section }
 {
     let step = step_of(sizes, depth, index);

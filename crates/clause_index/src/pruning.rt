@@ -28,7 +28,8 @@ fn seen(layout: &Layout, step: u32, earlier: u32, index: u64) -> Found
     requires earlier { earlier < step }
     requires small { index < 1000000 }
     requires within { index < 1 + layout.now.counts.eventualities }
-    ensures { literals result ≡ row_at layout.now (seen_pair layout.now.counts.eventualities step earlier) index }
+    ensures { literals result ≡ row_at layout.now (seen_pair layout.now.counts.eventualities step earlier)
+        index }
 {
     let unequal = layout.negative(step, Part::Equal(earlier));
     if index == 0 {
@@ -90,7 +91,8 @@ fn new_at(closure: &Closure<'_>, layout: &Layout, step: u32, earlier: u32, index
     requires fits { Fits layout.now step }
     requires earlier { earlier < step }
     requires within { index < length (eventualities closure.now.formula) * 3 }
-    ensures { literals result ≡ row_at layout.now (below (length (eventualities closure.now.formula)) (new_clauses closure.now.formula step earlier)) index }
+    ensures { literals result ≡ row_at layout.now (below (length (eventualities closure.now.formula))
+        (new_clauses closure.now.formula step earlier)) index }
 {
     let before = index / 3;
     let request = eventuality_at(closure, before as usize).request;
@@ -105,7 +107,8 @@ fn pruned(layout: &Layout, step: u32, earlier: u32, count: u32) -> Found
     requires fits { Fits layout.now step }
     requires earlier { earlier < step }
     requires all { count ≡ layout.now.counts.eventualities }
-    ensures { literals result ≡ map (literal_in layout.now.kind layout.now.counts) (pruned_row count step earlier) }
+    ensures { literals result ≡ map (literal_in layout.now.kind layout.now.counts)
+        (pruned_row count step earlier) }
 {
     let any = layout.may_prune();
     let unequal = layout.negative(step, Part::Equal(earlier));
@@ -125,7 +128,9 @@ fn news(closure: &Closure<'_>, layout: &Layout, step: u32, earlier: u32, index: 
     requires fits { Fits layout.now step }
     requires earlier { earlier < step }
     requires within { index < 1 + 3 * length (eventualities closure.now.formula) }
-    ensures { literals result ≡ row_at layout.now (below (length (eventualities closure.now.formula)) (new_clauses closure.now.formula step earlier) ++ pruned_clause closure.now.formula step earlier ∷ []) index }
+    ensures { literals result ≡ row_at layout.now (below (length (eventualities closure.now.formula))
+        (new_clauses closure.now.formula step earlier) ++ pruned_clause closure.now.formula step earlier
+        ∷ []) index }
 {
     let count = closure.eventualities().len();
     if index < 3 * count as u64 {
@@ -160,7 +165,8 @@ fn finite(layout: &Layout, step: u32, earlier: u32) -> Found
     requires few { step ≤ 1000 }
     requires fits { Fits layout.now step }
     requires earlier { earlier < step }
-    ensures { literals result ≡ map (literal_in layout.now.kind layout.now.counts) (Minus Unpruned ∷ Minus (Equal earlier step) ∷ []) }
+    ensures { literals result ≡ map (literal_in layout.now.kind layout.now.counts)
+        (Minus Unpruned ∷ Minus (Equal earlier step) ∷ []) }
 {
     Found::Two(
         layout.may_prune(),

@@ -82,7 +82,8 @@ pub fn next_at(closure: &Closure<'_>, index: usize) -> Request
 pub fn yesterday_at(closure: &Closure<'_>, index: usize) -> Request
     requires { index < length (yesterdays closure.now.formula) }
     ensures number { result.number ≡ number_at closure.now.formula (yesterdays closure.now.formula) index }
-    ensures argument { result.argument ≡ argument_at closure.now.formula (yesterdays closure.now.formula) index }
+    ensures argument { result.argument ≡ argument_at closure.now.formula
+        (yesterdays closure.now.formula) index }
     ensures weak { result.weak ≡ weak_at closure.now.formula (yesterdays closure.now.formula) index }
     ensures known { IsNumber (entry_count closure.now.formula) result.number }
     ensures argument_known { IsNumber (entry_count closure.now.formula) result.argument }

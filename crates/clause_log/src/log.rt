@@ -1,6 +1,6 @@
-// A log: input clauses, and lines that follow from them, each with the hints that show it. A line is checked by
-// unit propagation over its hints alone (Goldberg and Novikov: proofs of unsatisfiability for CNF formulas), so what
-// a log says can be trusted whatever search produced it.
+// A log: input clauses, and lines that follow from them, each with the hints that show it. A line is checked
+// by unit propagation over its hints alone (Goldberg and Novikov: proofs of unsatisfiability for CNF
+// formulas), so what a log says can be trusted whatever search produced it.
 ghost use Rattle.std.specs.Prelude.{◌≡◌, ◌≤◌, [], length, IfOk, OnErr};
 ghost use Rattle.cnf_base.specs.Step.{IsHintedStep, clause_at};
 ghost use Rattle.clause_log.specs.LogValue.{IsLog, with_input, with_line, with_lines, greatest_u32, hints_at};
@@ -41,7 +41,8 @@ impl Log {
 
     /// Puts the clause behind the inputs, and answers its number.
     pub fn add_input(&mut self, clause: &[Literal]) -> Result<u64, AllocError>
-        ensures added { IfOk result (λ number. (self.new ≡ with_input self.old clause.now) × (number ≡ length self.new.inputs)) }
+        ensures added { IfOk result (λ number. (self.new ≡ with_input self.old clause.now)
+            × (number ≡ length self.new.inputs)) }
         ensures refused { OnErr result (self.new ≡ self.old) }
     {
         self.inputs.push(clause)?;
@@ -51,7 +52,8 @@ impl Log {
     /// Puts the clause with its hints behind the lines, and answers its number.
     pub fn derive(&mut self, literals: &[Literal], hints: &[Hint]) -> Result<u64, AllocError>
         requires { IsHintedStep self.old.inputs self.old.lines greatest_u32 literals.now hints.now }
-        ensures added { IfOk result (λ number. (self.new ≡ with_line self.old literals.now hints.now) × (number ≡ length self.new.lines)) }
+        ensures added { IfOk result (λ number. (self.new ≡ with_line self.old literals.now hints.now)
+            × (number ≡ length self.new.lines)) }
         ensures refused { OnErr result (self.new ≡ self.old) }
     {
         let count = self.lines.len();

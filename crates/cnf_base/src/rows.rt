@@ -1,5 +1,6 @@
-// Lists of rows of any length over two buffers: the items of all rows one after another, and where each row stands.
-// A row costs no allocation of its own, and is lent as a slice. Clause lists, logs and the solver's clauses stand on it.
+// Lists of rows of any length over two buffers: the items of all rows one after another, and where each row
+// stands. A row costs no allocation of its own, and is lent as a slice. Clause lists, logs and the solver's
+// clauses stand on it.
 ghost use Rattle.std.specs.Prelude.{◌≡◌, ◌<◌, [], ◌∷◌, ◌++◌, length, take, if◌then◌else◌, is_ok, slice_index_or, slice_set};
 ghost use Rattle.cnf_base.specs.RowPieces.{lengthened};
 ghost use Rattle.std.specs.List.{swap};

@@ -4,8 +4,8 @@ ghost use Rattle.command_words.specs.Usage.{usage_text};
 
 use std::alloc::{AllocError, Global};
 
-/// The usage lines: those of `solve`, `check`, `trace` and `demo`, and behind them those of the other commands
-/// that are built.
+/// The usage lines: those of `solve`, `check`, `trace` and `demo`, and behind them those of the other
+/// commands that are built.
 pub fn usage(alloc: Global) -> Result<Vec<u8>, AllocError>
     ensures { IfOk result (λ text. text.items ≡ usage_text) }
 {

@@ -7,7 +7,8 @@ pub fn core_is_one()
     ensures core { CoreIsOne }
 {}
 
-/// The core of a refuted formula is refuted and has no trace, and with one kept occurrence more replaced it is refuted no more.
+/// The core of a refuted formula is refuted and has no trace, and with one kept occurrence more replaced it
+/// is refuted no more.
 pub fn core_is_least()
     ensures refuted { CoreIsRefuted }
     ensures no_trace { CoreHasNoTrace }

@@ -1,5 +1,5 @@
-// Passes over the kept occurrences, a parent before its children and left before right. An occurrence is replaced
-// where the formula stays refuted without it, until a pass replaces none.
+// Passes over the kept occurrences, a parent before its children and left before right. An occurrence is
+// replaced where the formula stays refuted without it, until a pass replaces none.
 //
 // No test is asked again whose answer stands: behind the last occurrence that a pass has replaced, all were
 // tested against the formula as it is then, so the next pass ends there where it has replaced none before.
@@ -23,7 +23,8 @@ pub enum Advance {
     Taken(u32),
 }
 
-/// The next kept occurrences from a place on, and the place behind them: at most so many, and none from `end` on.
+/// The next kept occurrences from a place on, and the place behind them: at most so many, and none from `end`
+/// on.
 fn gather(
     task: &Task<'_>,
     marks: &Vec<bool>,
@@ -39,7 +40,8 @@ fn gather(
     requires end { end ≤ length task.now.order.items }
     requires some { 1 ≤ workers }
     requires none { length places.old.items ≡ 0 }
-    ensures next { IfOk result (λ stop. AreNext (formula_of task.now) (marked marks.now.items) at stop places.new.items) }
+    ensures next { IfOk result (λ stop. AreNext (formula_of task.now)
+        (marked marks.now.items) at stop places.new.items) }
     ensures clear { IfOk result (λ stop. IsClear (formula_of task.now) (marked marks.now.items) stop) }
     ensures on { IfOk result (λ stop. at < stop) }
     ensures within { IfOk result (λ stop. stop ≤ length task.now.order.items) }
@@ -57,7 +59,8 @@ fn gather(
     Ok(stop)
 }
 
-/// Tests the next kept occurrences, as many as there are workers, and replaces the first that the formula can do without.
+/// Tests the next kept occurrences, as many as there are workers, and replaces the first that the formula can
+/// do without.
 fn step<R: Threads + Sync, G: Gate + Sync>(
     rt: &R,
     alloc: Global,
@@ -75,7 +78,8 @@ fn step<R: Threads + Sync, G: Gate + Sync>(
     requires end { end ≤ length task.now.order.items }
     requires some { 1 ≤ workers }
     requires few { workers ≤ 16 }
-    ensures step { IfOk result (λ step. IsStep task.now (marked marks.old.items) at step (marked marks.new.items)) }
+    ensures step { IfOk result (λ step. IsStep task.now (marked marks.old.items) at step
+        (marked marks.new.items)) }
     ensures marks { OnOk result (AreMarks task.now marks.new.items) }
 {
     let mut places = Vec::new(alloc);
@@ -91,8 +95,8 @@ fn step<R: Threads + Sync, G: Gate + Sync>(
     Ok(Advance::Taken(place + size))
 }
 
-/// One pass. Where it replaces something, it answers a place from which on nothing more can be replaced; such a
-/// place of the pass before is `settled`.
+/// One pass. Where it replaces something, it answers a place from which on nothing more can be replaced; such
+/// a place of the pass before is `settled`.
 fn pass<R: Threads + Sync, G: Gate + Sync>(
     rt: &R,
     alloc: Global,
@@ -108,7 +112,8 @@ fn pass<R: Threads + Sync, G: Gate + Sync>(
     requires settled { IsSettled task.now (marked marks.old.items) settled }
     requires some { 1 ≤ workers }
     requires few { workers ≤ 16 }
-    ensures passed { IfOk result (λ last. IsPassed task.now (marked marks.old.items) last (marked marks.new.items)) }
+    ensures passed { IfOk result (λ last. IsPassed task.now (marked marks.old.items) last
+        (marked marks.new.items)) }
     ensures within { IfOk result (λ last. IfSome last (λ n. n ≤ length task.now.order.items)) }
     ensures marks { OnOk result (AreMarks task.now marks.new.items) }
 {
@@ -141,7 +146,8 @@ pub fn passes<R: Threads + Sync, G: Gate + Sync>(
     requires some { 1 ≤ workers }
     requires few { workers ≤ 16 }
     ensures marks { IfOk result (λ marks. AreMarks task.now marks.items) }
-    ensures reached { IfOk result (λ marks. IsReached (test_of task.now) (formula_of task.now) (marked marks.items)) }
+    ensures reached { IfOk result (λ marks. IsReached (test_of task.now) (formula_of task.now)
+        (marked marks.items)) }
 {
     let mut marks = vec![in alloc; false; task.order.len()]?;
     let mut settled = task.order.len() as u32;

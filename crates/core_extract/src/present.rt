@@ -48,7 +48,8 @@ pub fn mark(task: &Task<'_>, marks: &mut Vec<bool>, place: u32)
     requires place { place < length task.now.order.items }
     requires long { length marks.old.items ≡ length task.now.order.items }
     ensures long { length marks.new.items ≡ length marks.old.items }
-    ensures added { AreSame (marked marks.new.items) (added (formula_of task.now) (marked marks.old.items) place) }
+    ensures added { AreSame (marked marks.new.items) (added (formula_of task.now)
+        (marked marks.old.items) place) }
 {
     let first = place as usize;
     let behind = first + task.sizes[first] as usize;

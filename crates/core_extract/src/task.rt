@@ -73,7 +73,8 @@ fn node_sizes(alloc: Global, table: &FormulaTable) -> Result<Vec<u32>, AllocErro
 fn size_of(table: &FormulaTable, number: u32, sizes: &Vec<u32>) -> u32
     requires number { number < length table.now.nodes }
     requires long { length sizes.now.items ≡ number }
-    requires each { (k : ℕ) → k < number → slice_index_or sizes.now.items k 0 ≡ nodes_in (tree_at table.now k) }
+    requires each { (k : ℕ) → k < number → slice_index_or sizes.now.items k 0
+        ≡ nodes_in (tree_at table.now k) }
     ensures { result ≡ nodes_in (tree_at table.now number) }
 {
     table.is_table();
@@ -91,7 +92,8 @@ fn sizes_of(alloc: Global, order: &Vec<u32>, by_node: &Vec<u32>) -> Result<Vec<u
     requires { All (λ number. number < length by_node.now.items) order.now.items }
     ensures long { IfOk result (λ sizes. length sizes.items ≡ length order.now.items) }
     ensures each { IfOk result (λ sizes. (n : ℕ) → n < length order.now.items
-        → slice_index_or sizes.items n 0 ≡ slice_index_or by_node.now.items (slice_index_or order.now.items n 0) 0) }
+        → slice_index_or sizes.items n 0 ≡ slice_index_or by_node.now.items
+        (slice_index_or order.now.items n 0) 0) }
 {
     let mut sizes = Vec::new(alloc);
     'places: for place in 0..order.len() {

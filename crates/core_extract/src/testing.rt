@@ -131,7 +131,8 @@ fn test_piece<G: Gate>(
     };
 }
 
-/// Tests the occurrences of a group, each in a thread of its own where one can be made. With one there is none.
+/// Tests the occurrences of a group, each in a thread of its own where one can be made. With one there is
+/// none.
 fn test_each<R: Threads + Sync, G: Gate + Sync>(
     rt: &R,
     alloc: Global,

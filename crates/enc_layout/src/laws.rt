@@ -1,8 +1,10 @@
-//! Laws of the letters and the clause list. Each function is empty: its contract is the law, and a proof cites it by a call.
+//! Laws of the letters and the clause list. Each function is empty: its contract is the law, and a proof
+//! cites it by a call.
 ghost use Rattle.enc_layout.specs.Rows.{WorkedLists, WorkedCounts};
 ghost use Rattle.enc_layout.specs.Laws.{NumbersArePlaces, LettersAreCounted, FirstStatesFit, LowerDepthsFit, LettersAreKnown, ListsBegin, ListsGrow, StepsAreParts, AssignmentsRun, AssignmentsAccept, AssignmentsLoop, AssignmentsEmpty, AssignmentsEnd, AssignmentsAreUnpruned, RunsAreAssigned, AcceptedRunsAreAssigned, UnprunedRunsAreAssigned, RunQuestionsAnswer, AcceptedQuestionsAnswer, UnprunedQuestionsAnswer};
 
-/// Numbers and letters agree, and each letter of the list is known. Depth 0 is within the limit, and what is below a depth within it.
+/// Numbers and letters agree, and each letter of the list is known. Depth 0 is within the limit, and what is
+/// below a depth within it.
 pub fn numbering()
     ensures place { NumbersArePlaces }
     ensures count { LettersAreCounted }
@@ -18,8 +20,8 @@ pub fn steps()
     ensures parts { StepsAreParts }
 {}
 
-/// An assignment that makes the clause list true with letters of step k gives a run by the letters of the entries, and
-/// the letters of acceptance and of loops say by which rule it is accepted.
+/// An assignment that makes the clause list true with letters of step k gives a run by the letters of the
+/// entries, and the letters of acceptance and of loops say by which rule it is accepted.
 pub fn assignment_runs()
     ensures run { AssignmentsRun }
     ensures accepted { AssignmentsAccept }

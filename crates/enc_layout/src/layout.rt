@@ -1,6 +1,6 @@
-// How the letters of the clauses are numbered. Letter 1 turns pruning on; after it come the letters of step 0, of step 1 and so on. A
-// step has letters of its own, and then some for the pair that it makes with each earlier step, so that the letters through a depth
-// keep their numbers when the next depth is asked.
+// How the letters of the clauses are numbered. Letter 1 turns pruning on; after it come the letters of step
+// 0, of step 1 and so on. A step has letters of its own, and then some for the pair that it makes with each
+// earlier step, so that the letters through a depth keep their numbers when the next depth is asked.
 ghost use Rattle.std.specs.Prelude.{◌≡◌, ◌↔◌, IsTrue, ℕ, ◌+◌, ◌-◌, ◌*◌, ◌/◌, ◌^◌, ◌<◌, ◌≤◌};
 ghost use Rattle.enc_layout.specs.Letters.{own_count, pair_count, count_before, count_before_pair, letters_through, number_of, IsLetter, Fits};
 ghost use Rattle.enc_layout.specs.Letters.{Unpruned, EntryAt};
@@ -19,8 +19,8 @@ mod tests;
 /// The most letters that a clause list may have.
 const MAX_LETTERS: u64 = 16_777_216;
 
-/// What a letter of a step stands for. A step counts from 0; numbers of entries, eventualities and places of a carry count from 1. Of
-/// two numbers the first is an earlier step.
+/// What a letter of a step stands for. A step counts from 0; numbers of entries, eventualities and places of
+/// a carry count from 1. Of two numbers the first is an earlier step.
 #[derive(Clone, Copy, PartialEq, Eq, Debug, Drop)]
 pub enum Part {
     /// The state is there.
@@ -33,7 +33,8 @@ pub enum Part {
     Repeated,
     /// The entry is true.
     Entry(u32),
-    /// Some earlier state has the same carry, and the eventuality is fulfilled after it. Infinite traces only.
+    /// Some earlier state has the same carry, and the eventuality is fulfilled after it. Infinite traces
+    /// only.
     Seen(u32),
     /// The earlier state has the same carry.
     Equal(u32),
@@ -43,7 +44,8 @@ pub enum Part {
     Differs(u32, u32),
     /// The eventuality is fulfilled after the earlier state. Infinite traces only.
     Fulfilled(u32, u32),
-    /// The eventuality is pending, fulfilled after the earlier state and not seen there. Infinite traces only.
+    /// The eventuality is pending, fulfilled after the earlier state and not seen there. Infinite traces
+    /// only.
     New(u32, u32),
 }
 
@@ -61,9 +63,20 @@ impl Model for Layout {
 
     ghost Value = { LayoutValue };
 
-    ghost view = { λ a. record { kind = a.kind; counts = record { entries = a.entries; places = a.places; eventualities = a.eventualities } } };
+    ghost view = { λ a. record {
+      kind = a.kind;
+      counts = record {
+        entries = a.entries;
+        places = a.places;
+        eventualities = a.eventualities;
+      };
+    } };
 
-    ghost invariant = { λ a. AreFew (record { entries = a.entries; places = a.places; eventualities = a.eventualities }) };
+    ghost invariant = { λ a. AreFew (record {
+      entries = a.entries;
+      places = a.places;
+      eventualities = a.eventualities;
+    }) };
 }
 
 impl Layout {

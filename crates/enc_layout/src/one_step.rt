@@ -9,7 +9,8 @@ use crate::{Layout, Part};
 use cnf_base::Literal;
 use std::marker::Model;
 
-/// A step of a layout. Its number, from 0, is at most 1,000, and the letters through it are at most 16,777,216.
+/// A step of a layout. Its number, from 0, is at most 1,000, and the letters through it are at most
+/// 16,777,216.
 #[derive(Drop)]
 pub struct Step<'l> {
     layout: &'l Layout,

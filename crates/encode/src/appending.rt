@@ -1,4 +1,5 @@
-// The clauses of a step, put behind those that are there. Where memory runs out, the list is cut back to what it was.
+// The clauses of a step, put behind those that are there. Where memory runs out, the list is cut back to what
+// it was.
 ghost use Rattle.std.specs.Prelude.{◌≡◌, ◌≤◌, ◌++◌, OnOk, OnErr};
 ghost use Rattle.enc_layout.specs.Letters.{Fits};
 ghost use Rattle.enc_layout.specs.Clauses.{layout_of, step_clauses, signed_clauses};
@@ -13,7 +14,8 @@ use std::alloc::AllocError;
 fn push_parts(closure: &Closure<'_>, step: u32, out: &mut ClauseList) -> Result<(), AllocError>
     requires few { step ≤ 1000 }
     requires fits { Fits (layout_of closure.now) step }
-    ensures ok { OnOk result (out.new ≡ out.old ++ signed_clauses closure.now.formula closure.now.kind (step_clauses closure.now.formula closure.now.kind step)) }
+    ensures ok { OnOk result (out.new ≡ out.old ++ signed_clauses closure.now.formula closure.now.kind
+        (step_clauses closure.now.formula closure.now.kind step)) }
     ensures err { OnErr result (Extends out.old out.new) }
 {
     enc_layout::laws::steps();
@@ -24,12 +26,13 @@ fn push_parts(closure: &Closure<'_>, step: u32, out: &mut ClauseList) -> Result<
     Ok(())
 }
 
-/// Appends the clauses of a step of the closure's formula. Steps count from 0, and those of a depth are the steps up to it. Where memory
-/// runs out, the list is as before.
+/// Appends the clauses of a step of the closure's formula. Steps count from 0, and those of a depth are the
+/// steps up to it. Where memory runs out, the list is as before.
 pub fn append(closure: &Closure<'_>, step: u32, out: &mut ClauseList) -> Result<(), AllocError>
     requires few { step ≤ 1000 }
     requires fits { Fits (layout_of closure.now) step }
-    ensures ok { OnOk result (out.new ≡ out.old ++ signed_clauses closure.now.formula closure.now.kind (step_clauses closure.now.formula closure.now.kind step)) }
+    ensures ok { OnOk result (out.new ≡ out.old ++ signed_clauses closure.now.formula closure.now.kind
+        (step_clauses closure.now.formula closure.now.kind step)) }
     ensures err { OnErr result (out.new ≡ out.old) }
 {
     let count = out.count();

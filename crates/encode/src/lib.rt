@@ -1,4 +1,5 @@
-//! Appends the clauses of a whole step: those of its states, of its pairs and of pruning, one behind the other.
+//! Appends the clauses of a whole step: those of its states, of its pairs and of pruning, one behind the
+//! other.
 #![tactic(auto)]
 
 mod appending;

@@ -55,7 +55,8 @@ fn past_of_one(op: UnaryOp) -> u32
 }
 
 fn past_of_two(op: BinaryOp) -> u32
-    ensures deeper { (f g : Formula) → past_depth (Binary op f g) ≡ max (past_depth f) (past_depth g) + result }
+    ensures deeper { (f g : Formula) → past_depth (Binary op f g)
+        ≡ max (past_depth f) (past_depth g) + result }
     ensures small { result ≤ 1 }
 {
     match op {

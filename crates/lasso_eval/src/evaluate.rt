@@ -33,9 +33,11 @@ pub fn values(
     requires trace { IsTrace trace.now }
     ensures ok { IfOk result (AreValues table.now root trace.now) }
     ensures length { IfOk result (λ rows. length rows ≡ root + 1) }
-    ensures others { IfOk result (λ rows. (number : ℕ) → ¬ IsUnder table.now root number → row_at rows number ≡ []) }
+    ensures others { IfOk result (λ rows. (number : ℕ) → ¬ IsUnder table.now root number
+        → row_at rows number ≡ []) }
     ensures few { OnOk result (cells trace.now (tree_at table.now root) ≤ max_cells) }
-    ensures many { (a : ℕ) → result ≡ Err (EvalRefused.Cells a) → AreTooMany trace.now (tree_at table.now root) a }
+    ensures many { (a : ℕ) → result ≡ Err (EvalRefused.Cells a)
+        → AreTooMany trace.now (tree_at table.now root) a }
 {
     let _nodes = table.len();
     let under = nodes_under(alloc, table, root)?;
@@ -66,13 +68,17 @@ fn filled(
 ) -> Result<Vec<Row>, AllocError>
     requires root { root < length table.now.nodes }
     requires length { length marks.now ≡ root + 1 }
-    requires marks { (number : ℕ) → IsTrue (slice_index_or marks.now number false) ↔ IsUnder table.now root number }
-    requires shallow { (number : ℕ) → IsTrue (slice_index_or marks.now number false) → past_depth (tree_at table.now number) ≤ past_depth (tree_at table.now root) }
+    requires marks { (number : ℕ) → IsTrue (slice_index_or marks.now number false)
+        ↔ IsUnder table.now root number }
+    requires shallow { (number : ℕ) → IsTrue (slice_index_or marks.now number false)
+        → past_depth (tree_at table.now number) ≤ past_depth (tree_at table.now root) }
     requires extent { IsExtent trace.now extent }
     requires depth { extent.depth ≡ past_depth (tree_at table.now root) }
     ensures length { IfOk result (λ rows. length rows.items ≡ root + 1) }
-    ensures each { IfOk result (λ rows. (number : ℕ) → IsUnder table.now root number → Tells trace.now extent.depth (tree_at table.now number) (row_at rows.items number)) }
-    ensures others { IfOk result (λ rows. (number : ℕ) → ¬ IsUnder table.now root number → row_at rows.items number ≡ []) }
+    ensures each { IfOk result (λ rows. (number : ℕ) → IsUnder table.now root number
+        → Tells trace.now extent.depth (tree_at table.now number) (row_at rows.items number)) }
+    ensures others { IfOk result (λ rows. (number : ℕ) → ¬ IsUnder table.now root number
+        → row_at rows.items number ≡ []) }
 {
     let _nodes = table.len();
     let mut rows = Vec::with_capacity(alloc, root as usize + 1)?;
@@ -98,7 +104,8 @@ pub fn holds(
     requires trace { IsTrace trace.now }
     ensures ok { IfOk result (λ answer. IsTrue answer ↔ Satisfies trace.now (tree_at table.now root)) }
     ensures few { OnOk result (cells trace.now (tree_at table.now root) ≤ max_cells) }
-    ensures many { (a : ℕ) → result ≡ Err (EvalRefused.Cells a) → AreTooMany trace.now (tree_at table.now root) a }
+    ensures many { (a : ℕ) → result ≡ Err (EvalRefused.Cells a)
+        → AreTooMany trace.now (tree_at table.now root) a }
 {
     Ok(values(alloc, table, root, trace)?.at(root, 0))
 }

@@ -39,7 +39,8 @@ pub fn connective_row(
 ) -> Result<Row, AllocError>
     requires same { length a.now ≡ length b.now }
     ensures count { IfOk result (λ row. length row ≡ length a.now) }
-    ensures each { IfOk result (λ row. (i : ℕ) → i < length a.now → cell row i ≡ connected connective (cell a.now i) (cell b.now i)) }
+    ensures each { IfOk result (λ row. (i : ℕ) → i < length a.now
+        → cell row i ≡ connected connective (cell a.now i) (cell b.now i)) }
 {
     let mut cells = Vec::with_capacity(alloc, a.len())?;
     for i in 0..a.len() {
@@ -78,7 +79,8 @@ pub fn letter_row(
 ) -> Result<Row, AllocError>
     requires { IsTrace trace.now }
     ensures count { IfOk result (λ row. length row ≡ columns) }
-    ensures each { IfOk result (λ row. (i : ℕ) → i < columns → IsTrue (cell row i) ↔ Contains (state_at trace.now i) name.now) }
+    ensures each { IfOk result (λ row. (i : ℕ) → i < columns
+        → IsTrue (cell row i) ↔ Contains (state_at trace.now i) name.now) }
 {
     let mut cells = Vec::with_capacity(alloc, columns)?;
     for i in 0..columns {

@@ -16,7 +16,8 @@ pub fn next_row(
 ) -> Result<Row, AllocError>
     requires within { loop_start ≤ length a.now }
     ensures count { IfOk result (λ row. length row ≡ length a.now) }
-    ensures each { IfOk result (λ row. (i : ℕ) → i < length a.now → cell row i ≡ later a.now loop_start beyond i) }
+    ensures each { IfOk result (λ row. (i : ℕ) → i < length a.now
+        → cell row i ≡ later a.now loop_start beyond i) }
 {
     let mut cells = Vec::with_capacity(alloc, a.len())?;
     for i in 0..a.len() {

@@ -33,7 +33,9 @@ pub fn node_row(
     requires place { number ≡ length rows.now }
     requires extent { IsExtent trace.now extent }
     requires deep { past_depth (tree_at table.now number) ≤ extent.depth }
-    requires children { (node : NodeSpec) (child : ℕ) → child < number → slice_get table.now.nodes number ≡ Some node → IsTrue (has_child child node) → Tells trace.now extent.depth (tree_at table.now child) (row_at rows.now child) }
+    requires children { (node : NodeSpec) (child : ℕ) → child < number
+        → slice_get table.now.nodes number ≡ Some node → IsTrue (has_child child node)
+        → Tells trace.now extent.depth (tree_at table.now child) (row_at rows.now child) }
     ensures { IfOk result (Tells trace.now extent.depth (tree_at table.now number)) }
 {
     match table.node(number) {

@@ -79,7 +79,8 @@ pub fn future_row(
     requires within { loop_start ≤ length a.now }
     ensures count { IfOk result (λ row. length row ≡ length a.now) }
     ensures each { IfOk result (λ row. (i : ℕ) → i < length a.now → cell row i
-        ≡ swept_back span a.now b.now (length a.now - i) i (swept_back span a.now b.now (length a.now - loop_start) loop_start (beyond span))) }
+        ≡ swept_back span a.now b.now (length a.now - i) i
+        (swept_back span a.now b.now (length a.now - loop_start) loop_start (beyond span))) }
 {
     let mut value = once_around(span, a, b, loop_start);
     let mut cells = vec![in alloc; false; a.len()]?;
@@ -96,7 +97,8 @@ pub fn future_row(
 pub fn past_row(alloc: Global, span: Span, a: &[bool], b: &[bool]) -> Result<Row, AllocError>
     requires same { length a.now ≡ length b.now }
     ensures count { IfOk result (λ row. length row ≡ length a.now) }
-    ensures each { IfOk result (λ row. (i : ℕ) → i < length a.now → cell row i ≡ swept_before span a.now b.now (suc i)) }
+    ensures each { IfOk result (λ row. (i : ℕ) → i < length a.now
+        → cell row i ≡ swept_before span a.now b.now (suc i)) }
 {
     let mut value = span.beyond();
     let mut cells = Vec::with_capacity(alloc, a.len())?;

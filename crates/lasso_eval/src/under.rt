@@ -22,8 +22,11 @@ pub struct Under {
 pub fn nodes_under(alloc: Global, table: &FormulaTable, root: u32) -> Result<Under, AllocError>
     requires { root < length table.now.nodes }
     ensures length { IfOk result (λ under. length under.marks.items ≡ root + 1) }
-    ensures marks { IfOk result (λ under. (number : ℕ) → IsTrue (slice_index_or under.marks.items number false) ↔ IsUnder table.now root number) }
-    ensures shallow { IfOk result (λ under. (number : ℕ) → IsTrue (slice_index_or under.marks.items number false) → past_depth (tree_at table.now number) ≤ past_depth (tree_at table.now root)) }
+    ensures marks { IfOk result (λ under. (number : ℕ)
+        → IsTrue (slice_index_or under.marks.items number false) ↔ IsUnder table.now root number) }
+    ensures shallow { IfOk result (λ under. (number : ℕ)
+        → IsTrue (slice_index_or under.marks.items number false)
+        → past_depth (tree_at table.now number) ≤ past_depth (tree_at table.now root)) }
     ensures count { IfOk result (λ under. under.count ≡ nodes_in (tree_at table.now root)) }
     ensures small { IfOk result (λ under. under.count ≤ root + 1) }
 {
@@ -45,7 +48,8 @@ pub fn nodes_under(alloc: Global, table: &FormulaTable, root: u32) -> Result<Und
 fn mark_children(marks: &mut Vec<bool>, node: Node)
     requires { HasChildrenBelow (length marks.old.items) node }
     ensures length { length marks.new.items ≡ length marks.old.items }
-    ensures each { (i : ℕ) → slice_index_or marks.new.items i false ≡ (slice_index_or marks.old.items i false || has_child i node) }
+    ensures each { (i : ℕ) → slice_index_or marks.new.items i false
+        ≡ (slice_index_or marks.old.items i false || has_child i node) }
 {
     match node {
         Node::Const(_) | Node::Letter(_) | Node::Fresh(_) => {}

@@ -13,7 +13,8 @@ use clause_log::{Log, LogView};
 use cnf_base::{Hint, Literal, Rows};
 use std::alloc::{AllocError, Global};
 
-/// The marked lines so far, with their hints, and for each line of the log so far how many there were up to it.
+/// The marked lines so far, with their hints, and for each line of the log so far how many there were up to
+/// it.
 #[derive(Drop)]
 struct KeptLines {
     lines: Rows<Literal>,
@@ -105,7 +106,8 @@ fn keep_line(
     requires kept { AreKept (marked flags.now.items) view.now index
         kept.old.lines kept.old.hints kept.old.table.items }
     ensures { OnOk result
-        (AreKept (marked flags.now.items) view.now (index + 1) kept.new.lines kept.new.hints kept.new.table.items) }
+        (AreKept (marked flags.now.items) view.now (index + 1) kept.new.lines kept.new.hints
+        kept.new.table.items) }
 {
     if flags[index as usize] {
         let hints = renumber(alloc, view, flags, index, &kept.table)?;

@@ -1,5 +1,5 @@
-// When a run is accepted. On infinite traces its last state asks for nothing more, or the run loops back to an earlier state; on finite
-// traces no strong next request is true at its last state.
+// When a run is accepted. On infinite traces its last state asks for nothing more, or the run loops back to
+// an earlier state; on finite traces no strong next request is true at its last state.
 ghost use Rattle.std.specs.Prelude.{◌≡◌, ◌<◌, ◌≤◌, [], ◌∷◌, ◌++◌, map, OnOk, OnErr};
 ghost use Rattle.ltl_syntax.specs.declared.node.Kind.TheVariants as Kinds;
 ghost use Rattle.ltl_closure.specs.Closure.{nexts};
@@ -41,7 +41,8 @@ fn push_empty(
     requires own { step.now.layout ≡ layout_of closure.now }
     requires infinite { step.now.layout.kind ≡ Kinds.Infinite }
     ensures ok { OnOk result (out.new ≡ out.old ++ clauses_at step.now
-        (map (λ t. Minus (EmptyAt step.now.number) ∷ Minus (letter_of closure.now.formula step.now.number t) ∷ [])
+        (map (λ t. Minus (EmptyAt step.now.number) ∷ Minus (letter_of closure.now.formula step.now.number t)
+        ∷ [])
         (nexts closure.now.formula))) }
     ensures err { OnErr result (Extends out.old out.new) }
 {

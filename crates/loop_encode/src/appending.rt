@@ -1,5 +1,5 @@
-// The clauses of a step's pairs and of acceptance, put behind those that are there. Where memory runs out, the list is cut back to what
-// it was.
+// The clauses of a step's pairs and of acceptance, put behind those that are there. Where memory runs out,
+// the list is cut back to what it was.
 ghost use Rattle.std.specs.Prelude.{◌≡◌, ◌<◌, ◌≤◌, ◌++◌, OnOk, OnErr};
 ghost use Rattle.enc_layout.specs.Letters.{Fits};
 ghost use Rattle.enc_layout.specs.Clauses.{layout_of, pair_clauses, part_d, loop_clauses, signed_clauses};
@@ -62,8 +62,8 @@ fn push_loops(
     push_acceptance(closure, step, out)
 }
 
-/// Appends what the letters of a step's pairs mean, each earlier step in turn, and then by what rule the run up to the step is accepted.
-/// Where memory runs out, the list is as before.
+/// Appends what the letters of a step's pairs mean, each earlier step in turn, and then by what rule the run
+/// up to the step is accepted. Where memory runs out, the list is as before.
 pub fn append(
     closure: &Closure<'_>,
     layout: &Layout,

@@ -1,6 +1,6 @@
-// Where two states have one carry. The carry of a state is the values of its next requests and of the arguments of its yesterday
-// requests, each at a place of its own. Where the letter of equal carries is true, they agree at each place; where it is not, the letter
-// of some place is true, and the carries differ there.
+// Where two states have one carry. The carry of a state is the values of its next requests and of the
+// arguments of its yesterday requests, each at a place of its own. Where the letter of equal carries is true,
+// they agree at each place; where it is not, the letter of some place is true, and the carries differ there.
 ghost use Rattle.std.specs.Prelude.{◌≡◌, ◌+◌, ◌<◌, ◌≤◌, [], ◌∷◌, ◌++◌, length, OnOk, OnErr};
 ghost use Rattle.enc_layout.specs.Letters.{Equal, below};
 ghost use Rattle.enc_layout.specs.Clauses.{Plus, layout_of, carried, place_clauses};

@@ -1,5 +1,6 @@
-// What a loop must fulfill. An eventuality `a U b` is fulfilled after an earlier state where b is true at some state behind it; a run may
-// loop back to the earlier state where the carries are equal and each eventuality that is still asked for is fulfilled on the way.
+// What a loop must fulfill. An eventuality `a U b` is fulfilled after an earlier state where b is true at
+// some state behind it; a run may loop back to the earlier state where the carries are equal and each
+// eventuality that is still asked for is fulfilled on the way.
 ghost use Rattle.std.specs.Prelude.{◌≡◌, ◌+◌, ◌<◌, ◌≤◌, [], ◌∷◌, ◌++◌, length, OnOk, OnErr};
 ghost use Rattle.ltl_syntax.specs.declared.node.Kind.TheVariants as Kinds;
 ghost use Rattle.ltl_closure.specs.Closure.{eventualities};

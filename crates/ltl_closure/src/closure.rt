@@ -34,9 +34,17 @@ impl<'t> Model for Closure<'t> {
 
     ghost coded = { coded_closure };
 
-    ghost view = { λ c. record { table = c.table.now; node = c.node; formula = tree_at c.table.now c.node; kind = c.kind; names = c.table.now.names; entries = c.entries.items } };
+    ghost view = { λ c. record {
+      table = c.table.now;
+      node = c.node;
+      formula = tree_at c.table.now c.node;
+      kind = c.kind;
+      names = c.table.now.names;
+      entries = c.entries.items;
+    } };
 
-    ghost invariant = { λ c. IsClosure c.table.now c.node c.entries.items c.root c.nexts.items c.yesterdays.items c.eventualities.items };
+    ghost invariant = { λ c. IsClosure c.table.now c.node c.entries.items c.root c.nexts.items
+        c.yesterdays.items c.eventualities.items };
 }
 
 impl<'t> Closure<'t> {
@@ -75,7 +83,8 @@ impl<'t> Closure<'t> {
     pub fn table(&self) -> &'t FormulaTable
         ensures table { result.now ≡ self.now.table }
         ensures names { result.now.names ≡ self.now.names }
-        ensures formula { (node : ℕ) × (node < length result.now.nodes) × (tree_at result.now node ≡ self.now.formula) }
+        ensures formula { (node : ℕ) × (node < length result.now.nodes)
+            × (tree_at result.now node ≡ self.now.formula) }
     {
         self.table
     }

@@ -1,6 +1,7 @@
 // The entries of a closure.
 
-/// An entry of a closure. A number in it is an entry's, from 1; that of `Letter` and of `Fresh` is the table's.
+/// An entry of a closure. A number in it is an entry's, from 1; that of `Letter` and of `Fresh` is the
+/// table's.
 #[derive(Clone, Copy, Debug, PartialEq, Eq)]
 pub enum Entry {
     True,

@@ -1,5 +1,5 @@
-// What two occurrences of one subformula have in common: the operator and the numbers of its operands. The number of an entry's
-// own request is no part of it, since it is known only once the entry is there.
+// What two occurrences of one subformula have in common: the operator and the numbers of its operands. The
+// number of an entry's own request is no part of it, since it is known only once the entry is there.
 ghost use Rattle.std.specs.Prelude.{◌≡◌, ◌+◌, ◌<◌};
 ghost use Rattle.ltl_closure.specs.Keys.{request_of, asking_entry, joined_entry, entry_of};
 

@@ -37,7 +37,8 @@ impl Memo {
         requires { IsWithin self.old node }
         ensures room { (nodes : ℕ) → HasRoom self.old nodes → HasRoom self.new nodes }
         ensures kept { memo_at self.new node positive ≡ number }
-        ensures numbers { (n : ℕ) (s : Bool) → (memo_at self.new n s ≡ memo_at self.old n s) ⊎ ((n ≡ node) × (s ≡ positive) × (memo_at self.new n s ≡ number)) }
+        ensures numbers { (n : ℕ) (s : Bool) → (memo_at self.new n s ≡ memo_at self.old n s)
+            ⊎ ((n ≡ node) × (s ≡ positive) × (memo_at self.new n s ≡ number)) }
     {
         if positive {
             self.positive[node as usize] = number;

@@ -41,7 +41,8 @@ fn plan_times(
     positive: bool,
     n: u8,
 ) -> Result<(), AllocError>
-    ensures { OnOk result (reverse work.new.items ≡ times_plan request positive a n ++ reverse work.old.items) }
+    ensures { OnOk result (reverse work.new.items ≡ times_plan request positive a n
+        ++ reverse work.old.items) }
 {
     if n == 0 {
         work.push(Work::Visit(a, positive))?;
@@ -62,7 +63,8 @@ fn plan_window(
     from: u8,
     to: u8,
 ) -> Result<(), AllocError>
-    ensures { OnOk result (reverse work.new.items ≡ window_plan connective none request positive a from to ++ reverse work.old.items) }
+    ensures { OnOk result (reverse work.new.items ≡ window_plan connective none request positive a from to
+        ++ reverse work.old.items) }
 {
     if from == 0 && to == 0 {
         work.push(Work::Visit(a, positive))?;
@@ -99,7 +101,8 @@ fn plan_request(
     a: u32,
     positive: bool,
 ) -> Result<(), AllocError>
-    ensures { OnOk result (reverse work.new.items ≡ request_plan request positive a ++ reverse work.old.items) }
+    ensures { OnOk result (reverse work.new.items ≡ request_plan request positive a
+        ++ reverse work.old.items) }
 {
     put_plan(work, &[Work::Visit(a, positive), Work::Ask(request)])
 }
@@ -112,7 +115,8 @@ fn plan_span(
     a: u32,
     positive: bool,
 ) -> Result<(), AllocError>
-    ensures { OnOk result (reverse work.new.items ≡ span_plan some connective positive a ++ reverse work.old.items) }
+    ensures { OnOk result (reverse work.new.items ≡ span_plan some connective positive a
+        ++ reverse work.old.items) }
 {
     put_plan(
         work,
@@ -134,7 +138,8 @@ fn plan_range(
     from: u8,
     to: u8,
 ) -> Result<(), AllocError>
-    ensures { OnOk result (reverse work.new.items ≡ range_plan some request positive a from to ++ reverse work.old.items) }
+    ensures { OnOk result (reverse work.new.items ≡ range_plan some request positive a from to
+        ++ reverse work.old.items) }
 {
     if some {
         plan_window(work, Connective::Or, false, request, a, positive, from, to)
@@ -187,7 +192,8 @@ fn past(some: bool) -> Connective
     }
 }
 
-/// Puts the plan of an operator of one operand, or with `false` that of its negation: the dual operator, over the operand's negation.
+/// Puts the plan of an operator of one operand, or with `false` that of its negation: the dual operator, over
+/// the operand's negation.
 pub fn plan_unary(work: &mut Vec<Work>, op: UnaryOp, a: u32, sign: bool) -> Result<(), AllocError>
     ensures { OnOk result (reverse work.new.items ≡ unary_plan sign op a ++ reverse work.old.items) }
 {

@@ -1,4 +1,5 @@
-// The entries of a closure as it grows. An entry that is there already is found by its key, so each stands once.
+// The entries of a closure as it grows. An entry that is there already is found by its key, so each stands
+// once.
 ghost use Rattle.std.specs.Prelude.{◌≡◌, ◌≤◌, [], length, IfOk};
 ghost use Rattle.ltl_closure.specs.Keys.{Enters};
 
@@ -27,7 +28,8 @@ impl Shared {
     /// The number of the entry with this key. A new one is put last, and its request right after it.
     pub fn enter(&mut self, key: Key) -> Result<u32, AllocError>
         requires { length self.old.keys.keys ≤ 98306 }
-        ensures { IfOk result (λ number. Enters self.old.keys.keys self.old.entries.items key self.new.keys.keys self.new.entries.items number) }
+        ensures { IfOk result (λ number. Enters self.old.keys.keys self.old.entries.items key
+            self.new.keys.keys self.new.entries.items number) }
     {
         let (index, added) = self.keys.insert_full(key)?;
         let number = index as u32 + 1;

@@ -1,5 +1,6 @@
-// The walk over nodes and signs. It keeps a stack of what is still to be done and a stack of the numbers of what is done, so it
-// never builds the tree of the normal form, which grows exponentially with the depth of `<->`.
+// The walk over nodes and signs. It keeps a stack of what is still to be done and a stack of the numbers of
+// what is done, so it never builds the tree of the normal form, which grows exponentially with the depth of
+// `<->`.
 ghost use Rattle.std.specs.Prelude.{◌≡◌, ℕ, ◌<◌, ◌≤◌, List, [], ◌∷◌, length, reverse, IfOk, OnOk};
 ghost use Rattle.ltl_syntax.specs.Table.{tree_at};
 ghost use Rattle.ltl_closure.specs.Norm.{pos_of};
@@ -35,9 +36,11 @@ pub struct Walked {
 /// Walks the normal form of a node's tree.
 pub fn walk_from(alloc: Global, table: &FormulaTable, root: u32) -> Result<Walked, AllocError>
     requires { root < length table.now.nodes }
-    ensures entries { IfOk result (λ walked. AreEntries table.now.names (tree_at table.now root) walked.entries.items) }
+    ensures entries { IfOk result (λ walked. AreEntries table.now.names
+        (tree_at table.now root) walked.entries.items) }
     ensures few { IfOk result (λ walked. length walked.entries.items ≤ 98306) }
-    ensures root { IfOk result (λ walked. walked.root ≡ place_in (closure (tree_at table.now root)) (pos_of (tree_at table.now root))) }
+    ensures root { IfOk result (λ walked. walked.root ≡ place_in (closure (tree_at table.now root))
+        (pos_of (tree_at table.now root))) }
 {
     let mut walk = Walk::start(alloc, table, root)?;
     while let Some(work) = walk.work.pop() {
@@ -74,7 +77,8 @@ impl Walk {
         requires { IsAt table.now self.old (work ∷ reverse self.old.work.items) }
         ensures at { OnOk result (IsAt table.now self.new (reverse self.new.work.items)) }
         ensures root { OnOk result (self.new.root ≡ self.old.root) }
-        ensures less { OnOk result (weights table.now (reverse self.new.work.items) < weights table.now (work ∷ reverse self.old.work.items)) }
+        ensures less { OnOk result (weights table.now (reverse self.new.work.items)
+            < weights table.now (work ∷ reverse self.old.work.items)) }
     {
         match work {
             Work::Visit(node, positive) => self.visit(table, node, positive),
@@ -105,7 +109,8 @@ impl Walk {
         requires { IsAt table.now self.old (Work.Visit node positive ∷ reverse self.old.work.items) }
         ensures at { OnOk result (IsAt table.now self.new (reverse self.new.work.items)) }
         ensures root { OnOk result (self.new.root ≡ self.old.root) }
-        ensures less { OnOk result (weights table.now (reverse self.new.work.items) < weights table.now (Work.Visit node positive ∷ reverse self.old.work.items)) }
+        ensures less { OnOk result (weights table.now (reverse self.new.work.items)
+            < weights table.now (Work.Visit node positive ∷ reverse self.old.work.items)) }
     {
         let known = self.memo.get(node, positive);
         if known != 0 {
@@ -130,7 +135,8 @@ impl Walk {
     /// Puts a letter, and plans its negation where that is what is walked.
     fn put_letter(&mut self, key: Key, positive: bool) -> Result<(), AllocError>
         requires { length self.old.shared.keys.keys ≤ 98306 }
-        ensures { OnOk result (Puts self.old key (letter_work positive (reverse self.old.work.items)) self.new) }
+        ensures { OnOk result (Puts self.old key (letter_work positive (reverse self.old.work.items))
+            self.new) }
     {
         self.put(key)?;
         if !positive {

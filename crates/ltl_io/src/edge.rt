@@ -93,7 +93,8 @@ impl<W: Write> Sink for StdSink<W> {
 fn write_out<W: Write>(inner: &mut W, piece: &[u8]) -> Result<usize, Failed>
     ensures length { IfOk result (λ n. n ≤ length piece.now) }
     ensures progress { IfOk result (λ n. 1 ≤ n) }
-    ensures taken { IfOk result (λ n. Grows (take n piece.now) (W.contents inner.old) (W.contents inner.new)) }
+    ensures taken { IfOk result (λ n. Grows (take n piece.now) (W.contents inner.old)
+        (W.contents inner.new)) }
     ensures err { OnErr result (GrowsByFront piece.now (W.contents inner.old) (W.contents inner.new)) }
 {
     let Ok(n) = inner.write(piece) else {

@@ -24,9 +24,17 @@ pub struct MemorySink {
 impl Model for MemorySink {
     ghost Value = { MemoryOutput };
 
-    ghost view = { λ s. record { content = s.content.items; room = s.room; step = s.step; failing = s.failing.items; calls = s.calls; faults = s.faults } };
+    ghost view = { λ s. record {
+      content = s.content.items;
+      room = s.room;
+      step = s.step;
+      failing = s.failing.items;
+      calls = s.calls;
+      faults = s.faults;
+    } };
 
-    ghost invariant = { λ s. (length s.content.items ≤ s.room) × (s.room ≤ vec_capacity s.content) × (0 < s.step) };
+    ghost invariant = { λ s. (length s.content.items ≤ s.room) × (s.room ≤ vec_capacity s.content)
+        × (0 < s.step) };
 }
 
 impl MemorySink {
@@ -37,7 +45,14 @@ impl MemorySink {
         failing: Vec<u64>,
     ) -> Result<MemorySink, AllocError>
         requires { 0 < step }
-        ensures { IfOk result (λ s. s ≡ record { content = []; room = room; step = step; failing = failing.items; calls = 0; faults = 0 }) }
+        ensures { IfOk result (λ s. s ≡ record {
+          content = [];
+          room = room;
+          step = step;
+          failing = failing.items;
+          calls = 0;
+          faults = 0;
+        }) }
     {
         let content = Vec::with_capacity(alloc, room)?;
         Ok(MemorySink {
@@ -69,7 +84,8 @@ impl Sink for MemorySink {
         // As every sink.
         ensures length { IfOk result (λ n. n ≤ length piece.now) }
         ensures progress { IfOk result (λ n. 1 ≤ n) }
-        ensures taken { IfOk result (λ n. Grows (take n piece.now) (Some self.old.content) (Some self.new.content)) }
+        ensures taken { IfOk result (λ n. Grows (take n piece.now) (Some self.old.content)
+            (Some self.new.content)) }
         ensures err { OnErr result (GrowsByFront piece.now (Some self.old.content) (Some self.new.content)) }
         ensures cause { OnErr result (Rose self.old.faults self.new.faults) }
         ensures count { OnOk result (self.new.faults ≡ self.old.faults) }
@@ -81,7 +97,8 @@ impl Sink for MemorySink {
         ensures amount { IfOk result (λ n. n ≡ amount_taken self.old (length piece.now)) }
         ensures fault { OnErr result (self.new.faults ≡ next_count self.old.faults) }
         ensures number { self.new.calls ≡ next_count self.old.calls }
-        ensures same { (self.new.step ≡ self.old.step) × (self.new.room ≡ self.old.room) × (self.new.failing ≡ self.old.failing) }
+        ensures same { (self.new.step ≡ self.old.step) × (self.new.room ≡ self.old.room)
+            × (self.new.failing ≡ self.old.failing) }
     {
         self.calls = self.calls.saturating_add(1);
         let is_named = self.calls < u64::MAX && self.failing.contains(&self.calls);

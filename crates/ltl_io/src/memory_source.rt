@@ -22,7 +22,13 @@ pub struct MemorySource {
 impl Model for MemorySource {
     ghost Value = { MemoryInput };
 
-    ghost view = { λ s. record { rest = drop s.at s.content.items; step = s.step; failing = s.failing.items; calls = s.calls; faults = s.faults } };
+    ghost view = { λ s. record {
+      rest = drop s.at s.content.items;
+      step = s.step;
+      failing = s.failing.items;
+      calls = s.calls;
+      faults = s.faults;
+    } };
 
     ghost invariant = { λ s. (s.at ≤ length s.content.items) × (0 < s.step) };
 }
@@ -30,7 +36,13 @@ impl Model for MemorySource {
 impl MemorySource {
     pub fn new(content: Vec<u8>, step: usize, failing: Vec<u64>) -> MemorySource
         requires { 0 < step }
-        ensures { result ≡ record { rest = content.items; step = step; failing = failing.items; calls = 0; faults = 0 } }
+        ensures { result ≡ record {
+          rest = content.items;
+          step = step;
+          failing = failing.items;
+          calls = 0;
+          faults = 0;
+        } }
     {
         MemorySource {
             content,

@@ -57,10 +57,12 @@ pub fn read_whole<S: Source>(
     source: &mut S,
     stop_after: usize,
 ) -> Result<Vec<u8>, ReadRefused>
-    ensures bytes { IfOk result (λ bytes. TakesWhole stop_after bytes.items (S.rest source.old) (S.rest source.new)) }
+    ensures bytes { IfOk result (λ bytes. TakesWhole stop_after bytes.items (S.rest source.old)
+        (S.rest source.new)) }
     ensures bounded { IfOk result (λ bytes. length bytes.items ≤ stop_after + PIECE) }
     ensures left { LosesAtMost (stop_after + PIECE) (S.rest source.old) (S.rest source.new) }
-    ensures fault_left { IsErrOf result ReadRefused.Fault → LosesAtMost stop_after (S.rest source.old) (S.rest source.new) }
+    ensures fault_left { IsErrOf result ReadRefused.Fault
+        → LosesAtMost stop_after (S.rest source.old) (S.rest source.new) }
     ensures fault { IsErrOf result ReadRefused.Fault → Rose (S.faults source.old) (S.faults source.new) }
     ensures no_memory { IsErrOf result ReadRefused.NoMemory → S.faults source.new ≡ S.faults source.old }
     ensures count { OnOk result (S.faults source.new ≡ S.faults source.old) }

@@ -8,12 +8,14 @@ ghost use Rattle.ltl_lexer.specs.Tokens.{AreTokens, HasNumbers, IsPartOf, IsWord
 
 /// A text has one list of tokens, and one fault at most.
 pub fn one_list()
-    ensures { (text : List ℕ) (ts us : List Token) (f g : Option ℕ) → AreTokens 0 text ts f → AreTokens 0 text us g → (ts ≡ us) × (f ≡ g) }
+    ensures { (text : List ℕ) (ts us : List Token) (f g : Option ℕ) → AreTokens 0 text ts f
+        → AreTokens 0 text us g → (ts ≡ us) × (f ≡ g) }
 {}
 
 /// Each token of a text is a part of it, and the bytes of this part spell the token's kind.
 pub fn parts_of_text()
-    ensures { (text : List ℕ) (ts : List Token) (f : Option ℕ) → AreTokens 0 text ts f → All (IsPartOf text) ts }
+    ensures { (text : List ℕ) (ts : List Token) (f : Option ℕ) → AreTokens 0 text ts f
+        → All (IsPartOf text) ts }
 {}
 
 /// A word is text, and no name of a letter that has a number in place of a name: those are printed in braces.

@@ -1,6 +1,6 @@
-// What stands at the front of a text: white space, a sign, a bounded operator, or a word. No sign begins as a word does,
-// and a bounded operator goes on behind its word, so the longest token is the longest sign where there is one, else the
-// bounded operator where there is one, and else the longest word.
+// What stands at the front of a text: white space, a sign, a bounded operator, or a word. No sign begins as a
+// word does, and a bounded operator goes on behind its word, so the longest token is the longest sign where
+// there is one, else the bounded operator where there is one, and else the longest word.
 ghost use Rattle.std.specs.Prelude.{◌≡◌, ◌<◌, ◌≤◌, ◌||◌, ◌==◌, length, take, slice_index, Some, None, false, drop, IfSome, IfNone};
 ghost use Rattle.unicode_ident.specs.Ident.{is_xid_start, is_xid_continue};
 ghost use Rattle.ltl_lexer.specs.Tokens.{is_white, AreWhite, word_kind, IsLongest, BeginsNone};
@@ -236,7 +236,8 @@ fn front_bounded(text: &[u8]) -> Option<(UnaryWord, usize)>
 
 /// The longest token at the front: its kind and its length.
 pub fn front_token(text: &[u8]) -> Option<(TokenKind, usize)>
-    ensures some { IfSome result (λ r. (r.1 ≤ length text.now) × IsLongest r.0 (take r.1 text.now) (drop r.1 text.now)) }
+    ensures some { IfSome result (λ r. (r.1 ≤ length text.now)
+        × IsLongest r.0 (take r.1 text.now) (drop r.1 text.now)) }
     ensures none { IfNone result (BeginsNone text.now) }
 {
     if let Some((kind, len)) = front_sign(text) {

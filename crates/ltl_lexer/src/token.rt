@@ -1,6 +1,7 @@
 // A token: what kind it is, and where it stands in its text.
 
-/// The words that stand before one operand, and those that take numbers: `XTimes(n)` is `X[n]`, and `FIn(a, b)` is `F[a,b]`.
+/// The words that stand before one operand, and those that take numbers: `XTimes(n)` is `X[n]`, and `FIn(a,
+/// b)` is `F[a,b]`.
 #[derive(Clone, Copy, PartialEq, Eq, Debug, Drop)]
 pub enum UnaryWord {
     X,

@@ -1,6 +1,6 @@
-// The table of tokens without a fault, read from left to right with a stack of what waits for its operand: operator
-// precedence parsing (Dijkstra's shunting yard, 1961). An operator first takes from the stack what binds as strongly as
-// it asks on its left, then waits there with its left operand.
+// The table of tokens without a fault, read from left to right with a stack of what waits for its operand:
+// operator precedence parsing (Dijkstra's shunting yard, 1961). An operator first takes from the stack what
+// binds as strongly as it asks on its left, then waits there with its left operand.
 ghost use Rattle.std.specs.Prelude.{◌≡◌, ◌≢◌, ◌+◌, ◌<◌, ◌≤◌, length, IfOk, Err, None, Some};
 ghost use Rattle.ltl_lexer.specs.Tokens.{AreTokens, IsPartOf};
 ghost use Rattle.ltl_syntax.specs.declared.table.PushRefused.TheVariants as refused;
@@ -28,8 +28,10 @@ fn step(
     requires ready { AreReady table.old stack.old operand }
     requires room { sizes table.old.nodes + to_weigh stack.old + weight (symbol_of text.now token) ≤ 16384 }
     requires names { length table.old.names ≤ length table.old.nodes }
-    requires taken { IsTaken (wanted operand) (parens (frames table.old stack.old)) (symbol_of text.now token) }
-    ensures steps { IfOk result (λ b. Steps table.old stack.old operand (symbol_of text.now token) table.new stack.new b) }
+    requires taken { IsTaken (wanted operand) (parens (frames table.old stack.old))
+        (symbol_of text.now token) }
+    ensures steps { IfOk result (λ b. Steps table.old stack.old operand
+        (symbol_of text.now token) table.new stack.new b) }
     ensures nodes { result ≢ Err refused.Nodes }
 {
     match operand {

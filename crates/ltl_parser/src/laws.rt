@@ -20,15 +20,21 @@ pub fn read_without_fault()
 
 /// A text has a lexical fault, a grammar fault or a formula, and not two of them.
 pub fn one_outcome()
-    ensures one_lexical_fault { (text : List ℕ) (a b : ℕ) → IsLexicalFault text a → IsLexicalFault text b → a ≡ b }
-    ensures one_grammar_fault { (text : List ℕ) (a b : ℕ) → IsGrammarFault text a → IsGrammarFault text b → a ≡ b }
+    ensures one_lexical_fault { (text : List ℕ) (a b : ℕ) → IsLexicalFault text a → IsLexicalFault text b
+        → a ≡ b }
+    ensures one_grammar_fault { (text : List ℕ) (a b : ℕ) → IsGrammarFault text a → IsGrammarFault text b
+        → a ≡ b }
     ensures one_formula { (text : List ℕ) (f g : Formula) → ReadsText text f → ReadsText text g → f ≡ g }
 
-    ensures lexical_not_grammar { (text : List ℕ) (a b : ℕ) → IsLexicalFault text a → IsGrammarFault text b → ⊥ }
-    ensures lexical_not_read { (text : List ℕ) (a : ℕ) (f : Formula) → IsLexicalFault text a → ReadsText text f → ⊥ }
-    ensures grammar_not_read { (text : List ℕ) (a : ℕ) (f : Formula) → IsGrammarFault text a → ReadsText text f → ⊥ }
+    ensures lexical_not_grammar { (text : List ℕ) (a b : ℕ) → IsLexicalFault text a → IsGrammarFault text b
+        → ⊥ }
+    ensures lexical_not_read { (text : List ℕ) (a : ℕ) (f : Formula) → IsLexicalFault text a
+        → ReadsText text f → ⊥ }
+    ensures grammar_not_read { (text : List ℕ) (a : ℕ) (f : Formula) → IsGrammarFault text a
+        → ReadsText text f → ⊥ }
 
-    ensures read_or_fault { (text : List ℕ) (ts : List Token) → AreTokens 0 text ts None → ((f : Formula) × ReadsText text f) ⊎ ((byte : ℕ) × IsGrammarFault text byte) }
+    ensures read_or_fault { (text : List ℕ) (ts : List Token) → AreTokens 0 text ts None
+        → ((f : Formula) × ReadsText text f) ⊎ ((byte : ℕ) × IsGrammarFault text byte) }
 {}
 
 /// The sizes of the tokens of a text other than parentheses add up to the size of its formula.
@@ -37,7 +43,8 @@ pub fn nodes_of_text()
     ensures nodes { (text : List ℕ) (f : Formula) → ReadsText text f → NodesOf text (formula_size f) }
 {}
 
-/// The printed text of a formula reads as it and as no other, and every formula that a text reads as is such a formula.
+/// The printed text of a formula reads as it and as no other, and every formula that a text reads as is such
+/// a formula.
 pub fn printed_text()
     ensures reads { (f : Formula) → IsPrintable f → ReadsText (text_of f) f }
     ensures only { (f g : Formula) → IsPrintable f → ReadsText (text_of f) g → f ≡ g }

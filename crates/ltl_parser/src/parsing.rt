@@ -1,5 +1,5 @@
-// Parsing goes twice over the tokens: a walk finds the first fault and adds up the sizes, and only then is the table
-// built. So the builder meets no fault, and a text that is refused costs no table.
+// Parsing goes twice over the tokens: a walk finds the first fault and adds up the sizes, and only then is
+// the table built. So the builder meets no fault, and a text that is refused costs no table.
 ghost use Rattle.std.specs.Prelude.{◌≡◌, ◌+◌, ◌≤◌, length, IfOk, IfErr, None};
 ghost use Rattle.ltl_lexer.specs.Tokens.{AreTokens};
 ghost use Rattle.ltl_syntax.specs.Table.{IsRoot, tree_at};
@@ -19,8 +19,8 @@ const MAX_SIZE: u32 = 16_384;
 /// Why tokens give no table, in the order in which the causes are tried.
 #[derive(Clone, Copy, Debug, PartialEq, Eq)]
 pub enum ParseRefused {
-    /// The byte, counted from 0, of the token that may not stand where it does, or the length of the text where it ends
-    /// too early.
+    /// The byte, counted from 0, of the token that may not stand where it does, or the length of the text
+    /// where it ends too early.
     Grammar(u32),
     /// The sum of the sizes of the tokens other than parentheses, which is above 16,384.
     Nodes(u32),
@@ -38,7 +38,8 @@ pub fn parse(
     ensures reads { IfOk result (λ r. Reads (symbols text.now tokens.now) (tree_at r.0 r.1)) }
     ensures accepted { IfOk result (λ r. IsAccepted text.now (tree_at r.0 r.1)) }
 
-    // The table has the nodes of this formula and no others, the root last, and its names as the text brings them.
+    // The table has the nodes of this formula and no others, the root last, and its names as the text brings
+    // them.
     ensures root { IfOk result (λ r. IsRoot r.0 r.1) }
     ensures last { IfOk result (λ r. r.1 + 1 ≡ length r.0.nodes) }
     ensures count { IfOk result (λ r. length r.0.nodes ≡ nodes_in (tree_at r.0 r.1)) }

@@ -53,7 +53,8 @@ pub fn step_operand(
     requires room { sizes table.old.nodes + to_weigh stack.old + weight (symbol_of text.now token) ≤ 16384 }
     requires names { length table.old.names ≤ length table.old.nodes }
     requires taken { IsTaken Operand (parens (frames table.old stack.old)) (symbol_of text.now token) }
-    ensures steps { IfOk result (λ b. Steps table.old stack.old None (symbol_of text.now token) table.new stack.new b) }
+    ensures steps { IfOk result (λ b. Steps table.old stack.old None
+        (symbol_of text.now token) table.new stack.new b) }
     ensures nodes { result ≢ Err refused.Nodes }
 {
     match meant(token.kind) {
@@ -89,7 +90,8 @@ pub fn step_operator(
     requires room { sizes table.old.nodes + to_weigh stack.old + weight (symbol_of text.now token) ≤ 16384 }
     requires names { length table.old.names ≤ length table.old.nodes }
     requires taken { IsTaken Operator (parens (frames table.old stack.old)) (symbol_of text.now token) }
-    ensures steps { IfOk result (λ b. Steps table.old stack.old (Some operand) (symbol_of text.now token) table.new stack.new b) }
+    ensures steps { IfOk result (λ b. Steps table.old stack.old (Some operand)
+        (symbol_of text.now token) table.new stack.new b) }
     ensures nodes { result ≢ Err refused.Nodes }
 {
     match meant(token.kind) {

@@ -1,5 +1,5 @@
-// The walk over the tokens, which finds a grammar fault and adds up the sizes. It keeps only whether an operand is wanted
-// next, and how many parentheses are open.
+// The walk over the tokens, which finds a grammar fault and adds up the sizes. It keeps only whether an
+// operand is wanted next, and how many parentheses are open.
 ghost use Rattle.std.specs.Prelude.{◌≡◌, ◌+◌, ◌<◌, ◌≤◌, ◌^◌, ◌∷◌, ℕ, List, length, MatchOption, MatchResult, None, Some};
 ghost use Rattle.ltl_parser.specs.Grammar.{Symbol, fault, walk, later, node_count, weight};
 ghost use Rattle.ltl_parser.specs.Text.{symbols};
@@ -12,8 +12,10 @@ use ltl_lexer::Token;
 fn pass(wanted: bool, depth: u32, meaning: Meaning) -> Option<(bool, u32)>
     requires { depth + 1 < 2 ^ 32 }
     ensures { MatchOption result
-        ((bytes : List ℕ) (rest : List Symbol) → walk (want wanted) depth (symbol_meant meaning bytes ∷ rest) ≡ Some 0)
-        (λ r. ((bytes : List ℕ) (rest : List Symbol) → walk (want wanted) depth (symbol_meant meaning bytes ∷ rest) ≡ later (walk (want r.0) r.1 rest)) × (r.1 ≤ depth + 1)) }
+        ((bytes : List ℕ) (rest : List Symbol) → walk (want wanted) depth (symbol_meant meaning bytes ∷ rest)
+        ≡ Some 0)
+        (λ r. ((bytes : List ℕ) (rest : List Symbol) → walk (want wanted) depth
+        (symbol_meant meaning bytes ∷ rest) ≡ later (walk (want r.0) r.1 rest)) × (r.1 ≤ depth + 1)) }
 {
     match meaning {
         Meaning::Constant(_) | Meaning::Name if wanted => Some((false, depth)),

@@ -1,10 +1,11 @@
 //! Laws of runs. Each function is empty: its contract is the law, and a proof cites it by a call.
 //!
-//! The tableau is Reynolds' one-pass tree-shaped one (2016), as Geatti, Gigante and Montanari (2019) ask a solver for its branches.
+//! The tableau is Reynolds' one-pass tree-shaped one (2016), as Geatti, Gigante and Montanari (2019) ask a
+//! solver for its branches.
 ghost use Rattle.ltl_run.specs.Laws.{NormalFormAgrees, NegationAgrees, RangesAreIterated, RunsSatisfy, RulesAccept, LassosRun, TracesRun, RunsAreCut, RunsAreRotated, PrunedRunsShorten, LeastRunsAreUnpruned, HaveUnpruned, UnsatIsSound, BoundSettles, BoundFinds, VerdictIsOne, TreesHavePlainNames, AcceptedRunsHaveTraces, SatIsSound, SatIsExact, CarriesAreFew, CarriesComeOnce, TracesExtend, ExtensionsAgree, ReplacingRefutes, TreesAreGiven};
 
-/// At each position the normal form holds where the formula does, and that of its negation where the formula does not. That of a
-/// bounded operator is a request several times over.
+/// At each position the normal form holds where the formula does, and that of its negation where the formula
+/// does not. That of a bounded operator is a request several times over.
 pub fn normal_form()
     ensures same { NormalFormAgrees }
     ensures negated { NegationAgrees }
@@ -17,7 +18,8 @@ pub fn run_satisfies()
     ensures rules { RulesAccept }
 {}
 
-/// A trace that satisfies the formula gives an accepted run, and a lasso one whose length depends on the past operators only.
+/// A trace that satisfies the formula gives an accepted run, and a lasso one whose length depends on the past
+/// operators only.
 pub fn satisfied_runs()
     ensures accepted { TracesRun }
     ensures lasso { LassosRun }
@@ -66,7 +68,8 @@ pub fn traces_of_runs()
     ensures { AcceptedRunsHaveTraces }
 {}
 
-/// SAT means that a trace of the kind satisfies the formula, and at the bound it comes exactly where one does.
+/// SAT means that a trace of the kind satisfies the formula, and at the bound it comes exactly where one
+/// does.
 pub fn satisfiable()
     ensures sound { SatIsSound }
     ensures exact { SatIsExact }
@@ -78,15 +81,15 @@ pub fn carries()
     ensures once { CarriesComeOnce }
 {}
 
-/// A trace extends by the values of replaced occurrences, with a longer stem where past operators need it, and there the
-/// formula with fresh letters holds where the formula did.
+/// A trace extends by the values of replaced occurrences, with a longer stem where past operators need it,
+/// and there the formula with fresh letters holds where the formula did.
 pub fn extension()
     ensures there { TracesExtend }
     ensures agree { ExtensionsAgree }
 {}
 
-/// Where a formula with occurrences replaced has no trace of a kind, the formula has none. The trees of a table are such
-/// formulas.
+/// Where a formula with occurrences replaced has no trace of a kind, the formula has none. The trees of a
+/// table are such formulas.
 pub fn replacing_refutes()
     ensures refutes { ReplacingRefutes }
     ensures trees { TreesAreGiven }

@@ -1,5 +1,5 @@
-// The trace of an accepted run: each state shows the names of its true letters, and the rule by which the run is accepted says which
-// states repeat.
+// The trace of an accepted run: each state shows the names of its true letters, and the rule by which the run
+// is accepted says which states repeat.
 ghost use Rattle.std.specs.Prelude.{◌≡◌, ◌+◌, ◌-◌, ◌<◌, ◌≤◌, All, length, IfOk};
 ghost use Rattle.ltl_word.specs.Trace.{IsTrace, IsOfKind};
 ghost use Rattle.ltl_word.specs.Holds.{Satisfies};
@@ -15,8 +15,8 @@ use std::alloc::{AllocError, Global};
 
 /// The trace of the run of these states, of which the first is state 0.
 ///
-/// `Empty` gives all states and then one state without names for ever, `Loop(l)` the states 0 to l and then those from l + 1 on for
-/// ever, and `End` all states as a finite trace.
+/// `Empty` gives all states and then one state without names for ever, `Loop(l)` the states 0 to l and then
+/// those from l + 1 on for ever, and `End` all states as a finite trace.
 pub fn trace_of(
     alloc: Global,
     closure: &Closure<'_>,
@@ -26,9 +26,12 @@ pub fn trace_of(
     requires fits { All (FitsClosure closure.now.formula) states.now }
     requires some { 0 < length states.now }
     requires run { IsRun closure.now.formula (length states.now - 1) (run_of closure.now.formula states.now) }
-    requires accepted { Accepts close closure.now.formula (run_of closure.now.formula states.now) (length states.now - 1) closure.now.kind }
-    ensures gives { IfOk result (GivesTrace closure.now.formula (run_of closure.now.formula states.now) (length states.now - 1) close) }
-    ensures satisfies { IfOk result (λ t. IsTrace t × IsOfKind t closure.now.kind × Satisfies t closure.now.formula) }
+    requires accepted { Accepts close closure.now.formula (run_of closure.now.formula states.now)
+        (length states.now - 1) closure.now.kind }
+    ensures gives { IfOk result (GivesTrace closure.now.formula (run_of closure.now.formula states.now)
+        (length states.now - 1) close) }
+    ensures satisfies { IfOk result (λ t. IsTrace t × IsOfKind t closure.now.kind
+        × Satisfies t closure.now.formula) }
 {
     let shown = shown_run(alloc, closure, states)?;
     close_states(alloc, shown, close)
@@ -42,7 +45,8 @@ fn shown_run(
 ) -> Result<Vec<StateSet>, AllocError>
     requires fits { All (FitsClosure closure.now.formula) states.now }
     requires some { 0 < length states.now }
-    ensures { IfOk result (λ shown. AreShown closure.now.formula (run_of closure.now.formula states.now) (length states.now - 1) shown.items) }
+    ensures { IfOk result (λ shown. AreShown closure.now.formula (run_of closure.now.formula states.now)
+        (length states.now - 1) shown.items) }
 {
     let table = closure.table();
     // Names are plain, so none is a fresh letter's.

@@ -2,18 +2,20 @@
 ghost use Rattle.std.specs.Prelude.{◌≡◌, ◌≤◌, ◌↔◌, IsTrue};
 ghost use Rattle.ltl_syntax.specs.Size.{operator_size, node_size, IsInOrder};
 
-/// What the formula is asked about: infinite traces, which are a stem and a loop that repeats, or finite ones.
+/// What the formula is asked about: infinite traces, which are a stem and a loop that repeats, or finite
+/// ones.
 #[derive(Clone, Copy, Debug, PartialEq, Eq, Hash)]
 pub enum Kind {
     Infinite,
     Finite,
 }
 
-/// An operator over one formula. `Next` wants a next position and `WeakNext` does not, and so `Yesterday` and `WeakYesterday`
-/// towards the past. `Once` and `Historically` are `Eventually` and `Always` of the past.
+/// An operator over one formula. `Next` wants a next position and `WeakNext` does not, and so `Yesterday` and
+/// `WeakYesterday` towards the past. `Once` and `Historically` are `Eventually` and `Always` of the past.
 ///
-/// `NextTimes(n)` and `YesterdayTimes(n)` look n positions on and back. `EventuallyIn(a, b)` and `AlwaysIn(a, b)` look at the
-/// positions that are a to b later, `OnceIn(a, b)` and `HistoricallyIn(a, b)` at those that are a to b earlier.
+/// `NextTimes(n)` and `YesterdayTimes(n)` look n positions on and back. `EventuallyIn(a, b)` and `AlwaysIn(a,
+/// b)` look at the positions that are a to b later, `OnceIn(a, b)` and `HistoricallyIn(a, b)` at those that
+/// are a to b earlier.
 #[derive(Clone, Copy, Debug, PartialEq, Eq, Hash)]
 pub enum UnaryOp {
     Not,
@@ -48,9 +50,11 @@ pub enum BinaryOp {
     Trigger,
 }
 
-/// A node of a table. Its children are numbers of nodes, from 0, and the number of `Letter` is that of a name, from 0.
+/// A node of a table. Its children are numbers of nodes, from 0, and the number of `Letter` is that of a
+/// name, from 0.
 ///
-/// `Fresh` is a letter with a number in place of a name. It is told apart from each letter that a text can name.
+/// `Fresh` is a letter with a number in place of a name. It is told apart from each letter that a text can
+/// name.
 #[derive(Clone, Copy, Debug, PartialEq, Eq, Hash)]
 pub enum Node {
     Const(bool),

@@ -1,6 +1,7 @@
 // The text of a formula, with every pair of an operator's parentheses.
 //
-// What is still to be printed lies on a stack, the next piece on top, so that the depth of a formula costs memory and no recursion.
+// What is still to be printed lies on a stack, the next piece on top, so that the depth of a formula costs
+// memory and no recursion.
 ghost use Rattle.std.specs.Prelude.{◌≡◌, ◌+◌, ◌<◌, ◌≤◌, [], ◌∷◌, ◌++◌, length, IfOk, OnOk};
 ghost use Rattle.ltl_syntax.specs.Table.{tree_at};
 ghost use Rattle.ltl_syntax.specs.Print.{text_of, unary_text, times_text, range_text, binary_text};
@@ -9,7 +10,8 @@ ghost use Rattle.ltl_syntax.specs.Stack.{work_text, works_text, work_size, works
 use crate::{BinaryOp, FormulaTable, Node, UnaryOp};
 use std::alloc::{AllocError, Global};
 
-/// What is still to be printed: the tree under a node, an operator between its operands, or a closing parenthesis.
+/// What is still to be printed: the tree under a node, an operator between its operands, or a closing
+/// parenthesis.
 #[derive(Clone, Copy)]
 enum Work {
     Tree(u32),
@@ -17,7 +19,8 @@ enum Work {
     Close,
 }
 
-/// The text of the formula under a node. A fresh letter is printed as its number between braces, which no formula text contains.
+/// The text of the formula under a node. A fresh letter is printed as its number between braces, which no
+/// formula text contains.
 pub fn print(alloc: Global, table: &FormulaTable, root: u32) -> Result<Vec<u8>, AllocError>
     requires { root < length table.now.nodes }
     ensures { IfOk result (λ text. text.items ≡ text_of (tree_at table.now root)) }
@@ -42,9 +45,11 @@ fn step(
 ) -> Result<(), AllocError>
     requires work { IsWork table.now work }
     requires works { AreWorks table.now stack.old.items }
-    ensures text { OnOk result (out.new.items ++ works_text table.now stack.new.items ≡ out.old.items ++ work_text table.now work ++ works_text table.now stack.old.items) }
+    ensures text { OnOk result (out.new.items ++ works_text table.now stack.new.items
+        ≡ out.old.items ++ work_text table.now work ++ works_text table.now stack.old.items) }
     ensures works { OnOk result (AreWorks table.now stack.new.items) }
-    ensures size { OnOk result (works_size table.now stack.new.items < works_size table.now stack.old.items + work_size table.now work) }
+    ensures size { OnOk result (works_size table.now stack.new.items
+        < works_size table.now stack.old.items + work_size table.now work) }
 {
     match work {
         Work::Operator(op) => out.extend_from_slice(binary_bytes(op))?,

@@ -16,9 +16,9 @@ use std::alloc::{AllocError, Global};
 /// The formula under a root with a fresh letter in the place of each of these nodes. The fresh letters are
 /// numbered from 0 in the order in which the text of the formula has them.
 ///
-/// A node that is not under the root changes nothing, nor does one that comes twice. The answer is a table with the same
-/// names, and the root in it, which has the same number. It has as many nodes, so the limit on nodes does not stand
-/// in the way. Takes time linear in the nodes of the table.
+/// A node that is not under the root changes nothing, nor does one that comes twice. The answer is a table
+/// with the same names, and the root in it, which has the same number. It has as many nodes, so the limit on
+/// nodes does not stand in the way. Takes time linear in the nodes of the table.
 pub fn replace(
     alloc: Global,
     table: &FormulaTable,

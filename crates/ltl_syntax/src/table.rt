@@ -1,8 +1,8 @@
 // The table of a formula: its nodes, children before parents, and the names of its letters.
 //
-// A node is added only on top of roots, so each node belongs to one tree at most, and a number stands for the tree under it. Names
-// are kept in the order of first appearance in a hash table, and a flag beside each node tells whether it is still a root, so that
-// a text is read in time near to linear whatever it contains.
+// A node is added only on top of roots, so each node belongs to one tree at most, and a number stands for the
+// tree under it. Names are kept in the order of first appearance in a hash table, and a flag beside each node
+// tells whether it is still a root, so that a text is read in time near to linear whatever it contains.
 ghost use Rattle.std.specs.Prelude.{◌≡◌, ◌≢◌, ℕ, ◌+◌, ◌<◌, ◌≤◌, ◌↔◌, ◌&&◌, not, false, [], Some, length, map, slice_get, slice_index_or, string_bytes, IfOk, OnOk, OnErr, IsTrue};
 ghost use Rattle.std.specs.List.{count_by};
 ghost use Rattle.ltl_syntax.specs.declared.table.PushRefused.TheVariants.{NoMemory};
@@ -54,7 +54,8 @@ impl Model for FormulaTable {
 
     ghost view = { λ t. record { nodes = t.nodes.items; names = map string_bytes t.names.keys } };
 
-    ghost invariant = { λ t. IsTable t.nodes.items (map string_bytes t.names.keys) × AreRootFlags t.nodes.items t.root_flags.items × (t.size ≡ sizes t.nodes.items) };
+    ghost invariant = { λ t. IsTable t.nodes.items (map string_bytes t.names.keys)
+        × AreRootFlags t.nodes.items t.root_flags.items × (t.size ≡ sizes t.nodes.items) };
 }
 
 impl FormulaTable {
@@ -95,8 +96,8 @@ impl FormulaTable {
         (number as usize) < self.root_flags.len() && self.root_flags[number as usize]
     }
 
-    /// Whether `push` may be asked for the node: its children are two distinct roots, its letter has a name, and its numbers are in
-    /// order. Takes constant time.
+    /// Whether `push` may be asked for the node: its children are two distinct roots, its letter has a name,
+    /// and its numbers are in order. Takes constant time.
     pub fn may_push(&self, node: Node) -> bool
         ensures { IsTrue result ↔ MayFollow self.now node }
     {
@@ -174,7 +175,8 @@ impl FormulaTable {
     /// The number of names.
     pub fn letters(&self) -> u32
         ensures count { result ≡ length self.now.names }
-        ensures distinct { (i j : ℕ) → i < j → j < length self.now.names → slice_index_or self.now.names i [] ≢ slice_index_or self.now.names j [] }
+        ensures distinct { (i j : ℕ) → i < j → j < length self.now.names
+            → slice_index_or self.now.names i [] ≢ slice_index_or self.now.names j [] }
         ensures plain { (i : ℕ) → i < length self.now.names → IsPlain (slice_index_or self.now.names i []) }
     {
         self.names.len() as u32
@@ -194,7 +196,8 @@ impl FormulaTable {
 fn clear_children(flags: &mut Vec<bool>, node: Node)
     requires { HasChildrenBelow (length flags.old.items) node }
     ensures count { length flags.new.items ≡ length flags.old.items }
-    ensures each { (i : ℕ) → slice_index_or flags.new.items i false ≡ (slice_index_or flags.old.items i false && not (has_child i node)) }
+    ensures each { (i : ℕ) → slice_index_or flags.new.items i false
+        ≡ (slice_index_or flags.old.items i false && not (has_child i node)) }
 {
     match node {
         Node::Const(_) | Node::Letter(_) | Node::Fresh(_) => {}

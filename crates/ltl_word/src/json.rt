@@ -1,4 +1,5 @@
-//! The JSON form of a trace. Writing goes by the value that `serde_json` writes; reading by the one that it reads.
+//! The JSON form of a trace. Writing goes by the value that `serde_json` writes; reading by the one that it
+//! reads.
 ghost use Rattle.std.specs.Prelude.{◌≡◌, Ok, IfOk, codes};
 ghost use Rattle.serde_json.specs.Data.{string, object, member};
 ghost use Rattle.serde_json.specs.View.{view, members_view};
@@ -44,7 +45,8 @@ impl<T: Drop> From<AllocFailed<T>> for TraceFault {
 }
 
 impl Trace {
-    /// The compact JSON text: an object with `kind` and the lists of states, each state an array of its names.
+    /// The compact JSON text: an object with `kind` and the lists of states, each state an array of its
+    /// names.
     pub fn to_json(&self, alloc: Global) -> Result<Vec<u8>, AllocError>
         ensures text { IfOk result (λ bytes. bytes.items ≡ trace_text self.now) }
 
@@ -55,8 +57,8 @@ impl Trace {
         value.to_vec(alloc)
     }
 
-    /// Reads such a text in any layout. Names may repeat and stand in any order, and a key that repeats has its last value,
-    /// as in `serde_json`'s reading. The faults are tried in the order of `TraceFault`.
+    /// Reads such a text in any layout. Names may repeat and stand in any order, and a key that repeats has
+    /// its last value, as in `serde_json`'s reading. The faults are tried in the order of `TraceFault`.
     pub fn from_json(alloc: Global, bytes: &[u8]) -> Result<Trace, TraceFault>
         ensures { IsReading bytes.now result }
     {
@@ -131,7 +133,8 @@ fn read_trace(alloc: Global, value: &Value) -> Result<Trace, TraceFault>
 
 // The members after the kind of an infinite trace.
 fn read_infinite(alloc: Global, members: Iter<'_, String, Value>) -> Result<Trace, TraceFault>
-    ensures { IsTraceReading (object (member (codes "kind") (string (codes "infinite")) (members_view members.entry))) result }
+    ensures { IsTraceReading (object (member (codes "kind") (string (codes "infinite"))
+        (members_view members.entry))) result }
 {
     let mut members = members;
     let (Some((loop_key, loop_part)), Some((stem_key, stem)), None) = (
@@ -154,7 +157,8 @@ fn read_infinite(alloc: Global, members: Iter<'_, String, Value>) -> Result<Trac
 
 // The members after the kind of a finite trace.
 fn read_finite(alloc: Global, members: Iter<'_, String, Value>) -> Result<Trace, TraceFault>
-    ensures { IsTraceReading (object (member (codes "kind") (string (codes "finite")) (members_view members.entry))) result }
+    ensures { IsTraceReading (object (member (codes "kind") (string (codes "finite"))
+        (members_view members.entry))) result }
 {
     let mut members = members;
     let (Some((key, states)), None) = (members.next(), members.next()) else {

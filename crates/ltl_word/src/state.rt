@@ -24,10 +24,12 @@ impl Model for StateSet {
 }
 
 impl StateSet {
-    /// The set of the names, which may repeat and stand in any order. They are dropped where memory is wanting.
+    /// The set of the names, which may repeat and stand in any order. They are dropped where memory is
+    /// wanting.
     pub fn from_names(names: Vec<Name>) -> Result<StateSet, AllocError>
         ensures ascending { IfOk result IsAscending }
-        ensures members { IfOk result (λ state. (name : List ℕ) → Contains state name ↔ Contains names.items name) }
+        ensures members { IfOk result (λ state. (name : List ℕ)
+            → Contains state name ↔ Contains names.items name) }
     {
         let mut names = names;
         names.sort()?;

@@ -1,4 +1,5 @@
-// The clauses of pruning of a step, put behind those that are there. Where memory runs out, the list is cut back to what it was.
+// The clauses of pruning of a step, put behind those that are there. Where memory runs out, the list is cut
+// back to what it was.
 ghost use Rattle.std.specs.Prelude.{◌≡◌, ◌≤◌, ◌++◌, OnOk, OnErr};
 ghost use Rattle.enc_layout.specs.Letters.{Fits};
 ghost use Rattle.enc_layout.specs.Clauses.{layout_of, prune_clauses, signed_clauses};
@@ -31,8 +32,8 @@ fn push_part(closure: &Closure<'_>, step: &Step<'_>, out: &mut ClauseList) -> Re
     }
 }
 
-/// Appends what says at which pairs of the step, counted from 0, and an earlier one a run is pruned. Where memory runs out, the list is as
-/// before.
+/// Appends what says at which pairs of the step, counted from 0, and an earlier one a run is pruned. Where
+/// memory runs out, the list is as before.
 pub fn append(
     closure: &Closure<'_>,
     layout: &Layout,

@@ -1,5 +1,6 @@
-// Which pairs prune. On infinite traces a carry that comes a third time must bring something new: an eventuality that is pending, and that is
-// fulfilled since the second time and was not seen then. On finite traces a carry that comes a second time is enough.
+// Which pairs prune. On infinite traces a carry that comes a third time must bring something new: an
+// eventuality that is pending, and that is fulfilled since the second time and was not seen then. On finite
+// traces a carry that comes a second time is enough.
 ghost use Rattle.std.specs.Prelude.{◌≡◌, ◌<◌, ◌≤◌, [], ◌∷◌, ◌++◌, length, slice_index_or, All, OnOk, OnErr};
 ghost use Rattle.ltl_syntax.specs.declared.node.Kind.TheVariants as Kinds;
 ghost use Rattle.enc_layout.specs.Steps.{clauses_at};
@@ -125,7 +126,8 @@ fn push_pair(
     Ok(())
 }
 
-/// Where the step's pair with each earlier step prunes on infinite traces, the first step first. The eventualities are entries' numbers.
+/// Where the step's pair with each earlier step prunes on infinite traces, the first step first. The
+/// eventualities are entries' numbers.
 pub fn push_pairs(
     step: &Step<'_>,
     entries: &[Entry],

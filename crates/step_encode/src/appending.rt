@@ -1,4 +1,5 @@
-// The clauses of a step's states, put behind those that are there. Where memory runs out, the list is cut back to what it was.
+// The clauses of a step's states, put behind those that are there. Where memory runs out, the list is cut
+// back to what it was.
 ghost use Rattle.std.specs.Prelude.{◌≡◌, ◌<◌, ◌≤◌, ◌++◌, OnOk, OnErr};
 ghost use Rattle.enc_layout.specs.Letters.{Fits};
 ghost use Rattle.enc_layout.specs.Clauses.{layout_of, part_c, state_clauses, signed_clauses};
@@ -70,8 +71,8 @@ fn push_states(
     Ok(())
 }
 
-/// Appends what the letters of a step's states mean: that the state before it is there, the gates of the entries, and the requests.
-/// Where memory runs out, the list is as before.
+/// Appends what the letters of a step's states mean: that the state before it is there, the gates of the
+/// entries, and the requests. Where memory runs out, the list is as before.
 pub fn append(
     closure: &Closure<'_>,
     layout: &Layout,

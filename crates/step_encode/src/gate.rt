@@ -1,4 +1,5 @@
-// The gates of entries: an entry's letter is true exactly where its operator says so of the letters of its operands and its request.
+// The gates of entries: an entry's letter is true exactly where its operator says so of the letters of its
+// operands and its request.
 ghost use Rattle.std.specs.Prelude.{◌≡◌, ◌≤◌, ◌++◌, length, All, OnOk, OnErr};
 ghost use Rattle.enc_layout.specs.Letters.{EntryAt};
 ghost use Rattle.enc_layout.specs.Clauses.{Plus, literal_in, strong_gate, weak_gate};

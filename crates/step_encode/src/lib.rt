@@ -1,4 +1,5 @@
-//! Appends the clauses that speak of states: that each is there after the one before it, the gates of its entries, and its requests.
+//! Appends the clauses that speak of states: that each is there after the one before it, the gates of its
+//! entries, and its requests.
 #![tactic(auto)]
 
 mod appending;

@@ -1,5 +1,6 @@
-// The links between neighbouring states: a next request has the value that its argument has one state later, a yesterday request the
-// value that its argument had one state before. Before the first state a yesterday request is false, and a weak one true.
+// The links between neighbouring states: a next request has the value that its argument has one state later,
+// a yesterday request the value that its argument had one state before. Before the first state a yesterday
+// request is false, and a weak one true.
 ghost use Rattle.std.specs.Prelude.{◌≡◌, ◌<◌, ◌≤◌, ◌++◌, length, slice_index_or, All, OnOk, OnErr};
 ghost use Rattle.enc_layout.specs.Steps.{clauses_at};
 ghost use Rattle.enc_layout.specs.Numbered.{IsNumber, IsInside, Extends};

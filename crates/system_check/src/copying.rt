@@ -31,7 +31,8 @@ fn renumbered(
 ) -> Result<Node, AllocError>
     requires fine { IsFine (length source.now.names) (length numbers.now.items) node }
     requires names { length target.old.names ≤ 16384 }
-    ensures { IfOk result (λ copy. IsMoved source.now (numbers_in numbers.now.items) node target.old target.new copy) }
+    ensures { IfOk result (λ copy. IsMoved source.now (numbers_in numbers.now.items) node target.old
+        target.new copy) }
 {
     match node {
         Node::Letter(letter) => {
@@ -57,7 +58,8 @@ fn copy_node(
     requires roots { StandsOnRoots target.old (numbers_in numbers.now.items) node }
     requires room { sizes target.old.nodes + node_size node ≤ 16384 }
     requires names { length target.old.names ≤ length target.old.nodes }
-    ensures copied { IfOk result (IsCopyOfNode source.now (numbers_in numbers.now.items) node target.old target.new) }
+    ensures copied { IfOk result (IsCopyOfNode source.now
+        (numbers_in numbers.now.items) node target.old target.new) }
     ensures grown { OnOk result (HasGrown target.old target.new (node_size node)) }
 {
     let _count = target.len();

@@ -1,6 +1,7 @@
 // Whether each path of a system satisfies a goal, by the tableau's verdicts on two formulas at one limit.
 //
-// The whole formula is asked first: where it has a trace, this is a path, so the system formula need not be asked.
+// The whole formula is asked first: where it has a trace, this is a path, so the system formula need not be
+// asked.
 ghost use Rattle.std.specs.Prelude.{◌≡◌, ◌<◌, ◌≤◌, length, IfOk};
 ghost use Rattle.ltl_syntax.specs.declared.node.Kind.TheVariants as Kinds;
 ghost use Rattle.ltl_syntax.specs.Formula.{Formula};
@@ -26,8 +27,8 @@ pub enum SystemAnswer {
     NoPath {
         depth: u32,
     },
-    /// There may be paths, and each satisfies the goal: the whole formula is refuted at this depth. The log's inputs are its clause
-    /// list through the depth, and the targets name the lines that close its tableau.
+    /// There may be paths, and each satisfies the goal: the whole formula is refuted at this depth. The log's
+    /// inputs are its clause list through the depth, and the targets name the lines that close its tableau.
     Holds {
         depth: u32,
         log: Log,

@@ -1,6 +1,8 @@
-// The forms of a system's parts: a start has no temporal operator, and a step none but X, and no X under an X.
+// The forms of a system's parts: a start has no temporal operator, and a step none but X, and no X under an
+// X.
 //
-// One walk over the table, children before parents, finds the forms of each node's tree from those of its children.
+// One walk over the table, children before parents, finds the forms of each node's tree from those of its
+// children.
 ghost use Rattle.std.specs.Prelude.{◌≡◌, ℕ, ◌+◌, ◌<◌, length, slice_get, Some, IfOk};
 ghost use Rattle.ltl_syntax.specs.Formula.{Formula, Unary, Binary};
 ghost use Rattle.ltl_syntax.specs.Table.{tree_at};
@@ -34,7 +36,8 @@ pub fn forms_of(alloc: Global, table: &FormulaTable, root: u32) -> Result<Forms,
 fn node_forms(table: &FormulaTable, number: u32, forms: &Vec<Forms>) -> Forms
     requires there { number < length table.now.nodes }
     requires count { length forms.now.items ≡ number }
-    requires each { (i : ℕ) (w : Forms) → slice_get forms.now.items i ≡ Some w → HasForms (tree_at table.now i) w }
+    requires each { (i : ℕ) (w : Forms) → slice_get forms.now.items i ≡ Some w
+        → HasForms (tree_at table.now i) w }
     ensures { HasForms (tree_at table.now number) result }
 {
     match table.node(number) {

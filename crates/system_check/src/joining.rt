@@ -1,4 +1,5 @@
-// A start, a step and a goal, joined into one table with the system's formula and the formula that refutes the goal.
+// A start, a step and a goal, joined into one table with the system's formula and the formula that refutes
+// the goal.
 ghost use Rattle.std.specs.Prelude.{◌≡◌, ◌≢◌, ◌+◌, ◌<◌, ◌≤◌, [], length, IfOk};
 ghost use Rattle.ltl_syntax.specs.Table.{tree_at, IsRoot};
 ghost use Rattle.ltl_syntax.specs.Size.{sizes};
@@ -44,8 +45,8 @@ pub struct Joined {
     pub whole: u32,
 }
 
-/// The formulas of a system and a goal. Letters of one name are one letter, whatever the part. The size is tested first, then the form
-/// of the start, then that of the step.
+/// The formulas of a system and a goal. Letters of one name are one letter, whatever the part. The size is
+/// tested first, then the form of the start, then that of the step.
 pub fn join_parts(
     alloc: Global,
     start: &FormulaTable,
@@ -58,7 +59,8 @@ pub fn join_parts(
     requires start { start_root < length start.now.nodes }
     requires step { step_root < length step.now.nodes }
     requires goal { goal_root < length goal.now.nodes }
-    ensures { IsJoining (tree_at start.now start_root) (tree_at step.now step_root) (tree_at goal.now goal_root) result }
+    ensures { IsJoining (tree_at start.now start_root) (tree_at step.now step_root)
+        (tree_at goal.now goal_root) result }
 {
     let start_part = Part::of(alloc, start, start_root)?;
     let step_part = Part::of(alloc, step, step_root)?;
@@ -117,11 +119,13 @@ fn assemble(
     })
 }
 
-/// Puts the operators on top of the copied parts, and answers the numbers of the system's formula and of the whole formula.
+/// Puts the operators on top of the copied parts, and answers the numbers of the system's formula and of the
+/// whole formula.
 fn connect(table: &mut FormulaTable, copies: Copies) -> Result<(u32, u32), AllocError>
     requires copies { AreCopies table.old copies }
     requires room { sizes table.old.nodes + 4 ≤ 16384 }
-    ensures { IfOk result (λ r. HasFormulas (tree_at table.old copies.start) (tree_at table.old copies.step) (tree_at table.old copies.goal) table.new r.0 r.1) }
+    ensures { IfOk result (λ r. HasFormulas (tree_at table.old copies.start) (tree_at table.old copies.step)
+        (tree_at table.old copies.goal) table.new r.0 r.1) }
 {
     let always = put(table, Node::Unary(UnaryOp::Always, copies.step))?;
     let system = put(table, Node::Binary(BinaryOp::And, copies.start, always))?;

@@ -1,7 +1,8 @@
 //! Laws of finite systems. Each function is empty: its contract is the law, and a proof cites it by a call.
 ghost use Rattle.system_check.specs.Laws.{StartsAreSteps, StepsAreTwo, StartsAreOne, TwoReadsSets, PathsSatisfy, FailingPathsSatisfy, WholeIsLong, SystemIsNoLarger, SystemFits, JoiningIsOne, NoPathIsRight, HoldsIsRight, FailsIsRight, UndecidedIsLow, SystemSettles, AnswerIsOne};
 
-/// A formula of the step's form speaks of a state and the next one, one without temporal operators of one state.
+/// A formula of the step's form speaks of a state and the next one, one without temporal operators of one
+/// state.
 pub fn two_states()
     ensures forms { StartsAreSteps }
     ensures steps { StepsAreTwo }
@@ -9,7 +10,8 @@ pub fn two_states()
     ensures sets { TwoReadsSets }
 {}
 
-/// The traces of the system formula are the paths, and those of the whole formula the paths on which the goal fails.
+/// The traces of the system formula are the paths, and those of the whole formula the paths on which the goal
+/// fails.
 pub fn paths()
     ensures system { PathsSatisfy }
     ensures whole { FailingPathsSatisfy }

@@ -1,4 +1,5 @@
-//! Finite systems: what holds of the first state and of each two states in a row, and whether each path satisfies a goal.
+//! Finite systems: what holds of the first state and of each two states in a row, and whether each path
+//! satisfies a goal.
 #![tactic(auto)]
 
 mod copying;

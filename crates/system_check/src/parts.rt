@@ -1,6 +1,7 @@
 // A part of a system: a formula of a table of its own, which may hold more than this formula.
 //
-// Children have lower numbers than their parents, so one walk from the root down marks all that stands under it, with no stack.
+// Children have lower numbers than their parents, so one walk from the root down marks all that stands under
+// it, with no stack.
 ghost use Rattle.std.specs.Prelude.{◌≡◌, ℕ, suc, ◌+◌, ◌<◌, ◌≤◌, ◌||◌, false, length, slice_index_or, IfOk};
 ghost use Rattle.ltl_syntax.specs.Table.{tree_at, has_child};
 ghost use Rattle.ltl_syntax.specs.Size.{formula_size};
@@ -10,7 +11,8 @@ ghost use Rattle.system_check.specs.Under.{marked, AreUnder, IsPart};
 use ltl_syntax::{FormulaTable, Node};
 use std::alloc::{AllocError, Global};
 
-/// A formula under a root, with a mark for each node up to the root that stands under it or is it, and its size.
+/// A formula under a root, with a mark for each node up to the root that stands under it or is it, and its
+/// size.
 #[derive(Drop)]
 pub struct Part<'t> {
     pub table: &'t FormulaTable,
@@ -60,7 +62,8 @@ fn marks_under(alloc: Global, table: &FormulaTable, root: u32) -> Result<Vec<boo
 fn mark_children(node: Node, marks: &mut Vec<bool>)
     requires { HasChildrenBelow (length marks.old.items) node }
     ensures count { length marks.new.items ≡ length marks.old.items }
-    ensures each { (i : ℕ) → slice_index_or marks.new.items i false ≡ (slice_index_or marks.old.items i false || has_child i node) }
+    ensures each { (i : ℕ) → slice_index_or marks.new.items i false
+        ≡ (slice_index_or marks.old.items i false || has_child i node) }
 {
     match node {
         Node::Const(_) | Node::Letter(_) | Node::Fresh(_) => {}

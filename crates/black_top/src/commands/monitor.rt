@@ -1,5 +1,5 @@
-// `monitor`: for one state after the other, whether a formula that does not look ahead holds at it. The input is
-// the formula and the states, one a line, with a separator line between.
+// `monitor`: for one state after the other, whether a formula that does not look ahead holds at it. The input
+// is the formula and the states, one a line, with a separator line between.
 ghost use Rattle.std.specs.Prelude.{◌<◌, length, IfOk};
 ghost use Rattle.ltl_syntax.specs.Table.{tree_at};
 ghost use Rattle.black_top.specs.Answer.{Answer};

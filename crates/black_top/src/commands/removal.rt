@@ -1,5 +1,5 @@
-// `depast`: a formula without its past operators, and a trace with the new names that stand for past formulas.
-// The input is the formula, and where a separator line is there, the trace behind it.
+// `depast`: a formula without its past operators, and a trace with the new names that stand for past
+// formulas. The input is the formula, and where a separator line is there, the trace behind it.
 ghost use Rattle.std.specs.Prelude.{◌<◌, length, Ok, IfOk, OnOk};
 ghost use Rattle.std.specs.Option.{option_copied};
 ghost use Rattle.ltl_syntax.specs.Table.{IsRoot, tree_at};

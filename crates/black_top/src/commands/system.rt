@@ -136,8 +136,8 @@ fn read_part(alloc: Global, text: &[u8], place: u32) -> Result<PartRead, AllocEr
     }
 }
 
-/// What a refused part is read as: a formula that is too large, or a fault, with its byte counted from the start
-/// of the input.
+/// What a refused part is read as: a formula that is too large, or a fault, with its byte counted from the
+/// start of the input.
 fn refused_part(fault: Fault, place: u32) -> PartRead
     requires place { place ≤ 1048590 }
     requires byte { HasSmallByte fault }

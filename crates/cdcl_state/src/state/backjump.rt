@@ -1,5 +1,6 @@
-// Going back: the entries above a level come off the trail, and their letters may be decided again. The lists that were
-// visited for the entries that stay need no new visit. After Marques-Silva and Sakallah, GRASP (1999).
+// Going back: the entries above a level come off the trail, and their letters may be decided again. The lists
+// that were visited for the entries that stay need no new visit. After Marques-Silva and Sakallah, GRASP
+// (1999).
 ghost use Rattle.std.specs.Prelude.{◌≡◌, ◌≢◌, ℕ, ◌<◌, ◌≤◌, ◌⊎◌, All, Contains, IsTrue, None, length, slice_index_or};
 ghost use Rattle.cdcl_state.specs.StateValue.{IsBack};
 ghost use Rattle.cdcl_trail.specs.Trail.{blank_entry, literal_at, IsDecision};
@@ -61,7 +62,8 @@ fn is_other(entry: Entry, kept: &[Literal]) -> bool
 fn first_other(assigned: &Assigned, kept: &[Literal]) -> usize
     ensures within { result ≤ length assigned.now.trail }
     ensures other { result < length assigned.now.trail → IsDecision assigned.now.trail result }
-    ensures before { (k : ℕ) → k < result → (slice_index_or assigned.now.trail k blank_entry).reason ≡ None → Contains kept.now (literal_at assigned.now.trail k) }
+    ensures before { (k : ℕ) → k < result → (slice_index_or assigned.now.trail k blank_entry).reason ≡ None
+        → Contains kept.now (literal_at assigned.now.trail k) }
 {
     for place in 0..assigned.len() {
         if is_other(assigned.entry(place), kept) {
@@ -80,7 +82,8 @@ pub fn smaller(a: usize, b: usize) -> usize
 
 /// The short clauses are visited again where an entry that made one true was taken back.
 pub fn loosen(count: usize, done: &mut usize, firm: &mut usize)
-    ensures { ((firm.old ≤ count) × (done.new ≡ done.old) × (firm.new ≡ firm.old)) ⊎ ((done.new ≡ 0) × (firm.new ≡ 0)) }
+    ensures { ((firm.old ≤ count) × (done.new ≡ done.old) × (firm.new ≡ firm.old))
+        ⊎ ((done.new ≡ 0) × (firm.new ≡ 0)) }
 {
     if count < *firm {
         *done = 0;
@@ -91,7 +94,8 @@ pub fn loosen(count: usize, done: &mut usize, firm: &mut usize)
 
 /// All short clauses are true by the entries of the trail: until now, or only now.
 pub fn settle(count: usize, len: usize, done: &mut usize, firm: &mut usize)
-    ensures { ((count ≤ done.old) × (done.new ≡ done.old) × (firm.new ≡ firm.old)) ⊎ ((done.new ≡ count) × (firm.new ≡ len)) }
+    ensures { ((count ≤ done.old) × (done.new ≡ done.old) × (firm.new ≡ firm.old))
+        ⊎ ((done.new ≡ count) × (firm.new ≡ len)) }
 {
     if *done < count {
         *done = count;

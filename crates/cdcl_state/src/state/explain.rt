@@ -1,6 +1,6 @@
-// What a conflict, or a false assumption, is explained by: the first unique implication point, or decisions alone.
-// After Marques-Silva and Sakallah, GRASP (1999), and Een and Sorensson, Temporal induction by incremental SAT
-// solving (2003).
+// What a conflict, or a false assumption, is explained by: the first unique implication point, or decisions
+// alone. After Marques-Silva and Sakallah, GRASP (1999), and Een and Sorensson, Temporal induction by
+// incremental SAT solving (2003).
 ghost use Rattle.std.specs.Prelude.{◌≡◌, ◌≢◌, ℕ, [], ◌⊎◌, All, None, MatchOption, IfOk, Contains};
 ghost use Rattle.cnf_base.specs.Known.{IsKnown};
 ghost use Rattle.cdcl_trail.specs.Trail.{IsConflict, literals_of, literal_at, IsDecision};
@@ -21,7 +21,8 @@ impl State {
         ensures same { self.new ≡ self.old }
         ensures learnt { IfOk result (IsLearnt self.old.log self.old.trail) }
         ensures known { IfOk result (λ learnt. All (IsKnown self.old.letters) learnt.clause.items) }
-        ensures decided { IfOk result (λ learnt. cut ≡ Decisions → All (IsDecision self.old.trail) learnt.places.items) }
+        ensures decided { IfOk result (λ learnt. cut ≡ Decisions
+            → All (IsDecision self.old.trail) learnt.places.items) }
     {
         let learnt = explain(
             alloc,
@@ -36,14 +37,15 @@ impl State {
         Ok(learnt)
     }
 
-    /// Explains a conflict by a clause that forces a literal after a way back, or by the empty clause: by the first
-    /// unique implication point, and where that is on level 0 alone, by decisions.
+    /// Explains a conflict by a clause that forces a literal after a way back, or by the empty clause: by the
+    /// first unique implication point, and where that is on level 0 alone, by decisions.
     pub fn analyze(&mut self, alloc: Global, conflict: Hint) -> Result<Learnt, AllocError>
         requires { IsConflict self.old.log.inputs self.old.log.lines (literals_of self.old.trail) conflict }
         ensures same { self.new ≡ self.old }
         ensures learnt { IfOk result (IsLearnt self.old.log self.old.trail) }
         ensures known { IfOk result (λ learnt. All (IsKnown self.old.letters) learnt.clause.items) }
-        ensures asserting { IfOk result (λ learnt. (learnt.clause.items ≡ []) ⊎ IsAsserting self.old.trail learnt.places.items) }
+        ensures asserting { IfOk result (λ learnt. (learnt.clause.items ≡ [])
+            ⊎ IsAsserting self.old.trail learnt.places.items) }
     {
         let _ = &self.assigned;
         let level = self.level();
@@ -80,7 +82,8 @@ impl State {
     /// Explains by decisions why the literal is false, as a conflict with the decision that it is true.
     pub fn explain_false(&mut self, alloc: Global, literal: Literal) -> Result<Learnt, AllocError>
         requires there { Contains (literals_of self.old.trail) (opposite literal) }
-        requires forced { (place : ℕ) → IsDecision self.old.trail place → literal_at self.old.trail place ≢ opposite literal }
+        requires forced { (place : ℕ) → IsDecision self.old.trail place
+            → literal_at self.old.trail place ≢ opposite literal }
         ensures same { self.new ≡ self.old }
         ensures learnt { IfOk result (IsRefuted self.old literal) }
         ensures known { IfOk result (λ learnt. All (IsKnown self.old.letters) learnt.clause.items) }

@@ -1,5 +1,6 @@
-// A learnt clause is put behind the lines and watched, the trail is cut to the second highest of its levels, and its
-// first literal is forced there, without a new visit of what stays. After Marques-Silva and Sakallah, GRASP (1999).
+// A learnt clause is put behind the lines and watched, the trail is cut to the second highest of its levels,
+// and its first literal is forced there, without a new visit of what stays. After Marques-Silva and Sakallah,
+// GRASP (1999).
 ghost use Rattle.std.specs.Prelude.{◌≡◌, ◌<◌, ◌≤◌, [], ◌∷◌, ◌++◌, All, length, Some, OnErr, OnOk, IsTrue};
 ghost use Rattle.cnf_base.specs.Known.{IsKnown};
 ghost use Rattle.cdcl_state.specs.StateValue.{MayStand, with_log, with_trail};
@@ -24,7 +25,8 @@ impl State {
         requires asserting { IsAsserting self.old.trail learnt.now.places.items }
         requires level { IsTarget self.old.trail learnt.now.places.items level }
         requires long { 2 ≤ length learnt.now.clause.items }
-        ensures turned { OnOk result (IsTurn (with_log self.old (with_line self.old.log learnt.now.clause.items learnt.now.hints.items)) self.new) }
+        ensures turned { OnOk result (IsTurn (with_log self.old
+            (with_line self.old.log learnt.now.clause.items learnt.now.hints.items)) self.new) }
         ensures refused { OnErr result (IsUnturned self.old self.new learnt.now) }
     {
         self.assigned.told();
@@ -64,9 +66,14 @@ impl State {
 
     /// Puts the literal behind the trail on level 0, since the line forces it.
     fn force(&mut self, literal: Literal, line: u64) -> Result<(), AllocError>
-        requires stands { MayStand self.old (record { literal = literal; level = 0; reason = Some (Line line) }) }
+        requires stands { MayStand self.old (record {
+          literal = literal;
+          level = 0;
+          reason = Some (Line line);
+        }) }
         requires known { IsKnown self.old.letters literal }
-        ensures forced { OnOk result (self.new ≡ with_trail self.old (self.old.trail ++ record { literal = literal; level = 0; reason = Some (Line line) } ∷ [])) }
+        ensures forced { OnOk result (self.new ≡ with_trail self.old
+            (self.old.trail ++ record { literal = literal; level = 0; reason = Some (Line line) } ∷ [])) }
         ensures refused { OnErr result (self.new ≡ self.old) }
     {
         self.assigned.assign(Entry {
@@ -81,7 +88,8 @@ impl State {
         requires known { All (IsKnown self.old.letters) learnt.now.clause.items }
         requires asserting { IsAsserting self.old.trail learnt.now.places.items }
         requires short { length learnt.now.clause.items < 2 }
-        ensures turned { OnOk result (IsTurn (with_log self.old (with_line self.old.log learnt.now.clause.items learnt.now.hints.items)) self.new) }
+        ensures turned { OnOk result (IsTurn (with_log self.old
+            (with_line self.old.log learnt.now.clause.items learnt.now.hints.items)) self.new) }
         ensures refused { OnErr result (IsUnturned self.old self.new learnt.now) }
     {
         self.assigned.told();
@@ -91,12 +99,14 @@ impl State {
         Ok(())
     }
 
-    /// Puts the learnt clause behind the lines, goes back to where its first literal is forced, and assigns it.
+    /// Puts the learnt clause behind the lines, goes back to where its first literal is forced, and assigns
+    /// it.
     pub fn learn(&mut self, learnt: &Learnt) -> Result<(), AllocError>
         requires learnt { IsLearnt self.old.log self.old.trail learnt.now }
         requires known { All (IsKnown self.old.letters) learnt.now.clause.items }
         requires asserting { IsAsserting self.old.trail learnt.now.places.items }
-        ensures turned { OnOk result (IsTurn (with_log self.old (with_line self.old.log learnt.now.clause.items learnt.now.hints.items)) self.new) }
+        ensures turned { OnOk result (IsTurn (with_log self.old
+            (with_line self.old.log learnt.now.clause.items learnt.now.hints.items)) self.new) }
         ensures refused { OnErr result (IsUnturned self.old self.new learnt.now) }
     {
         if learnt.clause.len() < 2 {
