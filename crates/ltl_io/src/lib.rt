@@ -11,8 +11,6 @@ mod shared;
 mod sink;
 mod source;
 mod sure_source;
-#[cfg(test)]
-mod tests;
 
 pub use edge::{StdSink, StdSource};
 pub use gate::{Gate, NoGate};

@@ -4,8 +4,6 @@
 mod cursor;
 pub mod laws;
 mod scan;
-#[cfg(test)]
-mod tests;
 mod token;
 
 pub use cursor::{Cursor, LexFault, LexRefused, tokens};

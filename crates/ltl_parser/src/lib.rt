@@ -9,8 +9,6 @@ mod reduce;
 mod stack;
 mod step;
 mod strength;
-#[cfg(test)]
-mod tests;
 mod walking;
 
 pub use parsing::{ParseRefused, parse};

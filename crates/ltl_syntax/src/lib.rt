@@ -14,6 +14,3 @@ pub use preorder::nodes_under;
 pub use printing::print;
 pub use replacing::replace;
 pub use table::{FormulaTable, PushRefused};
-
-#[cfg(test)]
-mod tests;

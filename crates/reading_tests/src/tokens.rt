@@ -1,6 +1,6 @@
 ghost use Rattle.std.specs.Prelude.{length, ◌≤◌};
 
-use crate::{BinaryWord, Cursor, LexFault, LexRefused, Token, TokenKind, UnaryWord, tokens};
+use ltl_lexer::{BinaryWord, Cursor, LexFault, LexRefused, Token, TokenKind, UnaryWord, tokens};
 use std::alloc::Global;
 use std::process::Abort;
 

@@ -1,4 +1,7 @@
-use super::*;
+use ltl_io::{
+    MemorySink, MemorySource, ReadRefused, StdSink, StdSource, SureSource, WriteFault, read_whole,
+    write_whole,
+};
 use std::io;
 use std::io::{ErrorKind, Read, Write};
 use std::test::Fail;

@@ -1,7 +1,7 @@
 ghost use Rattle.std.specs.Prelude.{length, ◌≤◌};
 
-use crate::{ParseRefused, parse};
 use ltl_lexer::{LexRefused, tokens};
+use ltl_parser::{ParseRefused, parse};
 use ltl_syntax::print;
 use std::alloc::Global;
 use std::process::Abort;

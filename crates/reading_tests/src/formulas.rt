@@ -1,7 +1,7 @@
 ghost use Rattle.std.specs.Prelude.{IsTrue};
 ghost use Rattle.ltl_syntax.specs.Table.{IsPlain};
 
-use crate::{BinaryOp, FormulaTable, Node, PushRefused, UnaryOp, nodes_under, print, replace};
+use ltl_syntax::{BinaryOp, FormulaTable, Node, PushRefused, UnaryOp, nodes_under, print, replace};
 use std::process::Abort;
 
 fn is_plain(text: &str) -> bool
