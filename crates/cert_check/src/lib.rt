@@ -7,8 +7,6 @@ pub mod laws;
 mod listing;
 mod on_demand;
 mod targets;
-#[cfg(test)]
-mod tests;
 mod together;
 pub mod verdict;
 

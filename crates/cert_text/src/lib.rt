@@ -16,8 +16,6 @@ mod scanning;
 mod shared;
 mod skipping;
 pub mod spelled;
-#[cfg(test)]
-mod tests;
 mod uses;
 pub mod view;
 pub mod writing;

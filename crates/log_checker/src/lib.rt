@@ -10,8 +10,6 @@ pub mod live;
 mod outcome;
 mod pieces;
 mod shared;
-#[cfg(test)]
-mod tests;
 
 pub use assignment::Assignment;
 pub use judge::{NamedClauses, with_literal};

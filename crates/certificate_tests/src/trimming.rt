@@ -1,46 +1,18 @@
-ghost use Rattle.std.specs.Prelude.{◌≡◌, [], IfOk, length};
-ghost use Rattle.cnf_base.specs.Worked.{plus as plus_of, minus as minus_of, clauses_of_false};
+// What a log can do without.
+ghost use Rattle.std.specs.Prelude.{◌≡◌, IfOk, length};
 
-use crate::{laws, trim};
+use crate::worked::{log_of_false, minus, plus};
 use clause_log::Log;
-use cnf_base::{Hint, Letter, Literal};
+use cnf_base::Hint;
+use log_trim::{laws, trim};
 use std::alloc::{AllocError, Global};
 use std::test::Fail;
-
-fn plus(letter: u32) -> Literal
-    ensures { result ≡ plus_of letter }
-{
-    Literal {
-        letter: Letter(letter),
-        negated: false,
-    }
-}
-
-fn minus(letter: u32) -> Literal
-    ensures { result ≡ minus_of letter }
-{
-    Literal {
-        letter: Letter(letter),
-        negated: true,
-    }
-}
-
-/// The clauses that refute the formula `false`.
-fn inputs(alloc: Global) -> Result<Log, AllocError>
-    ensures { IfOk result (λ log. log ≡ record { inputs = clauses_of_false; lines = []; hints = [] }) }
-{
-    let mut log = Log::new(alloc);
-    log.add_input(&[minus(6)])?;
-    log.add_input(&[minus(2), plus(6)])?;
-    log.add_input(&[minus(3), plus(4)])?;
-    Ok(log)
-}
 
 /// Three lines, of which the last one stands on the second alone.
 fn three_lines(alloc: Global) -> Result<Log, AllocError>
     ensures { IfOk result (λ log. length log.lines ≡ 3) }
 {
-    let mut log = inputs(alloc)?;
+    let mut log = log_of_false(alloc)?;
     let first = log.derive(&[minus(2)], &[Hint::Clause(2), Hint::Clause(1)])?;
     let second = log.derive(&[minus(2)], &[Hint::Clause(1), Hint::Clause(2)])?;
     let third = log.derive(&[minus(2), minus(3)], &[Hint::Line(2)])?;

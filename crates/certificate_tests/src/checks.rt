@@ -2,7 +2,7 @@
 ghost use Rattle.std.specs.Prelude.{IsTrue};
 ghost use Rattle.ltl_syntax.specs.Table.{IsPlain};
 
-use crate::{CheckRefused, Reason, Verdict, check, laws};
+use cert_check::{CheckRefused, Reason, Verdict, check, laws};
 use ltl_io::NoGate;
 use ltl_syntax::{BinaryOp, FormulaTable, Kind, Node, UnaryOp};
 use std::alloc::Global;

@@ -6,7 +6,7 @@ use Rattle.cnf_base.specs.Step.{IsHintedStep}
 use Rattle.cnf_base.specs.Worked.{minus, clauses_of_false}
 use Rattle.cnf_base.proofs.Deciding.{is_hinted_step, Decides-hinted_step}
 use Rattle.clause_log.specs.LogValue.{greatest_u32}
-use Rattle.log_trim.proofs.tests.three_lines.Goals as goal
+use Rattle.certificate_tests.proofs.trimming.three_lines.Goals as goal
 
 is_step : (lines : List (List Literal)) (clause : List Literal) (hints : List Hint) → is_hinted_step clauses_of_false lines greatest_u32 clause hints ≡ true
     → IsHintedStep clauses_of_false lines greatest_u32 clause hints

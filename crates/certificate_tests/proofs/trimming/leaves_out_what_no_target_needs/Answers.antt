@@ -1,5 +1,5 @@
 use Rattle.std.proofs.Common.{ℕ, zero, suc, ◌≡◌, ◌<◌, ◌≤◌, [], ◌∷◌, get_or, arith}
-use Rattle.log_trim.proofs.tests.leaves_out_what_no_target_needs.Goals as goal
+use Rattle.certificate_tests.proofs.trimming.leaves_out_what_no_target_needs.Goals as goal
 
 are_lines : (count : ℕ) → count ≡ 3 → (i : ℕ) → i < 2 → (0 < get_or (3 ∷ 2 ∷ []) i 0) × (get_or (3 ∷ 2 ∷ []) i 0 ≤ count)
 are_lines count is zero low = (omega arith, omega (arith, is))

@@ -1,9 +1,7 @@
-ghost use Rattle.std.specs.Prelude.{◌≡◌, [], IfOk, OnOk};
-ghost use Rattle.cnf_base.specs.Worked.{plus as plus_of, minus as minus_of, clauses_of_false};
-
-use crate::{CertRefused, CertView, Hints, Item, Items, Literals, Targets, form, laws, write};
-use clause_log::Log;
-use cnf_base::{Hint, Letter, Literal};
+// The text of a certificate in both directions.
+use crate::worked::{log_of_false, minus};
+use cert_text::{CertRefused, CertView, Hints, Item, Items, Literals, Targets, form, laws, write};
+use cnf_base::Hint;
 use ltl_syntax::Kind;
 use std::alloc::{AllocError, Global};
 use std::test::Fail;
@@ -122,35 +120,6 @@ fn tells_the_first_fault(rt: HostRuntime) -> Result<(), Fail> {
     }
     laws::worked();
     Ok(())
-}
-
-fn plus(letter: u32) -> Literal
-    ensures { result ≡ plus_of letter }
-{
-    Literal {
-        letter: Letter(letter),
-        negated: false,
-    }
-}
-
-fn minus(letter: u32) -> Literal
-    ensures { result ≡ minus_of letter }
-{
-    Literal {
-        letter: Letter(letter),
-        negated: true,
-    }
-}
-
-/// The clauses that refute the formula `false`.
-fn log_of_false(alloc: Global) -> Result<Log, AllocError>
-    ensures { IfOk result (λ log. log ≡ record { inputs = clauses_of_false; lines = []; hints = [] }) }
-{
-    let mut log = Log::new(alloc);
-    log.add_input(&[minus(6)])?;
-    log.add_input(&[minus(2), plus(6)])?;
-    log.add_input(&[minus(3), plus(4)])?;
-    Ok(log)
 }
 
 #[test]

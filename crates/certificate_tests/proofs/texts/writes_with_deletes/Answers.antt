@@ -6,7 +6,7 @@ use Rattle.cnf_base.specs.Step.{IsHintedStep}
 use Rattle.cnf_base.specs.Worked.{minus, clauses_of_false}
 use Rattle.cnf_base.proofs.Deciding.{is_hinted_step, Decides-hinted_step}
 use Rattle.clause_log.specs.LogValue.{greatest_u32}
-use Rattle.cert_text.proofs.tests.writes_with_deletes.Goals as goal
+use Rattle.certificate_tests.proofs.texts.writes_with_deletes.Goals as goal
 
 is_step : (lines : List (List Literal)) (hints : List Hint) → is_hinted_step clauses_of_false lines greatest_u32 (minus 2 ∷ []) hints ≡ true
     → IsHintedStep clauses_of_false lines greatest_u32 (minus 2 ∷ []) hints

@@ -1,10 +1,11 @@
+// Which line is the first bad one, by one worker and by several.
 ghost use Rattle.std.specs.Prelude.{◌≡◌, ◌≤◌, IfOk};
 ghost use Rattle.cnf_base.specs.Known.{AreKnown};
 ghost use Rattle.cert_text.specs.Text.{Certificate, IsTextOf};
 
-use crate::{Lines, LiveChecker, Scratch, check_lines, laws};
 use cert_text::{CertView, Item, Items, form};
 use cnf_base::{ClauseList, Letter, Literal};
+use log_checker::{Lines, LiveChecker, Scratch, check_lines, laws};
 use ltl_io::NoGate;
 use std::alloc::{AllocError, Global};
 use std::test::Fail;
