@@ -15,8 +15,6 @@ mod run;
 mod samples;
 mod sizes;
 mod storing;
-#[cfg(test)]
-mod tests;
 
 pub use found::Found;
 pub use indexed::Indexed;

@@ -7,8 +7,6 @@ mod passing;
 mod present;
 mod task;
 mod testing;
-#[cfg(test)]
-mod tests;
 
 pub use extracting::core;
 pub use testing::is_refuted;

@@ -9,8 +9,6 @@ pub mod laws;
 mod memo;
 mod plan;
 mod shared;
-#[cfg(test)]
-mod tests;
 mod walk;
 
 pub use closure::Closure;

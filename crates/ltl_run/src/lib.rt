@@ -8,6 +8,3 @@ mod tracing;
 
 pub use run_state::{Close, RunState};
 pub use tracing::trace_of;
-
-#[cfg(test)]
-mod tests;

@@ -8,8 +8,6 @@ mod forms;
 mod joining;
 pub mod laws;
 mod parts;
-#[cfg(test)]
-mod tests;
 
 pub use deciding::{SystemAnswer, decide_system};
 pub use joining::{JoinRefused, Joined, join_parts};

@@ -6,8 +6,6 @@ mod decision;
 mod growing;
 mod questions;
 mod showing;
-#[cfg(test)]
-mod tests;
 
 pub use deciding::decide;
 pub use decision::Decision;

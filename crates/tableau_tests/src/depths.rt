@@ -1,13 +1,11 @@
 // Decisions that were worked by hand.
-ghost use Rattle.std.specs.Prelude.{IsTrue};
-ghost use Rattle.ltl_syntax.specs.Table.{IsPlain};
-
-use crate::{Decision, decide};
+use crate::tables::{closure_of, table_of};
 use enc_layout::Layout;
 use ltl_closure::Closure;
-use ltl_syntax::{BinaryOp, FormulaTable, Kind, Node, UnaryOp};
+use ltl_syntax::{BinaryOp, Kind, Node, UnaryOp};
 use std::alloc::Global;
 use std::process::Abort;
+use unravel::{Decision, decide};
 
 /// Whether there is a trace, where that is known, and the depth.
 type Verdict = (Option<bool>, u32);
@@ -47,29 +45,6 @@ const ROWS: &[Row] = &[
     (BROKEN, Kind::Finite, 8, (Some(false), 1)),
 ];
 
-fn is_plain(text: &str) -> bool
-    ensures { IsTrue result → IsPlain text.now }
-{
-    match text.as_bytes() {
-        [first, ..] => *first != b'{',
-        [] => true,
-    }
-}
-
-/// A table with the letter p.
-fn table_of_p(rt: &impl Abort, alloc: Global) -> FormulaTable {
-    let mut table = FormulaTable::new(alloc);
-    let name = "p";
-    assert!(rt; table.letters() < u32::MAX && is_plain(name));
-    table.name(name).expect(rt, "memory");
-    table
-}
-
-fn push(rt: &impl Abort, table: &mut FormulaTable, node: Node) -> u32 {
-    assert!(rt; table.may_push(node));
-    table.push(node).expect(rt, "a place")
-}
-
 fn verdict_of(decision: &Decision) -> Verdict {
     match decision {
         Decision::Sat { depth, .. } => (Some(true), *depth),
@@ -86,13 +61,8 @@ fn decided(rt: &impl Abort, alloc: Global, closure: &Closure<'_>, limit: u32) ->
 
 /// What is decided of the formula of the last node.
 fn decided_of(rt: &impl Abort, alloc: Global, row: &Row) -> Verdict {
-    let mut table = table_of_p(rt, alloc);
-    let mut root = 0;
-    for node in row.0 {
-        root = push(rt, &mut table, *node);
-    }
-    assert!(rt; root < table.len());
-    let closure = Closure::of(alloc, &table, root, row.1).expect(rt, "memory");
+    let (table, root) = table_of(rt, alloc, &["p"], row.0);
+    let closure = closure_of(rt, alloc, &table, root, row.1);
     decided(rt, alloc, &closure, row.2)
 }
 

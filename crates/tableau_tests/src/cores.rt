@@ -1,10 +1,8 @@
 // Cores that were worked by hand.
-ghost use Rattle.std.specs.Prelude.{IsTrue};
-ghost use Rattle.ltl_syntax.specs.Table.{IsPlain};
-
-use crate::{core, is_refuted, laws};
+use crate::tables::table_of;
+use core_extract::{core, is_refuted, laws};
 use ltl_io::{Gate, NoGate};
-use ltl_syntax::{BinaryOp, FormulaTable, Kind, Node, UnaryOp, print};
+use ltl_syntax::{BinaryOp, Kind, Node, UnaryOp, print};
 use std::alloc::Global;
 use std::process::Abort;
 use std::sync::atomic::{AtomicBool, Ordering};
@@ -48,30 +46,6 @@ const ROWS: &[Row] = &[
     ),
 ];
 
-fn is_plain(text: &str) -> bool
-    ensures { IsTrue result → IsPlain text.now }
-{
-    match text.as_bytes() {
-        [first, ..] => *first != b'{',
-        [] => true,
-    }
-}
-
-/// A table with the names `p`, `q` and `r` and the nodes, and the number of the last.
-fn table_of(rt: &impl Abort, alloc: Global, nodes: &[Node]) -> (FormulaTable, u32) {
-    let mut table = FormulaTable::new(alloc);
-    for name in ["p", "q", "r"] {
-        assert!(rt; table.letters() < u32::MAX && is_plain(name));
-        table.name(name).expect(rt, "memory");
-    }
-    let mut root = 0;
-    for node in nodes {
-        assert!(rt; table.may_push(*node));
-        root = table.push(*node).expect(rt, "a place");
-    }
-    (table, root)
-}
-
 /// The text of the core of the last node's formula.
 fn core_text<R: Abort + Threads + Sync, G: Gate + Sync>(
     rt: &R,
@@ -80,7 +54,7 @@ fn core_text<R: Abort + Threads + Sync, G: Gate + Sync>(
     workers: u32,
     gate: &G,
 ) -> Vec<u8> {
-    let (table, root) = table_of(rt, alloc, row.0);
+    let (table, root) = table_of(rt, alloc, &["p", "q", "r"], row.0);
     assert!(rt; root < table.len() && 1 <= workers && workers <= 16);
     let refuted = is_refuted(alloc, &table, root, row.1, 64).expect(rt, "memory");
     assert!(rt; refuted);

@@ -1,15 +1,14 @@
 // Systems that were worked by hand.
-ghost use Rattle.std.specs.Prelude.{IsTrue};
 ghost use Rattle.ltl_syntax.specs.Formula.{Formula};
-ghost use Rattle.ltl_syntax.specs.Table.{IsPlain};
 ghost use Rattle.system_check.specs.Joining.{IsJoined};
 
-use crate::{JoinRefused, Joined, SystemAnswer, decide_system, join_parts, laws};
+use crate::tables::table_of;
 use enc_layout::Layout;
 use ltl_closure::Closure;
-use ltl_syntax::{BinaryOp, FormulaTable, Kind, Node, UnaryOp};
+use ltl_syntax::{BinaryOp, Kind, Node, UnaryOp};
 use std::alloc::Global;
 use std::process::Abort;
+use system_check::{JoinRefused, Joined, SystemAnswer, decide_system, join_parts, laws};
 
 /// What is said of a system and a goal, without what shows it.
 #[derive(Clone, Copy, PartialEq, Eq, Debug)]
@@ -19,43 +18,6 @@ enum Said {
     Holds(u32),
     Fails(u32),
     Undecided(u32),
-}
-
-fn is_plain(text: &str) -> bool
-    ensures { IsTrue result → IsPlain text.now }
-{
-    match text.as_bytes() {
-        [first, ..] => *first != b'{',
-        [] => true,
-    }
-}
-
-fn name(rt: &impl Abort, table: &mut FormulaTable, text: &str) {
-    assert!(rt; table.letters() < u32::MAX && is_plain(text));
-    let _number = table.name(text).expect(rt, "memory");
-}
-
-fn push(rt: &impl Abort, table: &mut FormulaTable, node: Node) -> u32 {
-    assert!(rt; table.may_push(node));
-    table.push(node).expect(rt, "a place")
-}
-
-/// A table with the letters, the nodes, and the number of the last.
-fn table_of(
-    rt: &impl Abort,
-    alloc: Global,
-    names: [&str; 2],
-    nodes: &[Node],
-) -> (FormulaTable, u32) {
-    let mut table = FormulaTable::new(alloc);
-    name(rt, &mut table, names[0]);
-    name(rt, &mut table, names[1]);
-    let mut root = 0;
-    for node in nodes {
-        root = push(rt, &mut table, *node);
-    }
-    assert!(rt; root < table.len());
-    (table, root)
 }
 
 fn decided(rt: &impl Abort, alloc: Global, joined: &Joined, limit: u32) -> Said
@@ -83,9 +45,9 @@ fn answered(
     goal: &[Node],
     limit: u32,
 ) -> Said {
-    let (start, start_root) = table_of(rt, alloc, ["p", "q"], system[0]);
-    let (step, step_root) = table_of(rt, alloc, ["p", "q"], system[1]);
-    let (goal, goal_root) = table_of(rt, alloc, ["q", "p"], goal);
+    let (start, start_root) = table_of(rt, alloc, &["p", "q"], system[0]);
+    let (step, step_root) = table_of(rt, alloc, &["p", "q"], system[1]);
+    let (goal, goal_root) = table_of(rt, alloc, &["q", "p"], goal);
     assert!(rt; start_root < start.len() && step_root < step.len() && goal_root < goal.len());
     match join_parts(
         alloc, &start, start_root, &step, step_root, &goal, goal_root,

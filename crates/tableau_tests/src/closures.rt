@@ -1,29 +1,9 @@
-ghost use Rattle.std.specs.Prelude.{IsTrue};
-ghost use Rattle.ltl_syntax.specs.Table.{IsPlain};
-
-use crate::{Closure, Entry};
+// Closures that were worked by hand.
+use crate::tables::{closure_of, name, push, table_of};
+use ltl_closure::Entry;
 use ltl_syntax::{BinaryOp, FormulaTable, Kind, Node, UnaryOp};
 use std::alloc::Global;
 use std::process::Abort;
-
-fn is_plain(text: &str) -> bool
-    ensures { IsTrue result → IsPlain text.now }
-{
-    match text.as_bytes() {
-        [first, ..] => *first != b'{',
-        [] => true,
-    }
-}
-
-fn name(rt: &impl Abort, table: &mut FormulaTable, text: &str) -> u32 {
-    assert!(rt; table.letters() < u32::MAX && is_plain(text));
-    table.name(text).expect(rt, "memory")
-}
-
-fn push(rt: &impl Abort, table: &mut FormulaTable, node: Node) -> u32 {
-    assert!(rt; table.may_push(node));
-    table.push(node).expect(rt, "a place")
-}
 
 /// Pushes the letter of this number, which gets a name of its own.
 fn push_letter(rt: &impl Abort, alloc: Global, table: &mut FormulaTable, number: u32) -> u32 {
@@ -41,29 +21,7 @@ struct Row<'a> {
     eventualities: &'a [u32],
 }
 
-/// A table with the letters p, q and r, the nodes, and the number of the last.
-fn table_of(rt: &impl Abort, alloc: Global, nodes: &[Node]) -> (FormulaTable, u32) {
-    let mut table = FormulaTable::new(alloc);
-    for letter in ["p", "q", "r"] {
-        name(rt, &mut table, letter);
-    }
-    let mut root = 0;
-    for node in nodes {
-        root = push(rt, &mut table, *node);
-    }
-    (table, root)
-}
-
-fn closure_of<'t>(
-    rt: &impl Abort,
-    alloc: Global,
-    table: &'t FormulaTable,
-    root: u32,
-    kind: Kind,
-) -> Closure<'t> {
-    assert!(rt; root < table.len());
-    Closure::of(alloc, table, root, kind).expect(rt, "memory")
-}
+const LETTERS: &[&str] = &["p", "q", "r"];
 
 fn are_entries(found: &[Entry], wanted: &[Entry]) -> bool {
     found == wanted
@@ -74,7 +32,7 @@ fn are_numbers(found: &[u32], wanted: &[u32]) -> bool {
 }
 
 fn check(rt: &impl Abort, alloc: Global, row: &Row<'_>) {
-    let (table, root) = table_of(rt, alloc, row.nodes);
+    let (table, root) = table_of(rt, alloc, LETTERS, row.nodes);
     let closure = closure_of(rt, alloc, &table, root, Kind::Finite);
     assert!(rt; are_entries(closure.entries(), row.entries));
     assert!(rt; are_numbers(closure.nexts(), row.nexts));
@@ -295,7 +253,7 @@ fn entries_of_ranges(rt: HostRuntime) {
 // Each range has two entries for each of its 255 steps, and walks its operand once.
 #[test]
 fn ranges_of_ranges(rt: HostRuntime) {
-    let (mut table, mut root) = table_of(&rt, rt.alloc(), &[P]);
+    let (mut table, mut root) = table_of(&rt, rt.alloc(), LETTERS, &[P]);
     for level in 0..64 {
         let op = if level % 2 == 0 {
             UnaryOp::EventuallyIn(0, 255)
@@ -367,6 +325,7 @@ fn bounds(rt: HostRuntime) {
     let (table, root) = table_of(
         &rt,
         rt.alloc(),
+        LETTERS,
         &[
             P,
             Node::Unary(UnaryOp::Eventually, 0),
@@ -381,7 +340,7 @@ fn bounds(rt: HostRuntime) {
     assert!(rt; infinite.bound_at_most(16) && !infinite.bound_at_most(15));
     let finite = closure_of(&rt, rt.alloc(), &table, root, Kind::Finite);
     assert!(rt; finite.bound_at_most(8) && !finite.bound_at_most(7));
-    let (table, root) = table_of(&rt, rt.alloc(), &[P]);
+    let (table, root) = table_of(&rt, rt.alloc(), LETTERS, &[P]);
     let letter = closure_of(&rt, rt.alloc(), &table, root, Kind::Infinite);
     assert!(rt; letter.root() == 1);
     assert!(rt; letter.bound_at_most(1) && !letter.bound_at_most(0));
@@ -389,7 +348,7 @@ fn bounds(rt: HostRuntime) {
 
 #[test]
 fn a_bound_past_every_number(rt: HostRuntime) {
-    let (mut table, mut root) = table_of(&rt, rt.alloc(), &[P]);
+    let (mut table, mut root) = table_of(&rt, rt.alloc(), LETTERS, &[P]);
     for _ in 0..130 {
         root = push(&rt, &mut table, Node::Unary(UnaryOp::Next, root));
     }

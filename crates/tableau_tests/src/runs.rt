@@ -2,8 +2,8 @@ ghost use Rattle.std.specs.Prelude.{◌≡◌, [], true, length};
 ghost use Rattle.ltl_syntax.specs.Formula.{Const};
 ghost use Rattle.ltl_run.specs.TraceOf.{IsRuleOf};
 
-use crate::{Close, RunState, trace_of};
 use ltl_closure::Closure;
+use ltl_run::{Close, RunState, trace_of};
 use ltl_syntax::{FormulaTable, Kind, Node};
 use ltl_word::Trace;
 use std::alloc::{AllocError, Global};

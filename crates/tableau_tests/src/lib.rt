@@ -1,0 +1,21 @@
+//! Tests of the tableau: closures, runs, clauses by lists and by numbers, depths, cores and systems.
+#![tactic(auto)]
+
+#[cfg(test)]
+mod closures;
+#[cfg(test)]
+mod cores;
+#[cfg(test)]
+mod depths;
+#[cfg(test)]
+mod lists;
+#[cfg(test)]
+mod numbered;
+#[cfg(test)]
+mod runs;
+#[cfg(test)]
+mod steps;
+#[cfg(test)]
+mod systems;
+#[cfg(test)]
+mod tables;
