@@ -8,8 +8,6 @@ pub mod laws;
 mod lines;
 mod printing;
 mod shared;
-#[cfg(test)]
-mod tests;
 
 pub use answer::{Answer, Outcome, all_verdicts};
 pub use groups::answers;

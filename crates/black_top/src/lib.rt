@@ -9,8 +9,6 @@ mod parts;
 mod reading;
 mod ring;
 mod status;
-#[cfg(test)]
-mod tests;
 mod top;
 
 pub use ring::demo_text;

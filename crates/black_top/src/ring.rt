@@ -9,9 +9,6 @@ ghost use Rattle.black_top.specs.Ring.{part_text, move_text, return_text, apart_
 use itoa::Buffer;
 use std::alloc::{AllocError, Global};
 
-#[cfg(test)]
-mod tests;
-
 /// The text of the ring of so many places. A token stands at one of them, moves on to the next in each step,
 /// and from the last one to the first.
 pub fn demo_text(alloc: Global, number: u32) -> Result<Vec<u8>, AllocError>

@@ -6,8 +6,6 @@ pub mod known;
 pub mod restart;
 pub mod solve;
 pub mod solver;
-#[cfg(test)]
-mod tests;
 
 pub use known::{are_consistent, are_known};
 pub use solve::Answer;

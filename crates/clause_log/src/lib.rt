@@ -4,7 +4,5 @@
 pub mod laws;
 pub mod log;
 mod shared;
-#[cfg(test)]
-mod tests;
 
 pub use log::{Log, LogView};

@@ -7,8 +7,6 @@ pub mod laws;
 pub mod literal;
 pub mod rows;
 mod shared;
-#[cfg(test)]
-mod tests;
 
 pub use clause_list::ClauseList;
 pub use clauses::Clauses;

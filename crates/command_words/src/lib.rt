@@ -9,8 +9,6 @@ mod matching;
 mod options;
 mod setting;
 mod table;
-#[cfg(test)]
-mod tests;
 
 pub use asked::{Asked, asked_command};
 pub use lines::usage;

@@ -15,8 +15,6 @@ mod residue_row;
 mod sources;
 mod stack;
 mod symbol;
-#[cfg(test)]
-mod tests;
 mod writer;
 
 pub use lifting::lift;

@@ -17,8 +17,6 @@ mod node_row;
 mod refused;
 mod row;
 mod span;
-#[cfg(test)]
-mod tests;
 mod under;
 mod window;
 

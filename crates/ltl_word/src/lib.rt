@@ -6,8 +6,6 @@ pub mod laws;
 mod name;
 mod shared;
 mod state;
-#[cfg(test)]
-mod tests;
 mod trace;
 
 pub use json::TraceFault;

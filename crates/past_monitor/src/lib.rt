@@ -12,8 +12,6 @@ mod monitor;
 mod part;
 mod refused;
 mod ring;
-#[cfg(test)]
-mod tests;
 mod text;
 mod under;
 

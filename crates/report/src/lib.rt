@@ -8,8 +8,6 @@ mod paths;
 mod refusal;
 mod states;
 mod summary;
-#[cfg(test)]
-mod tests;
 mod verdict;
 
 pub use fault::Fault;

@@ -9,8 +9,6 @@ mod grid;
 mod letters;
 mod lines;
 mod names;
-#[cfg(test)]
-mod tests;
 
 pub use diagram::svg;
 pub use grid::{CELL_LIMIT, Grid, GridRefused, Row};

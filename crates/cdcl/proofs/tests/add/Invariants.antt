@@ -1,5 +1,0 @@
-use Rattle.std.proofs.Common.{◌≡◌}
-use Rattle.cdcl.proofs.tests.add.Given as goal
-
-abbrev pub invariant-loop-number : goal.invariant-loop-number
-invariant-loop-number g l = l.solver.letters ≡ l.letters

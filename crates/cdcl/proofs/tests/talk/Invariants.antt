@@ -1,5 +1,0 @@
-use Rattle.std.proofs.Common.{◌≡◌}
-use Rattle.cdcl.proofs.tests.talk.Given as goal
-
-abbrev pub invariant-loop-letters : goal.invariant-loop-letters
-invariant-loop-letters g l = l.solver.letters ≡ l.known

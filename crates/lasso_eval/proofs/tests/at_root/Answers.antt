@@ -1,6 +1,0 @@
-use Rattle.std.proofs.Common.{refl, arith}
-use Rattle.lasso_eval.specs.Under.{Here}
-use Rattle.lasso_eval.proofs.tests.at_root.Goals as goal
-
-pub at-requires : goal.at-requires
-at-requires c = omega (arith, (c.requires.values c.args.root (Here c.args.root refl)).count, c.requires.within)

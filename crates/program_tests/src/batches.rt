@@ -1,0 +1,83 @@
+// Batches that were worked by hand.
+use crate::meeting::Meeting;
+use batch_run::{all_verdicts, answers, batch_text, laws};
+use ltl_io::NoGate;
+use ltl_syntax::Kind;
+use std::alloc::Global;
+use std::process::Abort;
+use std::test::Fail;
+use std::thread::Threads;
+
+/// A text, the kind, the depth that is asked for, the text of the answers, and whether each is a verdict.
+type Row = (&'static [u8], Kind, u32, &'static [u8], bool);
+
+const ROWS: &[Row] = &[
+    (b"", Kind::Infinite, 64, b"", true),
+    (
+        b"p & !p\n\nG F p & G !p\np &\n",
+        Kind::Infinite,
+        64,
+        b"1 UNSAT 0\n3 UNSAT 2\n4 grammar fault at byte 3\n",
+        false,
+    ),
+    // The last line has no newline.
+    (
+        b"\n \t\r\np $ q\nX p",
+        Kind::Finite,
+        64,
+        b"3 lexical fault at byte 2\n4 SAT 1\n",
+        false,
+    ),
+    (
+        b"G p\nwX false\r\n",
+        Kind::Finite,
+        64,
+        b"1 SAT 0\n2 SAT 0\n",
+        true,
+    ),
+    (b"wX false\r\n", Kind::Infinite, 64, b"1 UNSAT 1\n", true),
+    (b"X[2] false", Kind::Infinite, 1, b"1 UNDECIDED 1\n", true),
+];
+
+/// The text of a batch and whether it is clean.
+fn run<R: Abort + Threads + Sync>(rt: &R, alloc: Global, row: &Row, workers: u32) -> bool {
+    let (text, kind, asked, _, _) = *row;
+    assert!(rt; text.len() <= 16_777_216 && asked <= 1000 && 1 <= workers && workers <= 16);
+    let found = answers(rt, alloc, text, kind, asked, workers, &NoGate).expect(rt, "memory");
+    let printed = batch_text(alloc, &found).expect(rt, "memory");
+    assert!(rt; *printed == *row.3);
+    all_verdicts(&found)
+}
+
+#[test]
+fn answers_each_formula_line(rt: HostRuntime) {
+    for workers in [1, 3, 16] {
+        for row in ROWS {
+            let clean = run(&rt, rt.alloc(), row, workers);
+            assert!(rt; clean == row.4);
+        }
+    }
+    laws::one_cut();
+    laws::one_list();
+    laws::verdicts();
+}
+
+#[test]
+fn refuses_a_long_line(rt: HostRuntime) -> Result<(), Fail> {
+    let mut text = Vec::new(rt.alloc());
+    text.resize(1_048_577, b' ')?;
+    text.push(b'p')?;
+    let found = answers(&rt, rt.alloc(), &text, Kind::Infinite, 64, 2, &NoGate)?;
+    let printed = batch_text(rt.alloc(), &found)?;
+    let wanted: &[u8] = b"1 limit text 1048576\n";
+    assert!(rt; *printed == *wanted);
+    Ok(())
+}
+
+#[test]
+fn two_lines_at_once(rt: HostRuntime) -> Result<(), Fail> {
+    let gate = Meeting::new();
+    answers(&rt, rt.alloc(), b"p\np\n", Kind::Infinite, 64, 2, &gate)?;
+    assert!(rt; gate.met());
+    Ok(())
+}

@@ -1,0 +1,89 @@
+// `solve --core` on formulas that were worked by hand.
+use super::{list, shows};
+use crate::meeting::Meeting;
+use black_top::{Status, run};
+use ltl_io::{MemorySink, MemorySource};
+use std::process::Abort;
+use std::test::Fail;
+
+const CONFLICT: &[u8] = b"p & !p & G q";
+
+const CONFLICT_SHOWN: &[u8] = b"UNSAT 0\ncore ((p & !p) & {0})\n";
+
+/// Options, a formula, and what is printed of it.
+type Row = (&'static str, &'static [u8], &'static [u8]);
+
+const ROWS: &[Row] = &[
+    ("", CONFLICT, CONFLICT_SHOWN),
+    (
+        "",
+        b"G F p & G !p & r",
+        b"UNSAT 2\ncore ((G F p & G !p) & {0})\n",
+    ),
+    (
+        "--finite",
+        b"G F p & G !p & r",
+        b"UNSAT 1\ncore ((G F p & G !p) & {0})\n",
+    ),
+    (
+        "",
+        b"(q | r) & p & X q & !p",
+        b"UNSAT 0\ncore ((({0} & p) & {1}) & !p)\n",
+    ),
+    ("", b"false", b"UNSAT 0\ncore false\n"),
+    ("--finite", b"X false", b"UNSAT 1\ncore X false\n"),
+];
+
+/// The number of workers changes nothing.
+#[test]
+fn cores(rt: HostRuntime) -> Result<(), Fail> {
+    let alloc = rt.alloc();
+    for workers in [1, 2, 4, 16] {
+        for (options, formula, output) in ROWS {
+            let words = format!(in alloc; "solve --core --workers {workers} {options}")?;
+            shows(&rt, alloc, &words, formula, output, Status::Unsat)?;
+        }
+    }
+    Ok(())
+}
+
+/// Where there is a trace, and where it is undecided, `--core` changes nothing. Without it no core is shown.
+#[test]
+fn no_core(rt: HostRuntime) -> Result<(), Fail> {
+    let alloc = rt.alloc();
+    let p = b"SAT 0\n{\"kind\":\"infinite\",\"loop\":[[]],\"stem\":[[\"p\"]]}\n".as_slice();
+    let table: [(&str, &[u8], &[u8], Status); 4] = [
+        ("solve --core", b"p", p, Status::Sat),
+        (
+            "solve --core --depth 1",
+            b"G F p & G !p",
+            b"UNDECIDED 1\n",
+            Status::Undecided,
+        ),
+        ("solve --workers 2", CONFLICT, b"UNSAT 0\n", Status::Unsat),
+        (
+            "solve --core",
+            b"p &",
+            b"grammar fault at byte 3\n",
+            Status::Text,
+        ),
+    ];
+    for (words, input, output, status) in &table {
+        shows(&rt, alloc, words, input, output, *status)?;
+    }
+    Ok(())
+}
+
+/// Two tests are done at once.
+#[test]
+fn tests_meet(rt: HostRuntime) -> Result<(), Fail> {
+    let alloc = rt.alloc();
+    let gate = Meeting::new();
+    let words = list(alloc, "solve --core --workers 2")?;
+    let mut source = MemorySource::new(CONFLICT.to_vec(alloc)?, 1000, Vec::new(alloc));
+    let mut sink = MemorySink::new(alloc, 64, 64, Vec::new(alloc))?;
+    let status = run(&rt, alloc, &words, &mut source, &mut sink, &gate);
+    assert!(rt; status == Status::Unsat && sink.content() == CONFLICT_SHOWN);
+    assert!(rt; gate.met());
+    Ok(())
+}
