@@ -508,7 +508,8 @@ const LONG: &[LongRow] = &[
     ),
 ];
 
-/// The calls of `read` that fail, those of `write`, the room of the sink, the status, and how many bytes are written.
+/// The calls of `read` that fail, those of `write`, the room of the sink, the status, and how many bytes are
+/// written.
 type DeviceRow = (&'static [u64], &'static [u64], usize, Status, usize);
 
 /// `solve` on `p` over a source that gives one byte a read and a sink that takes ten bytes a write.

@@ -22,7 +22,8 @@ enum Call {
     Refuses,
 }
 
-/// A call, what it is given, and what has to be true then: numbers of letters, with a minus sign where negated.
+/// A call, what it is given, and what has to be true then: numbers of letters, with a minus sign where
+/// negated.
 type Row = (Call, &'static [i32], &'static [i32]);
 
 /// The letters that are known from here on, the calls, and how many lines they may add.
@@ -30,7 +31,8 @@ type Turn = (u32, &'static [Row], u64);
 
 const ANY: u64 = u64::MAX;
 
-/// Pigeon p is in hole h where letter 4p + h is true: each of the five is in one of the four, and no two are in one.
+/// Pigeon p is in hole h where letter 4p + h is true: each of the five is in one of the four, and no two are
+/// in one.
 const PIGEONS: &[Row] = &[
     (
         Call::Add,
@@ -350,7 +352,8 @@ fn clause_of<'a>(rt: &impl Abort, view: &LogView<'a>, hint: Hint) -> &'a [Litera
     }
 }
 
-/// Whether unit propagation over the line's hints alone, from the opposites of its literals, ends in a conflict.
+/// Whether unit propagation over the line's hints alone, from the opposites of its literals, ends in a
+/// conflict.
 fn is_step(
     rt: &impl Abort,
     alloc: Global,

@@ -304,9 +304,10 @@ fn equivalences_share_what_both_sides_have(rt: HostRuntime) {
     );
 }
 
-// 40 equivalences, each the right operand of the one before. Each of the 41 letters stands there and negated; each equivalence has
-// three entries and its negation three more, but for the first, whose negation is not there. Were a node walked once for each of
-// its occurrences in the normal form, this would take 2 ^ 40 steps.
+// 40 equivalences, each the right operand of the one before. Each of the 41 letters stands there and negated;
+// each equivalence has three entries and its negation three more, but for the first, whose negation is not
+// there. Were a node walked once for each of its occurrences in the normal form, this would take 2 ^ 40
+// steps.
 #[test]
 fn equivalences_are_walked_once(rt: HostRuntime) {
     let mut table = FormulaTable::new(rt.alloc());

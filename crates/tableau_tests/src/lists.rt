@@ -1,8 +1,8 @@
 // Whole clause lists, worked by hand.
 use ltl_syntax::{BinaryOp, Kind, Node, UnaryOp};
 
-/// The nodes of a formula over the letters p and q, its kind, the last depth, and the clauses through it: the numbers of letters,
-/// a negated one with a minus sign.
+/// The nodes of a formula over the letters p and q, its kind, the last depth, and the clauses through it: the
+/// numbers of letters, a negated one with a minus sign.
 pub type List = (&'static [Node], Kind, u32, &'static [&'static [i64]]);
 
 pub const CONSTANTS: &[List] = &[
@@ -61,8 +61,8 @@ const OF_STRONG: &[&[i64]] = &[
     &[-1, -10],
 ];
 
-/// `p S q` has the entries p 1, q 2, `p S q` 3 and `Y (p S q)` 4. Finite traces give state 0 the letters 2 to 7 and state 1 those
-/// from 8 to 13; their pair has 14 where the carries are equal and 15 where they differ.
+/// `p S q` has the entries p 1, q 2, `p S q` 3 and `Y (p S q)` 4. Finite traces give state 0 the letters 2 to
+/// 7 and state 1 those from 8 to 13; their pair has 14 where the carries are equal and 15 where they differ.
 pub const SINCE: List = (
     &[
         Node::Letter(0),
@@ -96,9 +96,10 @@ const OF_SINCE: &[&[i64]] = &[
     &[-1, -14],
 ];
 
-/// `F p` has the entries true 1, p 2, `true U p` 3 and `X (true U p)` 4, of which 3 is an eventuality. State 0 has the letters 2 to
-/// 10, with 5 that it repeats and 10 that the eventuality was seen; state 1 has those from 11 to 19; their pair has 20 where the
-/// carries are equal, 21 where the run closes, 22 where they differ, 23 where the eventuality is fulfilled and 24 where that is new.
+/// `F p` has the entries true 1, p 2, `true U p` 3 and `X (true U p)` 4, of which 3 is an eventuality. State
+/// 0 has the letters 2 to 10, with 5 that it repeats and 10 that the eventuality was seen; state 1 has those
+/// from 11 to 19; their pair has 20 where the carries are equal, 21 where the run closes, 22 where they
+/// differ, 23 where the eventuality is fulfilled and 24 where that is new.
 pub const EVENTUALLY: List = (
     &[Node::Letter(0), Node::Unary(UnaryOp::Eventually, 0)],
     Kind::Infinite,

@@ -37,7 +37,8 @@ fn decided(rt: &impl Abort, alloc: Global, joined: &Joined, limit: u32) -> Said
     }
 }
 
-/// What is said of the formulas of the last nodes. The letters of the goal have other numbers than those of the system.
+/// What is said of the formulas of the last nodes. The letters of the goal have other numbers than those of
+/// the system.
 fn answered(
     rt: &impl Abort,
     alloc: Global,

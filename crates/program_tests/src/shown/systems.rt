@@ -111,7 +111,8 @@ fn large_systems(rt: HostRuntime) -> Result<(), Fail> {
     Ok(())
 }
 
-/// What is printed with a certificate, `check` verifies: the formula behind its word, a separator line, the rest.
+/// What is printed with a certificate, `check` verifies: the formula behind its word, a separator line, the
+/// rest.
 #[test]
 fn printed_systems_verify(rt: HostRuntime) -> Result<(), Fail> {
     let alloc = rt.alloc();
