@@ -1,5 +1,6 @@
 mod Lines
 mod Negated
+mod Earlier
 mod Asking
 mod Rejections
 mod Grown

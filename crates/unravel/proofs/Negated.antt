@@ -1,6 +1,6 @@
 -- The literals of a question: they are consistent, their letters are known, and their opposites are those of a target.
-use Rattle.std.proofs.Common.{◌≡◌, ℕ, Bool, false, not, arith, inl, inr, ap, sym, ◌∙◌, subst, List, [], ◌∷◌, All, Contains}
-use Rattle.std.proofs.lemmas.List.Elements.{All-nil, All-cons}
+use Rattle.std.proofs.Common.{◌≡◌, ℕ, ◌+◌, Bool, false, not, arith, inl, inr, ap, sym, ◌∙◌, subst, List, [], ◌∷◌, ◌++◌, All, Contains}
+use Rattle.std.proofs.lemmas.List.Elements.{All-nil, All-cons, All-append, All-weaker, All-contains, Contains-append_cases}
 use Rattle.ltl_syntax.specs.declared.node.Kind.{Kind}
 use Rattle.ltl_syntax.specs.Formula.{Formula}
 use Rattle.cnf_base.specs.declared.literal.Literal.{Literal as Signed}
@@ -9,11 +9,12 @@ use Rattle.cnf_base.specs.Known.{IsKnown}
 use Rattle.cnf_base.proofs.SameLiteral.{opposite_opposite}
 use Rattle.ltl_closure.proofs.Lists.{Contains-nil, Contains-cons_cases, Contains-here, Contains-there}
 use Rattle.cdcl.specs.Solving.{IsConsistent}
-use Rattle.enc_layout.specs.Letters.{Meaning, IsLetter, letters_through}
+use Rattle.enc_layout.specs.Letters.{Meaning, Here, IsLetter, letters_through}
 use Rattle.enc_layout.specs.Clauses.{counts}
 use Rattle.enc_layout.specs.Assigned.{positive_of}
 use Rattle.enc_layout.specs.Targets.{negative_of}
 use Rattle.enc_layout.proofs.Numbers.{number_within}
+use Rattle.unravel.specs.Depths.{IsStateBelow, AreStatesBelow}
 
 module _ (f : Formula) (kind : Kind) where
   turned : (p : Meaning) (l : Signed) → positive_of f kind p ≡ opposite l → negative_of f kind p ≡ l
@@ -54,6 +55,16 @@ module _ (f : Formula) (kind : Kind) where
   pub consistent_two : (p q : Meaning) → IsConsistent (positive_of f kind p ∷ positive_of f kind q ∷ [])
   consistent_two p q = consistent (positive_of f kind p ∷ positive_of f kind q ∷ []) (positive_two p q)
 
+  -- and those of states and one more
+  positive_under : (n : ℕ) (states : List Signed) (p : Meaning) → AreStatesBelow f kind n states → (l : Signed) → Contains (states ++ positive_of f kind p ∷ []) l → l.negated ≡ false
+  positive_under n states p below l h = elim (Contains-append_cases states (positive_of f kind p ∷ []) l h) [
+    | inl s ↦ let w = All-contains (IsStateBelow f kind n) states l below s in ap (λ (m : Signed). m.negated) w.2
+    | inr r ↦ positive_one p l r
+  ]
+
+  pub consistent_under : (n : ℕ) (states : List Signed) (p : Meaning) → AreStatesBelow f kind n states → IsConsistent (states ++ positive_of f kind p ∷ [])
+  consistent_under n states p below = consistent (states ++ positive_of f kind p ∷ []) (positive_under n states p below)
+
   module _ (k letters : ℕ) (all : letters ≡ letters_through kind (counts f) k) where
     known : (p : Meaning) → IsLetter kind (counts f) k p → IsKnown letters (positive_of f kind p)
     known p h =
@@ -65,3 +76,10 @@ module _ (f : Formula) (kind : Kind) where
 
     pub known_two : (p q : Meaning) → IsLetter kind (counts f) k p → IsLetter kind (counts f) k q → All (IsKnown letters) (positive_of f kind p ∷ positive_of f kind q ∷ [])
     known_two p q h g = All-cons (IsKnown letters) (positive_of f kind p) (positive_of f kind q ∷ []) (known p h) (known_one q g)
+
+    state_known : (l : Signed) → IsStateBelow f kind (k + 1) l → IsKnown letters l
+    state_known l (j, lt, is) = subst (IsKnown letters) (sym is) (known (Here j) (omega (arith, lt)))
+
+    pub known_under : (states : List Signed) (p : Meaning) → AreStatesBelow f kind (k + 1) states → IsLetter kind (counts f) k p → All (IsKnown letters) (states ++ positive_of f kind p ∷ [])
+    known_under states p below h =
+        All-append (IsKnown letters) states (positive_of f kind p ∷ []) (All-weaker (IsStateBelow f kind (k + 1)) (IsKnown letters) state_known states below) (known_one p h)

@@ -1,11 +1,10 @@
 -- What the depths up to a limit come to.
-use Rattle.std.specs.Prelude.{◌≡◌, ℕ, ◌+◌, List, Option, Some, None}
+use Rattle.std.specs.Prelude.{◌≡◌, ℕ, ◌+◌, Option, Some, None}
 use Rattle.ltl_syntax.specs.declared.node.Kind.{Kind}
 use Rattle.ltl_syntax.specs.Formula.{Formula}
-use Rattle.clause_log.specs.LogValue.{LogValue}
 use Rattle.unravel.specs.declared.decision.Decision.{Decision}
 use Rattle.unravel.specs.declared.decision.Decision.TheVariants as decisions
-use Rattle.unravel.specs.Decision.{IsTraceOfRun, IsModel, IsDecision}
+use Rattle.unravel.specs.Decision.{IsTraceOfRun, IsModel, IsRefutation, IsDecision}
 use Rattle.unravel.specs.Depths.{AreOpen}
 
 -- satisfiable at depth k, by a trace of an accepted run that satisfies the formula
@@ -14,11 +13,11 @@ IsShown f kind k (decisions.Sat n t) = (n ≡ k) × IsTraceOfRun f kind k t × I
 IsShown f kind k (decisions.Unsat n log targets) = ⊥
 IsShown f kind k (decisions.Undecided n) = ⊥
 
--- unsatisfiable at depth k, by this log and these targets
-abbrev pub IsRefuted : ℕ → LogValue → List ℕ → Decision → Type 0
-IsRefuted k log targets (decisions.Sat n t) = ⊥
-IsRefuted k log targets (decisions.Unsat n l ts) = (n ≡ k) × (l ≡ log) × (ts.items ≡ targets)
-IsRefuted k log targets (decisions.Undecided n) = ⊥
+-- unsatisfiable at depth k, by a log and targets that close the tableau
+abbrev pub IsRefuted : Formula → Kind → ℕ → Decision → Type 0
+IsRefuted f kind k (decisions.Sat n t) = ⊥
+IsRefuted f kind k (decisions.Unsat n log targets) = (n ≡ k) × IsRefutation f kind k log targets.items
+IsRefuted f kind k (decisions.Undecided n) = ⊥
 
 -- the decision that some depth gives, or each depth up to the limit is open
 abbrev pub IsSettled : Formula → Kind → ℕ → Option Decision → Type 0

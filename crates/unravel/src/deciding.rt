@@ -1,15 +1,15 @@
 // The tableau, depth after depth: the encoders write a depth's clauses, the solver answers its questions, and the first depth that
 // settles the formula gives the decision. After Geatti, Gigante and Montanari, A SAT-based encoding of the one-pass and tree-shaped
 // tableau system for LTL (2019).
-ghost use Rattle.std.specs.Prelude.{◌≤◌, [], ◌∷◌, ◌++◌, IfOk, OnOk};
+ghost use Rattle.std.specs.Prelude.{◌≤◌, IfOk};
 ghost use Rattle.ltl_closure.specs.Run.{bound};
-ghost use Rattle.cnf_base.specs.Known.{AreKnown};
 ghost use Rattle.enc_layout.specs.Letters.{Fits};
 ghost use Rattle.enc_layout.specs.Clauses.{layout_of};
 ghost use Rattle.unravel.specs.Decision.{IsDecision, IsUnsat, IsUndecided, HasNoTrace};
-ghost use Rattle.unravel.specs.Depths.{IsShowing};
+ghost use Rattle.unravel.specs.Depths.{IsShowing, IsThrough, AreRefused};
 ghost use Rattle.unravel.specs.Settling.{IsShown, IsRefuted, IsSettled};
 
+use crate::closing::close;
 use crate::decision::Decision;
 use crate::growing::grow;
 use crate::questions::{Depth, ask};
@@ -43,19 +43,19 @@ fn settle(alloc: Global, closure: &Closure<'_>, limit: u32) -> Result<Option<Dec
     enc_layout::laws::numbering();
     let mut solver = Solver::new(alloc);
     let mut clauses = ClauseList::new(alloc);
-    let mut targets = Vec::new(alloc);
+    let mut states = Vec::new(alloc);
     for depth in 0..limit + 1 {
         grow(closure, depth, &mut clauses, &mut solver)?;
-        match ask(closure, &mut solver, depth)? {
+        match ask(closure, &mut solver, &mut states, depth)? {
             Depth::Accepted => {
                 let decision = shown(alloc, closure, depth, &solver)?;
                 return Ok(Some(decision));
             }
-            Depth::Pruned { rejected, pruned } => {
-                let decision = refuted(depth, solver, targets, rejected, pruned)?;
+            Depth::Pruned => {
+                let decision = refuted(alloc, closure, depth, solver)?;
                 return Ok(Some(decision));
             }
-            Depth::Open(rejected) => targets.push(rejected)?,
+            Depth::Open => {}
         }
     }
     Ok(None)
@@ -77,20 +77,21 @@ fn shown(
     Ok(Decision::Sat { depth, trace })
 }
 
-/// Unsatisfiable, by the solver's log and two targets more.
+/// Unsatisfiable, by the solver's log and the lines of it that close the tableau.
 fn refuted(
+    alloc: Global,
+    closure: &Closure<'_>,
     depth: u32,
     solver: Solver,
-    targets: Vec<u64>,
-    rejected: u64,
-    pruned: u64,
 ) -> Result<Decision, AllocError>
-    ensures refuted { IfOk result (IsRefuted depth solver.log (targets.items ++ rejected ∷ [] ++ pruned ∷ [])) }
-    ensures known { OnOk result (AreKnown solver.letters solver.log.lines) }
+    requires few { depth ≤ 1000 }
+    requires fits { Fits (layout_of closure.now) depth }
+    requires through { IsThrough closure.now.formula closure.now.kind depth solver }
+    requires refused { AreRefused closure.now.formula closure.now.kind depth }
+    ensures { IfOk result (IsRefuted closure.now.formula closure.now.kind depth) }
 {
-    let mut targets = targets;
-    targets.push(rejected)?;
-    targets.push(pruned)?;
+    let mut solver = solver;
+    let targets = close(alloc, closure, &mut solver, depth)?;
     Ok(Decision::Unsat {
         depth,
         log: solver.into_log(),

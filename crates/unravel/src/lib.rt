@@ -1,6 +1,7 @@
 //! The depths of the tableau, one after another, over one solver: what the tableau says of a formula, with what shows it.
 #![tactic(auto)]
 
+mod closing;
 mod deciding;
 mod decision;
 mod growing;

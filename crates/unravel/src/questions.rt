@@ -1,88 +1,126 @@
 // The two questions of a depth: whether a run of so many states is accepted, and whether one is pruned nowhere. Where there is no run at
-// all both are refused, so that need not be asked. Each is put to the solver under the letters that ask it, and a refusal is a line of
-// the log that the letters alone refute.
-ghost use Rattle.std.specs.Prelude.{◌≡◌, ◌≤◌, IfOk};
-ghost use Rattle.cdcl.specs.Solving.{IsLonger};
+// all both are refused, so that need not be asked. A question assumes besides its own letter that the states of some steps are there, the
+// last one at least. That of each step since the search was last hard stays assumed, in order, so that the solver need not go back over
+// the earlier steps. A state is there only after the one before it, so the answer is the same.
+ghost use Rattle.std.specs.Prelude.{◌≡◌, ◌≤◌, ◌+◌, ◌++◌, ◌∷◌, [], All, IfOk, OnOk};
+ghost use Rattle.cnf_base.specs.Known.{IsKnown};
+ghost use Rattle.cdcl.specs.Solving.{IsConsistent};
+ghost use Rattle.cdcl.specs.SolverValue.{IsAnswer};
 ghost use Rattle.enc_layout.specs.Letters.{Fits};
 ghost use Rattle.enc_layout.specs.Clauses.{layout_of};
-ghost use Rattle.unravel.specs.Depths.{IsThrough, IsAcceptedAnswer, IsUnprunedAnswer, Tells};
+ghost use Rattle.unravel.specs.Depths.{IsThrough, AreStatesBelow, AreStatesTo, IsAcceptedAnswer, IsUnprunedAnswer, Tells};
 
 use cdcl::{Answer, Solver};
+use cnf_base::Literal;
 use enc_layout::{Layout, Part};
 use ltl_closure::Closure;
 use std::alloc::AllocError;
 
-/// What the questions of a depth were answered. Lines are those of the solver's log, from 1.
+/// The search of a depth is hard where it adds this many lines to the log.
+const MANY: u64 = 30;
+
+/// What the questions of a depth were answered.
 #[derive(Clone, Copy, Drop)]
 pub enum Depth {
     /// A run is accepted, and the solver's values are those of one.
     Accepted,
-    /// No run is accepted, and each is pruned, as the lines show. There may be none.
-    Pruned { rejected: u64, pruned: u64 },
-    /// No run is accepted, as the line shows, and one is pruned nowhere.
-    Open(u64),
+    /// No run is accepted, and each is pruned. There may be none.
+    Pruned,
+    /// No run is accepted, and one is pruned nowhere.
+    Open,
+}
+
+/// Asks under the states' literals and one more.
+fn put(
+    solver: &mut Solver,
+    states: &mut Vec<Literal>,
+    literal: Literal,
+) -> Result<Answer, AllocError>
+    requires known { All (IsKnown solver.old.letters) (states.old.items ++ literal ∷ []) }
+    requires consistent { IsConsistent (states.old.items ++ literal ∷ []) }
+    ensures states { OnOk result (states.new.items ≡ states.old.items) }
+    ensures letters { solver.new.letters ≡ solver.old.letters }
+    ensures inputs { solver.new.log.inputs ≡ solver.old.log.inputs }
+    ensures answer { IfOk result (IsAnswer solver.new (states.old.items ++ literal ∷ [])) }
+{
+    let count = states.len();
+    states.push(literal)?;
+    let answer = solver.solve(states)?;
+    states.truncate(count);
+    Ok(answer)
 }
 
 /// Asks whether a run of depth + 1 states is accepted. Where one is, the solver's values are those of such a run.
-fn refute_accepted(
+fn is_accepted(
     closure: &Closure<'_>,
     solver: &mut Solver,
+    states: &mut Vec<Literal>,
     depth: u32,
-) -> Result<Option<u64>, AllocError>
+) -> Result<bool, AllocError>
     requires few { depth ≤ 1000 }
     requires fits { Fits (layout_of closure.now) depth }
     requires through { IsThrough closure.now.formula closure.now.kind depth solver.old }
+    requires states { AreStatesTo closure.now.formula closure.now.kind depth states.old.items }
     ensures through { IsThrough closure.now.formula closure.now.kind depth solver.new }
-    ensures longer { IsLonger solver.old.log solver.new.log }
+    ensures states { OnOk result (states.new.items ≡ states.old.items) }
     ensures answer { IfOk result (IsAcceptedAnswer closure.now.formula closure.now.kind depth solver.new) }
 {
     enc_layout::laws::questions();
-    let layout = Layout::of(closure);
-    let here = layout.positive(depth, Part::Here);
-    let accepted = layout.positive(depth, Part::Accepted);
-    match solver.solve(&[here, accepted])? {
-        Answer::Sat => Ok(None),
-        Answer::Unsat(line) => Ok(Some(line)),
+    let accepted = Layout::of(closure).positive(depth, Part::Accepted);
+    match put(solver, states, accepted)? {
+        Answer::Sat => Ok(true),
+        Answer::Unsat(_) => Ok(false),
     }
 }
 
 /// Asks whether a run of depth + 1 states is pruned nowhere.
-fn refute_unpruned(
+fn is_unpruned(
     closure: &Closure<'_>,
     solver: &mut Solver,
+    states: &mut Vec<Literal>,
     depth: u32,
-) -> Result<Option<u64>, AllocError>
-    requires few { depth ≤ 1000 }
-    requires fits { Fits (layout_of closure.now) depth }
+) -> Result<bool, AllocError>
     requires through { IsThrough closure.now.formula closure.now.kind depth solver.old }
+    requires states { AreStatesTo closure.now.formula closure.now.kind depth states.old.items }
     ensures through { IsThrough closure.now.formula closure.now.kind depth solver.new }
-    ensures longer { IsLonger solver.old.log solver.new.log }
-    ensures answer { IfOk result (IsUnprunedAnswer closure.now.formula closure.now.kind depth solver.new) }
+    ensures states { OnOk result (states.new.items ≡ states.old.items) }
+    ensures answer { IfOk result (IsUnprunedAnswer closure.now.formula closure.now.kind depth) }
 {
     enc_layout::laws::questions();
-    let layout = Layout::of(closure);
-    let here = layout.positive(depth, Part::Here);
-    let unpruned = layout.may_prune().opposite();
-    match solver.solve(&[here, unpruned])? {
-        Answer::Sat => Ok(None),
-        Answer::Unsat(line) => Ok(Some(line)),
+    let unpruned = Layout::of(closure).may_prune().opposite();
+    match put(solver, states, unpruned)? {
+        Answer::Sat => Ok(true),
+        Answer::Unsat(_) => Ok(false),
     }
 }
 
-/// Asks the two questions in their order, up to the first that settles the formula.
-pub fn ask(closure: &Closure<'_>, solver: &mut Solver, depth: u32) -> Result<Depth, AllocError>
+/// Asks the two questions in their order, up to the first that settles the formula. The states that are assumed go on with that of the
+/// depth, and begin anew after a depth whose search is hard.
+pub fn ask(
+    closure: &Closure<'_>,
+    solver: &mut Solver,
+    states: &mut Vec<Literal>,
+    depth: u32,
+) -> Result<Depth, AllocError>
     requires few { depth ≤ 1000 }
     requires fits { Fits (layout_of closure.now) depth }
     requires through { IsThrough closure.now.formula closure.now.kind depth solver.old }
+    requires states { AreStatesBelow closure.now.formula closure.now.kind depth states.old.items }
     ensures through { IsThrough closure.now.formula closure.now.kind depth solver.new }
-    ensures longer { IsLonger solver.old.log solver.new.log }
+    ensures states { OnOk result (AreStatesBelow closure.now.formula closure.now.kind (depth + 1) states.new.items) }
     ensures tells { IfOk result (Tells closure.now.formula closure.now.kind depth solver.new) }
 {
-    match refute_accepted(closure, solver, depth)? {
-        None => Ok(Depth::Accepted),
-        Some(rejected) => match refute_unpruned(closure, solver, depth)? {
-            None => Ok(Depth::Open(rejected)),
-            Some(pruned) => Ok(Depth::Pruned { rejected, pruned }),
-        },
+    let before = solver.log().view().lines();
+    let here = Layout::of(closure).positive(depth, Part::Here);
+    states.push(here)?;
+    if is_accepted(closure, solver, states, depth)? {
+        return Ok(Depth::Accepted);
     }
+    if !is_unpruned(closure, solver, states, depth)? {
+        return Ok(Depth::Pruned);
+    }
+    if solver.log().view().lines() >= before.saturating_add(MANY) {
+        states.truncate(0);
+    }
+    Ok(Depth::Open)
 }

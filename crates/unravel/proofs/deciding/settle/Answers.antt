@@ -1,7 +1,7 @@
-use Rattle.std.proofs.Common.{subst, [], ◌∷◌, ◌++◌}
+use Rattle.std.proofs.Common.{subst}
 use Rattle.enc_layout.specs.Clauses.{layout_of}
 use Rattle.unravel.specs.Depths.{Tells}
-use Rattle.unravel.proofs.Verdicts.{within_limit, open_more, before_more, shown_decided, refuted_decided, pruned_verdict, refuted, rejected_more, open_through}
+use Rattle.unravel.proofs.Verdicts.{within_limit, open_more, before_more, shown_decided, refuted_decided, all_refused, open_through}
 use Rattle.unravel.proofs.deciding.settle.Goals as goal
 
 pub grow-requires-clause-fits : goal.grow-requires-clause-fits
@@ -19,18 +19,24 @@ returns-in-Accepted c =
     shown_decided c.args.closure.now.formula c.args.closure.now.kind c.args.limit k (within_limit k c.args.limit c.loop-depth-test.true) c.loop-depth.invariant.still
     c.in_ok-decision-in-Accepted.decision c.in_ok-decision-in-Accepted.ensures
 
+pub refuted-requires-clause-fits : goal.refuted-requires-clause-fits
+refuted-requires-clause-fits c = c.numbering.ensures.lower (layout_of c.args.closure.now) c.loop-depth.depth c.args.limit (within_limit c.loop-depth.depth c.args.limit c.loop-depth-test.true) c.requires.fits
+
+pub refuted-requires-clause-refused : goal.refuted-requires-clause-refused
+refuted-requires-clause-refused c =
+    let f = c.args.closure.now.formula in
+    let kind = c.args.closure.now.kind in
+    let k = c.loop-depth.depth in
+    let tells = subst (Tells f kind k c.ask.new.solver) c.in-Pruned.is c.in_ok-ask.ensures.tells in
+    all_refused f kind k c.loop-depth.invariant.still tells.0 tells.1
+
 pub returns-in-Pruned : goal.returns-in-Pruned
 returns-in-Pruned c =
     let f = c.args.closure.now.formula in
     let kind = c.args.closure.now.kind in
     let k = c.loop-depth.depth in
-    let asked = c.ask.new.solver in
-    let tells = subst (Tells f kind k asked) c.in-Pruned.is c.in_ok-ask.ensures.tells in
-    refuted_decided f kind c.args.limit k asked.log (c.loop-depth.targets.items ++ c.in-Pruned.rejected ∷ [] ++ c.in-Pruned.pruned ∷ []) c.in_ok-decision-in-Pruned.decision
-    (pruned_verdict f kind c.args.limit k (within_limit k c.args.limit c.loop-depth-test.true) c.loop-depth.invariant.still tells.0 tells.1)
-    (refuted f kind k c.loop-depth.targets.items c.loop-depth.solver c.grow.new.solver asked c.loop-depth.invariant.rejected c.in_ok-grow.ensures.lines c.ask.ensures.longer
-    c.ask.ensures.through c.in-Pruned.rejected c.in-Pruned.pruned tells.2 tells.3 c.in_ok-decision-in-Pruned.ensures.known)
-    c.in_ok-decision-in-Pruned.ensures.refuted
+    let tells = subst (Tells f kind k c.ask.new.solver) c.in-Pruned.is c.in_ok-ask.ensures.tells in
+    refuted_decided f kind c.args.limit k (within_limit k c.args.limit c.loop-depth-test.true) c.loop-depth.invariant.still tells.0 tells.1 c.in_ok-decision-in-Pruned.decision c.in_ok-decision-in-Pruned.ensures
 
 pub loop-depth-preserved : goal.loop-depth-preserved
 loop-depth-preserved c =
@@ -41,9 +47,8 @@ loop-depth-preserved c =
     let tells = subst (Tells f kind k asked) c.in-Open.is c.in_ok-ask.ensures.tells in
     record {
       before = before_more f kind k asked c.ask.ensures.through;
-      still = open_more f kind k c.loop-depth.invariant.still tells.0;
-      rejected = rejected_more f kind k c.loop-depth.targets.items c.loop-depth.solver c.grow.new.solver asked c.loop-depth.invariant.rejected c.in_ok-grow.ensures.lines c.ask.ensures.longer
-          c.in-Open.rejected tells.1 c.push.new.self.items c.in_ok-push-in-Open.ensures.items;
+      still = open_more f kind k c.loop-depth.invariant.still tells;
+      states = c.in_ok-ask.ensures.states;
     }
 
 pub returns : goal.returns

@@ -1,0 +1,30 @@
+use Rattle.std.proofs.Common.{◌+◌, ap, ◌∙◌}
+use Rattle.cnf_base.specs.Literal.{opposite}
+use Rattle.enc_layout.specs.Letters.{Unpruned}
+use Rattle.unravel.proofs.Asking.{under_known, under_consistent, through_same, of_under, unpruned_yes, unpruned_no}
+use Rattle.unravel.proofs.questions.is_unpruned.Goals as goal
+
+pub put-requires-clause-known : goal.put-requires-clause-known
+put-requires-clause-known c =
+    under_known c.of.result c.args.closure.now c.args.depth c.args.solver.now.letters c.args.states.now.items Unpruned c.opposite-unpruned.result
+    c.of.ensures.layout c.requires.through.letters c.requires.states.0 tt (c.opposite-unpruned.ensures ∙ ap opposite c.may_prune.ensures)
+
+pub put-requires-clause-consistent : goal.put-requires-clause-consistent
+put-requires-clause-consistent c =
+    under_consistent c.of.result c.args.closure.now (c.args.depth + 1) c.args.states.now.items Unpruned c.opposite-unpruned.result c.of.ensures.layout c.requires.states.0 (c.opposite-unpruned.ensures ∙ ap opposite c.may_prune.ensures)
+
+pub returns-in-Sat-clause-answer : goal.returns-in-Sat-clause-answer
+returns-in-Sat-clause-answer c =
+    let f = c.args.closure.now.formula in
+    let kind = c.args.closure.now.kind in
+    let through = through_same f kind c.args.depth c.args.solver.now c.put.new.solver c.requires.through c.put.ensures.letters c.put.ensures.inputs in
+    unpruned_yes f kind c.args.depth c.put.new.solver through c.args.states.now.items c.requires.states c.questions.ensures.unpruned c.in_ok-put.field-0 c.in-Sat.is
+    (of_under c.of.result c.args.closure.now c.of.ensures.layout c.put.new.solver c.in_ok-put.field-0 c.args.states.now.items Unpruned c.opposite-unpruned.result (c.opposite-unpruned.ensures ∙ ap opposite c.may_prune.ensures) c.in_ok-put.ensures.answer)
+
+pub returns-in-Unsat-clause-answer : goal.returns-in-Unsat-clause-answer
+returns-in-Unsat-clause-answer c =
+    let f = c.args.closure.now.formula in
+    let kind = c.args.closure.now.kind in
+    let through = through_same f kind c.args.depth c.args.solver.now c.put.new.solver c.requires.through c.put.ensures.letters c.put.ensures.inputs in
+    unpruned_no f kind c.args.depth c.put.new.solver through c.args.states.now.items c.requires.states c.questions.ensures.unpruned c.in_ok-put.field-0 c.in-Unsat.field-0 c.in-Unsat.is
+    (of_under c.of.result c.args.closure.now c.of.ensures.layout c.put.new.solver c.in_ok-put.field-0 c.args.states.now.items Unpruned c.opposite-unpruned.result (c.opposite-unpruned.ensures ∙ ap opposite c.may_prune.ensures) c.in_ok-put.ensures.answer)
