@@ -57,6 +57,6 @@ one_more f kind k states items l below is more =
     let own : IsStateBelow f kind (k + 1) l = (k, omega arith, is) in
     subst (AreStatesTo f kind k) (sym more) (
       All-append (IsStateBelow f kind (k + 1)) states (l ∷ []) (All-weaker (IsStateBelow f kind k) (IsStateBelow f kind (k + 1)) later states below)
-      (All-cons (IsStateBelow f kind (k + 1)) l [] own (All-nil (IsStateBelow f kind (k + 1)))),
+          (All-cons (IsStateBelow f kind (k + 1)) l [] own (All-nil (IsStateBelow f kind (k + 1)))),
       subst (Contains (states ++ l ∷ [])) is (Contains-append_right states (l ∷ []) l (Contains-here l [])),
     )

@@ -1,5 +1,6 @@
-// The lines that close a tableau. The questions of the depths were asked under the states of several steps, so their lines may name these
-// as well. Once each is known to be refused, each is asked under its own two letters: what is learnt refutes it, mostly by propagation.
+// The lines that close a tableau. The questions of the depths were asked under the states of several steps,
+// so their lines may name these as well. Once each is known to be refused, each is asked under its own two
+// letters: what is learnt refutes it, mostly by propagation.
 ghost use Rattle.std.specs.Prelude.{◌≡◌, ◌≤◌, IfOk};
 ghost use Rattle.ltl_closure.specs.Run.{HasAccepted, HasUnpruned};
 ghost use Rattle.cdcl.specs.Solving.{IsLonger};
@@ -71,7 +72,8 @@ pub fn close(
     requires through { IsThrough closure.now.formula closure.now.kind depth solver.old }
     requires refused { AreRefused closure.now.formula closure.now.kind depth }
     ensures through { IsThrough closure.now.formula closure.now.kind depth solver.new }
-    ensures targets { IfOk result (λ targets. CloseTableau closure.now.formula closure.now.kind depth solver.new.log.lines targets.items) }
+    ensures targets { IfOk result (λ targets. CloseTableau closure.now.formula closure.now.kind depth
+        solver.new.log.lines targets.items) }
 {
     enc_layout::laws::numbering();
     let mut targets = Vec::new(alloc);

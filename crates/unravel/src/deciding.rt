@@ -1,6 +1,6 @@
-// The tableau, depth after depth: the encoders write a depth's clauses, the solver answers its questions, and the first depth that
-// settles the formula gives the decision. After Geatti, Gigante and Montanari, A SAT-based encoding of the one-pass and tree-shaped
-// tableau system for LTL (2019).
+// The tableau, depth after depth: the encoders write a depth's clauses, the solver answers its questions, and
+// the first depth that settles the formula gives the decision. After Geatti, Gigante and Montanari, A
+// SAT-based encoding of the one-pass and tree-shaped tableau system for LTL (2019).
 ghost use Rattle.std.specs.Prelude.{◌≤◌, IfOk};
 ghost use Rattle.ltl_closure.specs.Run.{bound};
 ghost use Rattle.enc_layout.specs.Letters.{Fits};
@@ -25,7 +25,8 @@ pub fn decide(alloc: Global, closure: &Closure<'_>, limit: u32) -> Result<Decisi
     requires fits { Fits (layout_of closure.now) limit }
     ensures decision { IfOk result (IsDecision closure.now.formula closure.now.kind limit) }
     ensures none { IfOk result (λ d. IsUnsat d → HasNoTrace closure.now.formula closure.now.kind) }
-    ensures settled { IfOk result (λ d. bound closure.now.formula closure.now.kind ≤ limit → ¬ IsUndecided d) }
+    ensures settled { IfOk result (λ d. bound closure.now.formula closure.now.kind ≤ limit
+        → ¬ IsUndecided d) }
 {
     match settle(alloc, closure, limit)? {
         Some(decision) => Ok(decision),
@@ -33,8 +34,8 @@ pub fn decide(alloc: Global, closure: &Closure<'_>, limit: u32) -> Result<Decisi
     }
 }
 
-/// The decision at the first depth that settles the formula, if there is one up to the limit. One solver lives through all depths, so
-/// what it has learnt at one serves the next.
+/// The decision at the first depth that settles the formula, if there is one up to the limit. One solver
+/// lives through all depths, so what it has learnt at one serves the next.
 fn settle(alloc: Global, closure: &Closure<'_>, limit: u32) -> Result<Option<Decision>, AllocError>
     requires few { limit ≤ 1000 }
     requires fits { Fits (layout_of closure.now) limit }

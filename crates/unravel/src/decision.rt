@@ -11,7 +11,8 @@ pub enum Decision {
         depth: u32,
         trace: Trace,
     },
-    /// Unsatisfiable: the log's inputs are the clause list through the depth, and the targets name the lines that close the tableau.
+    /// Unsatisfiable: the log's inputs are the clause list through the depth, and the targets name the lines
+    /// that close the tableau.
     Unsat {
         depth: u32,
         log: Log,

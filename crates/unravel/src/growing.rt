@@ -1,4 +1,5 @@
-// A depth's clauses, put into the solver behind those of the depths before. What the solver has learnt of these stays.
+// A depth's clauses, put into the solver behind those of the depths before. What the solver has learnt of
+// these stays.
 ghost use Rattle.std.specs.Prelude.{◌≡◌, ◌≤◌, OnOk};
 ghost use Rattle.cnf_base.specs.Known.{AreKnown};
 ghost use Rattle.enc_layout.specs.Letters.{Fits};
@@ -15,7 +16,8 @@ use std::alloc::AllocError;
 fn write_step(closure: &Closure<'_>, step: u32, clauses: &mut ClauseList) -> Result<(), AllocError>
     requires few { step ≤ 1000 }
     requires fits { Fits (layout_of closure.now) step }
-    ensures { OnOk result (clauses.new ≡ signed_clauses closure.now.formula closure.now.kind (step_clauses closure.now.formula closure.now.kind step)) }
+    ensures { OnOk result (clauses.new ≡ signed_clauses closure.now.formula closure.now.kind
+        (step_clauses closure.now.formula closure.now.kind step)) }
 {
     clauses.truncate(0);
     encode::append(closure, step, clauses)
@@ -32,8 +34,8 @@ fn add_all(solver: &mut Solver, clauses: &ClauseList) -> Result<(), AllocError>
     Ok(())
 }
 
-/// Makes the letters of a step known to the solver, which has those of the steps before, and adds the step's clauses. The list serves
-/// as a buffer.
+/// Makes the letters of a step known to the solver, which has those of the steps before, and adds the step's
+/// clauses. The list serves as a buffer.
 pub fn grow(
     closure: &Closure<'_>,
     step: u32,

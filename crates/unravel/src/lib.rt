@@ -1,4 +1,5 @@
-//! The depths of the tableau, one after another, over one solver: what the tableau says of a formula, with what shows it.
+//! The depths of the tableau, one after another, over one solver: what the tableau says of a formula, with
+//! what shows it.
 #![tactic(auto)]
 
 mod closing;

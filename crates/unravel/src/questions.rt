@@ -1,7 +1,8 @@
-// The two questions of a depth: whether a run of so many states is accepted, and whether one is pruned nowhere. Where there is no run at
-// all both are refused, so that need not be asked. A question assumes besides its own letter that the states of some steps are there, the
-// last one at least. That of each step since the search was last hard stays assumed, in order, so that the solver need not go back over
-// the earlier steps. A state is there only after the one before it, so the answer is the same.
+// The two questions of a depth: whether a run of so many states is accepted, and whether one is pruned
+// nowhere. Where there is no run at all both are refused, so that need not be asked. A question assumes
+// besides its own letter that the states of some steps are there, the last one at least. That of each step
+// since the search was last hard stays assumed, in order, so that the solver need not go back over the
+// earlier steps. A state is there only after the one before it, so the answer is the same.
 ghost use Rattle.std.specs.Prelude.{◌≡◌, ◌≤◌, ◌+◌, ◌++◌, ◌∷◌, [], All, IfOk, OnOk};
 ghost use Rattle.cnf_base.specs.Known.{IsKnown};
 ghost use Rattle.cdcl.specs.Solving.{IsConsistent};
@@ -50,7 +51,8 @@ fn put(
     Ok(answer)
 }
 
-/// Asks whether a run of depth + 1 states is accepted. Where one is, the solver's values are those of such a run.
+/// Asks whether a run of depth + 1 states is accepted. Where one is, the solver's values are those of such a
+/// run.
 fn is_accepted(
     closure: &Closure<'_>,
     solver: &mut Solver,
@@ -94,8 +96,8 @@ fn is_unpruned(
     }
 }
 
-/// Asks the two questions in their order, up to the first that settles the formula. The states that are assumed go on with that of the
-/// depth, and begin anew after a depth whose search is hard.
+/// Asks the two questions in their order, up to the first that settles the formula. The states that are
+/// assumed go on with that of the depth, and begin anew after a depth whose search is hard.
 pub fn ask(
     closure: &Closure<'_>,
     solver: &mut Solver,
@@ -107,7 +109,8 @@ pub fn ask(
     requires through { IsThrough closure.now.formula closure.now.kind depth solver.old }
     requires states { AreStatesBelow closure.now.formula closure.now.kind depth states.old.items }
     ensures through { IsThrough closure.now.formula closure.now.kind depth solver.new }
-    ensures states { OnOk result (AreStatesBelow closure.now.formula closure.now.kind (depth + 1) states.new.items) }
+    ensures states { OnOk result (AreStatesBelow closure.now.formula closure.now.kind
+        (depth + 1) states.new.items) }
     ensures tells { IfOk result (Tells closure.now.formula closure.now.kind depth solver.new) }
 {
     let before = solver.log().view().lines();

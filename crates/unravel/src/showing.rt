@@ -1,5 +1,5 @@
-// The trace of the accepted run that the solver's values give: the states are the values of the letters that stand for entries, and
-// the run closes to the first state whose letter says so, or by its end.
+// The trace of the accepted run that the solver's values give: the states are the values of the letters that
+// stand for entries, and the run closes to the first state whose letter says so, or by its end.
 ghost use Rattle.std.specs.Prelude.{◌≡◌, ◌+◌, ◌<◌, ◌≤◌, All, IfOk, length};
 ghost use Rattle.ltl_syntax.specs.declared.node.Kind.TheVariants as Kinds;
 ghost use Rattle.ltl_closure.specs.Entries.{numbers_of};
@@ -51,7 +51,8 @@ fn read_states(
     requires few { depth ≤ 1000 }
     requires fits { Fits (layout_of closure.now) depth }
     requires room { HasRoom (layout_of closure.now) depth solver.now }
-    ensures { IfOk result (λ states. AreRead closure.now.formula closure.now.kind (value_of solver.now) (depth + 1) states.items) }
+    ensures { IfOk result (λ states. AreRead closure.now.formula closure.now.kind (value_of solver.now)
+        (depth + 1) states.items) }
 {
     let letters = letter_entries(alloc, closure)?;
     let mut states = Vec::new(alloc);
@@ -63,7 +64,8 @@ fn read_states(
 
 /// The numbers of the letters among the entries.
 fn letter_entries(alloc: Global, closure: &Closure<'_>) -> Result<Vec<u32>, AllocError>
-    ensures { IfOk result (λ numbers. numbers.items ≡ numbers_of closure.now.formula (letters closure.now.formula)) }
+    ensures { IfOk result (λ numbers. numbers.items ≡ numbers_of closure.now.formula
+        (letters closure.now.formula)) }
 {
     let entries = closure.entries();
     let mut numbers = Vec::new(alloc);
@@ -123,7 +125,8 @@ fn entry_values(
     requires fits { Fits layout.now step }
     requires room { HasRoom layout.now step solver.now }
     requires known { All (IsNumber layout.now.counts.entries) numbers.now }
-    ensures { IfOk result (λ values. values.items ≡ values_at layout.now (value_of solver.now) step numbers.now) }
+    ensures { IfOk result (λ values. values.items ≡ values_at layout.now
+        (value_of solver.now) step numbers.now) }
 {
     let mut values = Vec::new(alloc);
     for number in numbers {
@@ -138,7 +141,8 @@ fn closing_rule(closure: &Closure<'_>, solver: &Solver, depth: u32) -> Close
     requires few { depth ≤ 1000 }
     requires fits { Fits (layout_of closure.now) depth }
     requires showing { IsShowing closure.now.formula closure.now.kind depth solver.now }
-    ensures { Accepts result closure.now.formula (states_of closure.now.formula closure.now.kind (value_of solver.now)) depth closure.now.kind }
+    ensures { Accepts result closure.now.formula (states_of closure.now.formula closure.now.kind
+        (value_of solver.now)) depth closure.now.kind }
 {
     enc_layout::laws::assignment_runs();
     match closure.kind() {
@@ -147,13 +151,15 @@ fn closing_rule(closure: &Closure<'_>, solver: &Solver, depth: u32) -> Close
     }
 }
 
-/// The first earlier state that the run closes to. Where there is none, no next request is true in the last state.
+/// The first earlier state that the run closes to. Where there is none, no next request is true in the last
+/// state.
 fn loop_rule(closure: &Closure<'_>, solver: &Solver, depth: u32) -> Close
     requires few { depth ≤ 1000 }
     requires fits { Fits (layout_of closure.now) depth }
     requires infinite { closure.now.kind ≡ Kinds.Infinite }
     requires showing { IsShowing closure.now.formula closure.now.kind depth solver.now }
-    ensures { Accepts result closure.now.formula (states_of closure.now.formula closure.now.kind (value_of solver.now)) depth closure.now.kind }
+    ensures { Accepts result closure.now.formula (states_of closure.now.formula closure.now.kind
+        (value_of solver.now)) depth closure.now.kind }
 {
     enc_layout::laws::assignment_runs();
     let layout = Layout::of(closure);
