@@ -6,7 +6,7 @@ use Rattle.std.proofs.lemmas.List.Elements.{All-contains}
 use Rattle.cnf_base.specs.declared.literal.Literal.{Literal}
 use Rattle.cnf_base.specs.declared.literal.Hint.{Hint}
 use Rattle.cnf_base.specs.Literal.{opposite}
-use Rattle.cnf_base.specs.Step.{IsHintedStep}
+use Rattle.cnf_base.specs.Step.{IsHintedStep, clause_at}
 use Rattle.cnf_base.proofs.SameLiteral.{opposite_opposite}
 use Rattle.clause_log.specs.LogValue.{greatest_u32}
 use Rattle.cdcl_state.specs.StateValue.{StateValue, IsBack}
@@ -18,7 +18,7 @@ use Rattle.cdcl_analyze.specs.declared.analyze.Learnt.{Learnt}
 use Rattle.cdcl_trail.proofs.Measure.{measure, restart_falls}
 use Rattle.cdcl_trail.proofs.Standing.{true_place}
 use Rattle.cdcl.specs.Choice.{IsAssumedTop, IsFreeTop}
-use Rattle.cdcl.specs.Solving.{IsNegated, IsConsistent, IsLast, IsFound}
+use Rattle.cdcl.specs.Solving.{IsNegated, IsConsistent, IsLineOf, IsFound}
 use Rattle.cdcl.specs.declared.solve.Answer.{Answer}
 use Rattle.cdcl.specs.declared.solve.Answer.TheVariants.{Sat, Unsat}
 use Rattle.cdcl.proofs.Search.{EachDecision, IsGuided, IsAssumed, HasNoNear, IsSearch, each_take, each_forced, assumed_negated, after_none, after_trail, places_of, fuel}
@@ -149,7 +149,11 @@ near_one old s new assumptions search few clause hints negated step = elim searc
   | inr none ↦ absurd (none clause hints negated step)
 ]
 
--- the answer by the last line
-pub last_found : (s : StateValue) (assumptions clause : List Literal) (answer : Answer) → IsNegated assumptions clause → IsLast s clause answer → IsFound s assumptions answer
-last_found s assumptions clause Sat negated is = absurd is
-last_found s assumptions clause (Unsat line) negated is = (is.0, is.1, subst (IsNegated assumptions) (sym is.2) negated)
+only_of : (P : Literal → Type 0) (clause literals : List Literal) → All P clause → All (Contains clause) literals → All P literals
+only_of P clause literals each within = λ k d lt. All-contains P clause (get_or literals k d) each (within k d lt)
+
+-- the answer by a line
+pub line_found : (s : StateValue) (assumptions clause : List Literal) (answer : Answer) → IsNegated assumptions clause → IsLineOf s clause answer → IsFound s assumptions answer
+line_found s assumptions clause Sat negated is = absurd is
+line_found s assumptions clause (Unsat line) negated is =
+    (is.0, is.1, only_of (λ l. Contains assumptions (opposite l)) clause (clause_at s.log.lines line) negated is.2)

@@ -1,3 +1,4 @@
 mod Search
 mod Ending
+mod OneHint
 mod Assignments

@@ -40,10 +40,10 @@ pub record IsAfter (old new : StateValue) : Type 0 where
   pub letters : new.letters ≡ old.letters
   pub log : IsLonger old.log new.log
 
--- the answer is a line with this clause
-abbrev pub IsLast : StateValue → List Literal → Answer → Type 0
-IsLast s clause Sat = ⊥
-IsLast s clause (Unsat line) = (1 ≤ line) × (line ≤ length s.log.lines) × (clause_at s.log.lines line ≡ clause)
+-- the answer is a line that has only literals of this clause
+abbrev pub IsLineOf : StateValue → List Literal → Answer → Type 0
+IsLineOf s clause Sat = ⊥
+IsLineOf s clause (Unsat line) = (1 ≤ line) × (line ≤ length s.log.lines) × All (Contains clause) (clause_at s.log.lines line)
 
 -- the true literals satisfy inputs and assumptions, or the line has only negations of assumptions
 abbrev pub IsFound : StateValue → List Literal → Answer → Type 0

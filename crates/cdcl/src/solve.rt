@@ -8,13 +8,13 @@ ghost use Rattle.cnf_base.specs.Step.{IsHintedStep};
 ghost use Rattle.cnf_base.specs.Known.{IsKnown};
 ghost use Rattle.clause_log.specs.LogValue.{greatest_u32};
 ghost use Rattle.cdcl_state.specs.StateValue.{IsBack};
-ghost use Rattle.cdcl.specs.Solving.{IsAfter, IsFound, IsLast, IsNegated, IsConsistent};
+ghost use Rattle.cdcl.specs.Solving.{IsAfter, IsFound, IsLineOf, IsNegated, IsConsistent};
 
 use crate::choice::{Choice, choose, is_assumed};
 use crate::restart::Pace;
 use cdcl_analyze::analyze::{Cut, Learnt};
 use cdcl_state::state::State;
-use cnf_base::Literal;
+use cnf_base::{Hint, Literal};
 use std::alloc::{AllocError, Global};
 
 /// What a question was answered; the number is a line of the log.
@@ -24,15 +24,22 @@ pub enum Answer {
     Unsat(u64),
 }
 
-/// Puts the line behind the others, and answers by it.
+/// Answers by the line that the one hint names, where that is a line, since it says as much. Else puts the clause
+/// behind the lines, and answers by it.
 fn finish(state: &mut State, alloc: Global, learnt: &Learnt) -> Result<Answer, AllocError>
     requires step { IsHintedStep state.old.log.inputs state.old.log.lines greatest_u32
         learnt.now.clause.items learnt.now.hints.items }
     requires known { All (IsKnown state.old.letters) learnt.now.clause.items }
     ensures kept { IsAfter state.old state.new }
     ensures near { length state.new.log.lines ≤ length state.old.log.lines + 1 }
-    ensures answer { IfOk result (IsLast state.new learnt.now.clause.items) }
+    ensures answer { IfOk result (IsLineOf state.new learnt.now.clause.items) }
 {
+    let hints = learnt.hints.as_slice();
+    if hints.len() == 1 {
+        if let Hint::Line(line) = hints[0] {
+            return Ok(Answer::Unsat(line));
+        }
+    }
     let line = state.derive(alloc, &learnt.clause, &learnt.hints)?;
     Ok(Answer::Unsat(line))
 }

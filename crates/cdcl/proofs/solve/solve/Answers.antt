@@ -1,20 +1,20 @@
-use Rattle.std.proofs.Common.{◌≡◌, inl, List, Option, None, Result, Ok, Err, MatchOption, IfOk, refl, sym, ap, ◌∙◌, subst}
+use Rattle.std.proofs.Common.{◌≡◌, inl, length, arith, List, Option, None, Result, Ok, Err, MatchOption, IfOk, refl, sym, ap, ◌∙◌, subst}
 use mathlib.Core.Bool.{false≢true}
 use Rattle.std.specs.declared.alloc.AllocError.{AllocError}
 use Rattle.cnf_base.specs.declared.literal.Literal.{Literal}
 use Rattle.clause_log.specs.LogValue.{with_line}
 use Rattle.cdcl_state.specs.StateValue.{StateValue, with_log}
 use Rattle.cdcl.specs.declared.solve.Answer.{Answer}
-use Rattle.cdcl.specs.Solving.{IsFound, IsLast, IsNegated}
+use Rattle.cdcl.specs.Solving.{IsFound, IsLineOf, IsNegated}
 use Rattle.cdcl.proofs.Search.{search_propagated, search_turned, search_assumed, search_free, assumed_negated, turn_falls, decision_falls, inputs_true}
-use Rattle.cdcl.proofs.Ending.{search_start, search_rested, rest_falls, all_assumed, not_decided, refuted_negated, none_near, last_found}
+use Rattle.cdcl.proofs.Ending.{search_start, search_rested, rest_falls, all_assumed, not_decided, refuted_negated, none_near, line_found}
 use Rattle.cdcl.proofs.solve.solve.Goals as goal
 
 none_case : {X A : Type 0} (P : X → Type 0) (o : Option X) → o ≡ None → MatchOption o A P → A
 none_case {X} {A} P o is h = let Q : Option X → Type 0 = λ q. MatchOption q A P in subst Q is h
 
-found : (r : Result Answer AllocError) (s : StateValue) (assumptions clause : List Literal) → IsNegated assumptions clause → IfOk r (IsLast s clause) → IfOk r (IsFound s assumptions)
-found (Ok answer) s assumptions clause negated is = last_found s assumptions clause answer negated is
+found : (r : Result Answer AllocError) (s : StateValue) (assumptions clause : List Literal) → IsNegated assumptions clause → IfOk r (IsLineOf s clause) → IfOk r (IsFound s assumptions)
+found (Ok answer) s assumptions clause negated is = line_found s assumptions clause answer negated is
 found (Err e) s assumptions clause negated is = tt
 
 pub search-init : goal.search-init
@@ -111,3 +111,11 @@ pub returns-in-Done-clause-answer : goal.returns-in-Done-clause-answer
 returns-in-Done-clause-answer c =
     let settled = none_case _ c.in_ok-found.found c.in-None.is c.in_ok-found.ensures.found in
     (inputs_true c.propagate.new.self settled c.in-Done.ensures.1 c.bounded.ensures.known_inputs, c.in-Done.ensures.0)
+
+pub returns-then-len-eq0-clause-answer : goal.returns-then-len-eq0-clause-answer
+returns-then-len-eq0-clause-answer c =
+    let learnt = c.in_ok-learnt-in-Some-2.learnt in
+    let assumptions = c.args.assumptions.now in
+    let none : length learnt.clause.items ≡ 0 = search in
+    found c.finish-then-len-eq0.result c.finish-then-len-eq0.new.state assumptions learnt.clause.items
+    (λ k d lt. absurd (omega (arith, lt, none))) c.finish-then-len-eq0.ensures.answer
