@@ -5,8 +5,7 @@ use Rattle.std.proofs.lemmas.Bool.{cases_lt}
 use Rattle.std.proofs.lemmas.List.{same_lists, get_or-take, get_or-drop, get_or-map, get_or_default, get_or_append_left, get_or-append_right, get_or_at, get_or_past, length-map, length_push, map-append, map-set, take-map, drop-take, drop-drop}
 use Rattle.std.proofs.lemmas.List.Edits.{swap_is}
 use Rattle.cnf_base.specs.declared.literal.Literal.{Literal}
-use Rattle.cnf_base.specs.declared.rows.Place.{Place}
-use Rattle.cnf_base.specs.RowPieces.{row_pieces, IsPlace, AreFlat}
+use Rattle.cnf_base.specs.RowPieces.{Place, row_pieces, IsPlace, AreFlat}
 use Rattle.cnf_base.proofs.RowLemmas.{pieces-push, pieces-take, spans_before}
 use Rattle.cdcl_watches.specs.Watching.{code, literal_of, clause_of, AreApart}
 use Rattle.cdcl_watches.specs.Heads.{place_at, decoded, clauses_at, number_of, AreHeads}

@@ -4,8 +4,7 @@ use Rattle.std.specs.List.{swap}
 use Rattle.std.proofs.lemmas.Bool.{cases_lt, cases_eq}
 use Rattle.std.proofs.lemmas.List.{same_lists, get_or-take, get_or-drop, get_or-map, get_or_default, length-map}
 use Rattle.std.proofs.lemmas.List.Edits.{swap_is}
-use Rattle.cnf_base.specs.declared.rows.Place.{Place}
-use Rattle.cnf_base.specs.RowPieces.{row_pieces, IsPlace, AreFlat}
+use Rattle.cnf_base.specs.RowPieces.{Place, row_pieces, IsPlace, AreFlat}
 
 module _ {X : Type 0} (xs : List X) (from to : ℕ) (forward : from ≤ to) (inside : to ≤ length xs) where
   pub length_range : length (slice_range xs from to) ≡ to - from

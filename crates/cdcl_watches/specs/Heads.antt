@@ -1,8 +1,7 @@
 -- Clauses in one buffer of numbers: each is its length, its number and the codes of its literals.
 use Rattle.std.specs.Prelude.{◌≡◌, ℕ, suc, ◌+◌, ◌<◌, ◌≤◌, ◌^◌, nat_eq, if◌then◌else◌, List, [], ◌∷◌, length, map, drop, slice_index_or}
 use Rattle.cnf_base.specs.declared.literal.Literal.{Literal}
-use Rattle.cnf_base.specs.declared.rows.Place.{Place}
-use Rattle.cnf_base.specs.RowPieces.{row_pieces}
+use Rattle.cnf_base.specs.RowPieces.{Place, row_pieces}
 use Rattle.cdcl_watches.specs.Watching.{literal_of}
 
 -- where the clause of a head stands: its length and its number, and behind them as many codes as the length says

@@ -1,8 +1,7 @@
 -- The last row, and what an item that is put behind its others makes of the rows.
 use Rattle.std.proofs.Common.{◌≡◌, ℕ, zero, suc, ◌+◌, ◌-◌, ◌≤◌, List, [], ◌∷◌, ◌++◌, length, take, drop, set, get_or, slice_range, refl, sym, ap, ap₂, ◌∙◌, arith, length-append, length-drop}
 use Rattle.std.proofs.lemmas.List.{drop-append-le, take_all, length-map}
-use Rattle.cnf_base.specs.declared.rows.Place.{Place}
-use Rattle.cnf_base.specs.RowPieces.{row_pieces, AreTiles, lengthened}
+use Rattle.cnf_base.specs.RowPieces.{Place, row_pieces, AreTiles, lengthened}
 use Rattle.cnf_base.proofs.RowLemmas.{range-append}
 use Rattle.cnf_base.proofs.RowTiles.{start_below}
 

@@ -3,7 +3,7 @@ pub mod MoreClauses
 pub mod Soundness
 pub mod Deciding
 pub mod RowLemmas
-pub mod RowSwaps
 pub mod Lengthened
 mod RowTiles
+mod RowEnds
 pub mod Among

@@ -2,8 +2,7 @@
 use Rattle.std.proofs.Common.{◌≡◌, ℕ, ◌+◌, ◌-◌, ◌<◌, ◌≤◌, List, [], ◌∷◌, ◌++◌, length, take, drop, get_or, All, slice_range, refl, sym, ap, ap₂, ◌∙◌, arith, length-drop, length-take, length-take-le}
 use Rattle.std.proofs.lemmas.List.{map-append, take-map, take-append-le, drop-append-le, take-take, drop-take, take_all, drop_at, get_or-take, get_or_default}
 use Rattle.std.proofs.lemmas.List.Elements.{All-head, All-tail, All-take}
-use Rattle.cnf_base.specs.declared.rows.Place.{Place}
-use Rattle.cnf_base.specs.RowPieces.{row_pieces, IsPlace, AreFlat}
+use Rattle.cnf_base.specs.RowPieces.{Place, row_pieces, IsPlace, AreFlat}
 
 -- two lists with the same items at each place have the same rows
 pieces_same : {X : Type 0} (xs ys : List X) (spans : List Place) → All (λ s. slice_range xs s.from s.to ≡ slice_range ys s.from s.to) spans → row_pieces xs spans ≡ row_pieces ys spans

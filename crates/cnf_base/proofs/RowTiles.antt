@@ -2,8 +2,7 @@
 use Rattle.std.proofs.Common.{◌≡◌, ℕ, zero, suc, ◌<◌, ◌≤◌, List, [], ◌∷◌, ◌++◌, length, take, get_or, All, AllPairs, slice_range, refl, sym, subst, ◌∙◌, arith}
 use Rattle.std.proofs.lemmas.List.{length-map}
 use Rattle.std.proofs.lemmas.List.Elements.{All-nil, All-cons}
-use Rattle.cnf_base.specs.declared.rows.Place.{Place}
-use Rattle.cnf_base.specs.RowPieces.{row_pieces, AreTiles, IsPlace, AreFlat}
+use Rattle.cnf_base.specs.RowPieces.{Place, row_pieces, AreTiles, IsPlace, AreFlat}
 
 -- the end is not before the start
 pub start_below : (start : ℕ) (places : List Place) (end : ℕ) → AreTiles start places end → start ≤ end

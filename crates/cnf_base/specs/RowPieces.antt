@@ -1,6 +1,20 @@
 -- Rows as places in one flat list.
-use Rattle.std.specs.Prelude.{◌≡◌, ℕ, ◌-◌, ◌≤◌, List, [], ◌∷◌, ◌++◌, length, map, All, AllPairs, slice_range, slice_index_or, slice_set}
-use Rattle.cnf_base.specs.declared.rows.Place.{Place}
+use Rattle.std.specs.Prelude.{◌≡◌, ℕ, zero, suc, ◌-◌, ◌≤◌, List, [], ◌∷◌, ◌++◌, length, map, All, AllPairs, slice_range, slice_index_or, slice_set}
+
+-- where a row stands: from the first place up to but without the second
+pub record Place : Type 0 where
+  pub from : ℕ
+  pub to : ℕ
+
+-- the places of rows by where they end: each begins where the one before it ends
+abbrev pub places_of : ℕ → List ℕ → List Place
+places_of start [] = []
+places_of start (end ∷ ends) = record { from = start; to = end } ∷ places_of end ends
+
+-- where the row of this index begins
+abbrev pub start_of : ℕ → List ℕ → ℕ → ℕ
+start_of start ends zero = start
+start_of start ends (suc index) = slice_index_or ends index 0
 
 -- the items of each place
 abbrev pub row_pieces : {X : Type 0} → List X → List Place → List (List X)

@@ -1,21 +1,21 @@
-use Rattle.std.proofs.Common.{◌<◌, length, take, sym, subst, arith, length-take-le}
-use Rattle.cnf_base.specs.RowPieces.{AreTiles}
-use Rattle.cnf_base.proofs.RowLemmas.{pieces-take, spans_before}
-use Rattle.cnf_base.proofs.RowTiles.{flat_tiles, tiles-take}
+use Rattle.std.proofs.Common.{◌<◌, ◌≤◌, length, sym, ap, arith}
+use Rattle.std.proofs.lemmas.List.{take_all}
+use Rattle.cnf_base.proofs.RowEnds.{rows_len, tiles_front, rows_front}
 use Rattle.cnf_base.proofs.rows.Rows.truncate.Goals as goal
+
+pub returns-then-count-len : goal.returns-then-count-len
+returns-then-count-len g c =
+    let rows : length c.args.self.now ≤ c.args.count = omega (arith, c.if-count-len.true, c.len.ensures, ap length c.self.view_is, rows_len c.self.inside.items.items c.self.inside.ends.items) in
+    sym (take_all c.args.count c.args.self.now rows)
 
 pub invariant_of-self : goal.invariant_of-self
 invariant_of-self g c =
-    let places = c.self.inside.places.items in
-    let in_list : c.args.count < length places = omega arith in
-    let next = (flat_tiles _ _ _ c.self.invariant).each c.args.count c.index.result.now in_list in
-    rw (c.truncate-2.ensures.items, c.truncate.ensures.items, c.index.ensures)
-    (subst (AreTiles 0 (take c.args.count places)) (sym (length-take-le _ c.self.inside.items.items (omega (arith, next.forward, next.inside))))
-    (tiles-take 0 places _ c.args.count c.index.result.now c.self.invariant in_list))
+    let low : c.args.count < length c.self.inside.ends.items = omega (arith, c.if-count-len.false, c.len.ensures) in
+    rw (c.truncate-2.ensures.items, c.truncate.ensures.items, c.start-end.ensures)
+    (tiles_front c.self.inside.items.items c.self.inside.ends.items c.self.invariant c.args.count low)
 
 pub returns : goal.returns
 returns g c =
-    let in_list : c.args.count < length c.self.inside.places.items = omega arith in
-    let flat = flat_tiles _ _ _ c.self.invariant in
-    rw (c.truncate-2.ensures.items, c.truncate.ensures.items, c.index.ensures, ← c.self.view_is)
-    (pieces-take _ _ _ _ flat (spans_before c.self.inside.items.items _ _ _ flat in_list))
+    let low : c.args.count < length c.self.inside.ends.items = omega (arith, c.if-count-len.false, c.len.ensures) in
+    rw (c.truncate-2.ensures.items, c.truncate.ensures.items, c.start-end.ensures, ← c.self.view_is)
+    (rows_front c.self.inside.items.items c.self.inside.ends.items c.self.invariant c.args.count low)
