@@ -1,8 +1,9 @@
 -- Reasons as numbers: 0 where there is none, and else one more than twice the number of the hint, and one more again where it
 -- names a line.
-use Rattle.std.specs.Prelude.{ℕ, ◌-◌, ◌/◌, ◌%◌, nat_eq, if◌then◌else◌, Option, Some, None}
+use Rattle.std.specs.Prelude.{ℕ, ◌-◌, ◌/◌, ◌%◌, ◌≤◌, nat_eq, if◌then◌else◌, Option, Some, None, IfSome}
 use Rattle.cnf_base.specs.declared.literal.Hint.{Hint}
 use Rattle.cnf_base.specs.declared.literal.Hint.TheVariants.{Clause, Line}
+use Rattle.cdcl_trail.specs.declared.assigned.Entry.{Entry}
 
 -- the hint of a number
 abbrev pub hint_of : ℕ → Hint
@@ -11,3 +12,21 @@ hint_of n = if nat_eq (n % 2) 1 then Line (n / 2) else Clause (n / 2)
 -- the reason of a number
 abbrev pub reason_of : ℕ → Option Hint
 reason_of n = if nat_eq n 0 then None else Some (hint_of (n - 1))
+
+-- the number of the clause or the line that a hint names
+abbrev pub number_of : Hint → ℕ
+number_of (Clause n) = n
+number_of (Line n) = n
+
+-- the hint has a number of 32 bits
+abbrev pub IsShort : Hint → Type 0
+IsShort hint = number_of hint ≤ 2147483646
+
+-- the reason has a number of 32 bits
+abbrev pub HasNumber : Option Hint → Type 0
+HasNumber reason = IfSome reason IsShort
+
+-- the entry's level and reason fit into 32 bits each
+pub record Fits (e : Entry) : Type 0 where
+  pub level : e.level ≤ 4294967295
+  pub reason : HasNumber e.reason

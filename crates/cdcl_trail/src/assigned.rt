@@ -1,7 +1,8 @@
 // The trail: the literals that are true, in the order in which they became so, each with its level and its
 // reason, and the letters' values that it tells. After Marques-Silva and Sakallah, GRASP (1999).
-ghost use Rattle.std.specs.Prelude.{◌≡◌, ◌≢◌, ℕ, ◌+◌, ◌-◌, ◌^◌, ◌<◌, ◌≤◌, List, [], ◌∷◌, ◌++◌, ◌⊎◌, All, length, take, Option, Some, None, MatchOption, not, if◌then◌else◌, is_ok, slice_index_or, slice_set, Contains, ◌↔◌, IsTrue};
+ghost use Rattle.std.specs.Prelude.{◌≡◌, ◌≢◌, ℕ, ◌+◌, ◌-◌, ◌^◌, ◌<◌, ◌≤◌, List, [], ◌∷◌, ◌++◌, ◌⊎◌, All, length, take, Option, Some, None, MatchOption, OnOk, not, if◌then◌else◌, is_ok, slice_index_or, slice_set, Contains, ◌↔◌, IsTrue};
 ghost use Rattle.cdcl_trail.specs.Trail.{IsUnset, literals_of, AreValues, blank_entry, literal_at, place_level, place_reason};
+ghost use Rattle.cdcl_trail.specs.Entries.{Fits};
 
 use crate::entries::Entries;
 use crate::values::Values;
@@ -105,13 +106,14 @@ impl Assigned {
         self.trail.get(self.trail.len() - 1).level
     }
 
-    /// Puts the entry on the trail.
+    /// Puts the entry on the trail. One that does not fit is refused, as is any for want of memory.
     pub fn assign(&mut self, entry: Entry) -> Result<(), AllocError>
         requires unset { IsUnset (literals_of self.old.trail) entry.literal }
         requires known { entry.literal.letter.0 < length self.old.values }
         ensures trail { self.new.trail ≡ (if is_ok result then self.old.trail ++ entry
             ∷ [] else self.old.trail) }
         ensures letters { length self.new.values ≡ length self.old.values }
+        ensures fits { OnOk result (Fits entry) }
     {
         let place = self.trail.len();
         self.trail.push(entry)?;

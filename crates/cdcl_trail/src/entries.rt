@@ -1,7 +1,7 @@
 // The entries of the trail in sixteen bytes each: an analysis reads levels and reasons here and there, so
 // what matters is that many of them fit into a cache.
-ghost use Rattle.std.specs.Prelude.{◌≡◌, ◌<◌, [], ◌∷◌, ◌++◌, length, take, if◌then◌else◌, is_ok, IfSome, slice_index_or};
-ghost use Rattle.cdcl_trail.specs.Entries.{reason_of};
+ghost use Rattle.std.specs.Prelude.{◌≡◌, ◌<◌, [], ◌∷◌, ◌++◌, length, take, if◌then◌else◌, is_ok, MatchOption, OnOk, slice_index_or};
+ghost use Rattle.cdcl_trail.specs.Entries.{reason_of, HasNumber, Fits};
 ghost use Rattle.cdcl_trail.specs.Trail.{blank_entry, place_level, place_reason};
 
 use crate::assigned::Entry;
@@ -23,7 +23,8 @@ struct Packed {
 
 /// The number of a reason, if it fits into 32 bits.
 fn shorten_reason(reason: Option<Hint>) -> Option<u32>
-    ensures { IfSome result (λ number. reason_of number ≡ reason) }
+    ensures { MatchOption result (¬ HasNumber reason)
+        (λ number. (reason_of number ≡ reason) × HasNumber reason) }
 {
     match reason {
         None => Some(0),
@@ -114,9 +115,10 @@ impl Entries {
         }
     }
 
-    /// Puts the entry behind the others.
+    /// Puts the entry behind the others. One that does not fit is refused, as is any for want of memory.
     pub fn push(&mut self, entry: Entry) -> Result<(), AllocError>
-        ensures { self.new ≡ (if is_ok result then self.old ++ entry ∷ [] else self.old) }
+        ensures items { self.new ≡ (if is_ok result then self.old ++ entry ∷ [] else self.old) }
+        ensures fits { OnOk result (Fits entry) }
     {
         if entry.level > MAX_LEVEL {
             return Err(AllocError);

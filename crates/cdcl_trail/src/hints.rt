@@ -1,6 +1,6 @@
 // Hints by numbers of 32 bits: twice the number of the clause or the line, and one more where it is a line.
-ghost use Rattle.std.specs.Prelude.{◌≡◌, ◌<◌, IfSome};
-ghost use Rattle.cdcl_trail.specs.Entries.{hint_of};
+ghost use Rattle.std.specs.Prelude.{◌≡◌, ◌<◌, MatchOption};
+ghost use Rattle.cdcl_trail.specs.Entries.{hint_of, IsShort};
 
 use cnf_base::Hint;
 
@@ -9,7 +9,8 @@ const MAX_NUMBER: u64 = 2147483646;
 
 /// The number of a hint, if it fits.
 pub fn shorten(hint: Hint) -> Option<u32>
-    ensures { IfSome result (λ number. (hint_of number ≡ hint) × (number < 4294967295)) }
+    ensures { MatchOption result (¬ IsShort hint)
+        (λ number. (hint_of number ≡ hint) × (number < 4294967295) × IsShort hint) }
 {
     match hint {
         Hint::Clause(number) => {

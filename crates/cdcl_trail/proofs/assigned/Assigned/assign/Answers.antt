@@ -13,7 +13,7 @@ invariant_of-self-2 c =
     let e = c.args.entry in
     let places = c.self.inside.places.items in
     let len : length trail ≡ c.len-place.result = omega arith in
-    rw (c.in_ok-push.ensures, c.set.ensures) (
+    rw (c.in_ok-push.ensures.items, c.set.ensures) (
       values_push values trail e c.self.invariant.0 unset known,
       subst (λ n. ArePlaces (set places e.literal.letter.0 n) (set values e.literal.letter.0 (Some (not e.literal.negated))) (trail ++ e ∷ [])) len
           (places_push places values trail e (Some (not e.literal.negated)) c.self.invariant.1 unset known),
