@@ -9,7 +9,7 @@ ghost use Rattle.cdcl_trail.specs.Trail.{IsTrail, IsConflict, literals_of, blank
 ghost use Rattle.cdcl_analyze.specs.Learnt.{IsLearnt};
 ghost use Rattle.cdcl_trail.specs.Values.{IsBelow, AreBelow};
 ghost use Rattle.cdcl_analyze.specs.Analysis.{AreFromOne, AreWaiting, IsLike, IsWalk, refuted_at};
-ghost use Rattle.cdcl_analyze.specs.Marks.{IsMarked};
+ghost use Rattle.cdcl_analyze.specs.Marks.{IsMarked, HasAsked};
 ghost use Rattle.cdcl_trail.specs.declared.assigned.Entry.{Entry};
 ghost use Rattle.cdcl_analyze.specs.declared.analyze.Cut.TheVariants.{Decisions};
 
@@ -116,7 +116,7 @@ fn resolves(
     open: &mut usize,
 ) -> bool
     ensures all { cut ≡ Decisions → result ≡ true }
-    ensures same { marks.new ≡ marks.old }
+    ensures same { HasAsked marks.old marks.new }
 {
     match cut {
         Cut::Decisions => {

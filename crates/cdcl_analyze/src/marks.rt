@@ -1,12 +1,13 @@
 // The letters that an analysis has come to, and the places of the trail that it has still to go over, the
 // last one first. A letter is marked by the number of the analysis, so that the next one begins with no
 // marks, whatever became of this one. What the analysis found out of other letters is remembered in the same
-// way; nothing is promised of that.
-ghost use Rattle.std.specs.Prelude.{◌≡◌, ℕ, ◌+◌, ◌<◌, ◌≤◌, [], ◌⊎◌, ◌↔◌, All, length, IsTrue, MatchOption, OnOk};
-ghost use Rattle.cdcl_analyze.specs.Marks.{IsMarked};
+// way.
+ghost use Rattle.std.specs.Prelude.{◌≡◌, ◌≢◌, ℕ, ◌+◌, ◌%◌, ◌<◌, ◌≤◌, [], ◌⊎◌, ◌↔◌, All, length, IsTrue, None, MatchOption, OnOk, slice_set};
+ghost use Rattle.std.specs.Int.{bit_at};
+ghost use Rattle.cdcl_analyze.specs.Marks.{IsMarked, outcome_of, outcome_number, with_outcomes, with_levels, MayHave};
 ghost use Rattle.cdcl_analyze.specs.Waiting.{IsWaiting, IsNext};
 
-use crate::waiting::Waiting;
+use crate::waiting::{Waiting, with_bit};
 use std::alloc::{AllocError, Global};
 use std::marker::Model;
 
@@ -27,14 +28,21 @@ pub struct Marks {
 }
 
 impl Model for Marks {
-    ghost use Rattle.std.specs.Prelude.{◌≤◌, All};
+    ghost use Rattle.std.specs.Prelude.{◌≡◌, ◌≤◌, ◌+◌, ◌%◌, All};
     ghost use Rattle.cdcl_analyze.specs.Marks.{MarksValue};
 
     ghost Value = { MarksValue };
 
-    ghost view = { λ a. record { stamps = a.stamps.items; stamp = a.stamp; waiting = a.waiting } };
+    ghost view = { λ a. record {
+      stamps = a.stamps.items;
+      stamp = a.stamp;
+      waiting = a.waiting;
+      outcomes = a.outcomes.items;
+      levels = a.levels;
+    } };
 
-    ghost invariant = { λ a. All (λ s. s ≤ a.stamp) a.stamps.items };
+    ghost invariant = { λ a. All (λ s. s ≤ a.stamp) a.stamps.items
+        × All (λ o. o ≤ a.stamp + 1) a.outcomes.items × (a.stamp % 2 ≡ 0) };
 }
 
 impl Marks {
@@ -61,11 +69,13 @@ impl Marks {
         Ok(())
     }
 
-    /// Begins an analysis: no letter is marked, and no place waits.
+    /// Begins an analysis: no letter is marked, no place waits, and nothing is known.
     pub fn begin(&mut self)
         ensures room { length self.new.stamps ≡ length self.old.stamps }
         ensures none { (x : ℕ) → ¬ IsMarked self.new x }
         ensures empty { self.new.waiting ≡ [] }
+        ensures unasked { (x : ℕ) → outcome_of self.new x ≡ None }
+        ensures no_level { (l : ℕ) → ¬ MayHave self.new l }
     {
         self.waiting.clear();
         self.levels = 0;
@@ -118,18 +128,24 @@ impl Marks {
 
     /// Notes that a marked letter stands on the level.
     pub(crate) fn join(&mut self, level: usize)
-        ensures { self.new ≡ self.old }
+        ensures rest { self.new ≡ with_levels self.old self.new.levels }
+        ensures there { MayHave self.new level }
+        ensures others { (i : ℕ) → i ≢ level % 64 → bit_at self.new.levels i ≡ bit_at self.old.levels i }
     {
-        self.levels |= 1 << (level % 64) as u32;
+        self.levels = with_bit(self.levels, (level % 64) as u32);
     }
 
     /// Whether a marked letter may stand on the level.
-    pub(crate) fn may_have(&self, level: usize) -> bool {
-        self.levels >> (level % 64) as u32 & 1 != 0
+    pub(crate) fn may_have(&self, level: usize) -> bool
+        ensures { IsTrue result ↔ MayHave self.now level }
+    {
+        (self.levels >> (level % 64) as u32) % 2 == 1
     }
 
     /// Whether the letter's value follows, if this analysis has asked.
-    pub(crate) fn outcome(&self, letter: usize) -> Option<bool> {
+    pub(crate) fn outcome(&self, letter: usize) -> Option<bool>
+        ensures { result ≡ outcome_of self.now letter }
+    {
         match self.outcomes.get(letter) {
             None => None,
             Some(outcome) => {
@@ -143,7 +159,8 @@ impl Marks {
 
     /// Remembers whether the letter's value follows.
     pub(crate) fn remember(&mut self, letter: usize, follows: bool)
-        ensures { self.new ≡ self.old }
+        ensures { self.new ≡ with_outcomes self.old
+            (slice_set self.old.outcomes letter (outcome_number self.old.stamp follows)) }
     {
         if letter < self.outcomes.len() {
             self.outcomes[letter] = self.stamp.saturating_add(follows as u32);

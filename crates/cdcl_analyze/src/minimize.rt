@@ -3,7 +3,7 @@
 // on to each of these. What follows and what doesn't is remembered for one analysis, so that each letter is
 // asked once, and a letter on a level of which the clause has nothing is not asked at all. After Sorensson
 // and Biere, Minimizing learned clauses (2009). Nothing is promised of it but safety.
-ghost use Rattle.std.specs.Prelude.{◌≡◌};
+ghost use Rattle.cdcl_analyze.specs.Marks.{HasAsked};
 
 use crate::marks::Marks;
 use cdcl_trail::assigned::Assigned;
@@ -39,7 +39,7 @@ pub(crate) fn is_covered(
     hint: Hint,
     marks: &mut Marks,
 ) -> bool
-    ensures { marks.new ≡ marks.old }
+    ensures { HasAsked marks.old marks.new }
 {
     if marks.outcome(letter) == Some(true) {
         return true;
@@ -57,7 +57,7 @@ fn follows(
     marks: &mut Marks,
     steps: u32,
 ) -> bool
-    ensures { marks.new ≡ marks.old }
+    ensures { HasAsked marks.old marks.new }
 {
     match clause_at(view, hint) {
         None => false,
@@ -74,7 +74,7 @@ fn all_follow(
     marks: &mut Marks,
     steps: u32,
 ) -> bool
-    ensures { marks.new ≡ marks.old }
+    ensures { HasAsked marks.old marks.new }
 {
     for literal in clause {
         let other = literal.letter.0 as usize;
@@ -94,7 +94,7 @@ fn is_given(
     marks: &mut Marks,
     steps: u32,
 ) -> bool
-    ensures { marks.new ≡ marks.old }
+    ensures { HasAsked marks.old marks.new }
 {
     if marks.has(letter) {
         return true;

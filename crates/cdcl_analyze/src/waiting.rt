@@ -10,7 +10,7 @@ use std::alloc::{AllocError, Global};
 use std::marker::Model;
 
 /// The word with this bit set.
-fn with_bit(word: u64, bit: u32) -> u64
+pub fn with_bit(word: u64, bit: u32) -> u64
     requires { bit < 64 }
     ensures set { bit_at result bit ≡ 1 }
     ensures others { (i : ℕ) → i ≢ bit → bit_at result i ≡ bit_at word i }
