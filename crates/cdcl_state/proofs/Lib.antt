@@ -4,6 +4,7 @@ mod Known
 mod Learned
 mod Learning
 mod Marking
+mod Released
 mod Retreat
 mod Room
 mod Short

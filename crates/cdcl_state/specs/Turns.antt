@@ -9,6 +9,7 @@ use Rattle.cdcl_analyze.specs.declared.analyze.Learnt.{Learnt}
 use Rattle.cdcl_trail.specs.Trail.{blank_entry, literal_at, IsDecision, place_level}
 use Rattle.cdcl_analyze.specs.Learnt.{IsLearnt}
 use Rattle.cdcl_analyze.specs.Analysis.{refuted_at}
+use Rattle.cdcl_activity.specs.Choices.{ChoicesValue, IsOffered}
 
 -- the level to go back to: that of the second literal, or 0
 pub record IsTarget (trail : List Entry) (places : List ℕ) (b : ℕ) : Type 0 where
@@ -38,6 +39,13 @@ pub record IsUnturned (old new : StateValue) (learnt : Learnt) : Type 0 where
 pub record IsFront (old new : StateValue) : Type 0 where
   pub count : ℕ
   pub after : new ≡ with_trail old (take count old.trail)
+
+-- x is the letter of an entry from one place up to another, and one of those that there are
+pub record IsReleased (trail : List Entry) (from to : ℕ) (choices : ChoicesValue) (x : ℕ) : Type 0 where
+  pub place : ℕ
+  pub on : from ≤ place
+  pub below : place < to
+  pub offered : IsOffered choices x (literal_at trail place).letter.0
 
 -- a decision was put behind the trail
 pub record IsDecided (old new : StateValue) (literal : Literal) : Type 0 where

@@ -1,10 +1,11 @@
 // Going back: the entries above a level come off the trail, and their letters may be decided again. The lists
 // that were visited for the entries that stay need no new visit. After Marques-Silva and Sakallah, GRASP
 // (1999).
-ghost use Rattle.std.specs.Prelude.{◌≡◌, ◌≢◌, ℕ, ◌<◌, ◌≤◌, ◌⊎◌, All, Contains, IsTrue, None, length, slice_index_or};
+ghost use Rattle.std.specs.Prelude.{◌≡◌, ◌≢◌, ◌↔◌, ℕ, ◌<◌, ◌≤◌, ◌⊎◌, All, Contains, IsTrue, None, length, slice_index_or};
 ghost use Rattle.cdcl_state.specs.StateValue.{IsBack};
 ghost use Rattle.cdcl_trail.specs.Trail.{blank_entry, literal_at, IsDecision};
-ghost use Rattle.cdcl_state.specs.Turns.{IsFront};
+ghost use Rattle.cdcl_state.specs.Turns.{IsFront, IsReleased};
+ghost use Rattle.cdcl_activity.specs.Order.{IsWaiting};
 
 use crate::state::State;
 use crate::store::has;
@@ -105,7 +106,13 @@ pub fn settle(count: usize, len: usize, done: &mut usize, firm: &mut usize)
 }
 
 /// The letters of the entries from `count` on may be decided again.
-pub fn release(assigned: &Assigned, choices: &mut Choices, count: usize) {
+pub fn release(assigned: &Assigned, choices: &mut Choices, count: usize)
+    ensures size { length choices.new.order.places ≡ length choices.old.order.places }
+    ensures held { choices.new.held ≡ choices.old.held }
+    ensures waiting { (x : ℕ) → IsWaiting choices.new.order x
+        ↔ (IsReleased assigned.now.trail count (length assigned.now.trail) choices.old x
+        ⊎ IsWaiting choices.old.order x) }
+{
     for place in count..assigned.len() {
         choices.release(assigned.entry(place).literal);
     }
