@@ -4,14 +4,13 @@ use Rattle.std.proofs.lemmas.Bool.{cases_lt}
 use Rattle.ltl_syntax.specs.Formula.{Formula, Name, Fresh}
 use Rattle.ltl_closure.specs.Norm.{Norm, NConst, NLetter, NNotLetter, NAnd, NOr, NNext, NWeakNext, NYesterday, NWeakYesterday, NUntil, NRelease, NSince, NTrigger}
 use Rattle.ltl_closure.specs.Closure.{closure}
-use Rattle.ltl_closure.specs.Entries.{place_in, StandsFor, AreEntries}
+use Rattle.ltl_closure.specs.Entries.{place_in, StandsFor, AreEntries, IsNumber, entry_at}
 use Rattle.ltl_closure.specs.declared.entry.Entry.{Entry}
 use Rattle.ltl_closure.specs.declared.entry.Entry.TheVariants as Is
 use Rattle.ltl_closure.proofs.Places.{closure_placed}
 use Rattle.enc_layout.specs.Letters.{LayoutValue, below}
 use Rattle.enc_layout.specs.Clauses.{Clause, letter_of, gate, part_b}
 use Rattle.enc_layout.proofs.ByIndex.{below_same, flat_map_below}
-use Rattle.enc_layout.specs.Numbered.{IsNumber, entry_at}
 use Rattle.clause_index.specs.Rows.{row_at}
 use Rattle.clause_index.specs.ByNumber.{entry_gate, gate_size, gates_before}
 use Rattle.clause_index.proofs.Rows.{row_below}

@@ -6,15 +6,15 @@ use Rattle.std.proofs.lemmas.List.Elements.{Contains-get_or}
 use Rattle.ltl_syntax.specs.Formula.{Formula, Name, Fresh}
 use Rattle.ltl_closure.specs.Norm.{Norm, NConst, NLetter, NNotLetter, NAnd, NOr, NNext, NWeakNext, NYesterday, NWeakYesterday, NUntil, NRelease, NSince, NTrigger}
 use Rattle.ltl_closure.specs.Closure.{closure, nexts, yesterdays, eventualities, argument, is_eventuality}
-use Rattle.ltl_closure.specs.Entries.{place_in, numbers_of, StandsFor, AreEntries}
+use Rattle.ltl_closure.specs.Entries.{place_in, numbers_of, StandsFor, AreEntries, IsNumber, entry_at}
 use Rattle.ltl_closure.specs.Run.{request_of, right_of}
 use Rattle.ltl_closure.specs.declared.entry.Entry.{Entry}
 use Rattle.ltl_closure.proofs.Lists.{Contains-from_filter}
+use Rattle.ltl_closure.proofs.Known.{known_number, eventuality_in}
 use Rattle.enc_layout.specs.Clauses.{carried, eventuality}
-use Rattle.enc_layout.specs.Numbered.{IsNumber, entry_at}
 use Rattle.enc_layout.proofs.Counting.{length-carried}
-use Rattle.enc_layout.proofs.Carries.{eventuality_in, argument_in, right_in}
-use Rattle.enc_layout.proofs.Standing.{stands, known_number}
+use Rattle.enc_layout.proofs.Carries.{argument_in, right_in}
+use Rattle.enc_layout.proofs.Standing.{stands}
 use Rattle.enc_layout.proofs.Writing.{request_in}
 use Rattle.clause_index.specs.ByNumber.{argument_by, weak_by, right_by, request_by, is_weak, number_at, argument_at, weak_at, right_number, request_number}
 

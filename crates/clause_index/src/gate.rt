@@ -1,9 +1,10 @@
 // The gates of entries: an entry's letter is true exactly where its operator says so of the letters of its
 // operands and its request.
 ghost use Rattle.std.specs.Prelude.{◌≡◌, ◌+◌, ◌-◌, ◌<◌, ◌≤◌, [], length, slice_index_or};
+ghost use Rattle.ltl_closure.specs.Entries.{IsNumber, entry_at};
 ghost use Rattle.enc_layout.specs.Letters.{EntryAt, Fits};
 ghost use Rattle.enc_layout.specs.Clauses.{layout_of, strong_gate, weak_gate, part_b};
-ghost use Rattle.enc_layout.specs.Numbered.{IsNumber, IsInside, entry_at};
+ghost use Rattle.enc_layout.specs.Numbered.{IsInside};
 ghost use Rattle.clause_index.specs.Literals.{literals};
 ghost use Rattle.clause_index.specs.Rows.{row_at, negation_rows, and_rows, or_rows, strong_rows, weak_rows};
 ghost use Rattle.clause_index.specs.Samples.{AreSamples};
@@ -258,8 +259,12 @@ pub fn gates(
     requires within { index < length (part_b closure.now.formula step) }
     ensures { literals result ≡ row_at layout.now (part_b closure.now.formula step) index }
 {
-    let entries = closure.entries();
-    let spot = gate_spot(entries, samples, index);
-    let entry = entries[spot.number as usize - 1];
-    gate_clause(layout, step, spot.number, entry, spot.index)
+    let spot = gate_spot(closure.entries(), samples, index);
+    gate_clause(
+        layout,
+        step,
+        spot.number,
+        closure.entry(spot.number),
+        spot.index,
+    )
 }

@@ -4,9 +4,9 @@
 ghost use Rattle.std.specs.Prelude.{◌≡◌, ◌+◌, ◌*◌, ◌<◌, ◌≤◌, [], ◌∷◌, ◌++◌, length, map, slice_index_or};
 ghost use Rattle.ltl_syntax.specs.declared.node.Kind.TheVariants as Kinds;
 ghost use Rattle.ltl_closure.specs.Closure.{eventualities};
+ghost use Rattle.ltl_closure.specs.Entries.{IsNumber};
 ghost use Rattle.enc_layout.specs.Letters.{Unpruned, Equal, Fits, below};
 ghost use Rattle.enc_layout.specs.Clauses.{Minus, layout_of, literal_in, new_clauses, pruned_clause, part_f};
-ghost use Rattle.enc_layout.specs.Numbered.{IsNumber};
 ghost use Rattle.clause_index.specs.Literals.{literals};
 ghost use Rattle.clause_index.specs.Rows.{row_at, new_rows};
 ghost use Rattle.clause_index.specs.ByNumber.{seen_pair, new_by, pruned_row};

@@ -2,11 +2,9 @@
 // their entries.
 ghost use Rattle.std.specs.Prelude.{◌≡◌, ◌<◌, length};
 ghost use Rattle.ltl_closure.specs.Closure.{nexts, yesterdays, eventualities};
-ghost use Rattle.clause_index.specs.ByNumber.{entry_count};
-ghost use Rattle.ltl_closure.specs.Entries.{AreEntries};
+ghost use Rattle.ltl_closure.specs.Entries.{IsNumber};
 ghost use Rattle.enc_layout.specs.Clauses.{carried};
-ghost use Rattle.enc_layout.specs.Numbered.{IsNumber, entry_at};
-ghost use Rattle.clause_index.specs.ByNumber.{argument_by, weak_by, right_by, request_by, number_at, argument_at, right_number, request_number, weak_at};
+ghost use Rattle.clause_index.specs.ByNumber.{entry_count, argument_by, weak_by, right_by, request_by, number_at, argument_at, right_number, request_number, weak_at};
 
 use ltl_closure::{Closure, Entry};
 
@@ -23,14 +21,6 @@ pub struct Request {
 pub struct Eventuality {
     pub right: u32,
     pub request: u32,
-}
-
-fn entry_of(closure: &Closure<'_>, number: u32) -> Entry
-    requires { IsNumber (entry_count closure.now.formula) number }
-    ensures entry { result ≡ entry_at closure.now.entries number }
-    ensures closure { AreEntries closure.now.names closure.now.formula closure.now.entries }
-{
-    closure.entries()[number as usize - 1]
 }
 
 fn request_of(number: u32, entry: Entry) -> Request
@@ -75,7 +65,7 @@ pub fn next_at(closure: &Closure<'_>, index: usize) -> Request
     ensures argument_known { IsNumber (entry_count closure.now.formula) result.argument }
 {
     let number = closure.nexts()[index];
-    request_of(number, entry_of(closure, number))
+    request_of(number, closure.entry(number))
 }
 
 /// The yesterday request of this index, from 0.
@@ -89,7 +79,7 @@ pub fn yesterday_at(closure: &Closure<'_>, index: usize) -> Request
     ensures argument_known { IsNumber (entry_count closure.now.formula) result.argument }
 {
     let number = closure.yesterdays()[index];
-    request_of(number, entry_of(closure, number))
+    request_of(number, closure.entry(number))
 }
 
 /// The number of the entry whose value stands at a place of the carry, by its index from 0.
@@ -115,5 +105,5 @@ pub fn eventuality_at(closure: &Closure<'_>, index: usize) -> Eventuality
     ensures request_known { IsNumber (entry_count closure.now.formula) result.request }
 {
     let number = closure.eventualities()[index];
-    eventuality_of(number, entry_of(closure, number))
+    eventuality_of(number, closure.entry(number))
 }

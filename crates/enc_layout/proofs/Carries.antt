@@ -5,9 +5,10 @@ use Rattle.std.proofs.lemmas.List.{get_or_default}
 use Rattle.std.proofs.lemmas.List.Elements.{Contains-append_left, Contains-append_right, Contains-append_cases}
 use Rattle.ltl_syntax.specs.Formula.{Formula}
 use Rattle.ltl_closure.specs.Norm.{Norm, NNext, NWeakNext, NYesterday, NWeakYesterday, NUntil}
-use Rattle.ltl_closure.specs.Closure.{closure, nexts, yesterdays, eventualities, argument, is_next, is_yesterday, is_eventuality}
+use Rattle.ltl_closure.specs.Closure.{closure, nexts, yesterdays, argument, is_next}
 use Rattle.ltl_closure.specs.Run.{RunState, val, carry, right_of}
 use Rattle.ltl_closure.proofs.Lists.{Contains-nil, Contains-cons_cases, Contains-here, Contains-there, Contains-from_filter, agree_in_front, map_agree}
+use Rattle.ltl_closure.proofs.Known.{next_in, yesterday_in}
 use Rattle.enc_layout.specs.Letters.{Meaning, below}
 use Rattle.enc_layout.specs.Clauses.{Clause, Plus, literal_true, clause_true, carried}
 use Rattle.enc_layout.proofs.Gates.{first_child, second_child}
@@ -46,19 +47,10 @@ module _ (f : Formula) where
   right_in (NUntil a b) h = second_child f a b (NUntil a b) _ refl h
   right_in e h = h
 
-  pub next_in : (e : Norm) → Contains (nexts f) e → Contains (closure f) e
-  next_in e h = (Contains-from_filter is_next (closure f) e h).0
-
-  pub yesterday_in : (e : Norm) → Contains (yesterdays f) e → Contains (closure f) e
-  yesterday_in e h = (Contains-from_filter is_yesterday (closure f) e h).0
-
-  pub eventuality_in : (e : Norm) → Contains (eventualities f) e → Contains (closure f) e
-  eventuality_in e h = (Contains-from_filter is_eventuality (closure f) e h).0
-
   pub carried_in : (e : Norm) → Contains (carried f) e → Contains (closure f) e
   carried_in e h = elim (Contains-append_cases (nexts f) (map argument (yesterdays f)) e h) [
-    | inl n ↦ next_in e n
-    | inr m ↦ let w = Contains-from_map argument (yesterdays f) e m in subst (Contains (closure f)) w.2 (argument_in w.0 (yesterday_in w.0 w.1))
+    | inl n ↦ next_in f e n
+    | inr m ↦ let w = Contains-from_map argument (yesterdays f) e m in subst (Contains (closure f)) w.2 (argument_in w.0 (yesterday_in f w.0 w.1))
   ]
 
   -- one carry is one value at each of its entries

@@ -12,12 +12,13 @@ use Rattle.ltl_closure.specs.Closure.{closure, nexts, yesterdays, eventualities,
 use Rattle.ltl_closure.specs.Run.{States, IsRun, val, carry, request_of, right_of, is_pending, is_fulfilled, IsFulfilledIn, IsAccepted, Empty, Loop, IsPrunedAt, Pair}
 use Rattle.ltl_closure.proofs.Lists.{Contains-filter}
 use Rattle.ltl_closure.proofs.Entries.{closure_root}
+use Rattle.ltl_closure.proofs.Known.{next_in, yesterday_in, eventuality_in}
 use Rattle.enc_layout.proofs.Pairing.{pair_from_triple}
 use Rattle.enc_layout.specs.Letters.{Meaning, Unpruned, Here, Accepted, EmptyAt, Repeated, Seen, Equal, LoopTo, Differs, Fulfilled, New, below}
 use Rattle.enc_layout.specs.Clauses.{Clause, Plus, Minus, clause_true, letter_of, carried, carried_letter, eventuality, part_a, part_b, start, next_clauses, before_clauses, part_c, place_clauses, equal_clause, fulfilled_clauses, loop_clause, closing_clauses, pair_clauses, part_d, is_strong_next, part_e, seen_clauses, new_clauses, pruned_clause, part_f, step_clauses, clauses_through}
 use Rattle.enc_layout.proofs.Each.{Each-left, Each-right, below-Each, flat_map-Each, map-Each}
 use Rattle.enc_layout.proofs.Gates.{IsTrueClause, gate_value}
-use Rattle.enc_layout.proofs.Carries.{place_of, argument_in, right_in, next_in, yesterday_in, eventuality_in, carried_in, carried_from, carried_same, then1, then_not, then2, then_either, back1, agree, differ, some_below}
+use Rattle.enc_layout.proofs.Carries.{place_of, argument_in, right_in, carried_in, carried_from, carried_same, then1, then_not, then2, then_either, back1, agree, differ, some_below}
 
 six : (P : Clause → Type 0) (a b c d e g : List Clause) → Each P (a ++ (b ++ (c ++ (d ++ (e ++ g))))) → Each P a × (Each P b × (Each P c × (Each P d × (Each P e × Each P g))))
 six P a b c d e g h =

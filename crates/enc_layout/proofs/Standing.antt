@@ -1,28 +1,21 @@
 -- The numbers in the entries of a closure are those of entries, and the entry of a member's number stands for the member.
 use Rattle.std.proofs.Common.{◌≡◌, ℕ, ◌-◌, ◌<◌, arith, refl, true, false, ap, sym, subst, List, [], ◌∷◌, length, get_or, Contains, All}
 use Rattle.std.proofs.lemmas.List.{get_or_default}
-use Rattle.std.proofs.lemmas.List.Elements.{All-map, Contains-get_or}
+use Rattle.std.proofs.lemmas.List.Elements.{Contains-get_or}
 use Rattle.ltl_syntax.specs.Formula.{Formula, Name, Fresh}
 use Rattle.ltl_closure.specs.Norm.{Norm, NConst, NLetter, NNotLetter, NAnd, NOr, NNext, NWeakNext, NYesterday, NWeakYesterday, NUntil, NRelease, NSince, NTrigger, pos_of}
 use Rattle.ltl_closure.specs.Closure.{closure, nexts, yesterdays}
-use Rattle.ltl_closure.specs.Entries.{place_in, numbers_of, StandsFor, AreEntries, ClosureValue}
+use Rattle.ltl_closure.specs.Entries.{place_in, numbers_of, StandsFor, AreEntries, ClosureValue, IsNumber, entry_at}
 use Rattle.ltl_closure.specs.declared.entry.Entry.{Entry}
 use Rattle.ltl_closure.specs.declared.entry.Entry.TheVariants as Is
 use Rattle.ltl_closure.specs.Keys.{needs}
-use Rattle.ltl_closure.proofs.Entries.{closure_root}
 use Rattle.ltl_closure.proofs.Places.{place_from_one, place_within, entry_place}
+use Rattle.ltl_closure.proofs.Known.{known_number, root_number, nexts_known, yesterdays_known}
 use Rattle.enc_layout.specs.Letters.{LayoutValue}
 use Rattle.enc_layout.specs.Clauses.{layout_of}
 use Rattle.enc_layout.proofs.Gates.{first_child, second_child}
 use Rattle.enc_layout.proofs.Writing.{third_child}
-use Rattle.enc_layout.proofs.Carries.{next_in, yesterday_in}
-use Rattle.enc_layout.specs.Numbered.{IsNumber, IsInside, entry_at}
-
-pub known_number : (f : Formula) (e : Norm) → Contains (closure f) e → IsNumber (length (closure f)) (place_in (closure f) e)
-known_number f e m = (place_from_one (closure f) e, place_within (closure f) e m)
-
-pub root_number : (f : Formula) → IsNumber (length (closure f)) (place_in (closure f) (pos_of f))
-root_number f = known_number f (pos_of f) (closure_root f)
+use Rattle.enc_layout.specs.Numbered.{IsInside}
 
 module _ (names : List (List ℕ)) (f : Formula) where
   abbrev w : ℕ
@@ -70,15 +63,6 @@ module _ (names : List (List ℕ)) (f : Formula) where
         subst (λ z. StandsFor names f z (entry_at entries (place_in (closure f) e))) (entry_place (closure f) e (NConst false) m)
         (are.each (place_in (closure f) e - 1) (omega arith))
 
-pub numbers_known : (f : Formula) (es : List Norm) → ((e : Norm) → Contains es e → Contains (closure f) e) → All (IsNumber (length (closure f))) (numbers_of f es)
-numbers_known f es h = All-map (IsNumber (length (closure f))) (place_in (closure f)) es (λ k d lt. known_number f (get_or es k d) (h (get_or es k d) (Contains-get_or es k d lt)))
-
-pub nexts_known : (f : Formula) → All (IsNumber (length (closure f))) (numbers_of f (nexts f))
-nexts_known f = numbers_known f (nexts f) (next_in f)
-
-pub yesterdays_known : (f : Formula) → All (IsNumber (length (closure f))) (numbers_of f (yesterdays f))
-yesterdays_known f = numbers_known f (yesterdays f) (yesterday_in f)
-
 -- the same by the counts of a closure's own layout
 module _ (layout : LayoutValue) (c : ClosureValue) (own : layout ≡ layout_of c) where
   pub entries_count : layout.counts.entries ≡ length (closure c.formula)
@@ -86,6 +70,16 @@ module _ (layout : LayoutValue) (c : ClosureValue) (own : layout ≡ layout_of c
 
   pub all_inside : (entries : List Entry) → AreEntries c.names c.formula entries → All (IsInside layout.counts.entries) entries
   all_inside entries are = subst (λ n. All (IsInside n) entries) (sym entries_count) (entries_inside c.names c.formula entries are)
+
+  -- the number of an entry, and the entry of a number
+  pub one_known : (t : ℕ) → IsNumber (length (closure c.formula)) t → IsNumber layout.counts.entries t
+  one_known t known = subst (λ n. IsNumber n t) (sym entries_count) known
+
+  pub one_inside : (entries : List Entry) → AreEntries c.names c.formula entries → (t : ℕ) → IsNumber (length (closure c.formula)) t → (x : Entry) → x ≡ entry_at entries t
+      → IsInside layout.counts.entries x
+  one_inside entries are t known x is =
+      let lt : t - 1 < length entries = omega (arith, known.0, known.1, are.long) in
+      subst (IsInside layout.counts.entries) (sym is) (all_inside entries are (t - 1) Is.True lt)
 
   pub nexts_all : (numbers : List ℕ) → numbers ≡ numbers_of c.formula (nexts c.formula) → All (IsNumber layout.counts.entries) numbers
   nexts_all numbers is =

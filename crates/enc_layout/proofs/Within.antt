@@ -13,11 +13,12 @@ use Rattle.ltl_closure.specs.Run.{request_of, right_of}
 use Rattle.ltl_closure.proofs.Lists.{Contains-from_filter}
 use Rattle.ltl_closure.proofs.Entries.{closure_root}
 use Rattle.ltl_closure.proofs.Places.{place_from_one, place_within}
+use Rattle.ltl_closure.proofs.Known.{next_in, yesterday_in, eventuality_in}
 use Rattle.enc_layout.specs.Letters.{Meaning, Unpruned, Here, Accepted, EmptyAt, Seen, Equal, LoopTo, Differs, Fulfilled, New, below, IsLetter}
 use Rattle.enc_layout.specs.Clauses.{Literal, Clause, Plus, Minus, counts, letter_of, carried, eventuality, part_a, part_b, gate, start, next_clauses, before_clauses, part_c, place_clauses, equal_clause, fulfilled_clauses, loop_clause, closing_clauses, pair_clauses, part_d, accepted_clause, is_strong_next, part_e, seen_clauses, new_clauses, pruned_clause, part_f, step_clauses, clauses_through}
 use Rattle.enc_layout.proofs.Each.{Each-append, Each-below, Each-flat_map, Each-map}
 use Rattle.enc_layout.proofs.Gates.{first_child, second_child}
-use Rattle.enc_layout.proofs.Carries.{argument_in, right_in, next_in, yesterday_in, eventuality_in, carried_in}
+use Rattle.enc_layout.proofs.Carries.{argument_in, right_in, carried_in}
 use Rattle.enc_layout.proofs.Writing.{if_each, join6, third_child, request_in}
 
 abbrev pub letter_in : Literal → Meaning

@@ -10,6 +10,7 @@ use Rattle.ltl_syntax.specs.Formula.{Formula}
 use Rattle.ltl_closure.specs.Norm.{Norm, NConst, NLetter, NNotLetter, NAnd, NOr, NNext, NWeakNext, NYesterday, NWeakYesterday, NUntil, NRelease, NSince, NTrigger, pos_of}
 use Rattle.ltl_closure.specs.Closure.{closure, nexts, yesterdays, eventualities, argument, is_next, is_yesterday, is_eventuality}
 use Rattle.ltl_closure.specs.Run.{RunState, States, IsRun, val, request_of, right_of, is_pending, is_fulfilled, IsAccepted, Empty, Loop, End, IsPrunedAt, Pair}
+use Rattle.ltl_closure.proofs.Known.{next_in, yesterday_in, eventuality_in}
 use Rattle.enc_layout.specs.Pairs.{IsNew}
 use Rattle.ltl_closure.proofs.Lists.{Contains-here, Contains-there, Contains-from_filter}
 use Rattle.ltl_closure.specs.Keys.{needs}
@@ -21,7 +22,7 @@ use Rattle.enc_layout.specs.Letters.{Meaning, Unpruned, Here, Accepted, EmptyAt,
 use Rattle.enc_layout.specs.Clauses.{Clause, Plus, Minus, clause_true, letter_of, carried, carried_letter, eventuality, part_a, part_b, gate, start, next_clauses, before_clauses, part_c, place_clauses, equal_clause, fulfilled_clauses, loop_clause, closing_clauses, pair_clauses, part_d, is_strong_next, part_e, seen_clauses, new_clauses, pruned_clause, part_f, step_clauses, clauses_through}
 use Rattle.enc_layout.proofs.Each.{Each-append, Each-below, Each-flat_map, Each-map}
 use Rattle.enc_layout.proofs.Gates.{first_child, second_child}
-use Rattle.enc_layout.proofs.Carries.{next_value, place_of, argument_in, right_in, next_in, yesterday_in, eventuality_in, carried_in, carried_from, carried_same, below_some}
+use Rattle.enc_layout.proofs.Carries.{next_value, place_of, argument_in, right_in, carried_in, carried_from, carried_same, below_some}
 use Rattle.enc_layout.proofs.Meanings.{carried_at, same_decided, Means, new_decided}
 
 -- a clause from what its literals say

@@ -1,12 +1,9 @@
--- Entries by their numbers, as encoders read them, and lists that encoders made longer.
-use Rattle.std.specs.Prelude.{◌≡◌, ℕ, ◌-◌, ◌<◌, ◌≤◌, List, ◌++◌, slice_index_or, ⊤}
+-- Entries whose numbers are known, as encoders read them, and lists that encoders made longer.
+use Rattle.std.specs.Prelude.{◌≡◌, ℕ, List, ◌++◌, ⊤}
 use Rattle.cnf_base.specs.declared.literal.Literal.{Literal}
 use Rattle.ltl_closure.specs.declared.entry.Entry.{Entry}
 use Rattle.ltl_closure.specs.declared.entry.Entry.TheVariants as Is
-
--- a number of one of w entries
-abbrev pub IsNumber : ℕ → ℕ → Type 0
-IsNumber w t = (0 < t) × (t ≤ w)
+use Rattle.ltl_closure.specs.Entries.{IsNumber}
 
 -- the entry's numbers are those of entries
 abbrev pub IsInside : ℕ → Entry → Type 0
@@ -23,10 +20,6 @@ IsInside w (Is.Release a b r) = IsNumber w a × (IsNumber w b × IsNumber w r)
 IsInside w (Is.Trigger a b r) = IsNumber w a × (IsNumber w b × IsNumber w r)
 IsInside w (Is.Next a weak) = IsNumber w a
 IsInside w (Is.Yesterday a weak) = IsNumber w a
-
--- the entry of a number
-abbrev pub entry_at : List Entry → ℕ → Entry
-entry_at entries t = slice_index_or entries (t - 1) Is.True
 
 -- the new list has clauses behind the old one's
 abbrev pub Extends : List (List Literal) → List (List Literal) → Type 0

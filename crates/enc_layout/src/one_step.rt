@@ -1,8 +1,8 @@
 // A step whose letters are within the limit, so that whoever asks for one of them says nothing of either.
 ghost use Rattle.std.specs.Prelude.{◌≡◌, ◌-◌, ◌<◌, ◌≤◌};
+ghost use Rattle.ltl_closure.specs.Entries.{IsNumber};
 ghost use Rattle.enc_layout.specs.Letters.{Unpruned, EntryAt, Fits, IsLetter};
 ghost use Rattle.enc_layout.specs.Clauses.{Plus, Minus, literal_in};
-ghost use Rattle.enc_layout.specs.Numbered.{IsNumber};
 ghost use Rattle.enc_layout.specs.Parts.{meaning_of};
 
 use crate::{Layout, Part};

@@ -5,14 +5,13 @@ use Rattle.std.proofs.lemmas.List.Elements.{Contains-get_or}
 use Rattle.ltl_syntax.specs.Formula.{Formula}
 use Rattle.ltl_closure.specs.Norm.{Norm, NConst, NLetter, NNotLetter, NAnd, NOr, NNext, NWeakNext, NYesterday, NWeakYesterday, NUntil, NRelease, NSince, NTrigger}
 use Rattle.ltl_closure.specs.Closure.{closure, nexts, is_next}
-use Rattle.ltl_closure.specs.Entries.{place_in, numbers_of, StandsFor, AreEntries}
+use Rattle.ltl_closure.specs.Entries.{place_in, numbers_of, StandsFor, AreEntries, entry_at}
 use Rattle.ltl_closure.specs.declared.entry.Entry.{Entry}
 use Rattle.ltl_closure.proofs.Lists.{Contains-from_filter}
+use Rattle.ltl_closure.proofs.Known.{next_in}
 use Rattle.enc_layout.specs.Letters.{Accepted, EmptyAt, EntryAt, below}
 use Rattle.enc_layout.specs.Clauses.{Clause, Minus, letter_of, is_strong_next}
-use Rattle.enc_layout.specs.Numbered.{entry_at}
 use Rattle.enc_layout.proofs.ByIndex.{flat_map_below}
-use Rattle.enc_layout.proofs.Carries.{next_in}
 use Rattle.enc_layout.proofs.Standing.{stands}
 use Rattle.loop_encode.specs.ByNumber.{end_by}
 use Rattle.loop_encode.proofs.Linked.{number_at, index_within}
@@ -68,6 +67,11 @@ strong_nexts f i (NRelease a b ∷ es) = strong_nexts f i es
 strong_nexts f i (NSince a b ∷ es) = strong_nexts f i es
 strong_nexts f i (NTrigger a b ∷ es) = strong_nexts f i es
 
+pub all_ends : (f : Formula) (i : ℕ) (numbers : List ℕ) → numbers ≡ numbers_of f (nexts f) → below (length numbers) (end_at f i) ≡ map (end_clause f i) (filter is_strong_next (closure f))
+all_ends f i numbers is =
+    ap (λ n. below n (end_at f i)) (nexts_count f i numbers is)
+    ∙ (sym (flat_map_below (end_clauses f i) (nexts f) (NConst false)) ∙ strong_nexts f i (closure f))
+
 module _ (names : List (List ℕ)) (f : Formula) (entries : List Entry) (are : AreEntries names f entries) (i : ℕ) (numbers : List ℕ) (is : numbers ≡ numbers_of f (nexts f)) where
   strong_same : (e : Norm) (x : Entry) → IsTrue (is_next e) → StandsFor names f e x → end_by i (place_in (closure f) e) x ≡ end_clauses f i e
   strong_same (NNext a) x h s = ap (end_by i (place_in (closure f) (NNext a))) s
@@ -80,8 +84,3 @@ module _ (names : List (List ℕ)) (f : Formula) (entries : List Entry) (are : A
       let there = Contains-get_or (nexts f) k (NConst false) (index_within f (nexts f) numbers is k lt) in
       ap (λ n. end_by i n (entry_at entries n)) (at ∙ number_at f (nexts f) numbers is k lt)
       ∙ strong_same e (entry_at entries (place_in (closure f) e)) (Contains-from_filter is_next (closure f) e there).1 (stands names f entries are e (next_in f e there))
-
-  pub all_ends : below (length numbers) (end_at f i) ≡ map (end_clause f i) (filter is_strong_next (closure f))
-  all_ends =
-      ap (λ n. below n (end_at f i)) (nexts_count f i numbers is)
-      ∙ (sym (flat_map_below (end_clauses f i) (nexts f) (NConst false)) ∙ strong_nexts f i (closure f))

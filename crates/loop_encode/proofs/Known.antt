@@ -1,24 +1,19 @@
 -- The numbers that the clauses name are those of entries, places and eventualities.
-use Rattle.std.proofs.Common.{◌≡◌, ℕ, ◌<◌, refl, false, IsTrue, sym, subst, List, length, get_or, All, Contains}
+use Rattle.std.proofs.Common.{◌≡◌, ℕ, ◌<◌, refl, false, IsTrue, sym, subst, length, get_or, Contains}
 use Rattle.std.proofs.lemmas.List.Elements.{Contains-get_or}
 use Rattle.ltl_syntax.specs.Formula.{Formula}
 use Rattle.ltl_closure.specs.Norm.{Norm, NConst, NNext, NUntil}
 use Rattle.ltl_closure.specs.Closure.{closure, eventualities, is_eventuality}
-use Rattle.ltl_closure.specs.Entries.{place_in, numbers_of, ClosureValue}
+use Rattle.ltl_closure.specs.Entries.{place_in, ClosureValue, IsNumber}
 use Rattle.ltl_closure.specs.Run.{request_of, right_of}
 use Rattle.ltl_closure.proofs.Lists.{Contains-from_filter}
+use Rattle.ltl_closure.proofs.Known.{known_number, eventuality_in}
 use Rattle.enc_layout.specs.Letters.{LayoutValue}
 use Rattle.enc_layout.specs.Clauses.{layout_of, carried, eventuality}
-use Rattle.enc_layout.specs.Numbered.{IsNumber}
-use Rattle.enc_layout.proofs.Carries.{carried_in, right_in, eventuality_in}
-use Rattle.enc_layout.proofs.Standing.{known_number, numbers_known, entries_count}
+use Rattle.enc_layout.proofs.Carries.{carried_in, right_in}
+use Rattle.enc_layout.proofs.Standing.{entries_count}
 use Rattle.enc_layout.proofs.Writing.{third_child}
 use Rattle.loop_encode.specs.ByNumber.{carried_number, right_number, request_number}
-
--- the number at an index of a list of members' numbers
-pub member_number : (f : Formula) (es : List Norm) (numbers : List ℕ) → numbers ≡ numbers_of f es → ((e : Norm) → Contains es e → Contains (closure f) e)
-    → (k : ℕ) → k < length numbers → IsNumber (length (closure f)) (get_or numbers k 0)
-member_number f es numbers is in_closure k lt = subst (All (IsNumber (length (closure f)))) (sym is) (numbers_known f es in_closure) k 0 lt
 
 request_in : (f : Formula) (e : Norm) → IsTrue (is_eventuality e) → Contains (closure f) e → Contains (closure f) (request_of e)
 request_in f (NUntil a b) h m = third_child f a b (NNext (NUntil a b)) (NUntil a b) refl m

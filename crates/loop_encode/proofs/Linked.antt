@@ -5,14 +5,13 @@ use Rattle.std.proofs.lemmas.List.Elements.{Contains-get_or}
 use Rattle.ltl_syntax.specs.Formula.{Formula}
 use Rattle.ltl_closure.specs.Norm.{Norm, NConst, NYesterday, NWeakYesterday, NUntil}
 use Rattle.ltl_closure.specs.Closure.{closure, nexts, yesterdays, eventualities, argument, is_yesterday, is_eventuality}
-use Rattle.ltl_closure.specs.Entries.{place_in, numbers_of, StandsFor, AreEntries}
+use Rattle.ltl_closure.specs.Entries.{place_in, numbers_of, StandsFor, AreEntries, entry_at}
 use Rattle.ltl_closure.specs.Run.{request_of, right_of}
 use Rattle.ltl_closure.specs.declared.entry.Entry.{Entry}
 use Rattle.ltl_closure.proofs.Lists.{Contains-from_filter}
+use Rattle.ltl_closure.proofs.Known.{yesterday_in, eventuality_in}
 use Rattle.enc_layout.specs.Clauses.{carried, eventuality}
-use Rattle.enc_layout.specs.Numbered.{entry_at}
 use Rattle.enc_layout.proofs.Counting.{length-carried}
-use Rattle.enc_layout.proofs.Carries.{yesterday_in, eventuality_in}
 use Rattle.enc_layout.proofs.Standing.{stands}
 use Rattle.loop_encode.specs.ByNumber.{argument_by, right_by, request_by, carried_number, right_number, request_number}
 

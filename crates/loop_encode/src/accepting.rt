@@ -3,10 +3,11 @@
 ghost use Rattle.std.specs.Prelude.{◌≡◌, ◌<◌, ◌≤◌, [], ◌∷◌, ◌++◌, map, OnOk, OnErr};
 ghost use Rattle.ltl_syntax.specs.declared.node.Kind.TheVariants as Kinds;
 ghost use Rattle.ltl_closure.specs.Closure.{nexts};
+ghost use Rattle.ltl_closure.specs.Entries.{IsNumber};
 ghost use Rattle.enc_layout.specs.Letters.{EmptyAt};
 ghost use Rattle.enc_layout.specs.Clauses.{Minus, letter_of, layout_of, accepted_clause, part_e};
 ghost use Rattle.enc_layout.specs.Steps.{clauses_at};
-ghost use Rattle.enc_layout.specs.Numbered.{IsNumber, Extends};
+ghost use Rattle.enc_layout.specs.Numbered.{Extends};
 ghost use Rattle.loop_encode.specs.ByNumber.{end_by};
 
 use cnf_base::ClauseList;
@@ -102,9 +103,8 @@ fn push_finite(
         (part_e closure.now.formula step.now.layout.kind step.now.number)) }
     ensures err { OnErr result (Extends out.old out.new) }
 {
-    let entries = closure.entries();
     for request in closure.nexts() {
-        push_end(step, *request, entries[*request as usize - 1], out)?;
+        push_end(step, *request, closure.entry(*request), out)?;
     }
     Ok(())
 }

@@ -2,10 +2,11 @@
 // arguments of its yesterday requests, each at a place of its own. Where the letter of equal carries is true,
 // they agree at each place; where it is not, the letter of some place is true, and the carries differ there.
 ghost use Rattle.std.specs.Prelude.{◌≡◌, ◌+◌, ◌<◌, ◌≤◌, [], ◌∷◌, ◌++◌, length, OnOk, OnErr};
+ghost use Rattle.ltl_closure.specs.Entries.{IsNumber};
 ghost use Rattle.enc_layout.specs.Letters.{Equal, below};
 ghost use Rattle.enc_layout.specs.Clauses.{Plus, layout_of, carried, place_clauses};
 ghost use Rattle.enc_layout.specs.Steps.{clauses_at};
-ghost use Rattle.enc_layout.specs.Numbered.{IsNumber, Extends};
+ghost use Rattle.enc_layout.specs.Numbered.{Extends};
 ghost use Rattle.loop_encode.specs.Rows.{comparison_rows};
 ghost use Rattle.loop_encode.specs.ByNumber.{argument_by, carried_number, place_by, differs_by};
 
@@ -34,15 +35,15 @@ fn carried_entry(closure: &Closure<'_>, index: usize) -> u32
         return nexts[index];
     }
     let request = closure.yesterdays()[index - nexts.len()];
-    argument_of(request, closure.entries()[request as usize - 1])
+    argument_of(request, closure.entry(request))
 }
 
 fn push_comparison(
-    out: &mut ClauseList,
     differs: Literal,
     equal: Literal,
     first: Literal,
     second: Literal,
+    out: &mut ClauseList,
 ) -> Result<(), AllocError>
     ensures ok { OnOk result (out.new ≡ out.old ++ comparison_rows differs equal first second) }
     ensures err { OnErr result (Extends out.old out.new) }
@@ -68,11 +69,11 @@ fn push_place(
     ensures err { OnErr result (Extends out.old out.new) }
 {
     push_comparison(
-        out,
         step.positive(Part::Differs(earlier, place)),
         step.positive(Part::Equal(earlier)),
         step.up_to(earlier).entry(entry),
         step.entry(entry),
+        out,
     )
 }
 

@@ -4,10 +4,11 @@
 ghost use Rattle.std.specs.Prelude.{◌≡◌, ◌+◌, ◌<◌, ◌≤◌, [], ◌∷◌, ◌++◌, length, OnOk, OnErr};
 ghost use Rattle.ltl_syntax.specs.declared.node.Kind.TheVariants as Kinds;
 ghost use Rattle.ltl_closure.specs.Closure.{eventualities};
+ghost use Rattle.ltl_closure.specs.Entries.{IsNumber};
 ghost use Rattle.enc_layout.specs.Letters.{below};
 ghost use Rattle.enc_layout.specs.Clauses.{layout_of, fulfilled_clauses, loop_clause, closing_clauses};
 ghost use Rattle.enc_layout.specs.Steps.{clauses_at};
-ghost use Rattle.enc_layout.specs.Numbered.{IsNumber, Extends};
+ghost use Rattle.enc_layout.specs.Numbered.{Extends};
 ghost use Rattle.loop_encode.specs.Rows.{same_rows, either_rows};
 ghost use Rattle.loop_encode.specs.ByNumber.{right_by, request_by, right_number, request_number, fulfilled_by, loop_by};
 
@@ -44,10 +45,10 @@ fn eventuality_at(closure: &Closure<'_>, index: usize) -> Eventuality
     ensures request { result.request ≡ request_number closure.now.formula index }
 {
     let number = closure.eventualities()[index];
-    eventuality_of(number, closure.entries()[number as usize - 1])
+    eventuality_of(number, closure.entry(number))
 }
 
-fn push_same(out: &mut ClauseList, letter: Literal, value: Literal) -> Result<(), AllocError>
+fn push_same(letter: Literal, value: Literal, out: &mut ClauseList) -> Result<(), AllocError>
     ensures ok { OnOk result (out.new ≡ out.old ++ same_rows letter value) }
     ensures err { OnErr result (Extends out.old out.new) }
 {
@@ -56,10 +57,10 @@ fn push_same(out: &mut ClauseList, letter: Literal, value: Literal) -> Result<()
 }
 
 fn push_either(
-    out: &mut ClauseList,
     letter: Literal,
     value: Literal,
     before: Literal,
+    out: &mut ClauseList,
 ) -> Result<(), AllocError>
     ensures ok { OnOk result (out.new ≡ out.old ++ either_rows letter value before) }
     ensures err { OnErr result (Extends out.old out.new) }
@@ -89,9 +90,9 @@ fn push_fulfilled(
     let value = step.entry(right);
     if earlier + 1 < here {
         let before = step.before().positive(Part::Fulfilled(earlier, number));
-        push_either(out, fulfilled, value, before)
+        push_either(fulfilled, value, before, out)
     } else {
-        push_same(out, fulfilled, value)
+        push_same(fulfilled, value, out)
     }
 }
 

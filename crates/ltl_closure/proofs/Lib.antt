@@ -14,4 +14,5 @@ pub mod Walks
 pub mod Steps
 pub mod Grouping
 pub mod Bounds
+pub mod Known
 pub mod Ranges

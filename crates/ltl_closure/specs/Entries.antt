@@ -1,5 +1,5 @@
 -- When entries are those of a formula's closure, and what a contract sees of a `Closure`.
-use Rattle.std.specs.Prelude.{◌≡◌, ℕ, suc, ◌<◌, ◌≤◌, true, false, List, [], ◌∷◌, length, map, slice_index_or, refl, if◌then◌else◌}
+use Rattle.std.specs.Prelude.{◌≡◌, ℕ, suc, ◌-◌, ◌<◌, ◌≤◌, true, false, List, [], ◌∷◌, length, map, slice_index_or, refl, if◌then◌else◌}
 use Rattle.std.specs.Coded.{Coded, code_by, coded×, coded_list, coded_ℕ}
 use Rattle.ltl_syntax.specs.declared.node.Kind.{Kind}
 use Rattle.ltl_syntax.specs.contracts.node.Kind as kind_row
@@ -44,6 +44,14 @@ StandsFor names f e x = StandsAmong names (closure f) e x
 pub record AreEntries (names : List (List ℕ)) (f : Formula) (entries : List Entry) : Type 0 where
   pub long : length entries ≡ length (closure f)
   pub each : (k : ℕ) → k < length (closure f) → StandsFor names f (slice_index_or (closure f) k (NConst false)) (slice_index_or entries k Is.True)
+
+-- a number of one of w entries
+abbrev pub IsNumber : ℕ → ℕ → Type 0
+IsNumber w t = (0 < t) × (t ≤ w)
+
+-- the entry of a number
+abbrev pub entry_at : List Entry → ℕ → Entry
+entry_at entries t = slice_index_or entries (t - 1) Is.True
 
 -- the numbers of these members of the closure of f
 abbrev pub numbers_of : Formula → List Norm → List ℕ

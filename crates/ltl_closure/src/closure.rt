@@ -1,9 +1,9 @@
 // The closure of a formula, as entries with numbers from 1.
-ghost use Rattle.std.specs.Prelude.{◌≡◌, ℕ, ◌<◌, ◌≤◌, ◌↔◌, length, IfOk, IsTrue};
+ghost use Rattle.std.specs.Prelude.{◌≡◌, ℕ, ◌<◌, ◌≤◌, ◌↔◌, length, All, IfOk, IsTrue};
 ghost use Rattle.ltl_syntax.specs.Table.{tree_at};
 ghost use Rattle.ltl_closure.specs.Norm.{pos_of};
 ghost use Rattle.ltl_closure.specs.Closure.{closure, nexts, yesterdays, eventualities};
-ghost use Rattle.ltl_closure.specs.Entries.{place_in, numbers_of, AreEntries};
+ghost use Rattle.ltl_closure.specs.Entries.{place_in, numbers_of, entry_at, AreEntries, IsNumber};
 ghost use Rattle.ltl_closure.specs.Run.{bound};
 
 use crate::Entry;
@@ -107,7 +107,8 @@ impl<'t> Closure<'t> {
 
     /// The number of the formula's normal form.
     pub fn root(&self) -> u32
-        ensures { result ≡ place_in (closure self.now.formula) (pos_of self.now.formula) }
+        ensures number { result ≡ place_in (closure self.now.formula) (pos_of self.now.formula) }
+        ensures known { IsNumber (length (closure self.now.formula)) result }
     {
         self.root
     }
@@ -121,23 +122,35 @@ impl<'t> Closure<'t> {
         &self.entries
     }
 
+    /// The entry of a number, from 1 on.
+    pub fn entry(&self, number: u32) -> Entry
+        requires { IsNumber (length (closure self.now.formula)) number }
+        ensures entry { result ≡ entry_at self.now.entries number }
+        ensures closure { AreEntries self.now.names self.now.formula self.now.entries }
+    {
+        self.entries[number as usize - 1]
+    }
+
     /// The numbers of the next requests, weak ones too, in the closure's order.
     pub fn nexts(&self) -> &[u32]
-        ensures { result.now ≡ numbers_of self.now.formula (nexts self.now.formula) }
+        ensures numbers { result.now ≡ numbers_of self.now.formula (nexts self.now.formula) }
+        ensures known { All (IsNumber (length (closure self.now.formula))) result.now }
     {
         &self.nexts
     }
 
     /// The numbers of the yesterday requests, weak ones too, in the closure's order.
     pub fn yesterdays(&self) -> &[u32]
-        ensures { result.now ≡ numbers_of self.now.formula (yesterdays self.now.formula) }
+        ensures numbers { result.now ≡ numbers_of self.now.formula (yesterdays self.now.formula) }
+        ensures known { All (IsNumber (length (closure self.now.formula))) result.now }
     {
         &self.yesterdays
     }
 
     /// The numbers of the entries `a U b`, in the closure's order.
     pub fn eventualities(&self) -> &[u32]
-        ensures { result.now ≡ numbers_of self.now.formula (eventualities self.now.formula) }
+        ensures numbers { result.now ≡ numbers_of self.now.formula (eventualities self.now.formula) }
+        ensures known { All (IsNumber (length (closure self.now.formula))) result.now }
     {
         &self.eventualities
     }

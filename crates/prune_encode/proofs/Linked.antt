@@ -6,17 +6,16 @@ use Rattle.ltl_syntax.specs.declared.node.Kind.TheVariants as Kinds
 use Rattle.ltl_syntax.specs.Formula.{Formula}
 use Rattle.ltl_closure.specs.Norm.{Norm, NConst, NUntil, NNext}
 use Rattle.ltl_closure.specs.Closure.{closure, eventualities, is_eventuality}
-use Rattle.ltl_closure.specs.Entries.{place_in, numbers_of, StandsFor, AreEntries, ClosureValue}
+use Rattle.ltl_closure.specs.Entries.{place_in, numbers_of, StandsFor, AreEntries, ClosureValue, IsNumber, entry_at}
 use Rattle.ltl_closure.specs.declared.entry.Entry.{Entry}
 use Rattle.ltl_closure.specs.declared.entry.Entry.TheVariants as Is
 use Rattle.ltl_closure.proofs.Lists.{Contains-from_filter}
+use Rattle.ltl_closure.proofs.Known.{numbers_known, eventuality_in}
 use Rattle.enc_layout.specs.Letters.{LayoutValue, below}
 use Rattle.enc_layout.specs.Clauses.{layout_of, eventuality, new_clauses, pruned_clause, part_f}
-use Rattle.enc_layout.specs.Numbered.{IsNumber, entry_at}
 use Rattle.enc_layout.proofs.ByIndex.{below_same}
-use Rattle.enc_layout.proofs.Carries.{eventuality_in}
 use Rattle.enc_layout.proofs.Counting.{eventualities_few}
-use Rattle.enc_layout.proofs.Standing.{stands, numbers_known, entries_count}
+use Rattle.enc_layout.proofs.Standing.{stands, entries_count}
 use Rattle.prune_encode.specs.ByNumber.{seen_part, new_entry, new_by, pruned_row, pruned_pair, pruned_part}
 
 -- the numbers of the eventualities' entries

@@ -2,9 +2,9 @@
 use Rattle.std.specs.Prelude.{ℕ, suc, List, [], ◌∷◌, ◌++◌, length, slice_index_or}
 use Rattle.ltl_closure.specs.declared.entry.Entry.{Entry}
 use Rattle.ltl_closure.specs.declared.entry.Entry.TheVariants as Is
+use Rattle.ltl_closure.specs.Entries.{entry_at}
 use Rattle.enc_layout.specs.Letters.{Unpruned, EntryAt, Repeated, Seen, Equal, Fulfilled, New, below}
 use Rattle.enc_layout.specs.Clauses.{Clause, Plus, Minus}
-use Rattle.enc_layout.specs.Numbered.{entry_at}
 
 -- what equal carries at l and i say of eventuality m + 1 at i
 abbrev pub seen_by : ℕ → ℕ → ℕ → List Clause

@@ -3,8 +3,9 @@
 // traces a carry that comes a second time is enough.
 ghost use Rattle.std.specs.Prelude.{◌≡◌, ◌<◌, ◌≤◌, [], ◌∷◌, ◌++◌, length, slice_index_or, All, OnOk, OnErr};
 ghost use Rattle.ltl_syntax.specs.declared.node.Kind.TheVariants as Kinds;
+ghost use Rattle.ltl_closure.specs.Entries.{IsNumber};
 ghost use Rattle.enc_layout.specs.Steps.{clauses_at};
-ghost use Rattle.enc_layout.specs.Numbered.{IsNumber, IsInside, Extends};
+ghost use Rattle.enc_layout.specs.Numbered.{IsInside, Extends};
 ghost use Rattle.prune_encode.specs.New.{new_rows};
 ghost use Rattle.prune_encode.specs.ByNumber.{new_entry, new_pair, pruned_row, pruned_pair, pruned_part, repeat_part};
 
@@ -15,11 +16,11 @@ use std::alloc::AllocError;
 
 /// What is new is pending, fulfilled and not seen.
 fn push_new(
-    out: &mut ClauseList,
     new: Literal,
     request: Literal,
     fulfilled: Literal,
     seen: Literal,
+    out: &mut ClauseList,
 ) -> Result<(), AllocError>
     ensures ok { OnOk result (out.new ≡ out.old ++ new_rows new request fulfilled seen) }
     ensures err { OnErr result (Extends out.old out.new) }
@@ -48,11 +49,11 @@ fn push_new_entry(
         Entry::Until { request, .. } => {
             let new = step.positive(Part::New(earlier, number));
             push_new(
-                out,
                 new,
                 step.entry(request),
                 step.positive(Part::Fulfilled(earlier, number)),
                 step.up_to(earlier).positive(Part::Seen(number)),
+                out,
             )
         }
         _ => Ok(()),

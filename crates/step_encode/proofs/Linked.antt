@@ -3,16 +3,15 @@ use Rattle.std.proofs.Common.{◌≡◌, ℕ, suc, ◌-◌, arith, refl, true, f
 use Rattle.ltl_syntax.specs.Formula.{Formula, Name, Fresh}
 use Rattle.ltl_closure.specs.Norm.{Norm, NConst, NLetter, NNotLetter, NAnd, NOr, NNext, NWeakNext, NYesterday, NWeakYesterday, NUntil, NRelease, NSince, NTrigger}
 use Rattle.ltl_closure.specs.Closure.{closure, nexts, yesterdays, is_next, is_yesterday}
-use Rattle.ltl_closure.specs.Entries.{place_in, numbers_of, StandsFor, AreEntries}
+use Rattle.ltl_closure.specs.Entries.{place_in, numbers_of, StandsFor, AreEntries, entry_at}
 use Rattle.ltl_closure.specs.declared.entry.Entry.{Entry}
 use Rattle.ltl_closure.specs.declared.entry.Entry.TheVariants as Is
 use Rattle.ltl_closure.proofs.Lists.{Contains-here, Contains-there, Contains-from_filter}
 use Rattle.ltl_closure.proofs.Places.{closure_placed}
+use Rattle.ltl_closure.proofs.Known.{next_in, yesterday_in}
 use Rattle.enc_layout.specs.Letters.{Here, EntryAt, below}
 use Rattle.enc_layout.specs.Clauses.{Clause, Plus, Minus, letter_of, gate, part_b, start, next_clauses, before_clauses}
 use Rattle.enc_layout.proofs.ByIndex.{below_same, flat_map_below}
-use Rattle.enc_layout.proofs.Carries.{next_in, yesterday_in}
-use Rattle.enc_layout.specs.Numbered.{entry_at}
 use Rattle.enc_layout.proofs.Standing.{stands}
 use Rattle.step_encode.specs.ByNumber.{entry_gate, gates_by, gates_part, start_entry, next_entry, yesterday_entry, starts_part, nexts_part, yesterdays_part}
 

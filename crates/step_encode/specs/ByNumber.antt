@@ -1,7 +1,7 @@
 -- The clauses of the states of a step, over the numbers of entries.
 use Rattle.std.specs.Prelude.{ℕ, suc, ◌-◌, List, [], ◌∷◌, length, slice_index_or, true, false}
+use Rattle.ltl_closure.specs.Entries.{entry_at}
 use Rattle.enc_layout.specs.Letters.{Here, EntryAt, below}
-use Rattle.enc_layout.specs.Numbered.{entry_at}
 use Rattle.enc_layout.specs.Clauses.{Clause, Plus, Minus, strong_gate, weak_gate}
 use Rattle.ltl_closure.specs.declared.entry.Entry.{Entry}
 use Rattle.ltl_closure.specs.declared.entry.Entry.TheVariants as Is

@@ -1,10 +1,11 @@
 // The gates of entries: an entry's letter is true exactly where its operator says so of the letters of its
 // operands and its request.
 ghost use Rattle.std.specs.Prelude.{◌≡◌, ◌≤◌, ◌++◌, length, All, OnOk, OnErr};
+ghost use Rattle.ltl_closure.specs.Entries.{IsNumber};
 ghost use Rattle.enc_layout.specs.Letters.{EntryAt};
 ghost use Rattle.enc_layout.specs.Clauses.{Plus, literal_in, strong_gate, weak_gate};
 ghost use Rattle.enc_layout.specs.Steps.{clauses_at};
-ghost use Rattle.enc_layout.specs.Numbered.{IsNumber, IsInside, Extends};
+ghost use Rattle.enc_layout.specs.Numbered.{IsInside, Extends};
 ghost use Rattle.step_encode.specs.Gates.{negation_rows, and_rows, or_rows, strong_rows, weak_rows};
 ghost use Rattle.step_encode.specs.ByNumber.{entry_gate, gates_part};
 
@@ -13,7 +14,7 @@ use enc_layout::{Part, Step};
 use ltl_closure::Entry;
 use std::alloc::AllocError;
 
-fn push_negation(out: &mut ClauseList, gate: Literal, letter: Literal) -> Result<(), AllocError>
+fn push_negation(gate: Literal, letter: Literal, out: &mut ClauseList) -> Result<(), AllocError>
     ensures ok { OnOk result (out.new ≡ out.old ++ negation_rows gate letter) }
     ensures err { OnErr result (Extends out.old out.new) }
 {
@@ -22,10 +23,10 @@ fn push_negation(out: &mut ClauseList, gate: Literal, letter: Literal) -> Result
 }
 
 fn push_and(
-    out: &mut ClauseList,
     gate: Literal,
     left: Literal,
     right: Literal,
+    out: &mut ClauseList,
 ) -> Result<(), AllocError>
     ensures ok { OnOk result (out.new ≡ out.old ++ and_rows gate left right) }
     ensures err { OnErr result (Extends out.old out.new) }
@@ -36,10 +37,10 @@ fn push_and(
 }
 
 fn push_or(
-    out: &mut ClauseList,
     gate: Literal,
     left: Literal,
     right: Literal,
+    out: &mut ClauseList,
 ) -> Result<(), AllocError>
     ensures ok { OnOk result (out.new ≡ out.old ++ or_rows gate left right) }
     ensures err { OnErr result (Extends out.old out.new) }
@@ -51,11 +52,11 @@ fn push_or(
 
 /// The gate is: the right operand, or the left one and the request.
 fn push_strong(
-    out: &mut ClauseList,
     gate: Literal,
     left: Literal,
     right: Literal,
     request: Literal,
+    out: &mut ClauseList,
 ) -> Result<(), AllocError>
     ensures ok { OnOk result (out.new ≡ out.old ++ strong_rows gate left right request) }
     ensures err { OnErr result (Extends out.old out.new) }
@@ -68,11 +69,11 @@ fn push_strong(
 
 /// The gate is: the right operand, and the left one or the request.
 fn push_weak(
-    out: &mut ClauseList,
     gate: Literal,
     left: Literal,
     right: Literal,
     request: Literal,
+    out: &mut ClauseList,
 ) -> Result<(), AllocError>
     ensures ok { OnOk result (out.new ≡ out.old ++ weak_rows gate left right request) }
     ensures err { OnErr result (Extends out.old out.new) }
@@ -102,11 +103,11 @@ fn push_strong_gate(
     ensures err { OnErr result (Extends out.old out.new) }
 {
     push_strong(
-        out,
         step.entry(number),
         step.entry(left),
         step.entry(right),
         step.entry(request),
+        out,
     )
 }
 
@@ -129,11 +130,11 @@ fn push_weak_gate(
     ensures err { OnErr result (Extends out.old out.new) }
 {
     push_weak(
-        out,
         step.entry(number),
         step.entry(left),
         step.entry(right),
         step.entry(request),
+        out,
     )
 }
 
@@ -154,14 +155,14 @@ fn push_gate(
     match entry {
         Entry::True => out.push(&[gate]),
         Entry::False => out.push(&[gate.opposite()]),
-        Entry::NotLetter(letter) => push_negation(out, gate, step.entry(letter)),
+        Entry::NotLetter(letter) => push_negation(gate, step.entry(letter), out),
         Entry::And(left, right) => {
             let (left, right) = (step.entry(left), step.entry(right));
-            push_and(out, gate, left, right)
+            push_and(gate, left, right, out)
         }
         Entry::Or(left, right) => {
             let (left, right) = (step.entry(left), step.entry(right));
-            push_or(out, gate, left, right)
+            push_or(gate, left, right, out)
         }
         Entry::Until {
             left,

@@ -2,8 +2,9 @@
 // a yesterday request the value that its argument had one state before. Before the first state a yesterday
 // request is false, and a weak one true.
 ghost use Rattle.std.specs.Prelude.{◌≡◌, ◌<◌, ◌≤◌, ◌++◌, length, slice_index_or, All, OnOk, OnErr};
+ghost use Rattle.ltl_closure.specs.Entries.{IsNumber};
 ghost use Rattle.enc_layout.specs.Steps.{clauses_at};
-ghost use Rattle.enc_layout.specs.Numbered.{IsNumber, IsInside, Extends};
+ghost use Rattle.enc_layout.specs.Numbered.{IsInside, Extends};
 ghost use Rattle.step_encode.specs.Gates.{link_rows};
 ghost use Rattle.step_encode.specs.ByNumber.{start_entry, next_entry, yesterday_entry, starts_part, nexts_part, yesterdays_part};
 
@@ -14,10 +15,10 @@ use std::alloc::AllocError;
 
 /// Where the state is there, the request has the value of its argument.
 fn push_link(
-    out: &mut ClauseList,
     here: Literal,
     request: Literal,
     argument: Literal,
+    out: &mut ClauseList,
 ) -> Result<(), AllocError>
     ensures ok { OnOk result (out.new ≡ out.old ++ link_rows here request argument) }
     ensures err { OnErr result (Extends out.old out.new) }
@@ -82,7 +83,7 @@ fn push_next(
     match entry {
         Entry::Next { argument, .. } => {
             let here = step.positive(Part::Here);
-            push_link(out, here, step.before().entry(number), step.entry(argument))
+            push_link(here, step.before().entry(number), step.entry(argument), out)
         }
         _ => Ok(()),
     }
@@ -125,7 +126,7 @@ fn push_yesterday(
     match entry {
         Entry::Yesterday { argument, .. } => {
             let here = step.positive(Part::Here);
-            push_link(out, here, step.entry(number), step.before().entry(argument))
+            push_link(here, step.entry(number), step.before().entry(argument), out)
         }
         _ => Ok(()),
     }

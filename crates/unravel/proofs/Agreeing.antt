@@ -13,9 +13,10 @@ use Rattle.ltl_run.specs.declared.run_state.Close.TheVariants as closes
 use Rattle.ltl_run.specs.TraceOf.{Accepts}
 use Rattle.ltl_run.proofs.Carry.{carry-from}
 use Rattle.ltl_run.proofs.Shorter.{request_in}
+use Rattle.ltl_closure.proofs.Known.{next_in, yesterday_in, eventuality_in}
 use Rattle.enc_layout.proofs.Gates.{first_child, second_child}
 use Rattle.enc_layout.proofs.Writing.{third_child}
-use Rattle.enc_layout.proofs.Carries.{argument_in, right_in, next_in, yesterday_in, eventuality_in}
+use Rattle.enc_layout.proofs.Carries.{argument_in, right_in}
 
 pub record Agree (f : Formula) (s u : RunState) : Type 0 where
   pub letter : (p : Atom) → Contains (closure f) (NLetter p) → s (NLetter p) ≡ u (NLetter p)

@@ -3,16 +3,16 @@ use Rattle.std.proofs.Common.{◌≡◌, ℕ, ◌<◌, ◌≤◌, arith, ap, sym
 use Rattle.ltl_syntax.specs.declared.node.Kind.{Kind}
 use Rattle.ltl_syntax.specs.declared.node.Kind.TheVariants as Kinds
 use Rattle.cnf_base.specs.declared.literal.Literal.{Literal as Signed}
-use Rattle.ltl_closure.specs.Entries.{numbers_of, ClosureValue}
+use Rattle.ltl_closure.specs.Entries.{numbers_of, ClosureValue, IsNumber}
 use Rattle.cdcl.specs.SolverValue.{SolverValue}
+use Rattle.ltl_closure.proofs.Known.{numbers_known}
 use Rattle.enc_layout.specs.Letters.{Counts, LayoutValue, Meaning, EntryAt, LoopTo, IsLetter, letters_through, number_of}
 use Rattle.enc_layout.specs.Clauses.{Plus, layout_of, literal_in}
-use Rattle.enc_layout.specs.Numbered.{IsNumber}
 use Rattle.enc_layout.proofs.Numbers.{number_within}
 use Rattle.ltl_closure.specs.Closure.{closure}
 use Rattle.ltl_closure.proofs.Lists.{Contains-from_filter}
 use Rattle.ltl_run.specs.States.{is_letter, letters}
-use Rattle.enc_layout.proofs.Standing.{entries_count, numbers_known}
+use Rattle.enc_layout.proofs.Standing.{entries_count}
 use Rattle.unravel.specs.Values.{HasRoom}
 
 has_value : (layout : LayoutValue) (i : ℕ) (s : SolverValue) (p : Meaning) → HasRoom layout i s → IsLetter layout.kind layout.counts i p → number_of layout.kind layout.counts p < length s.model

@@ -2,14 +2,13 @@
 // stand for entries, and the run closes to the first state whose letter says so, or by its end.
 ghost use Rattle.std.specs.Prelude.{◌≡◌, ◌+◌, ◌<◌, ◌≤◌, All, IfOk, length};
 ghost use Rattle.ltl_syntax.specs.declared.node.Kind.TheVariants as Kinds;
-ghost use Rattle.ltl_closure.specs.Entries.{numbers_of};
+ghost use Rattle.ltl_closure.specs.Entries.{numbers_of, IsNumber};
 ghost use Rattle.ltl_run.specs.States.{letters};
 ghost use Rattle.ltl_run.specs.TraceOf.{Accepts};
 ghost use Rattle.cdcl.specs.SolverValue.{value_of};
 ghost use Rattle.enc_layout.specs.Letters.{Fits};
 ghost use Rattle.enc_layout.specs.Clauses.{layout_of};
 ghost use Rattle.enc_layout.specs.Assigned.{states_of};
-ghost use Rattle.enc_layout.specs.Numbered.{IsNumber};
 ghost use Rattle.unravel.specs.Decision.{IsTraceOfRun, IsModel};
 ghost use Rattle.unravel.specs.Depths.{IsShowing};
 ghost use Rattle.unravel.specs.Values.{is_letter_entry, values_at, HasRoom, IsRead, AreRead};

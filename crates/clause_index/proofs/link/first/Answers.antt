@@ -6,7 +6,7 @@ use Rattle.clause_index.proofs.Links.{first_row}
 use Rattle.clause_index.proofs.link.first.Goals as goal
 
 pub entry-requires-clause-known : goal.entry-requires-clause-known
-entry-requires-clause-known c = root_known c.args.layout.now c.args.closure.now c.requires.own c.root.result c.root.ensures
+entry-requires-clause-known c = root_known c.args.layout.now c.args.closure.now c.requires.own c.root.result c.root.ensures.number
 
 pub returns-then-request : goal.returns-then-request
 returns-then-request c =

@@ -1,27 +1,19 @@
-use Rattle.std.proofs.Common.{◌-◌, ◌∙◌, arith, length}
-use Rattle.ltl_closure.specs.Closure.{yesterdays}
-use Rattle.enc_layout.proofs.Carries.{yesterday_in}
-use Rattle.loop_encode.proofs.Known.{member_number}
+use Rattle.std.proofs.Common.{◌-◌, ◌∙◌, ap, get_or, length}
+use Rattle.loop_encode.specs.ByNumber.{argument_by}
 use Rattle.loop_encode.proofs.Linked.{carried_before, behind_nexts}
 use Rattle.loop_encode.proofs.carry.carried_entry.Goals as goal
 
-pub overflow_sub-request-2 : goal.overflow_sub-request-2
-overflow_sub-request-2 c =
+pub entry-requires : goal.entry-requires
+entry-requires c =
     let f = c.args.closure.now.formula in
-    let lt = behind_nexts f c.nexts-nexts.result.now c.yesterdays.result.now c.nexts-nexts.ensures c.yesterdays.ensures c.args.index c.if-index-nexts.false c.requires in
-    (member_number f (yesterdays f) c.yesterdays.result.now c.yesterdays.ensures (yesterday_in f) (c.args.index - length c.nexts-nexts.result.now) lt).0
-
-pub bounds-entries-request : goal.bounds-entries-request
-bounds-entries-request c =
-    let f = c.args.closure.now.formula in
-    let lt = behind_nexts f c.nexts-nexts.result.now c.yesterdays.result.now c.nexts-nexts.ensures c.yesterdays.ensures c.args.index c.if-index-nexts.false c.requires in
-    let known = member_number f (yesterdays f) c.yesterdays.result.now c.yesterdays.ensures (yesterday_in f) (c.args.index - length c.nexts-nexts.result.now) lt in
-    omega (arith, known.0, known.1, c.entries.ensures.closure.long)
+    let lt = behind_nexts f c.nexts-nexts.result.now c.yesterdays.result.now c.nexts-nexts.ensures.numbers c.yesterdays.ensures.numbers c.args.index c.if-index-nexts.false c.requires in
+    c.yesterdays.ensures.known (c.args.index - length c.nexts-nexts.result.now) 0 lt
 
 pub returns : goal.returns
 returns c =
     let f = c.args.closure.now.formula in
-    let lt = behind_nexts f c.nexts-nexts.result.now c.yesterdays.result.now c.nexts-nexts.ensures c.yesterdays.ensures c.args.index c.if-index-nexts.false c.requires in
+    let lt = behind_nexts f c.nexts-nexts.result.now c.yesterdays.result.now c.nexts-nexts.ensures.numbers c.yesterdays.ensures.numbers c.args.index c.if-index-nexts.false c.requires in
     c.argument_of.ensures
-    ∙ carried_before c.args.closure.now.names f c.entries.result.now c.entries.ensures.closure c.nexts-nexts.result.now c.yesterdays.result.now c.nexts-nexts.ensures c.yesterdays.ensures c.args.index
-    c.if-index-nexts.false lt
+    ∙ (ap (argument_by (get_or c.yesterdays.result.now (c.args.index - length c.nexts-nexts.result.now) 0)) c.entry.ensures.entry
+    ∙ carried_before c.args.closure.now.names f c.args.closure.now.entries c.entry.ensures.closure c.nexts-nexts.result.now c.yesterdays.result.now c.nexts-nexts.ensures.numbers c.yesterdays.ensures.numbers c.args.index
+    c.if-index-nexts.false lt)

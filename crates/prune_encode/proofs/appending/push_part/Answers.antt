@@ -10,7 +10,7 @@ pub push_pairs-requires-clause-short : goal.push_pairs-requires-clause-short
 push_pairs-requires-clause-short c =
     let few = c.entries-entries.ensures.few in
     let short =
-    eventualities_short c.args.step.now.layout c.args.closure.now c.requires.own c.eventualities-eventualities.result.now c.eventualities-eventualities.ensures
+    eventualities_short c.args.step.now.layout c.args.closure.now c.requires.own c.eventualities-eventualities.result.now c.eventualities-eventualities.ensures.numbers
     c.entries-entries.result.now c.entries-entries.ensures.closure in
     omega arith
 
@@ -19,13 +19,13 @@ push_pairs-requires-clause-inside c = all_inside c.args.step.now.layout c.args.c
 
 pub push_pairs-requires-clause-known : goal.push_pairs-requires-clause-known
 push_pairs-requires-clause-known c =
-    eventualities_all c.args.step.now.layout c.args.closure.now c.requires.own c.eventualities-eventualities.result.now c.eventualities-eventualities.ensures
+    eventualities_all c.args.step.now.layout c.args.closure.now c.requires.own c.eventualities-eventualities.result.now c.eventualities-eventualities.ensures.numbers
 
 pub returns-in_ok-push_pairs-in-Infinite-clause-ok : goal.returns-in_ok-push_pairs-in-Infinite-clause-ok
 returns-in_ok-push_pairs-in-Infinite-clause-ok c =
     let args = c.args.step.now in
-    let count = eventualities_count args.layout c.args.closure.now c.requires.own c.eventualities-eventualities.result.now c.eventualities-eventualities.ensures in
+    let count = eventualities_count args.layout c.args.closure.now c.requires.own c.eventualities-eventualities.result.now c.eventualities-eventualities.ensures.numbers in
     let seen = subst (λ n. c.push_seen.new.out ≡ c.args.out.now ++ clauses_at args (seen_part n args.number)) (sym count) c.in_ok-push_seen-in-Infinite.ensures.ok in
     infinite_done c.args.step.now.layout c.args.out.now c.push_seen.new.out c.push_pairs.new.out c.args.closure.now c.args.step.now.number
-    c.entries-entries.result.now c.entries-entries.ensures.closure c.eventualities-eventualities.result.now c.eventualities-eventualities.ensures
+    c.entries-entries.result.now c.entries-entries.ensures.closure c.eventualities-eventualities.result.now c.eventualities-eventualities.ensures.numbers
     (sym c.kind.ensures ∙ c.in-Infinite.is) seen c.in_ok-push_pairs-in-Infinite.ensures.ok

@@ -12,8 +12,8 @@ overflow_cast-result-2 c =
     let few = c.entries.ensures.few in
     let all = c.entries.ensures.closure.long in
     let same = ap length c.entries.ensures.entries in
-    let a = ap length c.nexts.ensures in
-    let b = ap length c.yesterdays.ensures in
+    let a = ap length c.nexts.ensures.numbers in
+    let b = ap length c.yesterdays.ensures.numbers in
     let x = length-numbers_of f (nexts f) in
     let y = length-numbers_of f (yesterdays f) in
     let n = nexts_few f in
@@ -25,7 +25,7 @@ overflow_cast-result-3 c =
     let f = c.args.closure.now.formula in
     let few = c.entries.ensures.few in
     let all = c.entries.ensures.closure.long in
-    let a = ap length c.eventualities.ensures in
+    let a = ap length c.eventualities.ensures.numbers in
     let x = length-numbers_of f (eventualities f) in
     let n = eventualities_few f in
     omega arith
@@ -35,9 +35,9 @@ invariant_of-result c =
     let f = c.args.closure.now.formula in
     let long = c.entries.ensures.closure.long in
     let few = counts_few f (subst (λ n. n ≤ 98306) long c.entries.ensures.few) in
-    let a = ap length c.nexts.ensures in
-    let b = ap length c.yesterdays.ensures in
-    let e = ap length c.eventualities.ensures in
+    let a = ap length c.nexts.ensures.numbers in
+    let b = ap length c.yesterdays.ensures.numbers in
+    let e = ap length c.eventualities.ensures.numbers in
     let x = length-numbers_of f (nexts f) in
     let y = length-numbers_of f (yesterdays f) in
     let z = length-numbers_of f (eventualities f) in
@@ -49,13 +49,13 @@ invariant_of-result c =
 pub returns-clause-layout : goal.returns-clause-layout
 returns-clause-layout c =
     let f = c.args.closure.now.formula in
-    let a = ap length c.nexts.ensures in
-    let b = ap length c.yesterdays.ensures in
+    let a = ap length c.nexts.ensures.numbers in
+    let b = ap length c.yesterdays.ensures.numbers in
     let x = length-numbers_of f (nexts f) in
     let y = length-numbers_of f (yesterdays f) in
     let z = length-carried f in
     counted c.args.closure.now c.kind.result (length c.entries.result.now) (length c.nexts.result.now + length c.yesterdays.result.now) (length c.eventualities.result.now)
-    c.kind.ensures c.entries.ensures.closure.long (omega arith) (ap length c.eventualities.ensures ∙ length-numbers_of f (eventualities f))
+    c.kind.ensures c.entries.ensures.closure.long (omega arith) (ap length c.eventualities.ensures.numbers ∙ length-numbers_of f (eventualities f))
 
 pub returns-clause-first : goal.returns-clause-first
 returns-clause-first c =
