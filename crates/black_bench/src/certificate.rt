@@ -33,7 +33,7 @@ fn behind(bytes: &[u8], end: usize) -> &[u8]
 }
 
 /// Whether the certificate is verified, or the status of a refusal.
-pub fn check_certificate<R: Threads + Sync, S: Source>(
+pub(crate) fn check_certificate<R: Threads + Sync, S: Source>(
     rt: &R,
     alloc: Global,
     source: &mut S,

@@ -7,7 +7,6 @@ ghost use Rattle.std.specs.Prelude.{◌≤◌, ⊤, MatchOption};
 mod certificate;
 mod clauses;
 mod formula;
-mod known;
 mod questions;
 mod reading;
 mod tableau;

@@ -1,10 +1,9 @@
 // The solver alone: a text gives the number of letters, clauses and questions, and the answers are counted.
 ghost use Rattle.std.specs.Prelude.{◌≡◌};
 
-use crate::known::{are_consistent, are_known};
 use crate::reading::Reading;
 use crate::status;
-use cdcl::{Answer, Solver};
+use cdcl::{Answer, Solver, are_consistent, are_known};
 use cnf_base::Literal;
 use ltl_io::{Source, read_whole};
 use std::alloc::{AllocError, Global};
@@ -17,7 +16,7 @@ struct Counts {
 }
 
 /// Prints how many questions of the source's text were answered each way, and how many lines were learnt.
-pub fn answer_questions<S: Source>(rt: &HostRuntime, alloc: Global, source: &mut S) -> u8 {
+pub(crate) fn answer_questions<S: Source>(rt: &HostRuntime, alloc: Global, source: &mut S) -> u8 {
     let Ok(text) = read_whole(alloc, source, 1_000_000_000) else {
         return 5;
     };

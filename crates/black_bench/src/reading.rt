@@ -15,7 +15,7 @@ pub struct Reading {
 }
 
 impl Reading {
-    pub fn new(alloc: Global) -> Self {
+    pub(crate) fn new(alloc: Global) -> Self {
         Reading {
             number: 0,
             negated: false,
@@ -26,7 +26,7 @@ impl Reading {
     }
 
     /// Takes one byte, and tells whether a list has ended with it.
-    pub fn take(&mut self, byte: u8) -> Result<bool, AllocError> {
+    pub(crate) fn take(&mut self, byte: u8) -> Result<bool, AllocError> {
         match byte {
             b'?' => self.question = true,
             b'-' => self.negated = true,
@@ -61,7 +61,7 @@ impl Reading {
     }
 
     /// Begins the next list.
-    pub fn begin(&mut self) {
+    pub(crate) fn begin(&mut self) {
         self.literals.truncate(0);
         self.question = false;
     }

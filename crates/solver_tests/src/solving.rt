@@ -1,10 +1,8 @@
 // Talks with the solver that were worked by hand, and a log that is followed line by line.
-ghost use Rattle.std.specs.Prelude.{◌≡◌, ◌≤◌, ◌+◌, IsTrue, All, length};
-ghost use Rattle.cnf_base.specs.Known.{IsKnown};
-ghost use Rattle.cdcl.specs.Solving.{IsConsistent};
+ghost use Rattle.std.specs.Prelude.{◌≡◌, ◌≤◌, ◌+◌, length};
 
 use cdcl::choice::has;
-use cdcl::{Answer, Solver};
+use cdcl::{Answer, Solver, are_consistent, are_known};
 use clause_log::LogView;
 use cnf_base::{Hint, Letter, Literal};
 use std::alloc::{AllocError, Global};
@@ -141,33 +139,6 @@ fn literals(alloc: Global, numbers: &[i32]) -> Result<Vec<Literal>, AllocError> 
         literals.push(literal(*number))?;
     }
     Ok(literals)
-}
-
-/// Whether the literals are of letters from 1 to the count.
-fn are_known(letters: u32, literals: &[Literal]) -> bool
-    ensures { IsTrue result → All (IsKnown letters) literals.now }
-{
-    for literal in literals {
-        if literal.letter.0 < 1 {
-            return false;
-        }
-        if letters < literal.letter.0 {
-            return false;
-        }
-    }
-    true
-}
-
-/// Whether no literal stands beside its opposite.
-fn are_consistent(literals: &[Literal]) -> bool
-    ensures { IsTrue result → IsConsistent literals.now }
-{
-    for literal in literals {
-        if has(literals, literal.opposite()) {
-            return false;
-        }
-    }
-    true
 }
 
 /// Whether each literal is among the others.
