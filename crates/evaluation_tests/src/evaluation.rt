@@ -35,72 +35,78 @@ fn push(rt: &impl Abort, table: &mut FormulaTable, node: Node) -> Result<u32, Fa
     Ok(table.push(node)?)
 }
 
-fn unary_of(word: &str) -> Option<UnaryOp> {
-    match word {
-        "!" => Some(UnaryOp::Not),
-        "X" => Some(UnaryOp::Next),
-        "wX" => Some(UnaryOp::WeakNext),
-        "F" => Some(UnaryOp::Eventually),
-        "G" => Some(UnaryOp::Always),
-        "Y" => Some(UnaryOp::Yesterday),
-        "Z" => Some(UnaryOp::WeakYesterday),
-        "O" => Some(UnaryOp::Once),
-        "H" => Some(UnaryOp::Historically),
-        _ => bounded_of(word),
-    }
-}
+// The operators that the rows below use.
+const UNARY: &[(&str, UnaryOp)] = &[
+    ("!", UnaryOp::Not),
+    ("X", UnaryOp::Next),
+    ("wX", UnaryOp::WeakNext),
+    ("F", UnaryOp::Eventually),
+    ("G", UnaryOp::Always),
+    ("Y", UnaryOp::Yesterday),
+    ("Z", UnaryOp::WeakYesterday),
+    ("O", UnaryOp::Once),
+    ("H", UnaryOp::Historically),
+    ("X[0]", UnaryOp::NextTimes(0)),
+    ("X[1]", UnaryOp::NextTimes(1)),
+    ("X[2]", UnaryOp::NextTimes(2)),
+    ("X[4]", UnaryOp::NextTimes(4)),
+    ("X[5]", UnaryOp::NextTimes(5)),
+    ("X[7]", UnaryOp::NextTimes(7)),
+    ("X[255]", UnaryOp::NextTimes(255)),
+    ("Y[0]", UnaryOp::YesterdayTimes(0)),
+    ("Y[2]", UnaryOp::YesterdayTimes(2)),
+    ("Y[4]", UnaryOp::YesterdayTimes(4)),
+    ("F[0,2]", UnaryOp::EventuallyIn(0, 2)),
+    ("F[0,3]", UnaryOp::EventuallyIn(0, 3)),
+    ("F[1,2]", UnaryOp::EventuallyIn(1, 2)),
+    ("F[2,9]", UnaryOp::EventuallyIn(2, 9)),
+    ("F[4,6]", UnaryOp::EventuallyIn(4, 6)),
+    ("F[4,7]", UnaryOp::EventuallyIn(4, 7)),
+    ("F[7,255]", UnaryOp::EventuallyIn(7, 255)),
+    ("G[0,2]", UnaryOp::AlwaysIn(0, 2)),
+    ("G[0,3]", UnaryOp::AlwaysIn(0, 3)),
+    ("G[1,9]", UnaryOp::AlwaysIn(1, 9)),
+    ("G[4,6]", UnaryOp::AlwaysIn(4, 6)),
+    ("O[0,2]", UnaryOp::OnceIn(0, 2)),
+    ("O[0,3]", UnaryOp::OnceIn(0, 3)),
+    ("O[2,2]", UnaryOp::OnceIn(2, 2)),
+    ("O[2,3]", UnaryOp::OnceIn(2, 3)),
+    ("O[4,9]", UnaryOp::OnceIn(4, 9)),
+    ("H[0,3]", UnaryOp::HistoricallyIn(0, 3)),
+    ("H[1,2]", UnaryOp::HistoricallyIn(1, 2)),
+    ("H[1,3]", UnaryOp::HistoricallyIn(1, 3)),
+    ("H[4,9]", UnaryOp::HistoricallyIn(4, 9)),
+];
 
-// The numbers that the rows below use.
-fn bounded_of(word: &str) -> Option<UnaryOp> {
-    match word {
-        "X[0]" => Some(UnaryOp::NextTimes(0)),
-        "X[1]" => Some(UnaryOp::NextTimes(1)),
-        "X[2]" => Some(UnaryOp::NextTimes(2)),
-        "X[4]" => Some(UnaryOp::NextTimes(4)),
-        "X[5]" => Some(UnaryOp::NextTimes(5)),
-        "X[7]" => Some(UnaryOp::NextTimes(7)),
-        "X[255]" => Some(UnaryOp::NextTimes(255)),
-        "Y[0]" => Some(UnaryOp::YesterdayTimes(0)),
-        "Y[2]" => Some(UnaryOp::YesterdayTimes(2)),
-        "Y[4]" => Some(UnaryOp::YesterdayTimes(4)),
-        "F[0,2]" => Some(UnaryOp::EventuallyIn(0, 2)),
-        "F[0,3]" => Some(UnaryOp::EventuallyIn(0, 3)),
-        "F[1,2]" => Some(UnaryOp::EventuallyIn(1, 2)),
-        "F[2,9]" => Some(UnaryOp::EventuallyIn(2, 9)),
-        "F[4,6]" => Some(UnaryOp::EventuallyIn(4, 6)),
-        "F[4,7]" => Some(UnaryOp::EventuallyIn(4, 7)),
-        "F[7,255]" => Some(UnaryOp::EventuallyIn(7, 255)),
-        "G[0,2]" => Some(UnaryOp::AlwaysIn(0, 2)),
-        "G[0,3]" => Some(UnaryOp::AlwaysIn(0, 3)),
-        "G[1,9]" => Some(UnaryOp::AlwaysIn(1, 9)),
-        "G[4,6]" => Some(UnaryOp::AlwaysIn(4, 6)),
-        "O[0,2]" => Some(UnaryOp::OnceIn(0, 2)),
-        "O[0,3]" => Some(UnaryOp::OnceIn(0, 3)),
-        "O[2,2]" => Some(UnaryOp::OnceIn(2, 2)),
-        "O[2,3]" => Some(UnaryOp::OnceIn(2, 3)),
-        "O[4,9]" => Some(UnaryOp::OnceIn(4, 9)),
-        "H[0,3]" => Some(UnaryOp::HistoricallyIn(0, 3)),
-        "H[1,2]" => Some(UnaryOp::HistoricallyIn(1, 2)),
-        "H[1,3]" => Some(UnaryOp::HistoricallyIn(1, 3)),
-        "H[4,9]" => Some(UnaryOp::HistoricallyIn(4, 9)),
-        _ => None,
+const BINARY: &[(&str, BinaryOp)] = &[
+    ("&", BinaryOp::And),
+    ("|", BinaryOp::Or),
+    ("->", BinaryOp::Implies),
+    ("<->", BinaryOp::Iff),
+    ("U", BinaryOp::Until),
+    ("R", BinaryOp::Release),
+    ("W", BinaryOp::WeakUntil),
+    ("M", BinaryOp::StrongRelease),
+    ("S", BinaryOp::Since),
+    ("T", BinaryOp::Trigger),
+];
+
+fn unary_of(word: &str) -> Option<UnaryOp> {
+    for (text, op) in UNARY {
+        if *text == word {
+            return Some(*op);
+        }
     }
+    None
 }
 
 fn binary_of(word: &str) -> Option<BinaryOp> {
-    match word {
-        "&" => Some(BinaryOp::And),
-        "|" => Some(BinaryOp::Or),
-        "->" => Some(BinaryOp::Implies),
-        "<->" => Some(BinaryOp::Iff),
-        "U" => Some(BinaryOp::Until),
-        "R" => Some(BinaryOp::Release),
-        "W" => Some(BinaryOp::WeakUntil),
-        "M" => Some(BinaryOp::StrongRelease),
-        "S" => Some(BinaryOp::Since),
-        "T" => Some(BinaryOp::Trigger),
-        _ => None,
+    for (text, op) in BINARY {
+        if *text == word {
+            return Some(*op);
+        }
     }
+    None
 }
 
 fn operand_of(rt: &impl Abort, table: &mut FormulaTable, word: &str) -> Result<Node, Fail> {
@@ -147,101 +153,103 @@ fn holds_on(rt: &impl Abort, alloc: Global, text: &str, trace: &Trace) -> Result
     Ok(holds(alloc, &table, root, trace)?)
 }
 
+const ON_INFINITE: &[(&str, Option<&str>, &str, bool)] = &[
+    ("p p Y Y Y Y & F", None, "p|", true),
+    ("p p Y & F", None, "p|", false),
+    ("p q U", Some("p"), "p|q", true),
+    ("p q U", None, "p", false),
+    ("p q U F", Some("q"), "p", true),
+    ("p q U X F", Some("q"), "p", false),
+    ("p q W", None, "p", true),
+    ("q p R", None, "p", true),
+    ("q p R", None, "p|", false),
+    ("q p M", None, "p", false),
+    ("p F G", None, "p|", true),
+    ("p G F", Some("p"), "", false),
+    ("p X X X", None, "|p", true),
+    ("false Z", None, "p", true),
+    ("{7} O X", Some("{7}"), "", true),
+    ("p H G", None, "p", true),
+    ("p q T X", Some("q"), "p", false),
+    ("p q S G", Some("q"), "p", true),
+    ("p q <-> X", None, "p|", true),
+    ("p q -> q | !", None, "p|q", true),
+    ("p F[0,2]", None, "|||p", false),
+    ("p F[0,3]", None, "|||p", true),
+    ("p F[4,6]", None, "|||p", false),
+    ("p F[4,7]", None, "|||p", true),
+    ("p F[2,9]", Some("p"), "|p", true),
+    ("p F[7,255]", Some("p"), "", false),
+    ("p G[0,2]", None, "p|p|p|", true),
+    ("p G[0,3]", None, "p|p|p|", false),
+    ("p G[4,6]", None, "p|p|p|", true),
+    ("p G[1,9]", Some(""), "p|p", true),
+    ("p G[1,9]", None, "p|p|", false),
+    ("p X[0]", None, "|p|", false),
+    ("p X[5]", None, "|p|", false),
+    ("p X[7]", None, "|p|", true),
+    ("p X[255]", Some(""), "p", true),
+    ("true Y[0]", None, "p", true),
+    ("true Y[2]", None, "p", false),
+    ("true Y[2] X", None, "p", false),
+    ("true Y[2] X[2]", None, "p", true),
+    ("p Y[2] X[4]", Some("q|q|p"), "", true),
+    ("p p Y[4] & F", None, "p|", true),
+    ("p O[2,2] X[4]", Some("q|p"), "", false),
+    ("p O[2,3] X[4]", Some("q|p"), "", true),
+    ("p O[4,9] X[4]", Some("q|p"), "", false),
+    ("p O[0,3] G X[2]", None, "||p|", true),
+    ("p O[0,2] G X[2]", None, "||p|", false),
+    ("false H[1,3]", None, "p", true),
+    ("p H[1,3] X[2]", Some("p|p"), "", true),
+    ("p H[0,3] X[2]", Some("p|p"), "", false),
+    ("p H[4,9] X[5]", Some("p|p"), "", true),
+];
+
 #[test]
 fn holds_on_infinite_traces(rt: HostRuntime) -> Result<(), Fail> {
-    let rows = [
-        ("p p Y Y Y Y & F", None, "p|", true),
-        ("p p Y & F", None, "p|", false),
-        ("p q U", Some("p"), "p|q", true),
-        ("p q U", None, "p", false),
-        ("p q U F", Some("q"), "p", true),
-        ("p q U X F", Some("q"), "p", false),
-        ("p q W", None, "p", true),
-        ("q p R", None, "p", true),
-        ("q p R", None, "p|", false),
-        ("q p M", None, "p", false),
-        ("p F G", None, "p|", true),
-        ("p G F", Some("p"), "", false),
-        ("p X X X", None, "|p", true),
-        ("false Z", None, "p", true),
-        ("{7} O X", Some("{7}"), "", true),
-        ("p H G", None, "p", true),
-        ("p q T X", Some("q"), "p", false),
-        ("p q S G", Some("q"), "p", true),
-        ("p q <-> X", None, "p|", true),
-        ("p q -> q | !", None, "p|q", true),
-        ("p F[0,2]", None, "|||p", false),
-        ("p F[0,3]", None, "|||p", true),
-        ("p F[4,6]", None, "|||p", false),
-        ("p F[4,7]", None, "|||p", true),
-        ("p F[2,9]", Some("p"), "|p", true),
-        ("p F[7,255]", Some("p"), "", false),
-        ("p G[0,2]", None, "p|p|p|", true),
-        ("p G[0,3]", None, "p|p|p|", false),
-        ("p G[4,6]", None, "p|p|p|", true),
-        ("p G[1,9]", Some(""), "p|p", true),
-        ("p G[1,9]", None, "p|p|", false),
-        ("p X[0]", None, "|p|", false),
-        ("p X[5]", None, "|p|", false),
-        ("p X[7]", None, "|p|", true),
-        ("p X[255]", Some(""), "p", true),
-        ("true Y[0]", None, "p", true),
-        ("true Y[2]", None, "p", false),
-        ("true Y[2] X", None, "p", false),
-        ("true Y[2] X[2]", None, "p", true),
-        ("p Y[2] X[4]", Some("q|q|p"), "", true),
-        ("p p Y[4] & F", None, "p|", true),
-        ("p O[2,2] X[4]", Some("q|p"), "", false),
-        ("p O[2,3] X[4]", Some("q|p"), "", true),
-        ("p O[4,9] X[4]", Some("q|p"), "", false),
-        ("p O[0,3] G X[2]", None, "||p|", true),
-        ("p O[0,2] G X[2]", None, "||p|", false),
-        ("false H[1,3]", None, "p", true),
-        ("p H[1,3] X[2]", Some("p|p"), "", true),
-        ("p H[0,3] X[2]", Some("p|p"), "", false),
-        ("p H[4,9] X[5]", Some("p|p"), "", true),
-    ];
-    for (text, stem, loop_part, want) in rows {
+    for (text, stem, loop_part, want) in ON_INFINITE {
         let trace = Trace::Infinite {
-            stem: states(rt.alloc(), stem)?,
-            loop_part: states(rt.alloc(), Some(loop_part))?,
+            stem: states(rt.alloc(), *stem)?,
+            loop_part: states(rt.alloc(), Some(*loop_part))?,
         };
         assert_eq!(rt;
             holds_on(&rt, rt.alloc(), text, &trace)?,
-            want,
+            *want,
             "{text} on {loop_part}"
         );
     }
     Ok(())
 }
 
+const ON_FINITE: &[(&str, &str, bool)] = &[
+    ("p false wX & F", "q|p", true),
+    ("true X G", "q|p", false),
+    ("p q Y & F", "q|p", true),
+    ("p q S X", "q|p", true),
+    ("q p S", "q|p", false),
+    ("p G", "p|p", true),
+    ("q p U", "q|q", false),
+    ("true X[1]", "q|p", true),
+    ("true X[2]", "q|p", false),
+    ("p F[2,9]", "q|p", false),
+    ("p F[0,3]", "q|p", true),
+    ("p G[1,9]", "q|p", true),
+    ("p G[1,9]", "q|p|", false),
+    ("false G[4,6]", "q|p", true),
+    ("p H[1,3] X", "p|q", true),
+    ("q O[2,3] X[1]", "q|q", false),
+];
+
 #[test]
 fn holds_on_finite_traces(rt: HostRuntime) -> Result<(), Fail> {
-    let rows = [
-        ("p false wX & F", "q|p", true),
-        ("true X G", "q|p", false),
-        ("p q Y & F", "q|p", true),
-        ("p q S X", "q|p", true),
-        ("q p S", "q|p", false),
-        ("p G", "p|p", true),
-        ("q p U", "q|q", false),
-        ("true X[1]", "q|p", true),
-        ("true X[2]", "q|p", false),
-        ("p F[2,9]", "q|p", false),
-        ("p F[0,3]", "q|p", true),
-        ("p G[1,9]", "q|p", true),
-        ("p G[1,9]", "q|p|", false),
-        ("false G[4,6]", "q|p", true),
-        ("p H[1,3] X", "p|q", true),
-        ("q O[2,3] X[1]", "q|q", false),
-    ];
-    for (text, states_text, want) in rows {
+    for (text, states_text, want) in ON_FINITE {
         let trace = Trace::Finite {
-            states: states(rt.alloc(), Some(states_text))?,
+            states: states(rt.alloc(), Some(*states_text))?,
         };
         assert_eq!(rt;
             holds_on(&rt, rt.alloc(), text, &trace)?,
-            want,
+            *want,
             "{text} on {states_text}"
         );
     }
@@ -302,37 +310,39 @@ fn values_on(rt: &impl Abort, alloc: Global, text: &str, trace: &Trace) -> Resul
     Ok(word)
 }
 
+const FINITE_VALUES: &[(&str, &str, &str)] = &[
+    ("p Y", "p|q|p|", "0101"),
+    ("q F[1,2]", "p|q|p|q|p", "11100"),
+    ("p H[1,2]", "p||p|p|p", "11001"),
+];
+
+const INFINITE_VALUES: &[(&str, Option<&str>, &str, &str)] = &[
+    ("p Y[2]", Some("p|q"), "|p", "0010"),
+    ("p X[2]", None, "p||", "010"),
+    ("p q U", Some("|p"), "q|", "0110"),
+];
+
 #[test]
 fn values_at_each_position(rt: HostRuntime) -> Result<(), Fail> {
     let alloc = rt.alloc();
-    let finite = [
-        ("p Y", "p|q|p|", "0101"),
-        ("q F[1,2]", "p|q|p|q|p", "11100"),
-        ("p H[1,2]", "p||p|p|p", "11001"),
-    ];
-    for (text, states_text, want) in finite {
+    for (text, states_text, want) in FINITE_VALUES {
         let trace = Trace::Finite {
-            states: states(alloc, Some(states_text))?,
+            states: states(alloc, Some(*states_text))?,
         };
         assert_eq!(rt;
             values_on(&rt, alloc, text, &trace)?.as_str(),
-            want,
+            *want,
             "{text}"
         );
     }
-    let infinite = [
-        ("p Y[2]", Some("p|q"), "|p", "0010"),
-        ("p X[2]", None, "p||", "010"),
-        ("p q U", Some("|p"), "q|", "0110"),
-    ];
-    for (text, stem, loop_part, want) in infinite {
+    for (text, stem, loop_part, want) in INFINITE_VALUES {
         let trace = Trace::Infinite {
-            stem: states(alloc, stem)?,
-            loop_part: states(alloc, Some(loop_part))?,
+            stem: states(alloc, *stem)?,
+            loop_part: states(alloc, Some(*loop_part))?,
         };
         assert_eq!(rt;
             values_on(&rt, alloc, text, &trace)?.as_str(),
-            want,
+            *want,
             "{text}"
         );
     }

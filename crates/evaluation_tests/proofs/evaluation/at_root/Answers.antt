@@ -1,6 +1,6 @@
 use Rattle.std.proofs.Common.{refl, arith}
 use Rattle.lasso_eval.specs.Under.{Here}
-use Rattle.trace_tests.proofs.evaluation.at_root.Goals as goal
+use Rattle.evaluation_tests.proofs.evaluation.at_root.Goals as goal
 
 pub at-requires : goal.at-requires
 at-requires c = omega (arith, (c.requires.values c.args.root (Here c.args.root refl)).count, c.requires.within)
