@@ -17,7 +17,7 @@ pub struct Request {
 
 /// What the words ask for, the first of which is the program's name. Help, the version, and what is wrong
 /// with words are errors of `clap`.
-pub fn requested(alloc: Global, words: &[String]) -> Result<Request, Error> {
+pub(crate) fn requested(alloc: Global, words: &[String]) -> Result<Request, Error> {
     let svg = Arg::new(alloc, "svg")
         .long("svg")
         .action(ArgAction::SetTrue)

@@ -10,14 +10,14 @@ pub struct Meeting {
 }
 
 impl Meeting {
-    pub fn new() -> Meeting {
+    pub(crate) fn new() -> Meeting {
         Meeting {
             begun: AtomicU64::new(0),
             met: AtomicU64::new(0),
         }
     }
 
-    pub fn met(&self) -> bool {
+    pub(crate) fn met(&self) -> bool {
         self.met.load(Ordering::SeqCst) == 1
     }
 }

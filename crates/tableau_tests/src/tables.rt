@@ -16,18 +16,18 @@ fn is_plain(text: &str) -> bool
     }
 }
 
-pub fn name(rt: &impl Abort, table: &mut FormulaTable, text: &str) -> u32 {
+pub(crate) fn name(rt: &impl Abort, table: &mut FormulaTable, text: &str) -> u32 {
     assert!(rt; table.letters() < u32::MAX && is_plain(text));
     table.name(text).expect(rt, "memory")
 }
 
-pub fn push(rt: &impl Abort, table: &mut FormulaTable, node: Node) -> u32 {
+pub(crate) fn push(rt: &impl Abort, table: &mut FormulaTable, node: Node) -> u32 {
     assert!(rt; table.may_push(node));
     table.push(node).expect(rt, "a place")
 }
 
 /// A table with the letters and the nodes, and the number of the last node.
-pub fn table_of(
+pub(crate) fn table_of(
     rt: &impl Abort,
     alloc: Global,
     letters: &[&str],
@@ -49,7 +49,7 @@ fn push_all(rt: &impl Abort, table: &mut FormulaTable, nodes: &[Node]) -> u32 {
     root
 }
 
-pub fn closure_of<'t>(
+pub(crate) fn closure_of<'t>(
     rt: &impl Abort,
     alloc: Global,
     table: &'t FormulaTable,
