@@ -10,7 +10,7 @@ use std::test::Fail;
 const TWO_LINES: &[u8] = b"ltlcert 2 infinite 0\n-2 0 2 1 0\n-2 0 -1 0\nd 1\nclose 2 2\n";
 
 // The numbers of a list behind others; what is negated, and a line, is 1,000 more.
-fn push_literals(out: &mut Vec<u64>, literals: Literals<'_>) -> Result<(), AllocError> {
+fn push_literals(literals: Literals<'_>, out: &mut Vec<u64>) -> Result<(), AllocError> {
     for literal in literals {
         let sign = if literal.negated { 1000 } else { 0 };
         out.push((literal.letter.0 as u64).wrapping_add(sign))?;
@@ -18,7 +18,7 @@ fn push_literals(out: &mut Vec<u64>, literals: Literals<'_>) -> Result<(), Alloc
     Ok(())
 }
 
-fn push_hints(out: &mut Vec<u64>, hints: Hints<'_>) -> Result<(), AllocError> {
+fn push_hints(hints: Hints<'_>, out: &mut Vec<u64>) -> Result<(), AllocError> {
     for hint in hints {
         match hint {
             Hint::Clause(number) => out.push(number)?,
@@ -28,7 +28,7 @@ fn push_hints(out: &mut Vec<u64>, hints: Hints<'_>) -> Result<(), AllocError> {
     Ok(())
 }
 
-fn push_targets(out: &mut Vec<u64>, targets: Targets<'_>) -> Result<(), AllocError> {
+fn push_targets(targets: Targets<'_>, out: &mut Vec<u64>) -> Result<(), AllocError> {
     for target in targets {
         out.push(target)?;
     }
@@ -51,8 +51,8 @@ fn tells_of_each_line(rt: HostRuntime) -> Result<(), Fail> {
         let live = view.live_at_close(line);
         told.push(view.last_user(line))?;
         told.push(if live { 1 } else { 0 })?;
-        push_literals(&mut told, view.literals(line))?;
-        push_hints(&mut told, view.hints(line).again())?;
+        push_literals(view.literals(line), &mut told)?;
+        push_hints(view.hints(line).again(), &mut told)?;
     }
     view.is_text();
     for number in 1..=view.depth() + 2 {
@@ -80,11 +80,11 @@ fn reads_item_by_item(rt: HostRuntime) -> Result<(), Fail> {
             for item in Items::new(TWO_LINES) {
                 match item {
                     Item::Line { literals, hints } => {
-                        push_literals(&mut told, literals.again())?;
-                        push_hints(&mut told, hints)?;
+                        push_literals(literals.again(), &mut told)?;
+                        push_hints(hints, &mut told)?;
                     }
-                    Item::Delete { lines } => push_targets(&mut told, lines.again())?,
-                    Item::Close { targets } => push_targets(&mut told, targets)?,
+                    Item::Delete { lines } => push_targets(lines.again(), &mut told)?,
+                    Item::Close { targets } => push_targets(targets, &mut told)?,
                 }
             }
         }
