@@ -14,7 +14,9 @@ pub struct Pace {
 
 impl Pace {
     /// A thousand times, and no conflict.
-    pub fn new() -> Self {
+    pub fn new() -> Self
+        ensures { result ≡ record { left = 1000; conflicts = 0 } }
+    {
         Pace {
             left: 1000,
             conflicts: 0,
