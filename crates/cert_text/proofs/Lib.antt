@@ -23,3 +23,5 @@ pub mod ItemLines
 pub mod Views
 pub mod Shutting
 pub mod Marking
+pub mod InOrder
+pub mod Between

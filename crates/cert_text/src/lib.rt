@@ -2,6 +2,7 @@
 //! where.
 #![tactic(auto)]
 
+mod blocks;
 mod finding;
 pub mod glance;
 pub mod item;

@@ -1,9 +1,10 @@
 // Short numbers, gone over at once. Most bytes of a certificate are those of hints and literals of a few
 // digits, which fit whatever their digits are: the pass need not know their values. What is not so is left
-// to the pass, byte by byte.
+// to the pass, byte by byte. Hints, which are most of all, are gone over by blocks first.
 ghost use Rattle.std.specs.Prelude.{◌≡◌, ◌↔◌, ◌⊎◌, ◌<◌, ◌≤◌, [], length, All, IsTrue, IfSome};
 ghost use Rattle.cert_text.specs.Skipped.{between, IsDigit, IsSign, AreShort, digits_at};
 
+use crate::blocks::block_numbers_end;
 use crate::scanning::Place;
 
 #[inline(always)]
@@ -78,6 +79,18 @@ fn numbers_end(bytes: &[u8], at: usize, most: usize) -> usize
     end
 }
 
+/// The place behind numbers of at most 19 digits that stand from `at` on.
+#[inline(always)]
+fn hints_end(bytes: &[u8], at: usize) -> usize
+    requires { at ≤ length bytes.now }
+    ensures from { at ≤ result }
+    ensures within { result ≤ length bytes.now }
+    ensures numbers { AreShort 19 (between bytes.now at result) }
+{
+    let blocks = block_numbers_end(bytes, at);
+    numbers_end(bytes, blocks, 19)
+}
+
 /// Up to where the pass, which has come to a place, goes on at once: it is at the same place then.
 #[inline(always)]
 pub fn skip(bytes: &[u8], at: usize, left: &'static [u8], place: Place) -> usize
@@ -92,7 +105,7 @@ pub fn skip(bytes: &[u8], at: usize, left: &'static [u8], place: Place) -> usize
     }
     match place {
         Place::Literal(_) => numbers_end(bytes, at, 7),
-        Place::Hint(_) => numbers_end(bytes, at, 19),
+        Place::Hint(_) => hints_end(bytes, at),
         _ => at,
     }
 }
