@@ -4,7 +4,8 @@ ghost use Rattle.std.specs.Prelude.{◌≡◌, IfSome};
 ghost use Rattle.enc_layout.specs.Clauses.{clause_list};
 
 use clause_index::{Indexed, stored};
-use cnf_base::{ClauseList, Clauses};
+use cnf_base::Clauses;
+use log_checker::StoredClauses;
 use std::alloc::Global;
 
 /// The most clauses that are stored.
@@ -14,7 +15,7 @@ const MOST: u64 = 1_048_576;
 const PAYS: u64 = 16;
 
 /// The clauses, stored, where a text of so many bytes pays for that and there is memory.
-pub fn stored_for(alloc: Global, clauses: &Indexed<'_>, bytes: usize) -> Option<ClauseList>
+pub fn stored_for(alloc: Global, clauses: &Indexed<'_>, bytes: usize) -> Option<StoredClauses>
     ensures { IfSome result (λ list. list
         ≡ clause_list clauses.now.formula clauses.now.kind clauses.now.depth) }
 {
@@ -22,5 +23,6 @@ pub fn stored_for(alloc: Global, clauses: &Indexed<'_>, bytes: usize) -> Option<
     if count > MOST || count > bytes as u64 / PAYS {
         return None;
     }
-    stored(alloc, clauses).ok()
+    let list = stored(alloc, clauses).ok()?;
+    StoredClauses::of(alloc, list).ok()
 }

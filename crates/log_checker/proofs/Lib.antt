@@ -11,3 +11,4 @@ pub mod Entries
 pub mod Starts
 pub mod AtLine
 pub mod Whole
+pub mod ShortForms

@@ -3,3 +3,4 @@ pub mod Judging
 pub mod Kept
 pub mod Pieces
 pub mod Laws
+pub mod Shorts

@@ -154,7 +154,7 @@ fn of_hint<C: NamedClauses, L: NamedLines>(
 }
 
 /// What the clause of this number is.
-fn of_clause<C: Clauses>(assignment: &Assignment, clauses: &C, number: u64) -> Outcome
+pub(crate) fn of_clause<C: Clauses>(assignment: &Assignment, clauses: &C, number: u64) -> Outcome
     requires from_one { 1 ≤ number }
     requires in_list { number ≤ length (C.clauses clauses.now) }
     requires known { AreKnown (letters_in assignment.now) (C.clauses clauses.now) }

@@ -10,9 +10,11 @@ pub mod live;
 mod outcome;
 mod pieces;
 mod shared;
+pub mod stored;
 
 pub use assignment::Assignment;
 pub use judge::{NamedClauses, with_literal};
 pub use lines::{Lines, Scratch, check_lines};
 pub use live::LiveChecker;
 pub use outcome::Outcome;
+pub use stored::StoredClauses;
