@@ -25,3 +25,4 @@ pub mod Shutting
 pub mod Marking
 pub mod InOrder
 pub mod Between
+pub mod Noughts

@@ -1,12 +1,12 @@
 -- Where a byte, and the 0 behind some literals, stand in a text.
-use Rattle.std.proofs.Common.{◌≡◌, ℕ, ◌+◌, ◌-◌, ◌/◌, ◌%◌, ◌<◌, ◌≤◌, inl, inr, Bool, true, false, List, [], ◌∷◌, ◌++◌, length, take, drop, get_or, All, Some, None, refl, sym, ap, subst, ◌∙◌, arith, append_assoc, length-append}
+use Rattle.std.proofs.Common.{◌≡◌, ℕ, ◌+◌, ◌-◌, ◌/◌, ◌%◌, ◌<◌, ◌≤◌, inl, inr, Bool, true, false, List, [], ◌∷◌, ◌++◌, length, take, drop, get_or, All, Some, None, sym, ap, subst, ◌∙◌, arith, append_assoc, length-append}
 use Rattle.std.specs.Prelude.{codes, decimal}
 use Rattle.std.specs.List.{flat_map}
 use Rattle.std.proofs.Math.Seq.{get_or-append_seam}
 use Rattle.std.proofs.lemmas.Bool.{cases_order, eq-eqb, eqb-true}
 use Rattle.std.proofs.lemmas.Fmt.{decimal_by_steps, decimal_nonempty}
 use Rattle.std.proofs.lemmas.List.{get_or_append_left, get_or-append-add, get_or-take, get_or-drop, length-drop, length-take-le}
-use Rattle.std.proofs.lemmas.List.Elements.{All-nil, All-head, All-tail, All-push, All-append}
+use Rattle.std.proofs.lemmas.List.Elements.{All-nil, All-push, All-append}
 use Rattle.memchr.specs.Find.{IsFirstByte, Nowhere, Passes, is_byte}
 use Rattle.cnf_base.specs.declared.literal.Literal.{Literal}
 use Rattle.cert_text.specs.Text.{greatest_u64, IsLiteral, sign_text, literal_text}
@@ -83,7 +83,7 @@ first_positive n some few = decimal_by_steps P one more n (omega (arith, few)) s
     more n [] big before some few = absurd (let low = before (omega (arith, big)) (omega (arith, few)) in omega (arith, low))
     more n (d ∷ ds) big before some few = before (omega (arith, big)) (omega (arith, few))
 
-word_first : (l : Literal) (more : List ℕ) → IsLiteral l → get_or (word_of l ++ more) 0 0 ≡ 48 → ⊥
+pub word_first : (l : Literal) (more : List ℕ) → IsLiteral l → get_or (word_of l ++ more) 0 0 ≡ 48 → ⊥
 word_first l more is = go l.negated
   where
     go : (negated : Bool) → get_or ((sign_text negated ++ decimal l.letter.0) ++ more) 0 0 ≡ 48 → ⊥
@@ -94,73 +94,11 @@ word_first l more is = go l.negated
         let high = first_positive l.letter.0 is.0 (omega (arith, is)) in
         omega (arith, left, high, e)
 
--- literals stand from here on, and then the 0 behind them, at the place `nought`
-pub record Remaining (bytes : List ℕ) (at nought : ℕ) : Type 0 where
-  pub before : List ℕ
-  pub literals : List Literal
-  pub more : List ℕ
-  pub all : All IsLiteral literals
-  pub spelled : bytes ≡ before ++ (flat_map literal_text literals ++ 48 ∷ more)
-  pub place : length before ≡ at
-  pub behind : at + length (flat_map literal_text literals) ≡ nought
-
-word_spelled : (l : Literal) (ls : List Literal) (more : List ℕ) → flat_map literal_text (l ∷ ls) ++ 48 ∷ more ≡ word_of l ++ 32 ∷ (flat_map literal_text ls ++ 48 ∷ more)
+pub word_spelled : (l : Literal) (ls : List Literal) (more : List ℕ) → flat_map literal_text (l ∷ ls) ++ 48 ∷ more ≡ word_of l ++ 32 ∷ (flat_map literal_text ls ++ 48 ∷ more)
 word_spelled l ls more =
     append_assoc (literal_text l) (flat_map literal_text ls) (48 ∷ more)
     ∙ apart (sign_text l.negated) (decimal l.letter.0) (codes " ") (flat_map literal_text ls ++ 48 ∷ more)
     ∙ sym (append_assoc (sign_text l.negated) (decimal l.letter.0) (32 ∷ (flat_map literal_text ls ++ 48 ∷ more)))
-
--- one literal further
-pub remaining_more : (bytes : List ℕ) (at nought end : ℕ) → at < length bytes → (get_or bytes at 0 ≡ 48 → ⊥)
-    → ((before word more : List ℕ) → All (λ b. b ≡ 32 → ⊥) word → bytes ≡ before ++ (word ++ 32 ∷ more) → length before ≡ at → end ≡ at + length word)
-    → Remaining bytes at nought → Remaining bytes (end + 1) nought
-remaining_more bytes at nought end low other found it = go it.literals it.all it.spelled it.behind
-  where
-    go : (ls : List Literal) → All IsLiteral ls → bytes ≡ it.before ++ (flat_map literal_text ls ++ 48 ∷ it.more) → at + length (flat_map literal_text ls) ≡ nought → Remaining bytes (end + 1) nought
-    go [] all is zero_at = absurd (other (
-        ap (λ x. get_or x at 0) is ∙ ap (λ k. get_or (it.before ++ 48 ∷ it.more) k 0) (sym it.place) ∙ get_or-append_seam it.before 48 it.more 0))
-    go (l ∷ ls) all is zero_at =
-        let rest : List ℕ = flat_map literal_text ls ++ 48 ∷ it.more in
-        let word = word_of l in
-        let high = word_high l (All-head IsLiteral l ls all) in
-        let apart_is : bytes ≡ it.before ++ (word ++ 32 ∷ rest) = is ∙ ap (λ x. it.before ++ x) (word_spelled l ls it.more) in
-        let end_is : end ≡ at + length word = found it.before word rest (λ k d inside. λ e. (let h = high k d inside in omega (arith, h, e))) apart_is it.place in
-        let long : length (flat_map literal_text (l ∷ ls)) ≡ length word + 1 + length (flat_map literal_text ls) =
-        (let one = ap length (word_spelled l ls it.more) in
-        let two = length-append (flat_map literal_text (l ∷ ls)) (48 ∷ it.more) in
-        let three = length-append word (32 ∷ rest) in
-        let four = length-append (flat_map literal_text ls) (48 ∷ it.more) in
-        omega (arith, one, two, three, four)) in record {
-          before = it.before ++ (word ++ 32 ∷ []);
-          literals = ls;
-          more = it.more;
-          all = All-tail IsLiteral l ls all;
-          spelled = apart_is ∙ ap (λ x. it.before ++ x) (sym (append_assoc word (32 ∷ []) rest)) ∙ sym (append_assoc it.before (word ++ 32 ∷ []) rest);
-          place = (let one = length-append it.before (word ++ 32 ∷ []) in let two = length-append word (32 ∷ []) in omega (arith, one, two, end_is, it.place));
-          behind = omega (arith, end_is, long, zero_at);
-        }
-
--- at the 0
-pub remaining_none : (bytes : List ℕ) (at nought : ℕ) → (at < length bytes → get_or bytes at 0 ≡ 48) → Remaining bytes at nought → at ≡ nought
-remaining_none bytes at nought stops it = go it.literals it.all it.spelled it.behind
-  where
-    go : (ls : List Literal) → All IsLiteral ls → bytes ≡ it.before ++ (flat_map literal_text ls ++ 48 ∷ it.more) → at + length (flat_map literal_text ls) ≡ nought → at ≡ nought
-    go [] all is zero_at = omega (arith, zero_at)
-    go (l ∷ ls) all is zero_at =
-        let rest : List ℕ = flat_map literal_text ls ++ 48 ∷ it.more in
-        let apart_is : bytes ≡ it.before ++ (word_of l ++ 32 ∷ rest) = is ∙ ap (λ x. it.before ++ x) (word_spelled l ls it.more) in
-        let one = length-append it.before (word_of l ++ 32 ∷ rest) in
-        let two = length-append (word_of l) (32 ∷ rest) in
-        let here = stops (omega (arith, one, two, ap length apart_is, it.place)) in
-        let same : get_or bytes at 0 ≡ get_or (word_of l ++ 32 ∷ rest) 0 0 =
-        ap (λ x. get_or x at 0) apart_is ∙ ap (λ k. get_or (it.before ++ (word_of l ++ 32 ∷ rest)) k 0) (let e : at ≡ length it.before + 0 = omega (arith, it.place) in e)
-        ∙ get_or-append-add it.before (word_of l ++ 32 ∷ rest) 0 0 in
-        absurd (word_first l (32 ∷ rest) (All-head IsLiteral l ls all) (sym same ∙ here))
-
--- before the first one
-pub remaining_all : (line : List ℕ) (literals : List Literal) (more : List ℕ) → All IsLiteral literals → line ≡ flat_map literal_text literals ++ 48 ∷ more
-    → Remaining line 0 (length (flat_map literal_text literals))
-remaining_all line literals more all is = record { before = []; literals = literals; more = more; all = all; spelled = is; place = refl; behind = omega arith }
 
 -- a slice from a place on, read
 slice_at : (bytes hay : List ℕ) (at k : ℕ) → hay ≡ take (length bytes - at) (drop at bytes) → at + k < length bytes → get_or hay k 0 ≡ get_or bytes (at + k) 0

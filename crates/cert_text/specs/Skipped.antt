@@ -54,3 +54,7 @@ HasSpace bytes from to = (m : ℕ) × (from ≤ m) × (m < to) × (get_or bytes 
 -- from any place on, so that 8 bytes are left, a space is among the first 16
 abbrev pub AreSpaced : List ℕ → ℕ → ℕ → Type 0
 AreSpaced bytes from to = (k : ℕ) → from ≤ k → k + 8 ≤ to → (m : ℕ) × (k ≤ m) × (m < k + 16) × (m < to) × (get_or bytes m 0 ≡ 32)
+
+-- no 0 from one place up to another stands behind a space
+abbrev pub HasNoNought : List ℕ → ℕ → ℕ → Type 0
+HasNoNought bytes from to = (k : ℕ) → from ≤ k → k < to → get_or bytes k 0 ≡ 48 → get_or bytes (k - 1) 0 ≡ 32 → ⊥

@@ -6,7 +6,7 @@ ghost use Rattle.cert_text.specs.Skipped.{between, AreShort, AreInOrder, HasSpac
 use std::simd::prelude::*;
 
 /// How many bytes are gone over at once.
-const BLOCK: usize = 16;
+pub(crate) const BLOCK: usize = 16;
 
 /// How many of them have to have a space among them.
 const HALF: usize = 8;

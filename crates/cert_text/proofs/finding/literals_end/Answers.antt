@@ -1,19 +1,20 @@
-use Rattle.std.proofs.Common.{length, arith}
+use Rattle.std.proofs.Common.{◌∷◌, length, ap, sym, ◌∙◌, arith, length-append}
 use Rattle.std.specs.List.{flat_map}
+use Rattle.std.proofs.lemmas.Bool.{eqb-true}
 use Rattle.cert_text.specs.Text.{literal_text}
-use Rattle.cert_text.proofs.Sought.{remaining_all, remaining_more, remaining_none}
+use Rattle.cert_text.proofs.Noughts.{nought_is, nought_first, none_more}
 use Rattle.cert_text.proofs.finding.literals_end.Goals as goal
 
-pub loop-end-preserved : goal.loop-end-preserved
-loop-end-preserved c nought it =
-    remaining_more c.args.line.now c.loop-end.end nought c.find_near-end.result c.loop-end-test.true c.if-line-end-ne48.true c.find_near-end.ensures.first (c.loop-end.invariant nought it)
+pub returns-then-is_empty : goal.returns-then-is_empty
+returns-then-is_empty c literals more all is =
+    let none = eqb-true (length c.args.line.now) 0 (sym c.is_empty.ensures ∙ c.if-is_empty.true) in
+    absurd (omega (arith, none, ap length is, length-append (flat_map literal_text literals) (48 ∷ more)))
 
-pub returns-else-line-end-ne48 : goal.returns-else-line-end-ne48
-returns-else-line-end-ne48 c literals more all is =
-    let nought = length (flat_map literal_text literals) in
-    remaining_none c.args.line.now c.loop-end.end nought (λ low. c.if-line-end-ne48.false) (c.loop-end.invariant nought (remaining_all c.args.line.now literals more all is))
+pub returns-then-line-eq48 : goal.returns-then-line-eq48
+returns-then-line-eq48 c literals more all is = nought_first c.args.line.now literals more all is c.if-line-eq48.true
 
-pub returns-after-loop-end : goal.returns-after-loop-end
-returns-after-loop-end c literals more all is =
-    let nought = length (flat_map literal_text literals) in
-    remaining_none c.args.line.now c.loop-end.end nought (λ low. absurd (omega (arith, low, c.loop-end-test.false))) (c.loop-end.invariant nought (remaining_all c.args.line.now literals more all is))
+pub returns : goal.returns
+returns c literals more all is =
+    let line = c.args.line.now in
+    nought_is line literals more c.nought_from.result all is c.if-line-eq48.false (omega (arith, c.blocks_end-end.ensures.from, c.nought_from.ensures.from))
+    (none_more line 1 c.blocks_end-end.result c.nought_from.result c.blocks_end-end.ensures.none c.nought_from.ensures.none) c.nought_from.ensures.stops
