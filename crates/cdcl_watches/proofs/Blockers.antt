@@ -1,11 +1,11 @@
 -- Each watcher's blocker stays a literal of its clause.
 use Rattle.std.proofs.Common.{◌≡◌, ℕ, ◌<◌, ◌-◌, inl, inr, List, [], ◌∷◌, ◌++◌, map, take, set, All, Contains, length, get_or, refl, sym, ap₂, subst, arith, get_or-set_same, get_or-set_other}
-use Rattle.std.specs.List.{swap, swap_remove}
+use Rattle.std.specs.List.{remove, swap}
 use Rattle.std.proofs.lemmas.Bool.{cases_lt, cases_eq}
 use Rattle.std.proofs.lemmas.List.{get_or_past, get_or_append_left}
 use Rattle.std.proofs.lemmas.List.Elements.{All-set, All-push, All-take, All-nil, All-head, All-tail, All-from_get_or, Contains-get_or, Contains-append_left}
 use Rattle.cnf_base.specs.declared.literal.Literal.{Literal}
-use Rattle.cdcl_watches.specs.declared.watch_lists.Watcher.{Watcher}
+use Rattle.cdcl_watches.specs.declared.watcher.Watcher.{Watcher}
 use Rattle.cdcl_watches.specs.Watching.{clause_of, IsWatching}
 use Rattle.cdcl_watches.specs.Watchers.{nobody, clause_number, numbers, blocker_of, IsBlocking, AreBlockers}
 use Rattle.cdcl_watches.proofs.Codes.{literal_at}
@@ -54,12 +54,12 @@ module _ (heads : List ℕ) (clauses : List (List Literal)) (lists : List (List 
       let ws = get_or lists k [] in
       All-set (All (IsBlocking heads clauses)) lists k (take (length ws - 1) ws) (All-take (IsBlocking heads clauses) (length ws - 1) ws (blocking_list heads clauses lists k are)) are
 
-  pub blockers_swap_remove : (i : ℕ) → i < length (get_or lists k []) → AreBlockers heads clauses (set lists k (swap_remove (get_or lists k []) i nobody))
-  blockers_swap_remove i low =
+  pub blockers_remove : (i : ℕ) → i < length (get_or lists k []) → AreBlockers heads clauses (set lists k (remove (get_or lists k []) i))
+  blockers_remove i low =
       let ws = get_or lists k [] in
-      All-set (All (IsBlocking heads clauses)) lists k (swap_remove ws i nobody)
+      All-set (All (IsBlocking heads clauses)) lists k (remove ws i)
       (λ j d below.
-      let before = place_before ws i nobody low j (omega (arith, below, length-removed ws i nobody low)) in
+      let before = place_before ws i low j (omega (arith, below, length-removed ws i low)) in
       subst (IsBlocking heads clauses) (sym (before.3 d)) (blocking_list heads clauses lists k are before.0 d before.1))
       are
 

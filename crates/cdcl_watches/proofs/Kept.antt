@@ -4,7 +4,7 @@ use Rattle.std.specs.List.{swap}
 use Rattle.std.proofs.lemmas.List.{length_push}
 use Rattle.std.proofs.lemmas.List.Elements.{All-push, All-take, All-nil, Contains-get_or}
 use Rattle.cnf_base.specs.declared.literal.Literal.{Literal}
-use Rattle.cdcl_watches.specs.declared.watch_lists.Watcher.{Watcher}
+use Rattle.cdcl_watches.specs.declared.watcher.Watcher.{Watcher}
 use Rattle.cdcl_watches.specs.Watching.{code, list_of, clause_of, IsWatching, IsWidened, WatchValue, blank}
 use Rattle.cdcl_watches.specs.Watchers.{nobody, clause_number, numbers, blocker_of, IsBlocking, AreBlockers, AreWatchers}
 use Rattle.cdcl_watches.specs.Heads.{number_of}

@@ -2,6 +2,7 @@ pub mod Codes
 pub mod Buffer
 pub mod HeadNumbers
 pub mod Removed
+pub mod Gap
 pub mod Moves
 pub mod ListEdits
 pub mod Pieces
@@ -12,3 +13,4 @@ pub mod Blockers
 pub mod Kept
 pub mod Rewatched
 pub mod AddedWatchers
+pub mod Walks

@@ -1,6 +1,6 @@
 -- Two literals of a clause change places, and another literal is watched.
 use Rattle.std.proofs.Common.{◌≡◌, ◌≢◌, ℕ, ◌<◌, ◌≤◌, ◌+◌, ◌*◌, ◌⊎◌, inl, inr, List, [], ◌∷◌, ◌++◌, Bool, true, false, set, All, Contains, length, get_or, refl, sym, ap, ap₂, ◌∙◌, subst, arith, length-set, get_or-set_same, get_or-set_other, if◌then◌else◌}
-use Rattle.std.specs.List.{swap, swap_remove}
+use Rattle.std.specs.List.{remove, swap}
 use Rattle.std.proofs.lemmas.Bool.{cases_lt, cases_eq}
 use Rattle.std.proofs.lemmas.List.{get_or_default, get_or_append_left, get_or_at, length_push}
 use Rattle.std.proofs.lemmas.List.Edits.{swapped_from_swap, length-swap}
@@ -163,7 +163,7 @@ module _ (clauses : List (List Literal)) (lists : List (List ℕ)) (c : ℕ) (wa
   -- the second literal w gives way to the one at j
   pub rewatch_watching : (d w m : Literal) (i j : ℕ) → 2 ≤ j → j < length (clause_of clauses c) → w ≡ get_or (clause_of clauses c) 1 d → m ≡ get_or (clause_of clauses c) j d
       → i < length (list_of lists w) → get_or (list_of lists w) i 0 ≡ c
-      → IsWatching (set clauses c (swap (clause_of clauses c) 1 j)) (set (set lists (code m) (list_of lists m ++ c ∷ [])) (code w) (swap_remove (list_of lists w) i 0))
+      → IsWatching (set clauses c (swap (clause_of clauses c) 1 j)) (set (set lists (code m) (list_of lists m ++ c ∷ [])) (code w) (remove (list_of lists w) i))
   rewatch_watching d w m i j high j_low w_is m_is i_low at =
       let r = clause_of clauses c in
       let s = swap r 1 j in
@@ -171,7 +171,7 @@ module _ (clauses : List (List Literal)) (lists : List (List ℕ)) (c : ℕ) (wa
       let len = length-set clauses c s in
       let slen = length-swap r 1 j in
       let grown = list_of lists m ++ c ∷ [] in
-      let cut = swap_remove (list_of lists w) i 0 in
+      let cut = remove (list_of lists w) i in
       let half = set lists (code m) grown in
       let new = set half (code w) cut in
       let half_len = length-set lists (code m) grown in
@@ -217,7 +217,7 @@ module _ (clauses : List (List Literal)) (lists : List (List ℕ)) (c : ℕ) (wa
                 | inl is_w ↦
                     let in_w = subst (λ x. Contains (list_of lists x) k) is_w old in
                     subst (λ x. Contains (list_of new x) k) (sym is_w) (subst (λ ls. Contains ls k) (sym of_w)
-                    (others_stay (list_of lists w) i 0 i_low k (λ e. other (e ∙ get_or_default (list_of lists w) i k 0 i_low ∙ at)) in_w))
+                    (others_stay (list_of lists w) i i_low k (λ e. other (e ∙ get_or_default (list_of lists w) i k 0 i_low ∙ at)) in_w))
                 | inr not_w ↦ elim (same_or_not l m) [
                   | inl is_m ↦ subst (λ x. Contains (list_of new x) k) (sym is_m) (subst (λ ls. Contains ls k) (sym of_m) (Contains-append_left (list_of lists m) (c ∷ []) k (subst (λ x. Contains (list_of lists x) k) is_m old)))
                   | inr not_m ↦ subst (λ ls. Contains ls k) (sym (of_other l not_w not_m)) old
@@ -238,9 +238,9 @@ module _ (clauses : List (List Literal)) (lists : List (List ℕ)) (c : ℕ) (wa
             elim (same_or_not l w) [
               | inl is_w ↦
                   let in_cut = subst (λ ls. Contains ls k) of_w (subst (λ x. Contains (list_of new x) k) is_w there) in
-                  let in_w = removed_from (list_of lists w) i 0 i_low k in_cut in
+                  let in_w = removed_from (list_of lists w) i i_low k in_cut in
                   of_old (subst (λ x. Contains (list_of lists x) k) (sym is_w) in_w)
-                  (λ e. removed_gone (list_of lists w) i 0 i_low (watching.once w) c at_c (subst (Contains cut) e in_cut))
+                  (λ e. removed_gone (list_of lists w) i i_low (watching.once w) c at_c (subst (Contains cut) e in_cut))
               | inr not_w ↦ elim (same_or_not l m) [
                 | inl is_m ↦
                     let in_grown = subst (λ ls. Contains ls k) of_m (subst (λ x. Contains (list_of new x) k) is_m there) in
@@ -257,7 +257,7 @@ module _ (clauses : List (List Literal)) (lists : List (List ℕ)) (c : ℕ) (wa
               ]
             ];
         once = λ l. elim (same_or_not l w) [
-          | inl is_w ↦ subst (λ x. AreApart (list_of new x)) (sym is_w) (subst AreApart (sym of_w) (apart_removed (list_of lists w) i 0 i_low (watching.once w)))
+          | inl is_w ↦ subst (λ x. AreApart (list_of new x)) (sym is_w) (subst AreApart (sym of_w) (apart_removed (list_of lists w) i i_low (watching.once w)))
           | inr not_w ↦ elim (same_or_not l m) [
             | inl is_m ↦ subst (λ x. AreApart (list_of new x)) (sym is_m) (subst AreApart (sym of_m) (apart_pushed (list_of lists m) c c_not_in_m (watching.once m)))
             | inr not_m ↦ subst AreApart (sym (of_other l not_w not_m)) (watching.once l)

@@ -1,11 +1,11 @@
 -- Lists of watchers as lists of the numbers of their clauses, after a change.
-use Rattle.std.proofs.Common.{◌≡◌, ℕ, ◌-◌, List, [], ◌∷◌, ◌++◌, map, take, set, length, get_or, sym, ap, ◌∙◌, append_assoc}
+use Rattle.std.proofs.Common.{◌≡◌, ℕ, suc, ◌-◌, List, [], ◌∷◌, ◌++◌, map, take, drop, set, length, get_or, sym, ap, ap₂, ◌∙◌, append_assoc}
 use Rattle.std.proofs.Math.ListN.{get_or-map}
 use Rattle.std.proofs.Math.Seq.{map-set_same}
-use Rattle.std.specs.List.{swap_remove}
-use Rattle.std.proofs.lemmas.List.{map-set, map-append, length-map, take-map}
+use Rattle.std.specs.List.{remove}
+use Rattle.std.proofs.lemmas.List.{map-set, map-append, length-map, take-map, drop-map}
 use Rattle.cnf_base.specs.declared.literal.Literal.{Literal}
-use Rattle.cdcl_watches.specs.declared.watch_lists.Watcher.{Watcher}
+use Rattle.cdcl_watches.specs.declared.watcher.Watcher.{Watcher}
 use Rattle.cdcl_watches.specs.Watching.{code, list_of}
 use Rattle.cdcl_watches.specs.Watchers.{nobody, clause_number, numbers}
 
@@ -39,16 +39,11 @@ module _ (heads : List ℕ) (none : clause_number heads nobody ≡ 0) where
       numbers_edit lists k _ (λ ns. take (length ns - 1) ns)
       (sym (take-map (clause_number heads) (length ws - 1) ws) ∙ ap (λ n. take (n - 1) (map (clause_number heads) ws)) (sym (length-map ws (clause_number heads))))
 
-  pub numbers_swap_remove : (lists : List (List Watcher)) (k i : ℕ)
-      → numbers heads (set lists k (swap_remove (get_or lists k []) i nobody)) ≡ set (numbers heads lists) k (swap_remove (get_or (numbers heads lists) k []) i 0)
-  numbers_swap_remove lists k i = numbers_edit lists k _ (λ ns. swap_remove ns i 0) (removed (get_or lists k []))
+  pub numbers_remove : (lists : List (List Watcher)) (k i : ℕ) → numbers heads (set lists k (remove (get_or lists k []) i)) ≡ set (numbers heads lists) k (remove (get_or (numbers heads lists) k []) i)
+  numbers_remove lists k i = numbers_edit lists k _ (λ ns. remove ns i) (removed (get_or lists k []))
     where
-      removed : (ws : List Watcher) → map (clause_number heads) (swap_remove ws i nobody) ≡ swap_remove (map (clause_number heads) ws) i 0
-      removed ws =
-          let last = get_or ws (length ws - 1) nobody in
-          sym (take-map (clause_number heads) (length ws - 1) (set ws i last))
-          ∙ ap (take (length ws - 1)) (map-set (clause_number heads) ws i last ∙ ap (set (map (clause_number heads) ws) i) (sym (get_or-map (clause_number heads) ws (length ws - 1) nobody) ∙ ap (get_or (map (clause_number heads) ws) (length ws - 1)) none))
-          ∙ ap (λ n. take (n - 1) (set (map (clause_number heads) ws) i (get_or (map (clause_number heads) ws) (n - 1) 0))) (sym (length-map ws (clause_number heads)))
+      removed : (ws : List Watcher) → map (clause_number heads) (remove ws i) ≡ remove (map (clause_number heads) ws) i
+      removed ws = map-append (clause_number heads) (take i ws) (drop (suc i) ws) ∙ ap₂ ◌++◌ (sym (take-map (clause_number heads) i ws)) (sym (drop-map (clause_number heads) (suc i) ws))
 
   -- a watcher of the same clause is put at a place
   pub numbers_refreshed : (lists : List (List Watcher)) (k i : ℕ) (w : Watcher) → clause_number heads w ≡ clause_number heads (get_or (get_or lists k []) i nobody)

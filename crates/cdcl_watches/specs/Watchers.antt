@@ -1,9 +1,10 @@
 -- Watchers: where a clause stands, and a literal of it.
-use Rattle.std.specs.Prelude.{◌≡◌, ℕ, List, map, All, Contains}
+use Rattle.std.specs.Prelude.{◌≡◌, ℕ, ◌<◌, ◌≤◌, List, [], length, map, All, Contains, slice_index_or, slice_set}
+use Rattle.std.specs.List.{remove_range}
 use Rattle.cnf_base.specs.declared.literal.Literal.{Literal}
-use Rattle.cdcl_watches.specs.declared.watch_lists.Watcher.{Watcher}
-use Rattle.cdcl_watches.specs.Watching.{literal_of, clause_of, IsWatching}
-use Rattle.cdcl_watches.specs.Heads.{number_of}
+use Rattle.cdcl_watches.specs.declared.watcher.Watcher.{Watcher}
+use Rattle.cdcl_watches.specs.Watching.{literal_of, clause_of, IsWatching, WatchValue}
+use Rattle.cdcl_watches.specs.Heads.{number_of, ArenaValue}
 
 -- what a read past the end would give
 abbrev pub nobody : Watcher
@@ -35,3 +36,18 @@ pub record AreWatchers (heads : List ℕ) (clauses : List (List Literal)) (lists
   pub none : clause_number heads nobody ≡ 0
   pub watching : IsWatching clauses (numbers heads lists)
   pub blockers : AreBlockers heads clauses lists
+
+-- the lists, one of them without its places from kept to next
+abbrev pub without : List (List Watcher) → ℕ → ℕ → ℕ → List (List Watcher)
+without lists k kept next = slice_set lists k (remove_range (slice_index_or lists k []) kept next)
+
+-- a walk stands in a list: the watchers before kept stay there, those from next on are still to come, and what is between counts for nothing
+pub record IsWalked (arena : ArenaValue) (lists : List (List Watcher)) (k kept next : ℕ) : Type 0 where
+  pub known : k < length lists
+  pub order : kept ≤ next
+  pub inside : next ≤ length (slice_index_or lists k [])
+  pub watchers : AreWatchers arena.heads arena.clauses (without lists k kept next)
+
+-- the clauses and the lists as they are where the walk stands
+abbrev pub walked : ArenaValue → List (List Watcher) → ℕ → ℕ → ℕ → WatchValue
+walked arena lists k kept next = record { clauses = arena.clauses; lists = numbers arena.heads (without lists k kept next) }

@@ -5,5 +5,7 @@
 pub mod arena;
 pub mod clause;
 pub mod coded;
+pub mod walk;
 pub mod watch_lists;
+pub mod watcher;
 pub mod watches;

@@ -1,37 +1,14 @@
-// For each literal the list of the clauses that watch it. A watcher carries, beside the place of its clause,
-// a literal of it: where that literal is true the clause need not be looked at, which saves most reads of
-// clauses. After Sorensson and Een, MiniSat 2.1 (2008).
-ghost use Rattle.std.specs.Prelude.{◌≡◌, ℕ, ◌+◌, ◌-◌, ◌<◌, ◌≤◌, ◌^◌, List, [], ◌∷◌, ◌++◌, length, take, if◌then◌else◌, is_ok, slice_index_or, slice_set};
-ghost use Rattle.std.specs.List.{swap_remove};
-ghost use Rattle.cdcl_watches.specs.Watching.{code};
-ghost use Rattle.cdcl_watches.specs.Watchers.{nobody, blocker_of};
+// For each literal the list of the clauses that watch it.
+ghost use Rattle.std.specs.Prelude.{◌≡◌, ◌+◌, ◌-◌, ◌<◌, ◌≤◌, ◌^◌, List, [], ◌∷◌, ◌++◌, length, take, if◌then◌else◌, is_ok, slice_index_or, slice_set};
+ghost use Rattle.std.specs.List.{remove_range};
+ghost use Rattle.cdcl_watches.specs.Watchers.{nobody, without};
 
-use crate::coded::{Code, encode};
-use cnf_base::Literal;
+use crate::watcher::Watcher;
 use std::alloc::{AllocError, Global};
 use std::marker::Model;
 
 /// As many lists as there are numbers of 32 bits.
 const MAX_LISTS: usize = 4294967296;
-
-/// The head of a clause that watches a literal, and some literal of that clause.
-#[derive(Clone, Copy, Drop)]
-pub struct Watcher {
-    pub head: u32,
-    pub blocker: Code,
-}
-
-/// The clause of this head with this literal of it.
-pub fn watch(head: u32, blocker: Literal) -> Watcher
-    requires { code blocker < 2 ^ 32 }
-    ensures head { result.head ≡ head }
-    ensures blocker { blocker_of result ≡ blocker }
-{
-    Watcher {
-        head,
-        blocker: encode(blocker),
-    }
-}
 
 /// Lists of watchers, one for each literal. There is room for 4,294,967,296 of them, so many as there are
 /// codes.
@@ -42,7 +19,7 @@ pub struct WatchLists {
 
 impl Model for WatchLists {
     ghost use Rattle.std.specs.Prelude.{◌≤◌, ◌^◌, List, map, length};
-    ghost use Rattle.cdcl_watches.specs.declared.watch_lists.Watcher.{Watcher};
+    ghost use Rattle.cdcl_watches.specs.declared.watcher.Watcher.{Watcher};
 
     ghost Value = { List (List Watcher) };
 
@@ -138,13 +115,41 @@ impl WatchLists {
         self.lists[list].truncate(count);
     }
 
-    /// Takes the watcher at a place off a list; the last takes its place.
-    pub fn swap_remove(&mut self, list: usize, place: usize)
+    /// Takes the watchers from `kept` to `next` out of a list; the others keep their order.
+    pub fn close(&mut self, list: usize, kept: usize, next: usize)
         requires list { list < length self.old }
-        requires place { place < length (slice_index_or self.old list []) }
-        ensures { self.new ≡ slice_set self.old list (swap_remove
-            (slice_index_or self.old list []) place nobody) }
+        requires order { kept ≤ next }
+        requires within { next ≤ length (slice_index_or self.old list []) }
+        ensures { self.new ≡ without self.old list kept next }
     {
-        self.lists[list].swap_remove(place);
+        if kept == next {
+            return;
+        }
+        shut(&mut self.lists[list], kept, next);
     }
+}
+
+/// Moves the items from `next` on down to `kept`.
+fn carry(items: &mut Vec<Watcher>, kept: usize, next: usize)
+    requires order { kept ≤ next }
+    requires within { next ≤ length items.old.items }
+    ensures len { length items.new.items ≡ length items.old.items }
+    ensures rest { take (kept + (length items.old.items - next)) items.new.items
+        ≡ remove_range items.old.items kept next }
+{
+    let count = items.len() - next;
+    for i in 0..count {
+        items[kept + i] = items[next + i];
+    }
+}
+
+/// Takes the items from `kept` to `next` out.
+fn shut(items: &mut Vec<Watcher>, kept: usize, next: usize)
+    requires order { kept ≤ next }
+    requires within { next ≤ length items.old.items }
+    ensures { items.new.items ≡ remove_range items.old.items kept next }
+{
+    let count = items.len() - next;
+    carry(items, kept, next);
+    items.truncate(kept + count);
 }

@@ -3,13 +3,11 @@
 // Zhao, Zhang and Malik, Chaff (2001). Each place of a list also gives a literal of its clause; contracts
 // promise no more of which one it is.
 ghost use Rattle.std.specs.Prelude.{◌≡◌, ℕ, ◌+◌, ◌-◌, ◌<◌, ◌≤◌, List, [], ◌∷◌, ◌++◌, length, All, Contains, if◌then◌else◌, is_ok, slice_index_or, slice_set};
-ghost use Rattle.std.specs.List.{swap, swap_remove};
 ghost use Rattle.cdcl_watches.specs.Watching.{code, list_of, clause_of, IsWatching, AreApart, IsAdded, IsWidened, WatchValue, with_clause, with_lists};
 
 use crate::arena::Arena;
-use crate::clause::Clause;
-use crate::coded::decode;
-use crate::watch_lists::{WatchLists, watch};
+use crate::watch_lists::WatchLists;
+use crate::watcher::watch;
 use cnf_base::Literal;
 use std::alloc::{AllocError, Global};
 use std::marker::Model;
@@ -17,8 +15,8 @@ use std::marker::Model;
 /// Clauses, and for each literal the list of those that watch it.
 #[derive(Drop)]
 pub struct Watches {
-    arena: Arena,
-    lists: WatchLists,
+    pub arena: Arena,
+    pub lists: WatchLists,
 }
 
 impl Model for Watches {
@@ -45,112 +43,6 @@ impl Watches {
         ensures { IsWatching self.now.clauses self.now.lists }
     {
         let _ = &self.arena;
-    }
-
-    /// How many clauses watch the literal.
-    pub fn watchers(&self, literal: Literal) -> usize
-        requires { code literal < length self.now.lists }
-        ensures { result ≡ length (list_of self.now.lists literal) }
-    {
-        self.lists.len(number(literal))
-    }
-
-    /// The number of the clause at a place of the literal's list.
-    pub fn watcher(&self, literal: Literal, place: usize) -> usize
-        requires known { code literal < length self.now.lists }
-        requires place { place < length (list_of self.now.lists literal) }
-        ensures { result ≡ slice_index_or (list_of self.now.lists literal) place 0 }
-    {
-        self.arena
-            .number(self.lists.get(number(literal), place).head)
-    }
-
-    /// The clause at a place of the literal's list.
-    pub fn clause(&self, literal: Literal, place: usize) -> Clause<'_>
-        requires known { code literal < length self.now.lists }
-        requires place { place < length (list_of self.now.lists literal) }
-        ensures { result ≡ clause_of self.now.clauses (slice_index_or
-            (list_of self.now.lists literal) place 0) }
-    {
-        self.arena
-            .clause(self.lists.get(number(literal), place).head)
-    }
-
-    /// A literal of the clause at a place of the literal's list: where it is true, the clause need not be
-    /// looked at.
-    pub fn blocker(&self, literal: Literal, place: usize) -> Literal
-        requires known { code literal < length self.now.lists }
-        requires place { place < length (list_of self.now.lists literal) }
-        ensures { Contains (clause_of self.now.clauses
-            (slice_index_or (list_of self.now.lists literal) place 0)) result }
-    {
-        decode(self.lists.get(number(literal), place).blocker)
-    }
-
-    /// Takes the clause's literal at `index` as the blocker at a place of the literal's list.
-    pub fn refresh(&mut self, literal: Literal, place: usize, index: usize)
-        requires known { code literal < length self.old.lists }
-        requires place { place < length (list_of self.old.lists literal) }
-        requires within { index < length (clause_of self.old.clauses
-            (slice_index_or (list_of self.old.lists literal) place 0)) }
-        ensures { self.new ≡ self.old }
-    {
-        let list = number(literal);
-        let head = self.lists.get(list, place).head;
-        self.lists.few();
-        let blocker = self.arena.clause(head).get(index);
-        self.lists.set(list, place, watch(head, blocker));
-    }
-
-    /// The first two literals of the clause at a place of the literal's list change places.
-    pub fn turn(&mut self, literal: Literal, place: usize)
-        requires known { code literal < length self.old.lists }
-        requires place { place < length (list_of self.old.lists literal) }
-        requires long { 2 ≤ length (clause_of self.old.clauses
-            (slice_index_or (list_of self.old.lists literal) place 0)) }
-        ensures clauses { self.new.clauses ≡ slice_set self.old.clauses
-            (slice_index_or (list_of self.old.lists literal) place 0)
-            (swap (clause_of self.old.clauses (slice_index_or (list_of self.old.lists literal) place 0)) 0
-            1) }
-        ensures lists { self.new.lists ≡ self.old.lists }
-    {
-        let head = self.lists.get(number(literal), place).head;
-        self.arena.swap(head, 0, 1);
-    }
-
-    /// Watches the literal at `j` in place of the second, in whose list the clause stands at `place`.
-    pub fn rewatch(
-        &mut self,
-        second: Literal,
-        place: usize,
-        other: Literal,
-        j: usize,
-    ) -> Result<(), AllocError>
-        requires known { code second < length self.old.lists }
-        requires place { place < length (list_of self.old.lists second) }
-        requires high { 2 ≤ j }
-        requires within { j < length (clause_of self.old.clauses
-            (slice_index_or (list_of self.old.lists second) place 0)) }
-        requires second { second ≡ slice_index_or (clause_of self.old.clauses
-            (slice_index_or (list_of self.old.lists second) place 0)) 1 second }
-        requires other { other ≡ slice_index_or (clause_of self.old.clauses
-            (slice_index_or (list_of self.old.lists second) place 0)) j other }
-        ensures clauses { self.new.clauses ≡ (if is_ok result then slice_set self.old.clauses
-            (slice_index_or (list_of self.old.lists second) place 0)
-            (swap (clause_of self.old.clauses (slice_index_or (list_of self.old.lists second) place 0)) 1 j)
-            else self.old.clauses) }
-        ensures lists { self.new.lists ≡ (if is_ok result then slice_set
-            (slice_set self.old.lists (code other) (list_of self.old.lists other
-            ++ slice_index_or (list_of self.old.lists second) place 0 ∷ [])) (code second)
-            (swap_remove (list_of self.old.lists second) place 0) else self.old.lists) }
-    {
-        self.lists.few();
-        let head = self.lists.get(number(second), place).head;
-        let blocker = self.arena.clause(head).get(0);
-        self.lists.push(number(other), watch(head, blocker))?;
-        self.lists.swap_remove(number(second), place);
-        self.arena.swap(head, 1, j);
-        Ok(())
     }
 
     /// Puts the clause behind the others, and watches its first two literals.

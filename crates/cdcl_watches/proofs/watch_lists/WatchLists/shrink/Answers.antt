@@ -1,6 +1,6 @@
 use Rattle.std.proofs.Common.{◌≡◌, ◌-◌, List, length, ap, sym, arith, Vec, Global}
 use Rattle.std.proofs.lemmas.List.{length-map, take-map}
-use Rattle.cdcl_watches.specs.declared.watch_lists.Watcher.{Watcher}
+use Rattle.cdcl_watches.specs.declared.watcher.Watcher.{Watcher}
 use Rattle.cdcl_watches.proofs.watch_lists.WatchLists.shrink.Goals as goal
 
 abbrev items_of : Vec Watcher Global → List Watcher
