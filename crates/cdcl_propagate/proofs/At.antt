@@ -1,6 +1,6 @@
 -- A visit stands at one clause.
 use Rattle.std.proofs.Common.{◌≡◌, ◌≢◌, ℕ, ◌<◌, ◌≤◌, ◌+◌, ◌*◌, ◌-◌, ◌⊎◌, inl, inr, List, [], ◌∷◌, ◌++◌, Option, Some, None, IfSome, take, set, All, Contains, length, get_or, refl, sym, ap, ap₂, ◌∙◌, subst, arith, length-set, get_or-set_same, length-take-le}
-use Rattle.std.specs.List.{swap, swap_remove}
+use Rattle.std.specs.List.{remove, swap}
 use Rattle.std.proofs.lemmas.Bool.{cases_lt, cases_eq}
 use Rattle.std.proofs.lemmas.List.{map-append, get_or_default, get_or_append_left, get_or-take}
 use Rattle.std.proofs.lemmas.List.Edits.{swapped_from_swap, length-swap}
@@ -170,12 +170,12 @@ module _ (inputs lines : List (List Literal)) (names : List Hint) (k i : ℕ) (a
       }
 
   pub at_moved : (v : WatchValue) (j : ℕ) → IsReplacement a.trail (clause_of w.clauses c) j → (m : Literal) → m ≡ get_or (clause_of w.clauses c) j blank → (f : Literal) → f ≡ false_at a.trail k
-      → v.clauses ≡ set w.clauses c (swap (clause_of w.clauses c) 1 j) → v.lists ≡ set (set w.lists (code m) (list_of w.lists m ++ c ∷ [])) (code f) (swap_remove (list_of w.lists f) i 0)
+      → v.clauses ≡ set w.clauses c (swap (clause_of w.clauses c) 1 j) → v.lists ≡ set (set w.lists (code m) (list_of w.lists m ++ c ∷ [])) (code f) (remove (list_of w.lists f) i)
       → IsVisiting inputs lines names k i a v × (list_length a.trail v k + 1 ≡ list_length a.trail w k)
   at_moved v j found m m_is f f_is clauses_is lists_is =
       visit_moved inputs lines names k i a w v c j m at.watching at.low at.known found.behind found.within at.second m_is
       (λ there. found.not_false (subst (λ l. Contains (literals_of a.trail) (opposite l)) m_is there)) clauses_is
-      (lists_is ∙ ap (λ l. set (set w.lists (code m) (list_of w.lists m ++ c ∷ [])) (code l) (swap_remove (list_of w.lists l) i 0)) f_is) at.visiting
+      (lists_is ∙ ap (λ l. set (set w.lists (code m) (list_of w.lists m ++ c ∷ [])) (code l) (remove (list_of w.lists l) i)) f_is) at.visiting
 
   -- the letters of the clause are known
   pub at_letters : All (λ l. l.letter.0 < length a.values) (clause_of w.clauses c)

@@ -1,6 +1,6 @@
 -- What a visit keeps.
 use Rattle.std.proofs.Common.{◌≡◌, ◌≢◌, ℕ, ◌<◌, ◌≤◌, ◌+◌, ◌*◌, ◌⊎◌, inl, inr, List, [], ◌∷◌, ◌++◌, set, Contains, length, get_or, refl, sym, ap, ◌∙◌, subst, arith, length-set, get_or-set_same, get_or-set_other}
-use Rattle.std.specs.List.{swap, swap_remove}
+use Rattle.std.specs.List.{remove, swap}
 use Rattle.std.proofs.lemmas.Bool.{cases_lt, cases_eq}
 use Rattle.std.proofs.lemmas.List.{map-append, get_or_append_left, length_push}
 use Rattle.std.proofs.lemmas.List.Edits.{swapped_from_swap, length-swap}
@@ -132,7 +132,7 @@ module _ (inputs lines : List (List Literal)) (names : List Hint) (k i : ℕ) (a
   pub visit_moved : (v : WatchValue) (c j : ℕ) (m : Literal) → IsWatching w.clauses w.lists → i < length (list_of w.lists (false_at a.trail k)) → c < length w.clauses → 2 ≤ j → j < length (clause_of w.clauses c)
       → false_at a.trail k ≡ get_or (clause_of w.clauses c) 1 blank → m ≡ get_or (clause_of w.clauses c) j blank → ¬ Contains (literals_of a.trail) (opposite m)
       → v.clauses ≡ set w.clauses c (swap (clause_of w.clauses c) 1 j)
-      → v.lists ≡ set (set w.lists (code m) (list_of w.lists m ++ c ∷ [])) (code (false_at a.trail k)) (swap_remove (list_of w.lists (false_at a.trail k)) i 0)
+      → v.lists ≡ set (set w.lists (code m) (list_of w.lists m ++ c ∷ [])) (code (false_at a.trail k)) (remove (list_of w.lists (false_at a.trail k)) i)
       → IsVisiting inputs lines names k i a w → IsVisiting inputs lines names k i a v × (list_length a.trail v k + 1 ≡ list_length a.trail w k)
   visit_moved v c j m watching low known high j_low second_is m_is not_false clauses_is lists_is visiting =
       let T = literals_of a.trail in
@@ -150,7 +150,7 @@ module _ (inputs lines : List (List Literal)) (names : List Hint) (k i : ℕ) (a
       let code_f : code f < length w.lists = subst (λ l. code l < length w.lists) (sym second_is) (watching.fits c known 1 blank (omega arith)) in
       let grown = list_of w.lists m ++ c ∷ [] in
       let half = set w.lists (code m) grown in
-      let new_list : list_of v.lists f ≡ swap_remove ls i 0 = ap (λ x. list_of x f) lists_is ∙ list_same half f (swap_remove ls i 0) (omega (arith, length-set w.lists (code m) grown)) in (
+      let new_list : list_of v.lists f ≡ remove ls i = ap (λ x. list_of x f) lists_is ∙ list_same half f (remove ls i) (omega (arith, length-set w.lists (code m) grown)) in (
         record {
           is_trail = visiting.is_trail;
           stored = subst (λ cs. IsStored inputs lines cs names) (sym clauses_is) (stored_swapped inputs lines w.clauses names c 1 j known (omega arith) (omega arith) visiting.stored);
@@ -164,14 +164,14 @@ module _ (inputs lines : List (List Literal)) (names : List Hint) (k i : ℕ) (a
                 ]
           ];
           within = visiting.within;
-          sized = ap length lists_is ∙ length-set half (code f) (swap_remove ls i 0) ∙ length-set w.lists (code m) grown ∙ visiting.sized;
+          sized = ap length lists_is ∙ length-set half (code f) (remove ls i) ∙ length-set w.lists (code m) grown ∙ visiting.sized;
           done = subst (λ xs. (q : ℕ) → q < i → q < length xs → HasTrue T (clause_of v.clauses (get_or xs q 0))) (sym new_list)
               (λ q from below.
-              let before = place_before ls i 0 low q (omega (arith, below, length-removed ls i 0 low)) in
-              let earlier : before.0 < i = elim before.4 [ inl e ↦ omega (arith, e, from) | inr e ↦ omega (arith, e.1, from) ] in
+              let before = place_before ls i low q (omega (arith, below, length-removed ls i low)) in
+              let earlier : before.0 < i = elim before.4 [ inl e ↦ omega (arith, e.0, e.1) | inr e ↦ omega (arith, e.1, from) ] in
               subst (λ n. HasTrue T (clause_of v.clauses n)) (sym (before.3 0)) (still (get_or ls before.0 0) (visiting.done before.0 earlier before.1)));
         },
-        omega (arith, ap length new_list, length-removed ls i 0 low),
+        omega (arith, ap length new_list, length-removed ls i low),
       )
 
   -- one entry more

@@ -1,5 +1,5 @@
 -- From one place of the trail to the next.
-use Rattle.std.proofs.Common.{◌≡◌, ◌≢◌, ℕ, ◌<◌, ◌≤◌, ◌+◌, ◌-◌, ◌*◌, inl, inr, List, [], ◌++◌, Option, MatchOption, Bool, true, false, None, length, get_or, refl, sym, ap, ◌∙◌, subst, arith, length-append}
+use Rattle.std.proofs.Common.{◌≡◌, ◌≢◌, ℕ, ◌<◌, ◌≤◌, ◌+◌, ◌*◌, inl, inr, List, [], ◌++◌, Option, MatchOption, Bool, true, false, None, length, get_or, refl, sym, ap, ◌∙◌, subst, arith, length-append}
 use Rattle.std.proofs.lemmas.Bool.{cases_lt}
 use Rattle.std.proofs.lemmas.List.{append-nil, append_assoc, get_or_default, get_or_append_left}
 use Rattle.std.proofs.lemmas.List.Elements.{All-nil, All-append}
@@ -7,13 +7,11 @@ use Rattle.cnf_base.specs.declared.literal.Literal.{Literal}
 use Rattle.cnf_base.specs.declared.literal.Hint.{Hint}
 use Rattle.cnf_base.specs.Literal.{opposite}
 use Rattle.cnf_base.proofs.SameLiteral.{opposite_opposite}
-use Rattle.cdcl_trail.specs.Trail.{literals_of, AreValues, IsConflict, blank_entry}
+use Rattle.cdcl_trail.specs.Trail.{literals_of, AreValues, blank_entry}
 use Rattle.cdcl_trail.specs.declared.assigned.Entry.{Entry}
-use Rattle.cdcl_propagate.specs.declared.visit.Visited.{Visited}
-use Rattle.cdcl_propagate.specs.declared.visit.Visited.TheVariants.{Stays, Moved, Conflict}
 use Rattle.cdcl_watches.specs.Watching.{IsWatch, IsWatching, clause_of, list_of, code, WatchValue}
 use Rattle.cdcl_trail.specs.Assigned.{AssignedValue}
-use Rattle.cdcl_propagate.specs.Visit.{HasTrue, IsVisiting, IsVisited, IsReady, IsGrown, false_at, list_length}
+use Rattle.cdcl_propagate.specs.Visit.{HasTrue, IsVisiting, IsReady, IsGrown, false_at}
 
 pub grown_none : (t : List Entry) → IsGrown t t
 grown_none t = record { more = []; trail = sym (append-nil t); forced = All-nil (λ (e : Entry). e.reason ≢ None) }
@@ -79,20 +77,3 @@ list_known values trail k lists are low sized = omega (arith, code_known (false_
 
 pub none_case : {X A : Type 0} (P : X → Type 0) (o : Option X) → o ≡ None → MatchOption o A P → A
 none_case {X} {A} P o is h = let Q : Option X → Type 0 = λ q. MatchOption q A P in subst Q is h
-
--- what a visit left, by what it found
-module _ (inputs lines : List (List Literal)) (names : List Hint) (k i count : ℕ) (a : AssignedValue) (w : WatchValue) (found : Visited) where
-  pub stays_case : found ≡ Stays → IsVisited inputs lines names k i count a w found → IsVisiting inputs lines names k (i + 1) a w × (list_length a.trail w k ≡ count)
-  stays_case is h = subst (IsVisited inputs lines names k i count a w) is h
-
-  pub moved_case : found ≡ Moved → IsVisited inputs lines names k i count a w found → IsVisiting inputs lines names k i a w × (list_length a.trail w k + 1 ≡ count)
-  moved_case is h = subst (IsVisited inputs lines names k i count a w) is h
-
-  pub conflict_case : (hint : Hint) → found ≡ Conflict hint → IsVisited inputs lines names k i count a w found → IsConflict inputs lines (literals_of a.trail) hint
-  conflict_case hint is h = subst (IsVisited inputs lines names k i count a w) is h
-
--- what is left of the list grows shorter
-pub shorter : (old new : List (List ℕ)) (l f g : Literal) (i j : ℕ) → l ≡ f → l ≡ g → i < length (list_of old l)
-    → length (list_of new g) - j < length (list_of old f) - i → length (list_of new l) - j < length (list_of old l) - i
-shorter old new l f g i j of_old of_new low less =
-    omega (arith, less, ap (λ m. length (list_of old m)) of_old, ap (λ m. length (list_of new m)) of_new)

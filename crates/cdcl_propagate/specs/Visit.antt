@@ -1,16 +1,17 @@
 -- What holds while the clauses that watch a false literal are visited.
-use Rattle.std.specs.Prelude.{◌≡◌, ◌≢◌, ℕ, ◌+◌, ◌*◌, ◌<◌, ◌≤◌, ◌⊎◌, ◌++◌, List, Some, None, length, All, Contains, slice_index_or, slice_set}
+use Rattle.std.specs.Prelude.{◌≡◌, ◌≢◌, ℕ, ◌+◌, ◌*◌, ◌<◌, ◌≤◌, ◌⊎◌, ◌++◌, List, [], Some, None, length, All, Contains, slice_index_or, slice_set}
 use Rattle.std.specs.List.{swap}
 use Rattle.cnf_base.specs.declared.literal.Literal.{Literal}
 use Rattle.cnf_base.specs.declared.literal.Hint.{Hint}
 use Rattle.cnf_base.specs.declared.literal.Hint.TheVariants.{Clause}
 use Rattle.cnf_base.specs.Literal.{opposite}
 use Rattle.cnf_base.specs.Step.{named}
-use Rattle.cdcl_trail.specs.Trail.{literals_of, IsTrail, IsConflict, literal_at}
+use Rattle.cdcl_trail.specs.Trail.{literals_of, IsTrail, literal_at}
 use Rattle.cdcl_trail.specs.declared.assigned.Entry.{Entry}
-use Rattle.cdcl_propagate.specs.declared.visit.Visited.{Visited}
-use Rattle.cdcl_propagate.specs.declared.visit.Visited.TheVariants.{Stays, Moved, Conflict}
+use Rattle.cdcl_watches.specs.declared.watcher.Watcher.{Watcher}
 use Rattle.cdcl_watches.specs.Watching.{IsWatch, clause_of, list_of, WatchValue, blank}
+use Rattle.cdcl_watches.specs.Heads.{ArenaValue}
+use Rattle.cdcl_watches.specs.Watchers.{walked}
 use Rattle.cdcl_trail.specs.Assigned.{AssignedValue}
 
 -- the two clauses have the same literals
@@ -56,11 +57,15 @@ pub record IsVisiting (inputs lines : List (List Literal)) (names : List Hint) (
 abbrev pub list_length : List Entry → WatchValue → ℕ → ℕ
 list_length trail w k = length (list_of w.lists (false_at trail k))
 
--- what a visit of the clause at i leaves: it is done and stays, or the list is shorter by it, or it is false
-abbrev pub IsVisited : List (List Literal) → List (List Literal) → List Hint → ℕ → ℕ → ℕ → AssignedValue → WatchValue → Visited → Type 0
-IsVisited inputs lines names k i count a w Stays = IsVisiting inputs lines names k (i + 1) a w × (list_length a.trail w k ≡ count)
-IsVisited inputs lines names k i count a w Moved = IsVisiting inputs lines names k i a w × (list_length a.trail w k + 1 ≡ count)
-IsVisited inputs lines names k i count a w (Conflict hint) = IsConflict inputs lines (literals_of a.trail) hint
+-- clauses that are watched by these lists
+abbrev pub watched_by : List (List Literal) → List (List ℕ) → WatchValue
+watched_by clauses lists = record { clauses = clauses; lists = lists }
+
+-- the walk went on by one watcher of the list, whose length is still count, and all those that it kept are done
+pub record IsPassed (inputs lines : List (List Literal)) (names : List Hint) (k before count : ℕ) (a : AssignedValue) (arena : ArenaValue) (lists : List (List Watcher)) (list kept next : ℕ) : Type 0 where
+  pub visiting : IsVisiting inputs lines names k kept a (walked arena lists list kept next)
+  pub on : next ≡ before + 1
+  pub same : length (slice_index_or lists list []) ≡ count
 
 -- entries that have reasons were put behind the trail
 pub record IsGrown (old new : List Entry) : Type 0 where

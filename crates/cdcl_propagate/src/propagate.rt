@@ -4,15 +4,64 @@
 ghost use Rattle.std.specs.Prelude.{◌≡◌, ◌≢◌, ℕ, ◌+◌, ◌-◌, ◌*◌, ◌<◌, ◌≤◌, List, length, Option, Some, None, MatchOption, IfOk};
 ghost use Rattle.cdcl_trail.specs.Trail.{literals_of, IsConflict};
 ghost use Rattle.cdcl_propagate.specs.Sure.{IsSure};
-ghost use Rattle.cdcl_propagate.specs.Visit.{IsGrown, IsReady};
+ghost use Rattle.cdcl_watches.specs.Watching.{code};
+ghost use Rattle.cdcl_watches.specs.Watchers.{IsWalked, walked};
+ghost use Rattle.cdcl_propagate.specs.Visit.{IsGrown, IsReady, IsVisiting, false_at};
 
 use crate::names::Names;
-use crate::visit::{Visited, skip, visit};
+use crate::visit::visit;
 use cdcl_trail::assigned::Assigned;
-use cdcl_watches::watches::Watches;
+use cdcl_watches::arena::Arena;
+use cdcl_watches::coded::decode;
+use cdcl_watches::walk::{Walk, pass};
+use cdcl_watches::watch_lists::WatchLists;
+use cdcl_watches::watches::{Watches, number};
 use clause_log::Log;
-use cnf_base::Hint;
+use cnf_base::{Hint, Literal};
 use std::alloc::AllocError;
+
+/// Walks along the list of the literal that became false at the place, and visits the clauses whose blockers
+/// are not true.
+fn along(
+    assigned: &mut Assigned,
+    arena: &mut Arena,
+    lists: &mut WatchLists,
+    names: &Names,
+    log: &Log,
+    place: usize,
+    falsified: Literal,
+    walk: &mut Walk,
+) -> Result<Option<Hint>, AllocError>
+    requires falsified { falsified ≡ false_at assigned.old.trail place }
+    requires walked { IsWalked arena.old lists.old (code falsified) walk.old.kept walk.old.next }
+    requires visiting { IsVisiting log.now.inputs log.now.lines names.now place walk.old.kept assigned.old
+        (walked arena.old lists.old (code falsified) walk.old.kept walk.old.next) }
+    ensures grown { IsGrown assigned.old.trail assigned.new.trail }
+    ensures letters { length assigned.new.values ≡ length assigned.old.values }
+    ensures walked { IsWalked arena.new lists.new (code falsified) walk.new.kept walk.new.next }
+    ensures kept { IsReady log.now.inputs log.now.lines names.now place assigned.new
+        (walked arena.new lists.new (code falsified) walk.new.kept walk.new.next) }
+    ensures sure { (n : ℕ) → n ≤ place → IsSure arena.old.clauses assigned.old.trail n
+        → IsSure arena.new.clauses assigned.new.trail n }
+    ensures found { IfOk result (λ found. MatchOption found
+        (IsReady log.now.inputs log.now.lines names.now (place + 1) assigned.new
+        (walked arena.new lists.new (code falsified) walk.new.kept walk.new.next))
+        (IsConflict log.now.inputs log.now.lines (literals_of assigned.new.trail))) }
+{
+    let list = number(falsified);
+    'along: while lists.len(list) > walk.next {
+        let watcher = lists.get(list, walk.next);
+        if assigned.holds(decode(watcher.blocker)) {
+            pass(lists, list, walk, watcher);
+            continue 'along;
+        }
+        match visit(assigned, arena, lists, names, log, place, falsified, walk, watcher.head)? {
+            Some(hint) => return Ok(Some(hint)),
+            None => {}
+        }
+    }
+    Ok(None)
+}
 
 /// Visits all clauses that watch the literal that became false at the place.
 fn visit_list(
@@ -35,22 +84,21 @@ fn visit_list(
 {
     assigned.told();
     let falsified = assigned.entry(place).literal.opposite();
-    let mut i = skip(assigned, watches, falsified, 0);
-    'along: while i < watches.watchers(falsified) {
-        match visit(assigned, watches, names, log, place, i)? {
-            Visited::Stays => {
-                i = skip(assigned, watches, falsified, i + 1);
-                continue 'along;
-            }
-            Visited::Moved => {
-                i = skip(assigned, watches, falsified, i);
-                continue 'along;
-            }
-            Visited::Conflict(hint) => return Ok(Some(hint)),
-        }
-    }
-    watches.watching();
-    Ok(None)
+    let mut walk = Walk { kept: 0, next: 0 };
+    let found = along(
+        assigned,
+        &mut watches.arena,
+        &mut watches.lists,
+        names,
+        log,
+        place,
+        falsified,
+        &mut walk,
+    );
+    watches
+        .lists
+        .close(number(falsified), walk.kept, walk.next);
+    found
 }
 
 /// Counts the place as sure, if its level is the last one.

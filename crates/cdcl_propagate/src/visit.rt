@@ -1,34 +1,25 @@
-// A clause that watches a literal that became false: its blocker is true, or the other watched literal is, or
-// another literal is watched in its place, or the other is forced, or the clause is false. A blocker is a
-// literal of the clause that the list holds beside it: most clauses are true already, and a true blocker
-// spares loading them. They are passed in a loop of their own, which changes nothing. After Sorensson and
-// Een, MiniSat 2.1 (2008).
-ghost use Rattle.std.specs.Prelude.{◌≡◌, ◌≢◌, ℕ, ◌+◌, ◌-◌, ◌*◌, ◌<◌, ◌≤◌, List, [], ◌∷◌, ◌++◌, ◌⊎◌, All, Contains, length, Option, Some, None, MatchOption, IfOk, IsTrue, slice_index_or, slice_set};
-ghost use Rattle.std.specs.List.{swap};
-ghost use Rattle.cnf_base.specs.Literal.{opposite};
-ghost use Rattle.cdcl_trail.specs.Trail.{literals_of};
-ghost use Rattle.cdcl_watches.specs.Watching.{code, list_of};
+// A clause that watches a literal that became false, and whose blocker is not true: the other watched literal
+// is true, or another literal is watched in its place, or the other is forced, or the clause is false.
+// Wherever it stays in the list, its other watched literal becomes the blocker. After Moskewicz, Madigan, Zhao,
+// Zhang and Malik, Chaff (2001).
+ghost use Rattle.std.specs.Prelude.{◌≡◌, ℕ, ◌+◌, ◌<◌, ◌≤◌, List, [], All, Contains, length, Option, Some, None, MatchOption, IfOk, slice_index_or};
+ghost use Rattle.cdcl_trail.specs.Trail.{literals_of, IsConflict};
+ghost use Rattle.cdcl_watches.specs.Watching.{code, clause_of, IsWatch};
+ghost use Rattle.cdcl_watches.specs.Watchers.{nobody, IsWalked, walked};
+ghost use Rattle.cdcl_watches.specs.Heads.{number_of};
 ghost use Rattle.cdcl_propagate.specs.Sure.{IsSure};
-ghost use Rattle.cdcl_propagate.specs.Visit.{HasTrue, IsVisiting, IsVisited, IsGrown, IsFaced, IsReplacement, AreFalseFrom, false_at, list_length, watcher_at};
+ghost use Rattle.cdcl_propagate.specs.Visit.{IsVisiting, IsPassed, IsGrown, IsFaced, IsReplacement, AreFalseFrom, false_at, watched_by};
 
 use crate::names::Names;
 use cdcl_trail::assigned::{Assigned, Entry};
+use cdcl_watches::arena::Arena;
 use cdcl_watches::clause::Clause;
-use cdcl_watches::watches::{Watches, number};
+use cdcl_watches::walk::{Walk, keep, rewatch};
+use cdcl_watches::watch_lists::WatchLists;
+use cdcl_watches::watches::number;
 use clause_log::Log;
 use cnf_base::{Hint, Literal};
 use std::alloc::AllocError;
-
-/// What a visit finds of a clause in the list of a literal that became false.
-#[derive(Clone, Copy, Drop)]
-pub enum Visited {
-    /// It has a true literal, and stays in the list.
-    Stays,
-    /// It watches another literal now; the last of the list stands in its place.
-    Moved,
-    /// It is false.
-    Conflict(Hint),
-}
 
 /// The place of a literal behind the first two that is not false, looked for from the end: there a learnt
 /// clause has what became false first. Such a literal keeps its value, or stays without one, for longer, and
@@ -49,90 +40,71 @@ fn find(assigned: &Assigned, clause: &Clause<'_>) -> Option<usize>
     None
 }
 
-/// Makes the literal the second of the clause at a place of its list.
-fn face(watches: &mut Watches, literal: Literal, place: usize)
-    requires known { code literal < length watches.old.lists }
-    requires place { place < length (list_of watches.old.lists literal) }
-    ensures { IsFaced watches.old watches.new (slice_index_or (list_of watches.old.lists literal) place 0)
-        literal }
+/// Makes the literal, one of the first two of the clause of this head, its second.
+fn face(arena: &mut Arena, head: u32, literal: Literal)
+    requires known { Contains arena.old.heads head }
+    requires low { number_of arena.old.heads head < length arena.old.clauses }
+    requires watch { IsWatch (clause_of arena.old.clauses (number_of arena.old.heads head)) literal }
+    ensures heads { arena.new.heads ≡ arena.old.heads }
+    ensures faced { (lists : List (List ℕ)) → IsFaced (watched_by arena.old.clauses lists)
+        (watched_by arena.new.clauses lists) (number_of arena.old.heads head) literal }
 {
-    watches.watching();
-    if number(watches.clause(literal, place).get(1)) == number(literal) {
+    if number(arena.clause(head).get(1)) == number(literal) {
         return;
     }
-    watches.turn(literal, place);
+    arena.swap(head, 0, 1);
 }
 
-/// Whether the blocker at a place of the literal's list is true.
-fn blocker_holds(assigned: &Assigned, watches: &Watches, literal: Literal, place: usize) -> bool
-    requires known { code literal < length watches.now.lists }
-    requires place { place < length (list_of watches.now.lists literal) }
-    requires sized { length watches.now.lists ≡ 2 * length assigned.now.values }
-    ensures { IsTrue result → HasTrue (literals_of assigned.now.trail)
-        (watcher_at watches.now literal place) }
-{
-    watches.watching();
-    assigned.holds(watches.blocker(literal, place))
-}
-
-/// The first place from this one on of the literal's list whose blocker is not true, or the end of the list.
-pub fn skip(assigned: &Assigned, watches: &Watches, literal: Literal, from: usize) -> usize
-    requires known { code literal < length watches.now.lists }
-    requires sized { length watches.now.lists ≡ 2 * length assigned.now.values }
-    ensures on { from ≤ result }
-    ensures passed { (j : ℕ) → from ≤ j → j < result → HasTrue (literals_of assigned.now.trail)
-        (watcher_at watches.now literal j) }
-{
-    let mut i = from;
-    'along: while i < watches.watchers(literal) {
-        if !blocker_holds(assigned, watches, literal, i) {
-            return i;
-        }
-        i += 1;
-    }
-    i
-}
-
-/// Visits the clause at a place of the list of the literal that became false.
+/// Visits the clause of the next watcher in the list of the literal that became false.
 pub fn visit(
     assigned: &mut Assigned,
-    watches: &mut Watches,
+    arena: &mut Arena,
+    lists: &mut WatchLists,
     names: &Names,
     log: &Log,
     place: usize,
-    i: usize,
-) -> Result<Visited, AllocError>
-    requires visiting { IsVisiting log.now.inputs log.now.lines names.now place i assigned.old watches.old }
-    requires there { i < length (list_of watches.old.lists (false_at assigned.old.trail place)) }
+    falsified: Literal,
+    walk: &mut Walk,
+    head: u32,
+) -> Result<Option<Hint>, AllocError>
+    requires falsified { falsified ≡ false_at assigned.old.trail place }
+    requires walked { IsWalked arena.old lists.old (code falsified) walk.old.kept walk.old.next }
+    requires there { walk.old.next < length (slice_index_or lists.old (code falsified) []) }
+    requires head { head ≡ (slice_index_or (slice_index_or lists.old (code falsified) []) walk.old.next
+        nobody).head }
+    requires visiting { IsVisiting log.now.inputs log.now.lines names.now place walk.old.kept assigned.old
+        (walked arena.old lists.old (code falsified) walk.old.kept walk.old.next) }
     ensures grown { IsGrown assigned.old.trail assigned.new.trail }
     ensures letters { length assigned.new.values ≡ length assigned.old.values }
-    ensures kept { IsVisiting log.now.inputs log.now.lines names.now place 0 assigned.new watches.new }
-    ensures sure { (n : ℕ) → n ≤ place → IsSure watches.old.clauses assigned.old.trail n
-        → IsSure watches.new.clauses assigned.new.trail n }
-    ensures found { IfOk result (IsVisited log.now.inputs log.now.lines names.now place i
-        (list_length assigned.old.trail watches.old place) assigned.new watches.new) }
+    ensures walked { IsWalked arena.new lists.new (code falsified) walk.new.kept walk.new.next }
+    ensures kept { IsVisiting log.now.inputs log.now.lines names.now place 0 assigned.new
+        (walked arena.new lists.new (code falsified) walk.new.kept walk.new.next) }
+    ensures sure { (n : ℕ) → n ≤ place → IsSure arena.old.clauses assigned.old.trail n
+        → IsSure arena.new.clauses assigned.new.trail n }
+    ensures found { IfOk result (λ found. MatchOption found
+        (IsPassed log.now.inputs log.now.lines names.now place walk.old.next
+        (length (slice_index_or lists.old (code falsified) [])) assigned.new arena.new lists.new
+        (code falsified) walk.new.kept walk.new.next)
+        (IsConflict log.now.inputs log.now.lines (literals_of assigned.new.trail))) }
 {
-    watches.watching();
-    let falsified = assigned.entry(place).literal.opposite();
-    let clause = watches.watcher(falsified, i);
-    face(watches, falsified, i);
-    watches.watching();
-    let other = watches.clause(falsified, i).get(0);
+    face(arena, head, falsified);
+    let other = arena.clause(head).get(0);
     if assigned.holds(other) {
-        watches.refresh(falsified, i, 0);
-        return Ok(Visited::Stays);
+        keep(arena, lists, falsified, walk, head);
+        return Ok(None);
     }
-    match find(assigned, &watches.clause(falsified, i)) {
+    match find(assigned, &arena.clause(head)) {
         Some(j) => {
-            let replacement = watches.clause(falsified, i).get(j);
-            watches.rewatch(falsified, i, replacement, j)?;
-            return Ok(Visited::Moved);
+            let replacement = arena.clause(head).get(j);
+            rewatch(arena, lists, falsified, walk, head, replacement, j)?;
+            return Ok(None);
         }
         None => {}
     }
-    let hint = names.get(clause);
+    let hint = names.get(arena.number(head));
+    keep(arena, lists, falsified, walk, head);
     if assigned.holds(other.opposite()) {
-        return Ok(Visited::Conflict(hint));
+        return Ok(Some(hint));
     }
     let level = assigned.level();
     assigned.assign(Entry {
@@ -140,5 +112,5 @@ pub fn visit(
         level,
         reason: Some(hint),
     })?;
-    Ok(Visited::Stays)
+    Ok(None)
 }

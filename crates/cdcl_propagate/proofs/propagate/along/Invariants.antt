@@ -1,0 +1,19 @@
+use Rattle.std.proofs.Common.{◌≡◌, ◌≤◌, ◌-◌, [], ℕ, length, get_or}
+use Rattle.cdcl_watches.specs.Watching.{code}
+use Rattle.cdcl_watches.specs.Watchers.{IsWalked, walked}
+use Rattle.cdcl_propagate.specs.Visit.{IsVisiting, IsGrown, false_at}
+use Rattle.cdcl_propagate.specs.Sure.{IsSure}
+use Rattle.cdcl_propagate.proofs.propagate.along.Given as goal
+
+abbrev pub invariant-along : goal.invariant-along
+invariant-along l = record {
+  same : l.falsified ≡ false_at l.assigned.trail l.place;
+  walk : IsWalked l.arena l.lists (code l.falsified) l.walk.kept l.walk.next;
+  visiting : IsVisiting l.log.inputs l.log.lines l.names l.place l.walk.kept l.assigned (walked l.arena l.lists (code l.falsified) l.walk.kept l.walk.next);
+  grown : IsGrown l.initial.assigned.trail l.assigned.trail;
+  letters : length l.assigned.values ≡ length l.initial.assigned.values;
+  sure : (n : ℕ) → n ≤ l.place → IsSure l.initial.arena.clauses l.initial.assigned.trail n → IsSure l.arena.clauses l.assigned.trail n;
+}
+
+abbrev pub decreases-along : goal.decreases-along
+decreases-along l = length (get_or l.lists (code l.falsified) []) - l.walk.next
