@@ -1,5 +1,5 @@
 -- Two letters that change their places.
-use Rattle.std.proofs.Common.{◌≡◌, ◌≢◌, ℕ, ◌<◌, ◌≤◌, ◌+◌, ◌⊎◌, ◌↔◌, inl, inr, List, length, get_or, set, sym, ap, ◌∙◌, subst, arith}
+use Rattle.std.proofs.Common.{◌≡◌, ◌≢◌, ℕ, ◌<◌, ◌≤◌, ◌+◌, ◌^◌, ◌⊎◌, ◌↔◌, inl, inr, List, length, get_or, set, sym, ap, ◌∙◌, subst, arith}
 use Rattle.std.proofs.lemmas.Bool.{cases_eq}
 use Rattle.std.proofs.lemmas.List.{get_or-set_same, get_or-set_other, length-set}
 use Rattle.cdcl_activity.specs.Order.{IsOrder, OrderValue, IsWaiting}
@@ -71,6 +71,7 @@ module _ (letters places : List ℕ) (count one two a b : ℕ) (order : IsOrder 
   exchanged = record {
     same = letters_long ∙ order.same ∙ sym places_long;
     within = subst (λ n. count ≤ n) (sym letters_long) order.within;
+    few = subst (λ n. n ≤ 2 ^ 32) (sym places_long) order.few;
     inside = λ x inside.
         let here = subst (λ n. x < n) places_long inside in
         subst (λ n. get_or (set (set places b one) a two) x 0 < n) (sym letters_long) (elim (cases_eq x a) [

@@ -1,5 +1,5 @@
 -- The order in which letters wait.
-use Rattle.std.specs.Prelude.{◌≡◌, ℕ, ◌<◌, ◌≤◌, List, length, slice_index_or}
+use Rattle.std.specs.Prelude.{◌≡◌, ℕ, ◌^◌, ◌<◌, ◌≤◌, List, length, slice_index_or}
 
 -- the letters in their order, the places at which they stand, and how many of the first ones wait
 pub record OrderValue : Type 0 where
@@ -15,10 +15,11 @@ place_of places letter = slice_index_or places letter 0
 abbrev pub letter_at : List ℕ → ℕ → ℕ
 letter_at letters place = slice_index_or letters place 0
 
--- each letter below the length stands at one place, and no more letters wait than there are
+-- each letter below the length stands at one place, no more letters wait than there are, and places are numbers of 32 bits
 pub record IsOrder (letters places : List ℕ) (count : ℕ) : Type 0 where
   pub same : length letters ≡ length places
   pub within : count ≤ length letters
+  pub few : length places ≤ 2 ^ 32
   pub inside : (x : ℕ) → x < length places → place_of places x < length letters
   pub stands : (x : ℕ) → x < length places → letter_at letters (place_of places x) ≡ x
   pub known : (p : ℕ) → p < length letters → letter_at letters p < length places

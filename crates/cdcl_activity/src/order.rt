@@ -1,6 +1,6 @@
 // All letters in an order: those that wait come first, as many as the count says, and the others behind them.
 // Each letter stands at one place, so that none waits twice, and there is room for all of them: a letter that
-// comes back changes places with another.
+// comes back changes places with another. Letters and places have four bytes each: there are many of both.
 ghost use Rattle.std.specs.Prelude.{◌≡◌, ◌≢◌, ◌↔◌, ◌⊎◌, ℕ, ◌^◌, ◌+◌, ◌<◌, ◌≤◌, [], length, MatchOption, OnOk, OnErr};
 ghost use Rattle.cdcl_activity.specs.Order.{OrderValue, IsWaiting, letter_at, place_of};
 
@@ -12,7 +12,7 @@ use std::marker::Model;
 pub struct Order {
     letters: Vec<u32>,
     /// Where each letter stands.
-    places: Vec<usize>,
+    places: Vec<u32>,
     /// How many of the first letters wait.
     count: usize,
 }
@@ -69,7 +69,7 @@ impl Order {
         if letter as usize >= self.places.len() {
             return None;
         }
-        let place = self.places[letter as usize];
+        let place = self.places[letter as usize] as usize;
         if place < self.count {
             return Some(place);
         }
@@ -85,7 +85,7 @@ impl Order {
     {
         let letter = self.places.len();
         self.letters.push(letter as u32)?;
-        match self.places.push(letter) {
+        match self.places.push(letter as u32) {
             Ok(()) => {
                 return Ok(());
             }
@@ -111,8 +111,8 @@ impl Order {
         let b = self.letters[two];
         self.letters[one] = b;
         self.letters[two] = a;
-        self.places[b as usize] = one;
-        self.places[a as usize] = two;
+        self.places[b as usize] = one as u32;
+        self.places[a as usize] = two as u32;
     }
 
     /// Lets two letters that wait change their places.
@@ -121,6 +121,10 @@ impl Order {
         requires two { two < self.old.count }
         ensures size { length self.new.places ≡ length self.old.places }
         ensures count { self.new.count ≡ self.old.count }
+        ensures first { place_of self.new.places (letter_at self.old.letters one) ≡ two }
+        ensures second { place_of self.new.places (letter_at self.old.letters two) ≡ one }
+        ensures others { (x : ℕ) → x ≢ letter_at self.old.letters one → x ≢ letter_at self.old.letters two
+            → place_of self.new.places x ≡ place_of self.old.places x }
         ensures waiting { (x : ℕ) → IsWaiting self.new x ↔ IsWaiting self.old x }
     {
         let _ = &self.letters;
@@ -136,7 +140,7 @@ impl Order {
         ensures place { result ≡ self.old.count }
         ensures waiting { (x : ℕ) → IsWaiting self.new x ↔ ((x ≡ letter) ⊎ IsWaiting self.old x) }
     {
-        let place = self.places[letter as usize];
+        let place = self.places[letter as usize] as usize;
         let count = self.count;
         self.exchange(place, count);
         self.count = count + 1;

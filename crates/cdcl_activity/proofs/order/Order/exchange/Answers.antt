@@ -1,4 +1,4 @@
-use Rattle.std.proofs.Common.{◌≡◌, ◌≢◌, ◌<◌, ℕ, length, get_or, sym, subst, ap, ◌∙◌}
+use Rattle.std.proofs.Common.{◌<◌, length, get_or, sym, subst, ap, ◌∙◌}
 use Rattle.std.proofs.lemmas.List.{get_or_default}
 use Rattle.cdcl_activity.specs.Order.{OrderValue}
 use Rattle.cdcl_activity.proofs.Exchange.{exchanged, place_first, place_second, place_other}
