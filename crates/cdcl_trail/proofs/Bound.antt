@@ -1,13 +1,14 @@
 -- A trail is no longer than there are letters.
-use Rattle.std.proofs.Common.{inl, inr, ℕ, ◌<◌, ◌≤◌, List, Bool, Option, map, All, length, get_or, eqb, arith}
+use Rattle.std.proofs.Common.{inl, inr, ℕ, ◌<◌, ◌≤◌, List, [], ◌∷◌, ◌++◌, Bool, not, Option, Some, map, All, length, get_or, set, eqb, arith, length-set}
 use Rattle.std.proofs.lemmas.Bool.{eqb-true}
 use Rattle.std.proofs.lemmas.Bool.Decides.{eqb_tells}
 use Rattle.std.proofs.lemmas.Map.Keys.{IsDistinct-from_apart}
 use Rattle.std.proofs.lemmas.Map.Steps.{length-le_from_distinct_below}
-use Rattle.std.proofs.lemmas.List.{length-map, get_or-map}
+use Rattle.std.proofs.lemmas.List.{length-map, get_or-map, length_push}
 use Rattle.std.proofs.lemmas.List.Elements.{All-map, All-contains}
 use Rattle.cnf_base.proofs.Soundness.{some_element}
-use Rattle.cdcl_trail.specs.Trail.{AreValues, blank_entry}
+use Rattle.cdcl_trail.specs.Trail.{AreValues, IsUnset, literals_of, blank_entry}
+use Rattle.cdcl_trail.proofs.Assign.{values_push}
 use Rattle.cdcl_trail.specs.declared.assigned.Entry.{Entry}
 
 -- a trail whose letters are below n
@@ -27,3 +28,10 @@ bounded_by values trail n are below_n =
 
 pub trail_bounded : (values : List (Option Bool)) (trail : List Entry) → AreValues values trail → length trail ≤ length values
 trail_bounded values trail are = bounded_by values trail (length values) are are.known
+
+-- where a letter has no value the trail is shorter
+pub room_left : (values : List (Option Bool)) (trail : List Entry) (e : Entry) → AreValues values trail → IsUnset (literals_of trail) e.literal → e.literal.letter.0 < length values → length trail < length values
+room_left values trail e are unset known =
+    let x = e.literal.letter.0 in
+    let v : Option Bool = Some (not e.literal.negated) in
+    omega (arith, trail_bounded (set values x v) (trail ++ e ∷ []) (values_push values trail e are unset known), length_push trail e, length-set values x v)

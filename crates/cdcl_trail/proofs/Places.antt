@@ -1,5 +1,5 @@
 -- The places at which the letters of the trail stand, as an entry is put on the trail or taken off it.
-use Rattle.std.proofs.Common.{◌≡◌, ◌≢◌, ℕ, ◌<◌, ◌≤◌, ◌+◌, inl, inr, List, [], ◌∷◌, ◌++◌, Bool, Option, Contains, length, get_or, set, sym, ap, ◌∙◌, subst, arith, length-set, get_or-set_same, get_or-set_other}
+use Rattle.std.proofs.Common.{◌≡◌, ◌≢◌, ℕ, ◌<◌, ◌≤◌, ◌+◌, ◌^◌, inl, inr, List, [], ◌∷◌, ◌++◌, Bool, Option, Contains, length, get_or, set, sym, ap, ◌∙◌, subst, arith, length-set, get_or-set_same, get_or-set_other}
 use Rattle.std.proofs.lemmas.Bool.{cases_lt}
 use Rattle.std.proofs.lemmas.List.{get_or_append_left, get_or_at, length_push}
 use Rattle.cnf_base.specs.declared.literal.Literal.{Literal}
@@ -17,6 +17,7 @@ places_push places values trail e v are unset known =
     let more = set places x (length trail) in
     record {
       room = omega (arith, are.room, length-set places x (length trail), length-set values x v);
+      few = omega (arith, are.few, length-set values x v);
       at = λ k below. elim (cases_lt k (length trail)) [
         | inl old ↦
             let other : (literal_at trail k).letter.0 ≢ x = apart_from_unset (literals_of trail) (literal_at trail k) e.literal (entry_there trail k blank_entry old) unset in
@@ -32,13 +33,15 @@ places_push places values trail e v are unset known =
 pub places_pop : (places : List ℕ) (values : List (Option Bool)) (trail : List Entry) (e : Entry) (x : ℕ) (v : Option Bool) → ArePlaces places values (trail ++ e ∷ []) → ArePlaces places (set values x v) trail
 places_pop places values trail e x v are = record {
   room = omega (arith, are.room, length-set values x v);
+  few = omega (arith, are.few, length-set values x v);
   at = λ k below. subst (λ (f : Entry). get_or places f.literal.letter.0 0 ≡ k) (get_or_append_left trail (e ∷ []) blank_entry k below) (are.at k (omega (arith, below, length_push trail e)));
 }
 
 -- a letter more has no place on the trail
-pub places_letter : (places : List ℕ) (values more : List (Option Bool)) (trail : List Entry) → AreValues values trail → ArePlaces places values trail → length more ≤ length values + 1 → ArePlaces (places ++ 0 ∷ []) more trail
-places_letter places values more trail told are few = record {
-  room = omega (arith, are.room, few, length_push places 0);
+pub places_letter : (places : List ℕ) (values more : List (Option Bool)) (trail : List Entry) → AreValues values trail → ArePlaces places values trail → length more ≤ length values + 1 → length more ≤ 2 ^ 32 → ArePlaces (places ++ 0 ∷ []) more trail
+places_letter places values more trail told are one_more few = record {
+  room = omega (arith, are.room, one_more, length_push places 0);
+  few = few;
   at = λ k below. get_or_append_left places (0 ∷ []) 0 (literal_at trail k).letter.0 (omega (arith, told.known k blank_entry below, are.room)) ∙ are.at k below;
 }
 

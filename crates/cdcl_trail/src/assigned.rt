@@ -10,6 +10,9 @@ use cnf_base::{Hint, Literal};
 use std::alloc::{AllocError, Global};
 use std::marker::Model;
 
+/// As many letters as have numbers of 32 bits: no trail is longer, so that a place is such a number too.
+const MAX_LETTERS: usize = 4294967296;
+
 /// A literal that is true, and why.
 #[derive(Clone, Copy, Drop)]
 pub struct Entry {
@@ -26,7 +29,7 @@ pub struct Assigned {
     values: Values,
     trail: Entries,
     /// The place of the trail at which a letter was assigned last.
-    places: Vec<usize>,
+    places: Vec<u32>,
 }
 
 impl Model for Assigned {
@@ -84,15 +87,18 @@ impl Assigned {
         ensures within { result < length self.now.trail }
         ensures there { literal_at self.now.trail result ≡ literal }
     {
-        self.places[literal.letter.0 as usize]
+        self.places[literal.letter.0 as usize] as usize
     }
 
-    /// Makes room for one letter more.
+    /// Makes room for one letter more. Behind the last number of 32 bits there is none.
     pub fn letter(&mut self) -> Result<(), AllocError>
         ensures values { self.new.values ≡ (if is_ok result then self.old.values ++ None
             ∷ [] else self.old.values) }
         ensures trail { self.new.trail ≡ self.old.trail }
     {
+        if self.values.len() >= MAX_LETTERS {
+            return Err(AllocError);
+        }
         self.places.push(0)?;
         self.values.push()?;
         Ok(())
@@ -117,7 +123,7 @@ impl Assigned {
     {
         let place = self.trail.len();
         self.trail.push(entry)?;
-        self.places[entry.literal.letter.0 as usize] = place;
+        self.places[entry.literal.letter.0 as usize] = place as u32;
         self.values.set(entry.literal);
         Ok(())
     }
@@ -128,7 +134,7 @@ impl Assigned {
         ensures { (k : ℕ) → k < length self.now.trail → (literal_at self.now.trail k).letter.0 ≡ letter
             → result ≡ k }
     {
-        self.places[letter]
+        self.places[letter] as usize
     }
 
     /// Why the letter has its value, if it stands on the trail; a decision has no reason.
@@ -137,7 +143,7 @@ impl Assigned {
             → result ≡ place_reason self.now.trail k }
     {
         match self.places.get(letter) {
-            Some(place) => self.trail.reason(*place),
+            Some(place) => self.trail.reason(*place as usize),
             None => None,
         }
     }
@@ -148,7 +154,7 @@ impl Assigned {
             → result ≡ place_level self.now.trail k }
     {
         match self.places.get(letter) {
-            Some(place) => self.level_at(*place),
+            Some(place) => self.level_at(*place as usize),
             None => 0,
         }
     }

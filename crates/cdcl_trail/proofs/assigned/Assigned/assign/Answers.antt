@@ -1,6 +1,7 @@
 use Rattle.std.proofs.Common.{◌≡◌, [], ◌∷◌, ◌++◌, not, Some, length, set, subst, arith}
 use Rattle.cdcl_trail.specs.Assigned.{ArePlaces}
 use Rattle.cdcl_trail.proofs.Assign.{values_push}
+use Rattle.cdcl_trail.proofs.Bound.{room_left}
 use Rattle.cdcl_trail.proofs.Places.{places_push}
 use Rattle.cdcl_trail.proofs.assigned.Assigned.assign.Goals as goal
 
@@ -18,3 +19,10 @@ invariant_of-self-2 c =
       subst (λ n. ArePlaces (set places e.literal.letter.0 n) (set values e.literal.letter.0 (Some (not e.literal.negated))) (trail ++ e ∷ [])) len
           (places_push places values trail e (Some (not e.literal.negated)) c.self.invariant.1 unset known),
     )
+
+-- the trail is shorter than there are letters, and so a place has 32 bits
+pub overflow_cast-place : goal.overflow_cast-place
+overflow_cast-place c =
+    let unset = rw (← c.self.view_is) at c.requires.unset in
+    let known = rw (← c.self.view_is) at c.requires.known in
+    omega (arith, c.len-place.ensures, room_left c.self.inside.values c.self.inside.trail c.args.entry c.self.invariant.0 unset known, c.self.invariant.1.few)
