@@ -77,14 +77,16 @@ fn first_other(assigned: &Assigned, kept: &[Literal]) -> usize
 pub fn smaller(a: usize, b: usize) -> usize
     ensures one { result ≤ a }
     ensures two { result ≤ b }
+    ensures either { (result ≡ a) ⊎ (result ≡ b) }
 {
     if a < b { a } else { b }
 }
 
 /// The short clauses are visited again where an entry that made one true was taken back.
 pub fn loosen(count: usize, done: &mut usize, firm: &mut usize)
-    ensures { ((firm.old ≤ count) × (done.new ≡ done.old) × (firm.new ≡ firm.old))
+    ensures all { ((firm.old ≤ count) × (done.new ≡ done.old) × (firm.new ≡ firm.old))
         ⊎ ((done.new ≡ 0) × (firm.new ≡ 0)) }
+    ensures kept { firm.old ≤ count → (done.new ≡ done.old) × (firm.new ≡ firm.old) }
 {
     if count < *firm {
         *done = 0;
@@ -95,8 +97,9 @@ pub fn loosen(count: usize, done: &mut usize, firm: &mut usize)
 
 /// All short clauses are true by the entries of the trail: until now, or only now.
 pub fn settle(count: usize, len: usize, done: &mut usize, firm: &mut usize)
-    ensures { ((count ≤ done.old) × (done.new ≡ done.old) × (firm.new ≡ firm.old))
+    ensures all { ((count ≤ done.old) × (done.new ≡ done.old) × (firm.new ≡ firm.old))
         ⊎ ((done.new ≡ count) × (firm.new ≡ len)) }
+    ensures kept { count ≤ done.old → (done.new ≡ done.old) × (firm.new ≡ firm.old) }
 {
     if *done < count {
         *done = count;

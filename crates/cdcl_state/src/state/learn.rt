@@ -1,7 +1,7 @@
 // A learnt clause is put behind the lines and watched, the trail is cut to the second highest of its levels,
 // and its first literal is forced there, without a new visit of what stays. After Marques-Silva and Sakallah,
 // GRASP (1999).
-ghost use Rattle.std.specs.Prelude.{◌≡◌, ◌<◌, ◌≤◌, [], ◌∷◌, ◌++◌, All, length, Some, OnErr, OnOk, IsTrue};
+ghost use Rattle.std.specs.Prelude.{◌≡◌, ◌<◌, ◌≤◌, ◌↔◌, [], ◌∷◌, ◌++◌, All, length, Some, OnErr, OnOk, IsTrue};
 ghost use Rattle.cnf_base.specs.Known.{IsKnown};
 ghost use Rattle.cdcl_state.specs.StateValue.{MayStand, with_log, with_trail};
 ghost use Rattle.clause_log.specs.LogValue.{with_line};
@@ -130,7 +130,7 @@ impl State {
     /// Whether only the first of the places is on the highest level, and that is not 0.
     pub fn is_asserting(&self, places: &[usize]) -> bool
         requires { All (IsInside self.now.trail) places.now }
-        ensures { IsTrue result → IsAsserting self.now.trail places.now }
+        ensures { IsTrue result ↔ IsAsserting self.now.trail places.now }
     {
         if places.len() == 0 {
             return false;

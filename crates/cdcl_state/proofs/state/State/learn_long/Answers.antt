@@ -92,7 +92,7 @@ assign-requires-clause-unset c =
     let next_is : c.derive.new.self ≡ next = c.in-Ok.ensures.added.0 ∙ ap₂ (with_line log) c.deref-2.ensures.value c.deref-3.ensures.value in
     let w_is : c.store.new.watches ≡ with_clause w clause = c.in_ok-store.ensures.watches ∙ ap (with_clause w) c.deref.ensures.value in
     (learned_stands letters a b w c.self.inside.names c.self.inside.units.items log next c.self.inside.head c.self.inside.sure c.self.inside.done c.self.inside.firm (length c.self.inside.marks.stamps) c.smaller-sure.result c.front-front.result c.args.level c.loosen.new.done c.loosen.new.firm line clause places c.index.result.now
-    c.self.invariant c.told.ensures more c.self.invariant.known_inputs known_lines c.cut.ensures.trail c.cut.ensures.letters c.front-front.ensures.within c.front-front.ensures.low c.front-front.ensures.high c.smaller-sure.ensures.one c.smaller-sure.ensures.two c.loosen.ensures
+    c.self.invariant c.told.ensures more c.self.invariant.known_inputs known_lines c.cut.ensures.trail c.cut.ensures.letters c.front-front.ensures.within c.front-front.ensures.low c.front-front.ensures.high c.smaller-sure.ensures.one c.smaller-sure.ensures.two c.loosen.ensures.all
     is.clause_is is.inside is.falling asserting target c.index.ensures).0.unset
 
 pub invariant_of-self-in_err-assign : goal.invariant_of-self-in_err-assign
@@ -124,10 +124,10 @@ invariant_of-self-in_err-assign c =
     let w_is : c.store.new.watches ≡ with_clause w clause = c.in_ok-store.ensures.watches ∙ ap (with_clause w) c.deref.ensures.value in
     let e : Entry = record { literal = c.index.result.now; level = c.args.level; reason = Some (Line line) } in
     let stands = learned_stands letters a b w c.self.inside.names c.self.inside.units.items log next c.self.inside.head c.self.inside.sure c.self.inside.done c.self.inside.firm (length c.self.inside.marks.stamps) c.smaller-sure.result c.front-front.result c.args.level c.loosen.new.done c.loosen.new.firm line clause places c.index.result.now
-    c.self.invariant c.told.ensures more c.self.invariant.known_inputs known_lines c.cut.ensures.trail c.cut.ensures.letters c.front-front.ensures.within c.front-front.ensures.low c.front-front.ensures.high c.smaller-sure.ensures.one c.smaller-sure.ensures.two c.loosen.ensures
+    c.self.invariant c.told.ensures more c.self.invariant.known_inputs known_lines c.cut.ensures.trail c.cut.ensures.letters c.front-front.ensures.within c.front-front.ensures.low c.front-front.ensures.high c.smaller-sure.ensures.one c.smaller-sure.ensures.two c.loosen.ensures.all
     is.clause_is is.inside is.falling asserting target c.index.ensures in
     let cut = learned_cut letters a b w c.self.inside.names c.self.inside.units.items log next c.self.inside.head c.self.inside.sure c.self.inside.done c.self.inside.firm (length c.self.inside.marks.stamps) c.smaller-sure.result c.front-front.result c.args.level c.loosen.new.done c.loosen.new.firm line clause places c.index.result.now
-    c.self.invariant c.told.ensures more c.self.invariant.known_inputs known_lines c.cut.ensures.trail c.cut.ensures.letters c.front-front.ensures.within c.front-front.ensures.low c.front-front.ensures.high c.smaller-sure.ensures.one c.smaller-sure.ensures.two c.loosen.ensures
+    c.self.invariant c.told.ensures more c.self.invariant.known_inputs known_lines c.cut.ensures.trail c.cut.ensures.letters c.front-front.ensures.within c.front-front.ensures.low c.front-front.ensures.high c.smaller-sure.ensures.one c.smaller-sure.ensures.two c.loosen.ensures.all
     is.clause_is is.inside is.falling asserting target c.index.ensures c.requires.long in
     rw (w_is, c.in_ok-store.ensures.names, next_is)
     (state_same letters b c.assign.new.self (with_clause w clause) (c.self.inside.names ++ Line line ∷ []) c.self.inside.units.items next 0 0 c.loosen.new.done c.loosen.new.firm (length c.self.inside.marks.stamps) e cut c.in_err-assign.ensures.letters stands.0.stands (λ free. cc) c.in_err-assign.ensures.trail)
@@ -162,7 +162,7 @@ invariant_of-self-2 c =
     let first : c.index.result.now ≡ get_or clause 0 blank = c.index.ensures ∙ get_or_default clause 0 c.index.result.now blank (omega (arith, c.requires.long)) in
     rw (w_is, c.in_ok-store.ensures.names, next_is)
     (learned letters a b w c.self.inside.names c.self.inside.units.items log next c.self.inside.head c.self.inside.sure c.self.inside.done c.self.inside.firm (length c.self.inside.marks.stamps) c.smaller-sure.result c.front-front.result c.args.level c.loosen.new.done c.loosen.new.firm line clause places c.index.result.now
-    c.self.invariant c.told.ensures more c.self.invariant.known_inputs known_lines c.cut.ensures.trail c.cut.ensures.letters c.front-front.ensures.within c.front-front.ensures.low c.front-front.ensures.high c.smaller-sure.ensures.one c.smaller-sure.ensures.two c.loosen.ensures
+    c.self.invariant c.told.ensures more c.self.invariant.known_inputs known_lines c.cut.ensures.trail c.cut.ensures.letters c.front-front.ensures.within c.front-front.ensures.low c.front-front.ensures.high c.smaller-sure.ensures.one c.smaller-sure.ensures.two c.loosen.ensures.all
     is.clause_is is.inside is.falling asserting target c.index.ensures c.assign.new.self c.told-2.ensures c.in_ok-assign.ensures.letters c.in_ok-assign.ensures.trail first c.requires.long)
 
 pub returns-clause-turned : goal.returns-clause-turned
@@ -194,7 +194,7 @@ returns-clause-turned c =
     let w_is : c.store.new.watches ≡ with_clause w clause = c.in_ok-store.ensures.watches ∙ ap (with_clause w) c.deref.ensures.value in
     let e : Entry = record { literal = c.index.result.now; level = c.args.level; reason = Some (Line line) } in
     let stands = learned_stands letters a b w c.self.inside.names c.self.inside.units.items log next c.self.inside.head c.self.inside.sure c.self.inside.done c.self.inside.firm (length c.self.inside.marks.stamps) c.smaller-sure.result c.front-front.result c.args.level c.loosen.new.done c.loosen.new.firm line clause places c.index.result.now
-    c.self.invariant c.told.ensures more c.self.invariant.known_inputs known_lines c.cut.ensures.trail c.cut.ensures.letters c.front-front.ensures.within c.front-front.ensures.low c.front-front.ensures.high c.smaller-sure.ensures.one c.smaller-sure.ensures.two c.loosen.ensures
+    c.self.invariant c.told.ensures more c.self.invariant.known_inputs known_lines c.cut.ensures.trail c.cut.ensures.letters c.front-front.ensures.within c.front-front.ensures.low c.front-front.ensures.high c.smaller-sure.ensures.one c.smaller-sure.ensures.two c.loosen.ensures.all
     is.clause_is is.inside is.falling asserting target c.index.ensures in
     let n = length b.trail in
     let len : n ≡ c.front-front.result = ap length c.cut.ensures.trail ∙ length-take-le c.front-front.result a.trail c.front-front.ensures.within in

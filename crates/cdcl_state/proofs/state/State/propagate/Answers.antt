@@ -56,7 +56,7 @@ invariant_of-self-in_err-found c =
     c.self.invariant c.in_ok-hint.ensures.grown c.in_ok-hint.ensures.is_trail c.in_ok-hint.ensures.letters in
     let true_units = subst (λ us. AreFirm log.inputs log.lines us (length us) (literals_of b.trail)) c.deref.ensures.value (none_case _ c.in_ok-hint.field-0 c.in-None.is c.in_ok-hint.ensures.found) in
     let count : c.len.result ≡ length units = omega arith in
-    let cases : IsSettle (length units) done c.settle.new.done c.settle.new.firm solid (length b.trail) = rw (← count, ← c.len-2.ensures) c.settle.ensures in
+    let cases : IsSettle (length units) done c.settle.new.done c.settle.new.firm solid (length b.trail) = rw (← count, ← c.len-2.ensures) c.settle.ensures.all in
     let firm = state_firm letters b w names units log c.self.inside.head c.self.inside.sure done solid c.settle.new.done c.settle.new.firm marked state true_units cases in
     let whole = state_grown letters b c.propagate.new.assigned w c.propagate.new.watches names units log c.self.inside.head c.self.inside.sure c.settle.new.done c.settle.new.firm c.propagate.new.head c.propagate.new.sure marked firm
     c.in_err-found.ensures.grown c.in_err-found.ensures.letters c.in_err-found.ensures.low c.in_err-found.ensures.sure
@@ -88,7 +88,7 @@ invariant_of-self-2 c =
     c.self.invariant c.in_ok-hint.ensures.grown c.in_ok-hint.ensures.is_trail c.in_ok-hint.ensures.letters in
     let true_units = subst (λ us. AreFirm log.inputs log.lines us (length us) (literals_of b.trail)) c.deref.ensures.value (none_case _ c.in_ok-hint.field-0 c.in-None.is c.in_ok-hint.ensures.found) in
     let count : c.len.result ≡ length units = omega arith in
-    let cases : IsSettle (length units) done c.settle.new.done c.settle.new.firm solid (length b.trail) = rw (← count, ← c.len-2.ensures) c.settle.ensures in
+    let cases : IsSettle (length units) done c.settle.new.done c.settle.new.firm solid (length b.trail) = rw (← count, ← c.len-2.ensures) c.settle.ensures.all in
     let firm = state_firm letters b w names units log c.self.inside.head c.self.inside.sure done solid c.settle.new.done c.settle.new.firm marked state true_units cases in
     let whole = state_grown letters b c.propagate.new.assigned w c.propagate.new.watches names units log c.self.inside.head c.self.inside.sure c.settle.new.done c.settle.new.firm c.propagate.new.head c.propagate.new.sure marked firm
     c.in_ok-found.ensures.grown c.in_ok-found.ensures.letters c.in_ok-found.ensures.low c.in_ok-found.ensures.sure
@@ -124,7 +124,7 @@ returns-clause-found c =
     c.self.invariant c.in_ok-hint.ensures.grown c.in_ok-hint.ensures.is_trail c.in_ok-hint.ensures.letters in
     let true_units = subst (λ us. AreFirm log.inputs log.lines us (length us) (literals_of b.trail)) c.deref.ensures.value (none_case _ c.in_ok-hint.field-0 c.in-None.is c.in_ok-hint.ensures.found) in
     let count : c.len.result ≡ length units = omega arith in
-    let cases : IsSettle (length units) done c.settle.new.done c.settle.new.firm solid (length b.trail) = rw (← count, ← c.len-2.ensures) c.settle.ensures in
+    let cases : IsSettle (length units) done c.settle.new.done c.settle.new.firm solid (length b.trail) = rw (← count, ← c.len-2.ensures) c.settle.ensures.all in
     let firm = state_firm letters b w names units log c.self.inside.head c.self.inside.sure done solid c.settle.new.done c.settle.new.firm marked state true_units cases in
     let whole = state_grown letters b c.propagate.new.assigned w c.propagate.new.watches names units log c.self.inside.head c.self.inside.sure c.settle.new.done c.settle.new.firm c.propagate.new.head c.propagate.new.sure marked firm
     c.in_ok-found.ensures.grown c.in_ok-found.ensures.letters c.in_ok-found.ensures.low c.in_ok-found.ensures.sure
