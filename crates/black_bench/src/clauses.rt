@@ -28,7 +28,12 @@ pub(crate) fn clause_list(
 
 /// Prints how many clauses there are through the depth, or through the greatest one whose letters are few
 /// enough.
-pub(crate) fn count_clauses(rt: &HostRuntime, alloc: Global, closure: &Closure<'_>, depth: u32) -> u8
+pub(crate) fn count_clauses(
+    rt: &HostRuntime,
+    alloc: Global,
+    closure: &Closure<'_>,
+    depth: u32,
+) -> u8
     requires { depth ≤ 1000 }
 {
     let depth = Layout::of(closure).greatest_depth(depth);
@@ -40,7 +45,12 @@ pub(crate) fn count_clauses(rt: &HostRuntime, alloc: Global, closure: &Closure<'
 
 /// Prints a line of the number of letters, that of clauses, and the last state's letters for 'here' and
 /// 'accepted', and then the clauses, one a line.
-pub(crate) fn print_clauses(rt: &HostRuntime, alloc: Global, closure: &Closure<'_>, depth: u32) -> u8
+pub(crate) fn print_clauses(
+    rt: &HostRuntime,
+    alloc: Global,
+    closure: &Closure<'_>,
+    depth: u32,
+) -> u8
     requires { depth ≤ 1000 }
 {
     let layout = Layout::of(closure);

@@ -10,7 +10,12 @@ use std::alloc::Global;
 use unravel::{Decision, decide};
 
 /// Prints the answer, the depth, and of UNSAT the lines, literals and hints.
-pub(crate) fn decide_formula(rt: &HostRuntime, alloc: Global, closure: &Closure<'_>, depth: u32) -> u8
+pub(crate) fn decide_formula(
+    rt: &HostRuntime,
+    alloc: Global,
+    closure: &Closure<'_>,
+    depth: u32,
+) -> u8
     requires { depth ≤ 1000 }
 {
     let limit = Layout::of(closure).greatest_depth(depth);
