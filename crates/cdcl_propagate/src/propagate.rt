@@ -1,6 +1,8 @@
 // Unit propagation: the literals that became false are taken in the order of the trail, and only the clauses
-// that watch them are visited. `sure` marks the places whose visits a way back need not repeat. After
-// Moskewicz, Madigan, Zhao, Zhang and Malik, Chaff (2001).
+// that watch them are visited. A blocker is a literal of the clause that the list holds beside it: most
+// clauses are true already, and a true blocker spares loading them. `sure` marks the places whose visits a
+// way back need not repeat. After Moskewicz, Madigan, Zhao, Zhang and Malik, Chaff (2001), and Sorensson and
+// Een, MiniSat 2.1 (2008).
 ghost use Rattle.std.specs.Prelude.{◌≡◌, ◌≢◌, ℕ, ◌+◌, ◌-◌, ◌*◌, ◌<◌, ◌≤◌, List, length, Option, Some, None, MatchOption, IfOk};
 ghost use Rattle.cdcl_trail.specs.Trail.{literals_of, IsConflict};
 ghost use Rattle.cdcl_propagate.specs.Sure.{IsSure};
@@ -55,7 +57,17 @@ fn along(
             pass(lists, list, walk, watcher);
             continue 'along;
         }
-        match visit(assigned, arena, lists, names, log, place, falsified, walk, watcher.head)? {
+        match visit(
+            assigned,
+            arena,
+            lists,
+            names,
+            log,
+            place,
+            falsified,
+            walk,
+            watcher.head,
+        )? {
             Some(hint) => return Ok(Some(hint)),
             None => {}
         }
@@ -95,9 +107,7 @@ fn visit_list(
         falsified,
         &mut walk,
     );
-    watches
-        .lists
-        .close(number(falsified), walk.kept, walk.next);
+    watches.lists.close(number(falsified), walk.kept, walk.next);
     found
 }
 
