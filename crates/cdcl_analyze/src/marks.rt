@@ -122,6 +122,7 @@ impl Marks {
         ensures room { length self.new.stamps ≡ length self.old.stamps }
         ensures marked { IsMarked self.new letter }
         ensures kept { (x : ℕ) → IsMarked self.old x → IsMarked self.new x }
+        ensures only { (x : ℕ) → IsMarked self.new x → (x ≡ letter) ⊎ IsMarked self.old x }
     {
         self.stamps[letter] = self.stamp;
     }
