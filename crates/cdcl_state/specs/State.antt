@@ -1,5 +1,5 @@
 -- What holds of a state: the log is watched, but for its clauses of one literal or none.
-use Rattle.std.specs.Prelude.{◌≡◌, ℕ, ◌^◌, ◌<◌, ◌≤◌, ◌⊎◌, List, length, take, Some, None, All, slice_index_or, ◌≢◌}
+use Rattle.std.specs.Prelude.{◌≡◌, ℕ, ◌^◌, ◌<◌, ◌≤◌, ◌⊎◌, List, length, take, Some, None, All, AllPairs, slice_index_or, ◌≢◌}
 use Rattle.cnf_base.specs.declared.literal.Literal.{Literal}
 use Rattle.cnf_base.specs.declared.literal.Hint.{Hint}
 use Rattle.cnf_base.specs.Step.{named}
@@ -13,6 +13,10 @@ use Rattle.cdcl_propagate.specs.Visit.{IsReady, blank_hint}
 use Rattle.cdcl_trail.specs.declared.assigned.Entry.{Entry}
 use Rattle.cnf_base.specs.Literal.{opposite}
 use Rattle.cdcl_propagate.specs.Units.{IsOne, AreShort, AreFirm}
+
+-- no letter stands in the clause twice
+abbrev pub HasLettersOnce : List Literal → Type 0
+HasLettersOnce clause = AllPairs (λ a b. a.letter.0 ≢ b.letter.0) clause
 
 -- the name stands at a place of the list
 abbrev pub IsListed : List Hint → Hint → Type 0
