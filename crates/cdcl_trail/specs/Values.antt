@@ -1,14 +1,27 @@
 -- Literals and clauses under the values of some letters.
-use Rattle.std.specs.Prelude.{◌≡◌, ℕ, Bool, true, false, not, nat_eq, if◌then◌else◌, List, Option, Some, None, slice_index_or, ◌<◌, ◌≤◌, All}
+use Rattle.std.specs.Prelude.{◌≡◌, ℕ, ◌+◌, ◌*◌, ◌/◌, Bool, true, false, not, if◌then◌else◌, List, map, length, Option, Some, None, slice_index_or, ◌<◌, ◌≤◌, All}
+use Rattle.std.specs.List.{range_with_len}
 use Rattle.cnf_base.specs.declared.literal.Literal.{Literal}
 
--- the value that a byte stands for
-abbrev pub told : ℕ → Option Bool
-told n = if nat_eq n 1 then Some true else (if nat_eq n 2 then Some false else None)
+-- where it stands whether a literal is true: the two literals of a letter stand side by side
+abbrev pub truth_place : Literal → ℕ
+truth_place l = 2 * l.letter.0 + (if l.negated then 1 else 0)
 
--- the byte of a letter whose literal is true, negated or not
-abbrev pub byte_of : Bool → ℕ
-byte_of negated = if negated then 2 else 1
+-- a letter's value, from whether it is true and whether its negation is
+abbrev pub told : Bool → Bool → Option Bool
+told affirmed denied = if affirmed then Some true else (if denied then Some false else None)
+
+abbrev pub letter_value : List Bool → ℕ → Option Bool
+letter_value truths letter = told (slice_index_or truths (2 * letter) false) (slice_index_or truths (2 * letter + 1) false)
+
+-- the values of the letters
+abbrev pub values_of : List Bool → List (Option Bool)
+values_of truths = map (letter_value truths) (range_with_len 0 (length truths / 2))
+
+-- each letter has two places, and is not true and false at once
+pub record AreTruths (truths : List Bool) : Type 0 where
+  pub even : length truths ≡ 2 * (length truths / 2)
+  pub once : (letter : ℕ) → slice_index_or truths (2 * letter) false ≡ true → slice_index_or truths (2 * letter + 1) false ≡ false
 
 -- the value of a letter, if it has one
 abbrev pub value_at : List (Option Bool) → ℕ → Option Bool

@@ -113,6 +113,7 @@ impl Assigned {
     }
 
     /// Puts the entry on the trail. One that does not fit is refused, as is any for want of memory.
+    #[inline(always)]
     pub fn assign(&mut self, entry: Entry) -> Result<(), AllocError>
         requires unset { IsUnset (literals_of self.old.trail) entry.literal }
         requires known { entry.literal.letter.0 < length self.old.values }

@@ -6,6 +6,7 @@ use clause_log::LogView;
 use cnf_base::{Hint, Literal};
 
 /// The clause that the hint names.
+#[inline(always)]
 pub fn clause_of<'a>(view: &LogView<'a>, hint: Hint) -> &'a [Literal]
     requires { IsSome (named view.now.inputs view.now.lines hint) }
     ensures { named view.now.inputs view.now.lines hint ≡ Some result.now }

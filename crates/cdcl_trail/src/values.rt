@@ -1,37 +1,36 @@
-// The values of letters, a byte for each: propagation reads values more often than anything else, so what
-// matters is that many of them fit into a cache, and that a literal is compared without a branch. After Een
-// and Sorensson, An extensible SAT-solver (2003).
+// The values of letters, a byte for each of a letter's two literals: propagation reads values more often than
+// anything else, so what matters is that many of them fit into a cache, and that whether a literal is true is
+// one read. After Een and Sorensson, An extensible SAT-solver (2003).
 ghost use Rattle.std.specs.Prelude.{◌≡◌, ◌<◌, ◌↔◌, IsTrue, [], ◌∷◌, ◌++◌, length, Some, None, not, if◌then◌else◌, is_ok, slice_set};
-ghost use Rattle.cdcl_trail.specs.Values.{value_at, byte_of};
+ghost use Rattle.cdcl_trail.specs.Values.{value_at, truth_place};
 
 use cnf_base::Literal;
 use std::alloc::{AllocError, Global};
 use std::marker::Model;
 
-/// The letter's value: 1 where it is true, 2 where it is false, and 0 where it has none.
-#[derive(Clone, Copy, Drop)]
-struct Byte(u8);
-
-/// What the value of the literal's letter is where the literal is true.
-fn where_true(literal: Literal) -> Byte
-    ensures { result.0 ≡ byte_of literal.negated }
+/// Where it stands whether the literal is true.
+fn place(literal: Literal) -> usize
+    ensures { result ≡ truth_place literal }
 {
-    Byte(if literal.negated { 2 } else { 1 })
+    2 * literal.letter.0 as usize + if literal.negated { 1 } else { 0 }
 }
 
 /// The values of the letters below a number.
 #[derive(Drop)]
 pub struct Values {
-    items: Vec<Byte>,
+    /// Whether each literal is true.
+    truths: Vec<bool>,
 }
 
 impl Model for Values {
-    ghost use Rattle.std.specs.Prelude.{List, Option, Bool, map};
-    ghost use Rattle.cdcl_trail.specs.Values.{told};
+    ghost use Rattle.std.specs.Prelude.{List, Option, Bool};
+    ghost use Rattle.cdcl_trail.specs.Values.{values_of, AreTruths};
 
     ghost Value = { List (Option Bool) };
 
-    ghost view = { λ a. map (λ v. told v.0) a.items.items };
+    ghost view = { λ a. values_of a.truths.items };
+
+    ghost invariant = { λ a. AreTruths a.truths.items };
 }
 
 impl Values {
@@ -40,7 +39,7 @@ impl Values {
         ensures { result ≡ [] }
     {
         Values {
-            items: Vec::new(alloc),
+            truths: Vec::new(alloc),
         }
     }
 
@@ -48,7 +47,7 @@ impl Values {
     pub fn len(&self) -> usize
         ensures { result ≡ length self.now }
     {
-        self.items.len()
+        self.truths.len() / 2
     }
 
     /// Whether the literal is true.
@@ -56,30 +55,41 @@ impl Values {
         requires { literal.letter.0 < length self.now }
         ensures { IsTrue result ↔ (value_at self.now literal.letter.0 ≡ Some (not literal.negated)) }
     {
-        self.items[literal.letter.0 as usize].0 == where_true(literal).0
+        self.truths[place(literal)]
     }
 
     /// Puts a letter without a value behind the others.
     pub fn push(&mut self) -> Result<(), AllocError>
         ensures { self.new ≡ (if is_ok result then self.old ++ None ∷ [] else self.old) }
     {
-        self.items.push(Byte(0))?;
-        Ok(())
+        let count = self.truths.len();
+        self.truths.push(false)?;
+        match self.truths.push(false) {
+            Ok(()) => {
+                return Ok(());
+            }
+            Err(_) => {
+                self.truths.truncate(count);
+                return Err(AllocError);
+            }
+        }
     }
 
-    /// Makes the literal true.
+    /// Makes the literal true, whose letter has no value.
     pub fn set(&mut self, literal: Literal)
-        requires { literal.letter.0 < length self.old }
+        requires known { literal.letter.0 < length self.old }
+        requires unset { value_at self.old literal.letter.0 ≡ None }
         ensures { self.new ≡ slice_set self.old literal.letter.0 (Some (not literal.negated)) }
     {
-        self.items[literal.letter.0 as usize] = where_true(literal);
+        self.truths[place(literal)] = true;
     }
 
-    /// Takes the value of the literal's letter away.
+    /// Takes the value of the letter away, whose literal is true.
     pub fn clear(&mut self, literal: Literal)
-        requires { literal.letter.0 < length self.old }
+        requires known { literal.letter.0 < length self.old }
+        requires holds { value_at self.old literal.letter.0 ≡ Some (not literal.negated) }
         ensures { self.new ≡ slice_set self.old literal.letter.0 None }
     {
-        self.items[literal.letter.0 as usize] = Byte(0);
+        self.truths[place(literal)] = false;
     }
 }

@@ -2,6 +2,7 @@ use Rattle.std.proofs.Common.{◌≡◌, [], ◌∷◌, ◌++◌, not, Some, len
 use Rattle.cdcl_trail.specs.Assigned.{ArePlaces}
 use Rattle.cdcl_trail.proofs.Assign.{values_push}
 use Rattle.cdcl_trail.proofs.Bound.{room_left}
+use Rattle.cdcl_trail.proofs.Bridge.{none_from_unset}
 use Rattle.cdcl_trail.proofs.Places.{places_push}
 use Rattle.cdcl_trail.proofs.assigned.Assigned.assign.Goals as goal
 
@@ -26,3 +27,7 @@ overflow_cast-place c =
     let unset = rw (← c.self.view_is) at c.requires.unset in
     let known = rw (← c.self.view_is) at c.requires.known in
     omega (arith, c.len-place.ensures, room_left c.self.inside.values c.self.inside.trail c.args.entry c.self.invariant.0 unset known, c.self.invariant.1.few)
+
+pub set-requires-clause-unset : goal.set-requires-clause-unset
+set-requires-clause-unset c =
+    (none_from_unset c.self.inside.values c.self.inside.trail c.self.invariant.0 c.args.entry.literal (rw (← c.self.view_is) at c.requires.unset)).is
