@@ -82,6 +82,7 @@ fn mark_letter(
 }
 
 /// Marks the letters of the clause, and counts those that are new on the level of the cut.
+#[inline(always)]
 fn mark(
     assigned: &Assigned,
     cut: Cut,

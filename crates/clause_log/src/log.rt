@@ -122,6 +122,7 @@ impl<'a> LogView<'a> {
     }
 
     /// The literals of an input.
+    #[inline(always)]
     pub fn input(&self, number: u64) -> &'a [Literal]
         requires from_one { 1 ≤ number }
         requires in_list { number ≤ length self.now.inputs }
@@ -132,6 +133,7 @@ impl<'a> LogView<'a> {
     }
 
     /// The literals of a line.
+    #[inline(always)]
     pub fn literals(&self, line: u64) -> &'a [Literal]
         requires from_one { 1 ≤ line }
         requires in_list { line ≤ length self.now.lines }
