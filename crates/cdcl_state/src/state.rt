@@ -11,7 +11,7 @@ ghost use Rattle.cdcl_state.specs.Turns.{IsDecided};
 
 use crate::decide::offer;
 use crate::state::backjump::settle;
-use crate::store::{distinct, is_ready, lead, rewind, store, take_back};
+use crate::store::{distinct, is_ready, lead, rewind, store};
 use crate::widen::widen;
 use cdcl_activity::choices::Choices;
 use cdcl_analyze::marks::Marks;
@@ -214,7 +214,7 @@ impl State {
             return self.add_stored(clause, clause);
         }
         let mut stored: Vec<Literal> = Vec::new(alloc);
-        distinct(&mut stored, clause)?;
+        distinct(clause, &mut stored)?;
         lead(&self.assigned, &mut stored);
         self.add_stored(clause, &stored)
     }
@@ -243,15 +243,14 @@ impl State {
             × (number ≡ length self.new.log.inputs)) }
         ensures refused { OnErr result (self.new ≡ self.old) }
     {
-        let count = self.units.len();
-        let number = next(self.log.view().inputs());
-        self.units.push(Hint::Clause(number))?;
-        match self.log.add_input(clause) {
-            Ok(number) => {
+        let _ = self.log.view();
+        let number = self.log.add_input(clause)?;
+        match self.units.push(Hint::Clause(number)) {
+            Ok(()) => {
                 return Ok(number);
             }
             Err(_) => {
-                self.units.truncate(count);
+                self.log.take_back_input();
                 return Err(AllocError);
             }
         }
@@ -267,22 +266,20 @@ impl State {
             × (number ≡ length self.new.log.inputs)) }
         ensures refused { OnErr result (self.new ≡ self.old) }
     {
-        self.watches.watching();
-        let count = self.names.len();
-        let number = next(self.log.view().inputs());
-        store(
+        let _ = self.log.view();
+        let number = self.log.add_input(clause)?;
+        match store(
             &mut self.watches,
             &mut self.names,
             stored,
             Hint::Clause(number),
-        )?;
-        match self.log.add_input(clause) {
-            Ok(number) => {
+        ) {
+            Ok(()) => {
                 rewind(&self.assigned, stored, &mut self.head, &mut self.sure);
                 return Ok(number);
             }
             Err(_) => {
-                take_back(&mut self.watches, &mut self.names, count);
+                self.log.take_back_input();
                 return Err(AllocError);
             }
         }
@@ -304,7 +301,7 @@ impl State {
         ensures refused { OnErr result (self.new ≡ self.old) }
     {
         let mut stored: Vec<Literal> = Vec::new(alloc);
-        distinct(&mut stored, clause)?;
+        distinct(clause, &mut stored)?;
         if stored.len() < 2 {
             return self.derive_short(clause, hints, &stored);
         }
@@ -327,15 +324,13 @@ impl State {
             × (number ≡ length self.new.log.lines)) }
         ensures refused { OnErr result (self.new ≡ self.old) }
     {
-        let count = self.units.len();
-        let number = next(self.log.view().lines());
-        self.units.push(Hint::Line(number))?;
-        match self.log.derive(clause, hints) {
-            Ok(number) => {
+        let number = self.log.derive(clause, hints)?;
+        match self.units.push(Hint::Line(number)) {
+            Ok(()) => {
                 return Ok(number);
             }
             Err(_) => {
-                self.units.truncate(count);
+                self.log.take_back_line();
                 return Err(AllocError);
             }
         }
@@ -358,22 +353,19 @@ impl State {
             × (number ≡ length self.new.log.lines)) }
         ensures refused { OnErr result (self.new ≡ self.old) }
     {
-        self.watches.watching();
-        let count = self.names.len();
-        let number = next(self.log.view().lines());
-        store(
+        let number = self.log.derive(clause, hints)?;
+        match store(
             &mut self.watches,
             &mut self.names,
             stored,
             Hint::Line(number),
-        )?;
-        match self.log.derive(clause, hints) {
-            Ok(number) => {
+        ) {
+            Ok(()) => {
                 rewind(&self.assigned, stored, &mut self.head, &mut self.sure);
                 return Ok(number);
             }
             Err(_) => {
-                take_back(&mut self.watches, &mut self.names, count);
+                self.log.take_back_line();
                 return Err(AllocError);
             }
         }
@@ -426,11 +418,4 @@ impl State {
             reason: None,
         })
     }
-}
-
-/// The number after this one. Behind the last number of all the log takes no clause.
-fn next(count: u64) -> u64
-    ensures { count < 18446744073709551615 → result ≡ count + 1 }
-{
-    count.saturating_add(1)
 }

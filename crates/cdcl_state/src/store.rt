@@ -1,7 +1,7 @@
 // A clause comes into the state: each of its literals once, watched by the first two. A repeated literal is
 // dropped.
-ghost use Rattle.std.specs.Prelude.{◌≡◌, ◌≢◌, ℕ, ◌<◌, ◌≤◌, ◌⊎◌, ◌↔◌, IsTrue, List, [], ◌∷◌, ◌++◌, length, take, All, Contains, OnOk, if◌then◌else◌, is_ok};
-ghost use Rattle.cdcl_watches.specs.Watching.{code, AreApart, IsAdded, WatchValue, with_clause};
+ghost use Rattle.std.specs.Prelude.{◌≡◌, ◌≢◌, ℕ, ◌<◌, ◌≤◌, ◌⊎◌, ◌↔◌, IsTrue, List, [], ◌∷◌, ◌++◌, length, All, Contains, OnOk, if◌then◌else◌, is_ok};
+ghost use Rattle.cdcl_watches.specs.Watching.{code, AreApart, with_clause};
 ghost use Rattle.cnf_base.specs.Literal.{opposite};
 ghost use Rattle.cdcl_trail.specs.Trail.{literal_at};
 ghost use Rattle.cdcl_propagate.specs.Visit.{HaveSame};
@@ -28,7 +28,7 @@ pub fn has(literals: &[Literal], wanted: Literal) -> bool
 }
 
 /// Puts the literal behind the others, if it is not among them.
-fn insert(out: &mut Vec<Literal>, literal: Literal) -> Result<(), AllocError>
+fn insert(literal: Literal, out: &mut Vec<Literal>) -> Result<(), AllocError>
     requires apart { AreApart out.old.items }
     ensures apart { AreApart out.new.items }
     ensures kept { All (Contains out.new.items) out.old.items }
@@ -49,13 +49,13 @@ fn insert(out: &mut Vec<Literal>, literal: Literal) -> Result<(), AllocError>
 }
 
 /// The clause's literals, each once.
-pub fn distinct(out: &mut Vec<Literal>, clause: &[Literal]) -> Result<(), AllocError>
+pub fn distinct(clause: &[Literal], out: &mut Vec<Literal>) -> Result<(), AllocError>
     requires { out.old.items ≡ [] }
     ensures apart { AreApart out.new.items }
     ensures same { OnOk result (HaveSame clause.now out.new.items) }
 {
     for literal in clause {
-        insert(out, *literal)?;
+        insert(*literal, out)?;
     }
     Ok(())
 }
@@ -130,16 +130,6 @@ pub fn store(
             return Err(AllocError);
         }
     }
-}
-
-/// Takes back the clause that was stored last, where `count` were before it.
-pub fn take_back(watches: &mut Watches, names: &mut Names, count: usize)
-    requires { (before : WatchValue) × IsAdded before watches.old }
-    ensures watches { (before : WatchValue) → IsAdded before watches.old → watches.new ≡ before }
-    ensures names { names.new ≡ take count names.old }
-{
-    watches.take_back();
-    names.truncate(count);
 }
 
 /// Where the literal is false from a place below the head on, the head goes back to that place.

@@ -36,6 +36,18 @@ pub record IsLog (log : LogValue) : Type 0 where
   pub paired : length log.hints ≡ length log.lines
   pub steps : (k : ℕ) → k < length log.lines → IsHintedStep log.inputs (take k log.lines) greatest_u32 (slice_index_or log.lines k []) (slice_index_or log.hints k [])
 
+-- a clause was put behind the inputs of a log
+pub record IsInputAdded (before now : LogValue) : Type 0 where
+  pub log : IsLog before
+  pub clause : List Literal
+  pub is : now ≡ with_input before clause
+
+-- a clause with its hints was put behind the lines; what was there before is a log, since no line rests on a later one
+pub record IsLineAdded (before now : LogValue) : Type 0 where
+  pub clause : List Literal
+  pub hints : List Hint
+  pub is : now ≡ with_line before clause hints
+
 -- what satisfies the inputs of a log satisfies each line
 abbrev pub LinesFollow : Type 0
 LinesFollow = (log : LogValue) → IsLog log → (v : ℕ → Bool) → Satisfies v log.inputs → Satisfies v log.lines

@@ -3,7 +3,7 @@
 // formulas), so what a log says can be trusted whatever search produced it.
 ghost use Rattle.std.specs.Prelude.{◌≡◌, ◌≤◌, [], length, IfOk, OnErr};
 ghost use Rattle.cnf_base.specs.Step.{IsHintedStep, clause_at};
-ghost use Rattle.clause_log.specs.LogValue.{IsLog, with_input, with_line, with_lines, greatest_u32, hints_at};
+ghost use Rattle.clause_log.specs.LogValue.{LogValue, IsLog, IsInputAdded, IsLineAdded, with_input, with_line, with_lines, greatest_u32, hints_at};
 
 use cnf_base::{Hint, Literal, Rows};
 use std::alloc::{AllocError, Global};
@@ -49,6 +49,15 @@ impl Log {
         Ok(self.inputs.len() as u64)
     }
 
+    /// Takes back the input that was put behind the others last.
+    pub fn take_back_input(&mut self)
+        requires { (before : LogValue) × IsInputAdded before self.old }
+        ensures { (before : LogValue) → IsInputAdded before self.old → self.new ≡ before }
+    {
+        let count = self.inputs.len() - 1;
+        self.inputs.truncate(count);
+    }
+
     /// Puts the clause with its hints behind the lines, and answers its number.
     pub fn derive(&mut self, literals: &[Literal], hints: &[Hint]) -> Result<u64, AllocError>
         requires { IsHintedStep self.old.inputs self.old.lines greatest_u32 literals.now hints.now }
@@ -66,6 +75,16 @@ impl Log {
                 Err(AllocError)
             }
         }
+    }
+
+    /// Takes back the line that was put behind the others last.
+    pub fn take_back_line(&mut self)
+        requires { (before : LogValue) × IsLineAdded before self.old }
+        ensures { (before : LogValue) → IsLineAdded before self.old → self.new ≡ before }
+    {
+        let count = self.lines.len() - 1;
+        self.lines.truncate(count);
+        self.hints.truncate(count);
     }
 
     /// The log with other lines, and their hints, in place of its own. The inputs stay where they are.

@@ -10,9 +10,9 @@ ghost use Rattle.cdcl_analyze.specs.Learnt.{IsLearnt};
 ghost use Rattle.cdcl_state.specs.Turns.{IsAsserting, IsTarget, IsTurn, IsUnturned};
 ghost use Rattle.cnf_base.specs.declared.literal.Hint.TheVariants.{Line};
 
+use crate::state::State;
 use crate::state::backjump::{loosen, release, smaller};
-use crate::state::{State, next};
-use crate::store::{store, take_back};
+use crate::store::store;
 use cdcl_analyze::analyze::Learnt;
 use cdcl_trail::assigned::Entry;
 use cnf_base::{Hint, Literal};
@@ -30,19 +30,16 @@ impl State {
         ensures refused { OnErr result (IsUnturned self.old self.new learnt.now) }
     {
         self.assigned.told();
-        self.watches.watching();
-        let count = self.names.len();
-        let line = next(self.log.view().lines());
-        store(
+        let line = self.log.derive(&learnt.clause, &learnt.hints)?;
+        match store(
             &mut self.watches,
             &mut self.names,
             &learnt.clause,
             Hint::Line(line),
-        )?;
-        match self.log.derive(&learnt.clause, &learnt.hints) {
-            Ok(_number) => {}
+        ) {
+            Ok(()) => {}
             Err(_) => {
-                take_back(&mut self.watches, &mut self.names, count);
+                self.log.take_back_line();
                 return Err(AllocError);
             }
         }

@@ -1,10 +1,9 @@
-use Rattle.std.proofs.Common.{◌≡◌, ◌+◌, [], ◌∷◌, take, All, length, sym, ap, ◌∙◌, subst, arith, ◌<◌}
-use Rattle.std.proofs.lemmas.List.{length_push, take_at}
+use Rattle.std.proofs.Common.{◌≡◌, ◌+◌, All, length, sym, ap, ◌∙◌, subst}
+use Rattle.std.proofs.lemmas.List.{length_push}
 use Rattle.cnf_base.specs.declared.literal.Hint.TheVariants.{Line}
 use Rattle.cnf_base.specs.Known.{IsKnown}
 use Rattle.clause_log.specs.LogValue.{LogValue, with_line}
-use Rattle.cdcl_state.specs.StateValue.{StateValue}
-use Rattle.cdcl_watches.specs.Watching.{IsAdded}
+use Rattle.cdcl_state.specs.StateValue.{StateValue, state_of}
 use Rattle.cdcl_state.proofs.Attach.{line_more, state_long, known_more, stored_below, stored_fits}
 use Rattle.cdcl_state.proofs.state.State.derive_long.Goals as goal
 
@@ -23,46 +22,20 @@ invariant_of-self-in-Ok c =
     let letters = c.self.inside.letters in
     let log = c.self.inside.log in
     let clause = c.args.clause.now in
-    let number = c.next-number.result in
+    let number = c.in_ok-number.number in
     let known : All (IsKnown letters) clause = subst (λ (s : StateValue). All (IsKnown s.letters) clause) (sym c.self.view_is) c.requires.known in
-    let fits : c.lines.result < 18446744073709551615 = omega (
-      arith,
-      c.in-Ok.ensures.added.1,
-      c.lines.ensures ∙ ap (λ (l : LogValue). length l.lines) c.view.ensures.same,
-      ap (λ (l : LogValue). length l.lines) c.in-Ok.ensures.added.0 ∙ length_push log.lines clause,
-    ) in
-    let count : number ≡ length log.lines + 1 = c.next-number.ensures fits ∙ ap (λ n. n + 1) (c.lines.ensures ∙ ap (λ (l : LogValue). length l.lines) c.view.ensures.same) in
-    rw (c.in_ok-store.ensures.watches, c.in_ok-store.ensures.names, c.in-Ok.ensures.added.0)
+    let count : number ≡ length log.lines + 1 = c.in_ok-number.ensures.added.1 ∙ ap (λ (l : LogValue). length l.lines) c.in_ok-number.ensures.added.0 ∙ length_push log.lines clause in
+    rw (c.in-Ok.ensures.watches, c.in-Ok.ensures.names, c.in_ok-number.ensures.added.0)
     (state_long letters c.self.inside.assigned c.self.inside.watches c.self.inside.names c.self.inside.units.items log (with_line log clause c.args.hints.now) c.self.inside.head c.self.inside.sure c.self.inside.done c.self.inside.firm (length c.self.inside.marks.stamps)
     (Line number) clause c.self.invariant (line_more log clause c.args.hints.now number count) c.self.invariant.known_inputs (known_more letters log.lines clause c.self.invariant.known_lines known)
     c.args.stored.now c.rewind.new.head c.rewind.new.sure c.requires.same c.requires.long c.requires.apart c.rewind.ensures)
 
-pub take_back-requires : goal.take_back-requires
-take_back-requires c =
-    let known : All (IsKnown c.self.inside.letters) c.args.clause.now = subst (λ (s : StateValue). All (IsKnown s.letters) c.args.clause.now) (sym c.self.view_is) c.requires.known in (
-      c.self.inside.watches,
-      record {
-        clause = c.args.stored.now;
-        watching = c.watching.ensures;
-        long = c.requires.long;
-        apart = c.requires.apart;
-        fits = stored_fits c.self.inside.letters c.self.inside.assigned c.self.inside.watches.lists c.args.clause.now c.args.stored.now c.self.invariant.room c.self.invariant.ready.sized known c.requires.same;
-        is = c.in_ok-store.ensures.watches;
-      },
-    )
-
 pub invariant_of-self-in-Err : goal.invariant_of-self-in-Err
 invariant_of-self-in-Err c =
-    let known : All (IsKnown c.self.inside.letters) c.args.clause.now = subst (λ (s : StateValue). All (IsKnown s.letters) c.args.clause.now) (sym c.self.view_is) c.requires.known in
-    let added : IsAdded c.self.inside.watches c.store.new.watches = record {
-      clause = c.args.stored.now;
-      watching = c.watching.ensures;
-      long = c.requires.long;
-      apart = c.requires.apart;
-      fits = stored_fits c.self.inside.letters c.self.inside.assigned c.self.inside.watches.lists c.args.clause.now c.args.stored.now c.self.invariant.room c.self.invariant.ready.sized known c.requires.same;
-      is = c.in_ok-store.ensures.watches;
-    } in
-    let names = c.self.inside.names in
-    let count : length names ≡ c.len-count.result = omega arith in
-    let same_names : c.take_back.new.names ≡ names = c.take_back.ensures.names ∙ ap (take c.len-count.result) c.in_ok-store.ensures.names ∙ take_at names (Line c.next-number.result ∷ []) c.len-count.result count in
-    rw (c.take_back.ensures.watches c.self.inside.watches added, same_names, c.in-Err.ensures.refused) c.self.invariant
+    let back = c.take_back_line.ensures c.self.inside.log (record { clause = c.args.clause.now; hints = c.args.hints.now; is = c.in_ok-number.ensures.added.0 }) in
+    rw (c.in-Err.ensures.watches, c.in-Err.ensures.names, back) c.self.invariant
+
+pub returns-in-Err-clause-refused : goal.returns-in-Err-clause-refused
+returns-in-Err-clause-refused c =
+    let back = c.take_back_line.ensures c.self.inside.log (record { clause = c.args.clause.now; hints = c.args.hints.now; is = c.in_ok-number.ensures.added.0 }) in
+    ap (state_of c.self.inside.letters c.self.inside.assigned.trail) back ∙ c.self.view_is

@@ -1,9 +1,9 @@
-use Rattle.std.proofs.Common.{◌≡◌, ◌+◌, All, length, sym, ap, ◌∙◌, ◌<◌, subst, arith}
+use Rattle.std.proofs.Common.{◌≡◌, ◌+◌, All, length, sym, ap, ◌∙◌, subst}
 use Rattle.std.proofs.lemmas.List.{length_push}
 use Rattle.cnf_base.specs.declared.literal.Hint.TheVariants.{Line}
 use Rattle.cnf_base.specs.Known.{IsKnown}
 use Rattle.clause_log.specs.LogValue.{LogValue, with_line}
-use Rattle.cdcl_state.specs.StateValue.{StateValue}
+use Rattle.cdcl_state.specs.StateValue.{StateValue, state_of}
 use Rattle.cdcl_state.proofs.Attach.{line_more, state_short, known_more}
 use Rattle.cdcl_state.proofs.Distinct.{one_short}
 use Rattle.cdcl_state.proofs.state.State.derive_short.Goals as goal
@@ -13,15 +13,19 @@ invariant_of-self-in-Ok c =
     let letters = c.self.inside.letters in
     let log = c.self.inside.log in
     let clause = c.args.clause.now in
-    let number = c.next-number.result in
+    let number = c.in_ok-number.number in
     let known : All (IsKnown letters) clause = subst (λ (s : StateValue). All (IsKnown s.letters) clause) (sym c.self.view_is) c.requires.known in
-    let fits : c.lines.result < 18446744073709551615 = omega (
-      arith,
-      c.in-Ok.ensures.added.1,
-      c.lines.ensures ∙ ap (λ (l : LogValue). length l.lines) c.view.ensures.same,
-      ap (λ (l : LogValue). length l.lines) c.in-Ok.ensures.added.0 ∙ length_push log.lines clause,
-    ) in
-    let count : number ≡ length log.lines + 1 = c.next-number.ensures fits ∙ ap (λ n. n + 1) (c.lines.ensures ∙ ap (λ (l : LogValue). length l.lines) c.view.ensures.same) in
-    rw (c.in_ok-push.ensures.items, c.in-Ok.ensures.added.0)
+    let count : number ≡ length log.lines + 1 = c.in_ok-number.ensures.added.1 ∙ ap (λ (l : LogValue). length l.lines) c.in_ok-number.ensures.added.0 ∙ length_push log.lines clause in
+    rw (c.in-Ok.ensures.items, c.in_ok-number.ensures.added.0)
     (state_short letters c.self.inside.assigned c.self.inside.watches c.self.inside.names c.self.inside.units.items log (with_line log clause c.args.hints.now) c.self.inside.head c.self.inside.sure c.self.inside.done c.self.inside.firm (length c.self.inside.marks.stamps)
     (Line number) clause c.self.invariant (line_more log clause c.args.hints.now number count) c.self.invariant.known_inputs (known_more letters log.lines clause c.self.invariant.known_lines known) (one_short clause c.args.stored.now c.requires.same c.requires.short))
+
+pub invariant_of-self-in-Err : goal.invariant_of-self-in-Err
+invariant_of-self-in-Err c =
+    let back = c.take_back_line.ensures c.self.inside.log (record { clause = c.args.clause.now; hints = c.args.hints.now; is = c.in_ok-number.ensures.added.0 }) in
+    rw (c.in-Err.ensures.items, back) c.self.invariant
+
+pub returns-in-Err-clause-refused : goal.returns-in-Err-clause-refused
+returns-in-Err-clause-refused c =
+    let back = c.take_back_line.ensures c.self.inside.log (record { clause = c.args.clause.now; hints = c.args.hints.now; is = c.in_ok-number.ensures.added.0 }) in
+    ap (state_of c.self.inside.letters c.self.inside.assigned.trail) back ∙ c.self.view_is

@@ -1,15 +1,14 @@
-use Rattle.std.proofs.Common.{◌≡◌, ◌+◌, [], ◌∷◌, ◌++◌, Some, take, All, length, get_or, sym, ap, ap₂, ◌∙◌, subst, arith, length-take-le, ◌<◌}
-use Rattle.std.proofs.lemmas.List.{length_push, take_at, get_or_default}
-use Rattle.std.proofs.lemmas.List.Elements.{All-contains_itself}
+use Rattle.std.proofs.Common.{◌≡◌, ◌+◌, [], ◌∷◌, ◌++◌, Some, take, All, length, get_or, inl, sym, ap, ap₂, ◌∙◌, subst, arith, length-take-le}
+use Rattle.std.proofs.lemmas.List.{length_push, get_or_default}
 use Rattle.cnf_base.specs.declared.literal.Hint.TheVariants.{Line}
 use Rattle.cnf_base.specs.Known.{IsKnown}
 use Rattle.clause_log.specs.LogValue.{LogValue, with_line}
 use Rattle.cdcl_state.specs.StateValue.{StateValue, with_log, state_of}
 use Rattle.cdcl_analyze.specs.Learnt.{IsLearnt}
 use Rattle.cdcl_state.specs.Turns.{IsAsserting, IsTarget, IsTurn}
-use Rattle.cdcl_watches.specs.Watching.{AreApart, IsAdded, with_clause, blank}
+use Rattle.cdcl_watches.specs.Watching.{AreApart, with_clause, blank}
 use Rattle.cdcl_trail.specs.declared.assigned.Entry.{Entry}
-use Rattle.cdcl_state.proofs.Attach.{line_more, known_more, stored_fits}
+use Rattle.cdcl_state.proofs.Attach.{line_more, known_more}
 use Rattle.cdcl_state.proofs.Learned.{learnt_apart, learned_stands, learned_cut, learned}
 use Rattle.cdcl_state.proofs.States.{state_same}
 use Rattle.cdcl_state.proofs.state.State.learn_long.Goals as goal
@@ -19,50 +18,7 @@ store-requires-clause-apart c =
     let learnt = c.args.learnt.now in
     let trail = c.self.inside.assigned.trail in
     let is : IsLearnt c.self.inside.log trail learnt = subst (λ (s : StateValue). IsLearnt s.log s.trail learnt) (sym c.self.view_is) c.requires.learnt in
-    subst AreApart (sym c.deref.ensures.value) (learnt_apart c.self.inside.assigned.values trail learnt.clause.items learnt.places.items c.told.ensures is.clause_is is.inside is.falling)
-
-pub take_back-requires : goal.take_back-requires
-take_back-requires c =
-    let learnt = c.args.learnt.now in
-    let clause = learnt.clause.items in
-    let w = c.self.inside.watches in
-    let a = c.self.inside.assigned in
-    let letters = c.self.inside.letters in
-    let is : IsLearnt c.self.inside.log a.trail learnt = subst (λ (s : StateValue). IsLearnt s.log s.trail learnt) (sym c.self.view_is) c.requires.learnt in
-    let known : All (IsKnown letters) clause = subst (λ (s : StateValue). All (IsKnown s.letters) clause) (sym c.self.view_is) c.requires.known in
-    let w_is : c.store.new.watches ≡ with_clause w clause = c.in_ok-store.ensures.watches ∙ ap (with_clause w) c.deref.ensures.value in
-    let added : IsAdded w c.store.new.watches = record {
-      clause = clause;
-      watching = c.watching.ensures;
-      long = c.requires.long;
-      apart = learnt_apart a.values a.trail clause learnt.places.items c.told.ensures is.clause_is is.inside is.falling;
-      fits = stored_fits letters a w.lists clause clause c.self.invariant.room c.self.invariant.ready.sized known (record { there = All-contains_itself clause; back = All-contains_itself clause });
-      is = w_is;
-    } in
-    (w, added)
-
-pub invariant_of-self-in-Err : goal.invariant_of-self-in-Err
-invariant_of-self-in-Err c =
-    let learnt = c.args.learnt.now in
-    let clause = learnt.clause.items in
-    let w = c.self.inside.watches in
-    let a = c.self.inside.assigned in
-    let letters = c.self.inside.letters in
-    let is : IsLearnt c.self.inside.log a.trail learnt = subst (λ (s : StateValue). IsLearnt s.log s.trail learnt) (sym c.self.view_is) c.requires.learnt in
-    let known : All (IsKnown letters) clause = subst (λ (s : StateValue). All (IsKnown s.letters) clause) (sym c.self.view_is) c.requires.known in
-    let w_is : c.store.new.watches ≡ with_clause w clause = c.in_ok-store.ensures.watches ∙ ap (with_clause w) c.deref.ensures.value in
-    let added : IsAdded w c.store.new.watches = record {
-      clause = clause;
-      watching = c.watching.ensures;
-      long = c.requires.long;
-      apart = learnt_apart a.values a.trail clause learnt.places.items c.told.ensures is.clause_is is.inside is.falling;
-      fits = stored_fits letters a w.lists clause clause c.self.invariant.room c.self.invariant.ready.sized known (record { there = All-contains_itself clause; back = All-contains_itself clause });
-      is = w_is;
-    } in
-    let names = c.self.inside.names in
-    let count : length names ≡ c.len-count.result = omega arith in
-    let same_names : c.take_back.new.names ≡ names = c.take_back.ensures.names ∙ ap (take c.len-count.result) c.in_ok-store.ensures.names ∙ take_at names (Line c.next-line.result ∷ []) c.len-count.result count in
-    rw (c.take_back.ensures.watches w added, same_names, c.in-Err.ensures.refused) c.self.invariant
+    subst AreApart (sym c.deref-3.ensures.value) (learnt_apart c.self.inside.assigned.values trail learnt.clause.items learnt.places.items c.told.ensures is.clause_is is.inside is.falling)
 
 pub assign-requires-clause-unset : goal.assign-requires-clause-unset
 assign-requires-clause-unset c =
@@ -74,23 +30,17 @@ assign-requires-clause-unset c =
     let b = c.cut.new.self in
     let w = c.self.inside.watches in
     let log = c.self.inside.log in
-    let line = c.next-line.result in
+    let line = c.in_ok-line.line in
     let is : IsLearnt log a.trail learnt = subst (λ (s : StateValue). IsLearnt s.log s.trail learnt) (sym c.self.view_is) c.requires.learnt in
     let known : All (IsKnown letters) clause = subst (λ (s : StateValue). All (IsKnown s.letters) clause) (sym c.self.view_is) c.requires.known in
     let asserting : IsAsserting a.trail places = subst (λ (s : StateValue). IsAsserting s.trail places) (sym c.self.view_is) c.requires.asserting in
     let target : IsTarget a.trail places c.args.level = subst (λ (s : StateValue). IsTarget s.trail places c.args.level) (sym c.self.view_is) c.requires.level in
     let next = with_line log clause learnt.hints.items in
-    let fits : c.lines.result < 18446744073709551615 = omega (
-      arith,
-      c.in-Ok.ensures.added.1,
-      c.lines.ensures ∙ ap (λ (l : LogValue). length l.lines) c.view.ensures.same,
-      ap (λ (l : LogValue). length l.lines) c.in-Ok.ensures.added.0 ∙ length_push log.lines c.deref-2.result.now,
-    ) in
-    let count : line ≡ length log.lines + 1 = c.next-line.ensures fits ∙ ap (λ n. n + 1) (c.lines.ensures ∙ ap (λ (l : LogValue). length l.lines) c.view.ensures.same) in
+    let count : line ≡ length log.lines + 1 = c.in_ok-line.ensures.added.1 ∙ ap (λ (l : LogValue). length l.lines) c.in_ok-line.ensures.added.0 ∙ length_push log.lines c.deref.result.now in
     let more = line_more log clause learnt.hints.items line count in
     let known_lines = known_more letters log.lines clause c.self.invariant.known_lines known in
-    let next_is : c.derive.new.self ≡ next = c.in-Ok.ensures.added.0 ∙ ap₂ (with_line log) c.deref-2.ensures.value c.deref-3.ensures.value in
-    let w_is : c.store.new.watches ≡ with_clause w clause = c.in_ok-store.ensures.watches ∙ ap (with_clause w) c.deref.ensures.value in
+    let next_is : c.derive.new.self ≡ next = c.in_ok-line.ensures.added.0 ∙ ap₂ (with_line log) c.deref.ensures.value c.deref-2.ensures.value in
+    let w_is : c.store.new.watches ≡ with_clause w clause = c.in-Ok.ensures.watches ∙ ap (with_clause w) c.deref-3.ensures.value in
     (learned_stands letters a b w c.self.inside.names c.self.inside.units.items log next c.self.inside.head c.self.inside.sure c.self.inside.done c.self.inside.firm (length c.self.inside.marks.stamps) c.smaller-sure.result c.front-front.result c.args.level c.loosen.new.done c.loosen.new.firm line clause places c.index.result.now
     c.self.invariant c.told.ensures more c.self.invariant.known_inputs known_lines c.cut.ensures.trail c.cut.ensures.letters c.front-front.ensures.within c.front-front.ensures.low c.front-front.ensures.high c.smaller-sure.ensures.one c.smaller-sure.ensures.two c.loosen.ensures.all
     is.clause_is is.inside is.falling asserting target c.index.ensures).0.unset
@@ -105,23 +55,17 @@ invariant_of-self-in_err-assign c =
     let b = c.cut.new.self in
     let w = c.self.inside.watches in
     let log = c.self.inside.log in
-    let line = c.next-line.result in
+    let line = c.in_ok-line.line in
     let is : IsLearnt log a.trail learnt = subst (λ (s : StateValue). IsLearnt s.log s.trail learnt) (sym c.self.view_is) c.requires.learnt in
     let known : All (IsKnown letters) clause = subst (λ (s : StateValue). All (IsKnown s.letters) clause) (sym c.self.view_is) c.requires.known in
     let asserting : IsAsserting a.trail places = subst (λ (s : StateValue). IsAsserting s.trail places) (sym c.self.view_is) c.requires.asserting in
     let target : IsTarget a.trail places c.args.level = subst (λ (s : StateValue). IsTarget s.trail places c.args.level) (sym c.self.view_is) c.requires.level in
     let next = with_line log clause learnt.hints.items in
-    let fits : c.lines.result < 18446744073709551615 = omega (
-      arith,
-      c.in-Ok.ensures.added.1,
-      c.lines.ensures ∙ ap (λ (l : LogValue). length l.lines) c.view.ensures.same,
-      ap (λ (l : LogValue). length l.lines) c.in-Ok.ensures.added.0 ∙ length_push log.lines c.deref-2.result.now,
-    ) in
-    let count : line ≡ length log.lines + 1 = c.next-line.ensures fits ∙ ap (λ n. n + 1) (c.lines.ensures ∙ ap (λ (l : LogValue). length l.lines) c.view.ensures.same) in
+    let count : line ≡ length log.lines + 1 = c.in_ok-line.ensures.added.1 ∙ ap (λ (l : LogValue). length l.lines) c.in_ok-line.ensures.added.0 ∙ length_push log.lines c.deref.result.now in
     let more = line_more log clause learnt.hints.items line count in
     let known_lines = known_more letters log.lines clause c.self.invariant.known_lines known in
-    let next_is : c.derive.new.self ≡ next = c.in-Ok.ensures.added.0 ∙ ap₂ (with_line log) c.deref-2.ensures.value c.deref-3.ensures.value in
-    let w_is : c.store.new.watches ≡ with_clause w clause = c.in_ok-store.ensures.watches ∙ ap (with_clause w) c.deref.ensures.value in
+    let next_is : c.derive.new.self ≡ next = c.in_ok-line.ensures.added.0 ∙ ap₂ (with_line log) c.deref.ensures.value c.deref-2.ensures.value in
+    let w_is : c.store.new.watches ≡ with_clause w clause = c.in-Ok.ensures.watches ∙ ap (with_clause w) c.deref-3.ensures.value in
     let e : Entry = record { literal = c.index.result.now; level = c.args.level; reason = Some (Line line) } in
     let stands = learned_stands letters a b w c.self.inside.names c.self.inside.units.items log next c.self.inside.head c.self.inside.sure c.self.inside.done c.self.inside.firm (length c.self.inside.marks.stamps) c.smaller-sure.result c.front-front.result c.args.level c.loosen.new.done c.loosen.new.firm line clause places c.index.result.now
     c.self.invariant c.told.ensures more c.self.invariant.known_inputs known_lines c.cut.ensures.trail c.cut.ensures.letters c.front-front.ensures.within c.front-front.ensures.low c.front-front.ensures.high c.smaller-sure.ensures.one c.smaller-sure.ensures.two c.loosen.ensures.all
@@ -129,7 +73,7 @@ invariant_of-self-in_err-assign c =
     let cut = learned_cut letters a b w c.self.inside.names c.self.inside.units.items log next c.self.inside.head c.self.inside.sure c.self.inside.done c.self.inside.firm (length c.self.inside.marks.stamps) c.smaller-sure.result c.front-front.result c.args.level c.loosen.new.done c.loosen.new.firm line clause places c.index.result.now
     c.self.invariant c.told.ensures more c.self.invariant.known_inputs known_lines c.cut.ensures.trail c.cut.ensures.letters c.front-front.ensures.within c.front-front.ensures.low c.front-front.ensures.high c.smaller-sure.ensures.one c.smaller-sure.ensures.two c.loosen.ensures.all
     is.clause_is is.inside is.falling asserting target c.index.ensures c.requires.long in
-    rw (w_is, c.in_ok-store.ensures.names, next_is)
+    rw (w_is, c.in-Ok.ensures.names, next_is)
     (state_same letters b c.assign.new.self (with_clause w clause) (c.self.inside.names ++ Line line ∷ []) c.self.inside.units.items next 0 0 c.loosen.new.done c.loosen.new.firm (length c.self.inside.marks.stamps) e cut c.in_err-assign.ensures.letters stands.0.stands (λ free. cc) c.in_err-assign.ensures.trail)
 
 pub invariant_of-self-2 : goal.invariant_of-self-2
@@ -142,25 +86,19 @@ invariant_of-self-2 c =
     let b = c.cut.new.self in
     let w = c.self.inside.watches in
     let log = c.self.inside.log in
-    let line = c.next-line.result in
+    let line = c.in_ok-line.line in
     let is : IsLearnt log a.trail learnt = subst (λ (s : StateValue). IsLearnt s.log s.trail learnt) (sym c.self.view_is) c.requires.learnt in
     let known : All (IsKnown letters) clause = subst (λ (s : StateValue). All (IsKnown s.letters) clause) (sym c.self.view_is) c.requires.known in
     let asserting : IsAsserting a.trail places = subst (λ (s : StateValue). IsAsserting s.trail places) (sym c.self.view_is) c.requires.asserting in
     let target : IsTarget a.trail places c.args.level = subst (λ (s : StateValue). IsTarget s.trail places c.args.level) (sym c.self.view_is) c.requires.level in
     let next = with_line log clause learnt.hints.items in
-    let fits : c.lines.result < 18446744073709551615 = omega (
-      arith,
-      c.in-Ok.ensures.added.1,
-      c.lines.ensures ∙ ap (λ (l : LogValue). length l.lines) c.view.ensures.same,
-      ap (λ (l : LogValue). length l.lines) c.in-Ok.ensures.added.0 ∙ length_push log.lines c.deref-2.result.now,
-    ) in
-    let count : line ≡ length log.lines + 1 = c.next-line.ensures fits ∙ ap (λ n. n + 1) (c.lines.ensures ∙ ap (λ (l : LogValue). length l.lines) c.view.ensures.same) in
+    let count : line ≡ length log.lines + 1 = c.in_ok-line.ensures.added.1 ∙ ap (λ (l : LogValue). length l.lines) c.in_ok-line.ensures.added.0 ∙ length_push log.lines c.deref.result.now in
     let more = line_more log clause learnt.hints.items line count in
     let known_lines = known_more letters log.lines clause c.self.invariant.known_lines known in
-    let next_is : c.derive.new.self ≡ next = c.in-Ok.ensures.added.0 ∙ ap₂ (with_line log) c.deref-2.ensures.value c.deref-3.ensures.value in
-    let w_is : c.store.new.watches ≡ with_clause w clause = c.in_ok-store.ensures.watches ∙ ap (with_clause w) c.deref.ensures.value in
+    let next_is : c.derive.new.self ≡ next = c.in_ok-line.ensures.added.0 ∙ ap₂ (with_line log) c.deref.ensures.value c.deref-2.ensures.value in
+    let w_is : c.store.new.watches ≡ with_clause w clause = c.in-Ok.ensures.watches ∙ ap (with_clause w) c.deref-3.ensures.value in
     let first : c.index.result.now ≡ get_or clause 0 blank = c.index.ensures ∙ get_or_default clause 0 c.index.result.now blank (omega (arith, c.requires.long)) in
-    rw (w_is, c.in_ok-store.ensures.names, next_is)
+    rw (w_is, c.in-Ok.ensures.names, next_is)
     (learned letters a b w c.self.inside.names c.self.inside.units.items log next c.self.inside.head c.self.inside.sure c.self.inside.done c.self.inside.firm (length c.self.inside.marks.stamps) c.smaller-sure.result c.front-front.result c.args.level c.loosen.new.done c.loosen.new.firm line clause places c.index.result.now
     c.self.invariant c.told.ensures more c.self.invariant.known_inputs known_lines c.cut.ensures.trail c.cut.ensures.letters c.front-front.ensures.within c.front-front.ensures.low c.front-front.ensures.high c.smaller-sure.ensures.one c.smaller-sure.ensures.two c.loosen.ensures.all
     is.clause_is is.inside is.falling asserting target c.index.ensures c.assign.new.self c.told-2.ensures c.in_ok-assign.ensures.letters c.in_ok-assign.ensures.trail first c.requires.long)
@@ -175,23 +113,17 @@ returns-clause-turned c =
     let b = c.cut.new.self in
     let w = c.self.inside.watches in
     let log = c.self.inside.log in
-    let line = c.next-line.result in
+    let line = c.in_ok-line.line in
     let is : IsLearnt log a.trail learnt = subst (λ (s : StateValue). IsLearnt s.log s.trail learnt) (sym c.self.view_is) c.requires.learnt in
     let known : All (IsKnown letters) clause = subst (λ (s : StateValue). All (IsKnown s.letters) clause) (sym c.self.view_is) c.requires.known in
     let asserting : IsAsserting a.trail places = subst (λ (s : StateValue). IsAsserting s.trail places) (sym c.self.view_is) c.requires.asserting in
     let target : IsTarget a.trail places c.args.level = subst (λ (s : StateValue). IsTarget s.trail places c.args.level) (sym c.self.view_is) c.requires.level in
     let next = with_line log clause learnt.hints.items in
-    let fits : c.lines.result < 18446744073709551615 = omega (
-      arith,
-      c.in-Ok.ensures.added.1,
-      c.lines.ensures ∙ ap (λ (l : LogValue). length l.lines) c.view.ensures.same,
-      ap (λ (l : LogValue). length l.lines) c.in-Ok.ensures.added.0 ∙ length_push log.lines c.deref-2.result.now,
-    ) in
-    let count : line ≡ length log.lines + 1 = c.next-line.ensures fits ∙ ap (λ n. n + 1) (c.lines.ensures ∙ ap (λ (l : LogValue). length l.lines) c.view.ensures.same) in
+    let count : line ≡ length log.lines + 1 = c.in_ok-line.ensures.added.1 ∙ ap (λ (l : LogValue). length l.lines) c.in_ok-line.ensures.added.0 ∙ length_push log.lines c.deref.result.now in
     let more = line_more log clause learnt.hints.items line count in
     let known_lines = known_more letters log.lines clause c.self.invariant.known_lines known in
-    let next_is : c.derive.new.self ≡ next = c.in-Ok.ensures.added.0 ∙ ap₂ (with_line log) c.deref-2.ensures.value c.deref-3.ensures.value in
-    let w_is : c.store.new.watches ≡ with_clause w clause = c.in_ok-store.ensures.watches ∙ ap (with_clause w) c.deref.ensures.value in
+    let next_is : c.derive.new.self ≡ next = c.in_ok-line.ensures.added.0 ∙ ap₂ (with_line log) c.deref.ensures.value c.deref-2.ensures.value in
+    let w_is : c.store.new.watches ≡ with_clause w clause = c.in-Ok.ensures.watches ∙ ap (with_clause w) c.deref-3.ensures.value in
     let e : Entry = record { literal = c.index.result.now; level = c.args.level; reason = Some (Line line) } in
     let stands = learned_stands letters a b w c.self.inside.names c.self.inside.units.items log next c.self.inside.head c.self.inside.sure c.self.inside.done c.self.inside.firm (length c.self.inside.marks.stamps) c.smaller-sure.result c.front-front.result c.args.level c.loosen.new.done c.loosen.new.firm line clause places c.index.result.now
     c.self.invariant c.told.ensures more c.self.invariant.known_inputs known_lines c.cut.ensures.trail c.cut.ensures.letters c.front-front.ensures.within c.front-front.ensures.low c.front-front.ensures.high c.smaller-sure.ensures.one c.smaller-sure.ensures.two c.loosen.ensures.all
@@ -206,3 +138,13 @@ returns-clause-turned c =
       after = ap₂ (state_of letters) (c.in_ok-assign.ensures.trail ∙ ap (λ t. t ++ e ∷ []) (c.cut.ensures.trail ∙ ap (λ k. take k a.trail) (sym len))) next_is;
     } in
     subst (λ (s : StateValue). IsTurn (with_log s (with_line s.log clause learnt.hints.items)) (state_of letters c.assign.new.self.trail c.derive.new.self)) c.self.view_is turn
+
+pub invariant_of-self-in-Err : goal.invariant_of-self-in-Err
+invariant_of-self-in-Err c =
+    let back = c.take_back_line.ensures c.self.inside.log (record { clause = c.deref.result.now; hints = c.deref-2.result.now; is = c.in_ok-line.ensures.added.0 }) in
+    rw (c.in-Err.ensures.watches, c.in-Err.ensures.names, back) c.self.invariant
+
+pub returns-in-Err-clause-refused : goal.returns-in-Err-clause-refused
+returns-in-Err-clause-refused c =
+    let back = c.take_back_line.ensures c.self.inside.log (record { clause = c.deref.result.now; hints = c.deref-2.result.now; is = c.in_ok-line.ensures.added.0 }) in
+    record { letters = ap (λ (s : StateValue). s.letters) c.self.view_is; log = inl (back ∙ ap (λ (s : StateValue). s.log) c.self.view_is) }

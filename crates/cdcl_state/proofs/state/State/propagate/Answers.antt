@@ -1,7 +1,6 @@
 use Rattle.std.proofs.Common.{◌≡◌, ℕ, ◌≤◌, ◌⊎◌, Option, MatchOption, Some, None, length, sym, subst, arith}
 use Rattle.cdcl_trail.specs.Trail.{literals_of, IsConflict}
 use Rattle.cdcl_state.specs.StateValue.{IsSettled, Propagated, state_of}
-use Rattle.cdcl_propagate.specs.Visit.{IsReady}
 use Rattle.cdcl_propagate.specs.Units.{AreShort, AreFirm}
 use Rattle.cdcl_propagate.proofs.Ready.{none_case, grown_more}
 use Rattle.cdcl_state.proofs.States.{state_grown, state_visited, state_firm, firm_now, finished, settled, propagated}
