@@ -1,18 +1,18 @@
 -- A walk along a list: what is next, and what it leaves where the next one stays or is taken off.
-use Rattle.std.proofs.Common.{◌≡◌, ◌≢◌, ℕ, ◌<◌, ◌≤◌, ◌+◌, List, [], ◌∷◌, ◌++◌, set, Contains, length, get_or, sym, ap, ◌∙◌, subst, arith, length-set, get_or-set_same, get_or-set_other}
+use Rattle.std.proofs.Common.{◌≡◌, ◌≢◌, ℕ, ◌<◌, ◌≤◌, ◌+◌, List, [], ◌∷◌, ◌++◌, set, Contains, length, get_or, refl, sym, ap, ◌∙◌, subst, arith, length-set, get_or-set_same, get_or-set_other}
 use Rattle.std.specs.List.{remove, swap}
 use Rattle.std.proofs.lemmas.List.{get_or_default}
 use Rattle.std.proofs.lemmas.List.Elements.{Contains-get_or}
 use Rattle.cnf_base.specs.declared.literal.Literal.{Literal}
 use Rattle.cdcl_watches.specs.declared.watcher.Watcher.{Watcher}
-use Rattle.cdcl_watches.specs.Watching.{code, list_of, clause_of, IsWatch, WatchValue}
+use Rattle.cdcl_watches.specs.Watching.{code, list_of, clause_of, blank, IsWatch, WatchValue}
 use Rattle.cdcl_watches.specs.Heads.{ArenaValue, number_of}
-use Rattle.cdcl_watches.specs.Watchers.{nobody, clause_number, numbers, without, IsBlocking, AreWatchers, IsWalked, walked}
+use Rattle.cdcl_watches.specs.Watchers.{nobody, blocker_of, clause_number, numbers, without, IsBlocking, AreWatchers, IsWalked, walked}
 use Rattle.cdcl_watches.proofs.Moves.{code_same}
 use Rattle.cdcl_watches.proofs.Gap.{gap_length, read_behind, closed_at, closed_put, closed_grown, closed_push}
-use Rattle.cdcl_watches.proofs.Numbers.{number_at, length_at, numbers_refreshed}
+use Rattle.cdcl_watches.proofs.Numbers.{length_numbers, number_at, length_at, numbers_refreshed}
 use Rattle.cdcl_watches.proofs.Blockers.{blocking_list}
-use Rattle.cdcl_watches.proofs.Kept.{refreshed_watchers}
+use Rattle.cdcl_watches.proofs.Kept.{blocking_from, refreshed_watchers}
 use Rattle.cdcl_watches.proofs.Rewatched.{moved_is, moved_watchers}
 
 module _ (arena : ArenaValue) (lists : List (List Watcher)) (l : Literal) (a b : ℕ) (is : IsWalked arena lists (code l) a b) (there : b < length (get_or lists (code l) [])) where
@@ -48,6 +48,20 @@ module _ (arena : ArenaValue) (lists : List (List Watcher)) (l : Literal) (a b :
     pub next_long : 2 ≤ length (clause_of arena.clauses (number_of arena.heads head))
     next_long = next_watched.1.1.long
 
+    -- its first literal is a blocker, and is among the known ones
+    module _ (first : Literal) (first_is : first ≡ get_or (clause_of arena.clauses (number_of arena.heads head)) 0 first) where
+      first_read : first ≡ get_or (clause_of arena.clauses (number_of arena.heads head)) 0 blank
+      first_read = first_is ∙ get_or_default (clause_of arena.clauses (number_of arena.heads head)) 0 first blank (omega (arith, next_long))
+
+      pub first_blocking : (v : Watcher) → v.head ≡ head → blocker_of v ≡ first → IsBlocking arena.heads arena.clauses v
+      first_blocking v v_is blocker_is =
+          blocking_from arena.heads arena.clauses (clause_of arena.clauses (number_of arena.heads head)) head 0 first v v_is blocker_is first_read refl (omega (arith, next_long)) next_standing
+
+      pub first_fits : code first < length (without lists (code l) a b)
+      first_fits =
+          omega (arith, subst (λ m. code m < length (numbers arena.heads (without lists (code l) a b))) (sym first_read) (is.watchers.watching.fits (number_of arena.heads head) next_watched.0 0 blank (omega (arith, next_long))),
+          length_numbers arena.heads is.watchers.none (without lists (code l) a b))
+
   -- it stays, with this blocker
   module _ (v : Watcher) (head_is : v.head ≡ (get_or (get_or lists (code l) []) b nobody).head) (blocking : IsBlocking arena.heads arena.clauses v) where
     named : clause_number arena.heads v ≡ clause_number arena.heads (get_or (get_or (without lists (code l) a b) (code l) []) a nobody)
@@ -69,7 +83,7 @@ module _ (arena : ArenaValue) (lists : List (List Watcher)) (l : Literal) (a b :
 
     pub stayed_same : walked arena (set lists (code l) (set (get_or lists (code l) []) a v)) (code l) (a + 1) (b + 1) ≡ walked arena lists (code l) a b
     stayed_same =
-        ap (λ ns. let w : WatchValue = record { clauses = arena.clauses; lists = ns } in w)
+        ap (λ ns. let w : WatchValue = record { clauses = arena.clauses; lists = ns; names = arena.names } in w)
         (ap (numbers arena.heads) stayed ∙ numbers_refreshed arena.heads is.watchers.none (without lists (code l) a b) (code l) a v named)
 
   -- its clause is watched by another literal, and it is taken off

@@ -39,11 +39,21 @@ pub fn pass(lists: &mut WatchLists, list: usize, walk: &mut Walk, watcher: Watch
 }
 
 /// The next watcher stays in the literal's list, with its clause's first literal as the blocker.
-pub fn keep(arena: &Arena, lists: &mut WatchLists, literal: Literal, walk: &mut Walk, head: u32)
+#[inline(always)]
+pub fn keep(
+    arena: &Arena,
+    lists: &mut WatchLists,
+    literal: Literal,
+    walk: &mut Walk,
+    head: u32,
+    first: Literal,
+)
     requires walked { IsWalked arena.now lists.old (code literal) walk.old.kept walk.old.next }
     requires there { walk.old.next < length (slice_index_or lists.old (code literal) []) }
     requires head { head ≡ (slice_index_or (slice_index_or lists.old (code literal) []) walk.old.next
         nobody).head }
+    requires first { first ≡ slice_index_or (clause_of arena.now.clauses
+        (number_of arena.now.heads head)) 0 first }
     ensures kept { walk.new.kept ≡ walk.old.kept + 1 }
     ensures next { walk.new.next ≡ walk.old.next + 1 }
     ensures walked { IsWalked arena.now lists.new (code literal) walk.new.kept walk.new.next }
@@ -52,9 +62,9 @@ pub fn keep(arena: &Arena, lists: &mut WatchLists, literal: Literal, walk: &mut 
     ensures same { walked arena.now lists.new (code literal) walk.new.kept walk.new.next
         ≡ walked arena.now lists.old (code literal) walk.old.kept walk.old.next }
 {
+    arena.told();
     lists.few();
-    let blocker = arena.clause(head).get(0);
-    pass(lists, number(literal), walk, watch(head, blocker));
+    pass(lists, number(literal), walk, watch(head, first));
 }
 
 /// Watches the literal at `j` in place of the second, in whose list the clause is the next one.
@@ -86,6 +96,7 @@ pub fn rewatch(
         (number_of arena.old.heads head)
         (swap (clause_of arena.old.clauses (number_of arena.old.heads head)) 1 j)
         else arena.old.clauses) }
+    ensures names { arena.new.names ≡ arena.old.names }
     ensures lists { (walked arena.new lists.new (code second) walk.new.kept walk.new.next).lists
         ≡ (if is_ok result then slice_set (slice_set
         (walked arena.old lists.old (code second) walk.old.kept walk.old.next).lists (code other)
