@@ -1,9 +1,14 @@
--- Reasons as numbers: 0 where there is none, and else one more than twice the number of the hint, and one more again where it
+-- Literals as numbers, and reasons as numbers: 0 where there is none, and else one more than twice the number of the hint, and one more again where it
 -- names a line.
 use Rattle.std.specs.Prelude.{ℕ, ◌-◌, ◌/◌, ◌%◌, ◌≤◌, nat_eq, if◌then◌else◌, Option, Some, None, IfSome}
+use Rattle.cnf_base.specs.declared.literal.Literal.{Literal}
 use Rattle.cnf_base.specs.declared.literal.Hint.{Hint}
 use Rattle.cnf_base.specs.declared.literal.Hint.TheVariants.{Clause, Line}
 use Rattle.cdcl_trail.specs.declared.assigned.Entry.{Entry}
+
+-- the literal of a number: its letter is half of it, and it is negated where the number is odd
+abbrev pub literal_of : ℕ → Literal
+literal_of n = record { letter = record { 0 = n / 2 }; negated = nat_eq (n % 2) 1 }
 
 -- the hint of a number
 abbrev pub hint_of : ℕ → Hint
@@ -26,7 +31,8 @@ IsShort hint = number_of hint ≤ 2147483646
 abbrev pub HasNumber : Option Hint → Type 0
 HasNumber reason = IfSome reason IsShort
 
--- the entry's level and reason fit into 32 bits each
+-- the numbers of the entry's literal and its reason, and its level, fit into 32 bits each
 pub record Fits (e : Entry) : Type 0 where
+  pub literal : e.literal.letter.0 ≤ 2147483647
   pub level : e.level ≤ 4294967295
   pub reason : HasNumber e.reason

@@ -1,24 +1,47 @@
-// The entries of the trail in sixteen bytes each: an analysis reads levels and reasons here and there, so
+// The entries of the trail in twelve bytes each: an analysis reads levels and reasons here and there, so
 // what matters is that many of them fit into a cache.
-ghost use Rattle.std.specs.Prelude.{◌≡◌, ◌<◌, [], ◌∷◌, ◌++◌, length, take, if◌then◌else◌, is_ok, MatchOption, OnOk, slice_index_or};
-ghost use Rattle.cdcl_trail.specs.Entries.{reason_of, HasNumber, Fits};
+ghost use Rattle.std.specs.Prelude.{◌≡◌, ◌<◌, ◌≤◌, [], ◌∷◌, ◌++◌, length, take, if◌then◌else◌, is_ok, MatchOption, OnOk, slice_index_or};
+ghost use Rattle.cdcl_trail.specs.Entries.{literal_of, reason_of, HasNumber, Fits};
 ghost use Rattle.cdcl_trail.specs.Trail.{blank_entry, place_level, place_reason};
 
 use crate::assigned::Entry;
 use crate::hints::{lengthen, shorten};
-use cnf_base::{Hint, Literal};
+use cnf_base::{Hint, Letter, Literal};
 use std::alloc::{AllocError, Global};
 use std::marker::Model;
 
 /// The greatest level that fits.
 const MAX_LEVEL: usize = 4294967295;
+/// The greatest letter whose literals have numbers of 32 bits.
+const MAX_LETTER: u32 = 2147483647;
 
-/// An entry, its reason by its number.
+/// An entry, its literal and its reason by their numbers.
 #[derive(Clone, Copy, Drop)]
 struct Packed {
-    literal: Literal,
+    literal: u32,
     level: u32,
     reason: u32,
+}
+
+/// Twice the letter, and one more where the literal is negated, if it fits into 32 bits.
+fn shorten_literal(literal: Literal) -> Option<u32>
+    ensures { MatchOption result (2147483647 < literal.letter.0)
+        (λ number. (literal_of number ≡ literal) × (literal.letter.0 ≤ 2147483647)) }
+{
+    if literal.letter.0 > MAX_LETTER {
+        return None;
+    }
+    Some(2 * literal.letter.0 + if literal.negated { 1 } else { 0 })
+}
+
+/// The literal of a number.
+fn lengthen_literal(number: u32) -> Literal
+    ensures { result ≡ literal_of number }
+{
+    Literal {
+        letter: Letter(number / 2),
+        negated: number % 2 == 1,
+    }
 }
 
 /// The number of a reason, if it fits into 32 bits.
@@ -45,7 +68,7 @@ fn lengthen_reason(number: u32) -> Option<Hint>
     Some(lengthen(number - 1))
 }
 
-/// A list of entries, whose levels and hints have numbers of 32 bits: what does not fit is refused.
+/// A list of entries, whose literals, levels and hints have numbers of 32 bits: what does not fit is refused.
 #[derive(Drop)]
 pub struct Entries {
     items: Vec<Packed>,
@@ -54,12 +77,12 @@ pub struct Entries {
 impl Model for Entries {
     ghost use Rattle.std.specs.Prelude.{List, map};
     ghost use Rattle.cdcl_trail.specs.declared.assigned.Entry.{Entry};
-    ghost use Rattle.cdcl_trail.specs.Entries.{reason_of};
+    ghost use Rattle.cdcl_trail.specs.Entries.{literal_of, reason_of};
 
     ghost Value = { List Entry };
 
     ghost view = { λ a. map (λ p. record {
-      literal = p.literal;
+      literal = literal_of p.literal;
       level = p.level;
       reason = reason_of p.reason;
     }) a.items.items };
@@ -89,7 +112,7 @@ impl Entries {
     {
         let packed = self.items[place];
         Entry {
-            literal: packed.literal,
+            literal: lengthen_literal(packed.literal),
             level: packed.level as usize,
             reason: lengthen_reason(packed.reason),
         }
@@ -123,17 +146,14 @@ impl Entries {
         if entry.level > MAX_LEVEL {
             return Err(AllocError);
         }
-        match shorten_reason(entry.reason) {
-            None => return Err(AllocError),
-            Some(reason) => {
-                self.items.push(Packed {
-                    literal: entry.literal,
-                    level: entry.level as u32,
-                    reason,
-                })?;
-                Ok(())
-            }
-        }
+        let literal = shorten_literal(entry.literal).ok_or(AllocError)?;
+        let reason = shorten_reason(entry.reason).ok_or(AllocError)?;
+        self.items.push(Packed {
+            literal,
+            level: entry.level as u32,
+            reason,
+        })?;
+        Ok(())
     }
 
     /// Keeps the first `count` entries, or all where there are no more.
