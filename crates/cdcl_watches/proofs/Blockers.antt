@@ -1,15 +1,14 @@
 -- Each watcher's blocker stays a literal of its clause.
-use Rattle.std.proofs.Common.{◌≡◌, ℕ, ◌<◌, ◌-◌, inl, inr, List, [], ◌∷◌, ◌++◌, map, take, set, All, Contains, length, get_or, refl, sym, ap₂, subst, arith, get_or-set_same, get_or-set_other}
+use Rattle.std.proofs.Common.{◌≡◌, ℕ, ◌<◌, inl, inr, List, [], ◌∷◌, ◌++◌, map, set, All, Contains, length, get_or, refl, sym, ap₂, subst, arith, get_or-set_same, get_or-set_other}
 use Rattle.std.specs.List.{remove, swap}
 use Rattle.std.proofs.lemmas.Bool.{cases_lt, cases_eq}
 use Rattle.std.proofs.lemmas.List.{get_or_past, get_or_append_left}
-use Rattle.std.proofs.lemmas.List.Elements.{All-set, All-push, All-take, All-nil, All-head, All-tail, All-from_get_or, Contains-get_or, Contains-append_left}
+use Rattle.std.proofs.lemmas.List.Elements.{All-set, All-push, All-nil, All-head, All-tail, Contains-append_left}
 use Rattle.cnf_base.specs.declared.literal.Literal.{Literal}
 use Rattle.cdcl_watches.specs.declared.watcher.Watcher.{Watcher}
-use Rattle.cdcl_watches.specs.Watching.{clause_of, IsWatching}
+use Rattle.cdcl_watches.specs.Watching.{clause_of}
 use Rattle.cdcl_watches.specs.Watchers.{nobody, clause_number, numbers, blocker_of, IsBlocking, AreBlockers}
-use Rattle.cdcl_watches.proofs.Codes.{literal_at}
-use Rattle.cdcl_watches.proofs.HeadNumbers.{number_more, number_fewer}
+use Rattle.cdcl_watches.proofs.HeadNumbers.{number_more}
 use Rattle.cdcl_watches.proofs.Moves.{contains_swapped}
 use Rattle.cdcl_watches.proofs.Removed.{place_before, length-removed}
 use Rattle.cdcl_watches.proofs.Numbers.{number_at, length_at}
@@ -48,11 +47,6 @@ module _ (heads : List ℕ) (clauses : List (List Literal)) (lists : List (List 
   blockers_set i w is =
       All-set (All (IsBlocking heads clauses)) lists k (set (get_or lists k []) i w)
       (All-set (IsBlocking heads clauses) (get_or lists k []) i w is (blocking_list heads clauses lists k are)) are
-
-  pub blockers_pop : AreBlockers heads clauses (set lists k (take (length (get_or lists k []) - 1) (get_or lists k [])))
-  blockers_pop =
-      let ws = get_or lists k [] in
-      All-set (All (IsBlocking heads clauses)) lists k (take (length ws - 1) ws) (All-take (IsBlocking heads clauses) (length ws - 1) ws (blocking_list heads clauses lists k are)) are
 
   pub blockers_remove : (i : ℕ) → i < length (get_or lists k []) → AreBlockers heads clauses (set lists k (remove (get_or lists k []) i))
   blockers_remove i low =
@@ -98,36 +92,6 @@ blockers_more heads clauses lists r are =
     blockers_kept heads clauses (clauses ++ r ∷ []) lists
     (λ c l there. subst (λ x. Contains x l) (sym (get_or_append_left clauses (r ∷ []) [] c (known_clause clauses c l there))) there)
     are
-
--- the last clause is taken off, and nothing watches it
-module _ (heads : List ℕ) (none : clause_number heads nobody ≡ 0) (clauses : List (List Literal)) (lists : List (List Watcher)) (r : List Literal)
-    (watching : IsWatching clauses (numbers heads lists)) (are : AreBlockers heads (clauses ++ r ∷ []) lists) (n : ℕ) (n_is : n ≡ length clauses) where
-  fewer_at : (k i : ℕ) → k < length lists → i < length (get_or lists k [])
-      → (let w = get_or (get_or lists k []) i nobody in IsBlocking (take n heads) clauses w × (clause_number (take n heads) w ≡ clause_number heads w))
-  fewer_at k i low below =
-      let w = get_or (get_or lists k []) i nobody in
-      let number = clause_number heads w in
-      let is = are k [] low i nobody below in
-      let there : Contains (get_or (numbers heads lists) k []) number =
-      subst (Contains (get_or (numbers heads lists) k [])) (number_at heads none lists k i) (Contains-get_or (get_or (numbers heads lists) k []) i 0 (omega (arith, below, length_at heads none lists k))) in
-      let named = literal_at k in
-      let known = (watching.only number named.0 (subst (λ m. Contains (get_or (numbers heads lists) m []) number) (sym named.1) there)).0 in
-      let fewer = number_fewer heads n w.head is.stands (omega (arith, known, n_is)) in (
-        record {
-          stands = fewer.0;
-          blocks = subst (λ m. Contains (clause_of clauses m) (blocker_of w)) (sym fewer.1) (subst (λ x. Contains x (blocker_of w)) (get_or_append_left clauses (r ∷ []) [] number known) is.blocks);
-        },
-        fewer.1,
-      )
-
-  pub blockers_fewer : AreBlockers (take n heads) clauses lists
-  blockers_fewer = All-from_get_or (λ ws. All (IsBlocking (take n heads) clauses) ws) lists [] (λ k low. All-from_get_or (IsBlocking (take n heads) clauses) (get_or lists k []) nobody (λ i below. (fewer_at k i low below).0))
-
-  pub numbers_fewer : numbers (take n heads) lists ≡ numbers heads lists
-  numbers_fewer =
-      maps_same (clause_number (take n heads)) (clause_number heads) lists
-      (All-from_get_or (λ ws. All (λ w. clause_number (take n heads) w ≡ clause_number heads w) ws) lists [] (λ k low.
-      All-from_get_or (λ w. clause_number (take n heads) w ≡ clause_number heads w) (get_or lists k []) nobody (λ i below. (fewer_at k i low below).1)))
 
 -- a head behind the others changes no number
 module _ (heads ys : List ℕ) (clauses : List (List Literal)) (lists : List (List Watcher)) (are : AreBlockers heads clauses lists) where

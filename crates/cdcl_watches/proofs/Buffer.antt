@@ -1,5 +1,5 @@
--- Clauses in one buffer: one is read, put behind the others, taken off, and two literals of one change places.
-use Rattle.std.proofs.Common.{◌≡◌, ◌≢◌, ℕ, zero, suc, ◌+◌, ◌-◌, ◌*◌, ◌<◌, ◌≤◌, ◌^◌, ◌⊎◌, inl, inr, List, [], ◌∷◌, ◌++◌, map, take, drop, set, length, get_or, slice_range, All, Contains, refl, sym, ap, ap₂, ◌∙◌, subst, arith, length-set, length-append, length-drop, length-take-le, get_or-set_other}
+-- Clauses in one buffer: one is read with its name, put behind the others, taken off, and two literals of one change places.
+use Rattle.std.proofs.Common.{◌≡◌, ◌≢◌, ℕ, suc, ◌+◌, ◌-◌, ◌<◌, ◌≤◌, ◌^◌, ◌⊎◌, inl, inr, List, [], ◌∷◌, ◌++◌, map, take, drop, set, length, get_or, slice_range, All, Contains, refl, sym, ap, ap₂, ◌∙◌, subst, arith, length-set, length-append, length-drop, length-take-le, get_or-set_other}
 use Rattle.std.specs.List.{swap}
 use Rattle.std.proofs.lemmas.Bool.{cases_lt}
 use Rattle.std.proofs.lemmas.List.{same_lists, get_or-take, get_or-drop, get_or-map, get_or_default, get_or_append_left, get_or-append_right, get_or_at, get_or_past, length-map, length_push, map-append, map-set, take-map, drop-take, drop-drop}
@@ -8,8 +8,9 @@ use Rattle.cnf_base.specs.declared.literal.Literal.{Literal}
 use Rattle.cnf_base.specs.RowPieces.{Place, row_pieces, IsPlace, AreFlat}
 use Rattle.cnf_base.proofs.RowLemmas.{pieces-push, pieces-take, spans_before}
 use Rattle.cdcl_watches.specs.Watching.{code, literal_of, clause_of, AreApart}
-use Rattle.cdcl_watches.specs.Heads.{place_at, decoded, clauses_at, number_of, AreHeads}
+use Rattle.cdcl_watches.specs.Heads.{place_at, decoded, clauses_at, names_at, heads_of, left_from, number_of, AreHeads, ArenaValue}
 use Rattle.cdcl_watches.proofs.Codes.{literals_code}
+use Rattle.cdcl_watches.proofs.HeadWalk.{heads_more, whole_more, heads_fewer, heads_two}
 use Rattle.cdcl_watches.proofs.HeadNumbers.{number_low}
 use Rattle.cdcl_watches.proofs.Pieces.{set_set_row, length_range}
 
@@ -23,6 +24,15 @@ places_same new items heads same =
     get_or-map (place_at new) heads k 0 d k_low
     ∙ ap (λ n. let p : Place = record { from = get_or heads k 0; to = get_or heads k 0 + 2 + n } in p) (same k k_low)
     ∙ sym (get_or-map (place_at items) heads k 0 d k_low))
+
+-- the names of heads where the same names stand
+names_same : (new items heads : List ℕ) → ((c : ℕ) → c < length heads → get_or new (get_or heads c 0 + 1) 0 ≡ get_or items (get_or heads c 0 + 1) 0)
+    → names_at new heads ≡ names_at items heads
+names_same new items heads same =
+    same_lists (names_at new heads) (names_at items heads) (length-map heads (λ h. get_or new (h + 1) 0) ∙ sym (length-map heads (λ h. get_or items (h + 1) 0)))
+    (λ k d low.
+    let k_low : k < length heads = omega (arith, low, length-map heads (λ h. get_or new (h + 1) 0)) in
+    get_or-map (λ h. get_or new (h + 1) 0) heads k 0 d k_low ∙ same k k_low ∙ sym (get_or-map (λ h. get_or items (h + 1) 0) heads k 0 d k_low))
 
 module _ (items heads : List ℕ) (are : AreHeads items heads) where
   pub heads_flat : AreFlat (length items) (map (place_at items) heads)
@@ -39,17 +49,6 @@ module _ (items heads : List ℕ) (are : AreHeads items heads) where
 
   pub length_clauses : length (clauses_at items heads) ≡ length heads
   length_clauses = length-map (row_pieces items (map (place_at items) heads)) decoded ∙ length-map (map (place_at items) heads) (λ s. slice_range items s.from s.to) ∙ length-map heads (place_at items)
-
-  -- each clause takes two numbers at least
-  pub heads_rise : (c : ℕ) → c < length heads → 2 * c ≤ get_or heads c 0
-  heads_rise zero low = omega arith
-  heads_rise (suc c) low = omega (arith, heads_rise c (omega arith), are.ordered c (suc c) (omega arith) low)
-
-  pub heads_few : length heads < 2 ^ 32
-  heads_few = elim (cases_lt 0 (length heads)) [
-    | inl some ↦ let last = length heads - 1 in omega (arith, heads_rise last (omega arith), are.inside last (omega arith), are.few)
-    | inr none ↦ omega (arith, are.few)
-  ]
 
   pub heads_apart : AreApart heads
   heads_apart j k d earlier low same =
@@ -92,12 +91,12 @@ module _ (items heads : List ℕ) (are : AreHeads items heads) where
         ∙ ap decoded (sym row_at) ∙ sym clause_row
 
 -- a clause is put behind the others
-module _ (items heads : List ℕ) (are : AreHeads items heads) (row : List Literal) where
+module _ (items heads : List ℕ) (are : AreHeads items heads) (name : ℕ) (row : List Literal) where
   abbrev more : List ℕ
-  more = items ++ length row ∷ length heads ∷ map code row
+  more = items ++ length row ∷ name ∷ map code row
 
   item_kept : (p : ℕ) → p < length items → get_or more p 0 ≡ get_or items p 0
-  item_kept p low = get_or_append_left items (length row ∷ length heads ∷ map code row) 0 p low
+  item_kept p low = get_or_append_left items (length row ∷ name ∷ map code row) 0 p low
 
   head_kept : (c : ℕ) → c < length heads → get_or (heads ++ length items ∷ []) c 0 ≡ get_or heads c 0
   head_kept c low = get_or_append_left heads (length items ∷ []) 0 c low
@@ -106,16 +105,16 @@ module _ (items heads : List ℕ) (are : AreHeads items heads) (row : List Liter
   head_new = get_or_at heads (length items) [] 0 (length heads) refl
 
   length_new : get_or more (length items) 0 ≡ length row
-  length_new = get_or_at items (length row) (length heads ∷ map code row) 0 (length items) refl
+  length_new = get_or_at items (length row) (name ∷ map code row) 0 (length items) refl
 
-  number_new : get_or more (length items + 1) 0 ≡ length heads
-  number_new = get_or-append_right items (length row ∷ length heads ∷ map code row) (length items) (length items + 1) 0 refl (omega arith) ∙ ap (λ n. get_or (length row ∷ length heads ∷ map code row) n 0) one
-    where
-      one : length items + 1 - length items ≡ 1
-      one = omega arith
+  name_new : get_or more (length items + 1) 0 ≡ name
+  name_new =
+      let one : length items + 1 - length items ≡ 1 = omega arith in
+      get_or-append_right items (length row ∷ name ∷ map code row) (length items) (length items + 1) 0 refl (omega arith)
+      ∙ ap (λ n. get_or (length row ∷ name ∷ map code row) n 0) one
 
   pub length_more : length more ≡ length items + 2 + length row
-  length_more = length-append items (length row ∷ length heads ∷ map code row) ∙ omega (arith, length-map row code)
+  length_more = length-append items (length row ∷ name ∷ map code row) ∙ omega (arith, length-map row code)
 
   places_more : map (place_at more) (heads ++ length items ∷ []) ≡ map (place_at items) heads ++ (let p : Place = record { from = length items; to = length items + (2 + length row) } in p) ∷ []
   places_more =
@@ -126,13 +125,21 @@ module _ (items heads : List ℕ) (are : AreHeads items heads) (row : List Liter
 
   pub clauses_more : clauses_at more (heads ++ length items ∷ []) ≡ clauses_at items heads ++ row ∷ []
   clauses_more =
-      let tail = length row ∷ length heads ∷ map code row in
+      let tail = length row ∷ name ∷ map code row in
       let span : Place = record { from = length items; to = length items + (2 + length row) } in
       let rows = row_pieces items (map (place_at items) heads) in
       ap (λ ps. map decoded (row_pieces more ps)) places_more
       ∙ ap (map decoded) (pieces-push items tail (map (place_at items) heads) span (heads_flat items heads are) refl (omega (arith, length-map row code)))
       ∙ map-append decoded rows (tail ∷ [])
       ∙ ap (λ r. map decoded rows ++ r ∷ []) (literals_code row)
+
+  pub names_more : names_at more (heads ++ length items ∷ []) ≡ names_at items heads ++ name ∷ []
+  names_more =
+      map-append (λ h. get_or more (h + 1) 0) heads (length items ∷ [])
+      ∙ ap₂ (λ ns n. ns ++ n ∷ []) (names_same more items heads (λ c low. item_kept (get_or heads c 0 + 1) (omega (arith, are.inside c low)))) name_new
+
+  found_more : heads_of more ≡ heads ++ length items ∷ []
+  found_more = heads_more items (map code row) (length row) name are.whole (length-map row code) ∙ ap (λ hs. hs ++ length items ∷ []) are.found
 
   pub are_more : length more < 2 ^ 32 → AreHeads more (heads ++ length items ∷ [])
   are_more short =
@@ -142,6 +149,8 @@ module _ (items heads : List ℕ) (are : AreHeads items heads) (row : List Liter
       let end_old : (c : ℕ) → c < length heads → get_or heads' c 0 + 2 + get_or more (get_or heads' c 0) 0 ≤ length items = λ c low.
       omega (arith, head_kept c low, ap (λ h. get_or more h 0) (head_kept c low), item_kept (get_or heads c 0) (omega (arith, are.inside c low)), are.inside c low) in
       record {
+        found = found_more;
+        whole = whole_more items (map code row) (length row) name are.whole (length-map row code);
         inside = λ c low. elim (which c low) [
           | inl lt ↦ omega (arith, end_old c lt, length_more)
           | inr e ↦ omega (arith, ap (λ n. get_or heads' n 0) e, head_new, ap (λ n. get_or more (get_or heads' n 0) 0) e, ap (λ h. get_or more h 0) head_new, length_new, length_more)
@@ -151,10 +160,6 @@ module _ (items heads : List ℕ) (are : AreHeads items heads) (row : List Liter
               let c_low : c < length heads = omega (arith, earlier, lt) in
               omega (arith, head_kept c c_low, ap (λ h. get_or more h 0) (head_kept c c_low), item_kept (get_or heads c 0) (omega (arith, are.inside c c_low)), head_kept d lt, are.ordered c d earlier lt)
           | inr e ↦ omega (arith, end_old c (omega (arith, earlier, e)), ap (λ n. get_or heads' n 0) e, head_new)
-        ];
-        numbered = λ c low. elim (which c low) [
-          | inl lt ↦ ap (λ h. get_or more (h + 1) 0) (head_kept c lt) ∙ item_kept (get_or heads c 0 + 1) (omega (arith, are.inside c lt)) ∙ are.numbered c lt
-          | inr e ↦ ap (λ n. get_or more (get_or heads' n 0 + 1) 0) e ∙ ap (λ h. get_or more (h + 1) 0) head_new ∙ number_new ∙ sym e
         ];
         first = elim (cases_lt 0 (length heads)) [
           | inl some ↦ head_kept 0 some ∙ are.first
@@ -196,6 +201,18 @@ module _ (items heads : List ℕ) (are : AreHeads items heads) (some : 0 < lengt
       ∙ ap (map decoded) (pieces-take items ps last end (heads_flat items heads are) (subst (λ e. All (λ (s : Place). s.to ≤ e) (take last ps)) from (spans_before items ps last d (heads_flat items heads are) low)))
       ∙ sym (take-map decoded last (row_pieces items ps))
 
+  pub names_fewer : names_at (take end items) (take last heads) ≡ take last (names_at items heads)
+  names_fewer =
+      names_same (take end items) items (take last heads)
+      (λ c low.
+      let c_low : c < last = omega (arith, low, length-take-le last heads (omega arith)) in
+      let head : get_or (take last heads) c 0 ≡ get_or heads c 0 = get_or-take last heads c 0 c_low in
+      get_or-take end items (get_or (take last heads) c 0 + 1) 0 (omega (arith, before_end c c_low, head)))
+      ∙ sym (take-map (λ h. get_or items (h + 1) 0) last heads)
+
+  cut_here : (heads_of (take end items) ≡ take last (heads_of items)) × (left_from 0 (take end items) ≡ 0)
+  cut_here = heads_fewer items last end (omega (arith, ap length are.found)) (ap (λ hs. get_or hs last 0) (sym are.found))
+
   pub are_fewer : AreHeads (take end items) (take last heads)
   are_fewer =
       let shorter : length (take last heads) ≡ last = length-take-le last heads (omega arith) in
@@ -205,13 +222,12 @@ module _ (items heads : List ℕ) (are : AreHeads items heads) (some : 0 < lengt
       let len : (c : ℕ) → c < last → get_or (take last heads) c 0 + 2 + get_or (take end items) (get_or (take last heads) c 0) 0 ≡ get_or heads c 0 + 2 + get_or items (get_or heads c 0) 0 = λ c low.
       omega (arith, head c low, ap (λ h. get_or (take end items) h 0) (head c low), item (get_or heads c 0) (omega (arith, before_end c low))) in
       record {
+        found = cut_here.0 ∙ ap (take last) are.found;
+        whole = cut_here.1;
         inside = λ c low. let c_low : c < last = omega (arith, low, shorter) in omega (arith, len c c_low, before_end c c_low, cut);
         ordered = λ c d earlier low.
             let d_low : d < last = omega (arith, low, shorter) in
             omega (arith, len c (omega arith), head d d_low, are.ordered c d earlier (omega arith));
-        numbered = λ c low.
-            let c_low : c < last = omega (arith, low, shorter) in
-            ap (λ h. get_or (take end items) (h + 1) 0) (head c c_low) ∙ item (get_or heads c 0 + 1) (omega (arith, before_end c c_low)) ∙ are.numbered c (omega arith);
         first = elim (cases_lt 0 last) [
           | inl some_left ↦ head 0 some_left ∙ are.first
           | inr empty ↦ get_or_past (take last heads) 0 0 (omega (arith, shorter))
@@ -278,11 +294,22 @@ module _ (items heads : List ℕ) (are : AreHeads items heads) (c : ℕ) (known 
   length_same : length new ≡ length items
   length_same = length-set (set items (head + 2 + i) b) (head + 2 + j) a ∙ length-set items (head + 2 + i) b
 
+  -- nor do the heads or the names change
+  walk_same : (heads_of new ≡ heads_of items) × (left_from 0 new ≡ left_from 0 items)
+  walk_same =
+      heads_two items (head + 2 + i) (head + 2 + j) b a
+      (subst (λ hs. (d : ℕ) → d < length hs → get_or hs d 0 ≢ head + 2 + i) (sym are.found) (λ d low same. heads_other d 0 i low (omega arith) i_low (omega (arith, same))))
+      (subst (λ hs. (d : ℕ) → d < length hs → get_or hs d 0 ≢ head + 2 + j) (sym are.found) (λ d low same. heads_other d 0 j low (omega arith) j_low (omega (arith, same))))
+
+  pub names_swapped : names_at new heads ≡ names_at items heads
+  names_swapped = names_same new items heads (λ d low. head_item d 1 low (omega arith))
+
   pub are_swapped : AreHeads new heads
   are_swapped = record {
+    found = walk_same.0 ∙ are.found;
+    whole = walk_same.1 ∙ are.whole;
     inside = λ d low. omega (arith, length_item d low, are.inside d low, length_same);
     ordered = λ d e earlier low. omega (arith, length_item d (omega arith), are.ordered d e earlier low);
-    numbered = λ d low. head_item d 1 low (omega arith) ∙ are.numbered d low;
     first = are.first;
     none = λ e. length_same ∙ are.none e;
     few = omega (arith, length_same, are.few);
@@ -316,6 +343,14 @@ clause_at_head items heads are head n n_is there =
     ∙ ap (λ h. map literal_of (slice_range items (h + 2) (h + 2 + get_or items h 0))) (sym r.1)
     ∙ clause_range items heads are c r.0
 
+-- the name that is read at a head
+pub name_at_head : (items heads : List ℕ) → AreHeads items heads → (head n : ℕ) → n ≡ get_or items (head + 1) n → Contains heads head → n ≡ get_or (names_at items heads) (number_of heads head) 0
+name_at_head items heads are head n n_is there =
+    let r = number_low heads head there in
+    let c = number_of heads head in
+    let low : head + 1 < length items = omega (arith, are.inside c r.0, r.1) in
+    n_is ∙ get_or_default items (head + 1) n 0 low ∙ ap (λ h. get_or items (h + 1) 0) (sym r.1) ∙ sym (get_or-map (λ h. get_or items (h + 1) 0) heads c 0 0 r.0)
+
 -- two literals of the clause at a head change places
 module _ (items heads : List ℕ) (are : AreHeads items heads) (h : ℕ) (there : Contains heads h) where
   -- a literal stands in the buffer
@@ -341,8 +376,73 @@ module _ (items heads : List ℕ) (are : AreHeads items heads) (h : ℕ) (there 
         (are_swapped items heads are (number_of heads h) known_head i j a b (low_at i i_low) (low_at j j_low)
         (a_is ∙ ap (λ m. get_or items (m + 2 + i) a) (sym at_head)) (b_is ∙ ap (λ m. get_or items (m + 2 + j) b) (sym at_head)))
 
+    pub swapped_names : names_at (set (set items (h + 2 + i) b) (h + 2 + j) a) heads ≡ names_at items heads
+    swapped_names =
+        ap (λ m. names_at (set (set items (m + 2 + i) b) (m + 2 + j) a) heads) (sym at_head)
+        ∙ names_swapped items heads are (number_of heads h) known_head i j a b (low_at i i_low) (low_at j j_low)
+        (a_is ∙ ap (λ m. get_or items (m + 2 + i) a) (sym at_head)) (b_is ∙ ap (λ m. get_or items (m + 2 + j) b) (sym at_head))
+
     pub swapped_clauses : clauses_at (set (set items (h + 2 + i) b) (h + 2 + j) a) heads ≡ set (clauses_at items heads) (number_of heads h) (swap (clause_of (clauses_at items heads) (number_of heads h)) i j)
     swapped_clauses =
         ap (λ m. clauses_at (set (set items (m + 2 + i) b) (m + 2 + j) a) heads) (sym at_head)
         ∙ clauses_swapped items heads are (number_of heads h) known_head i j a b (low_at i i_low) (low_at j j_low)
         (a_is ∙ ap (λ m. get_or items (m + 2 + i) a) (sym at_head)) (b_is ∙ ap (λ m. get_or items (m + 2 + j) b) (sym at_head))
+
+-- what the items are seen as
+abbrev pub value_of : List ℕ → ArenaValue
+value_of items = record { clauses = clauses_at items (heads_of items); heads = heads_of items; names = names_at items (heads_of items) }
+
+-- heads that are those of the items, and what is seen by them
+pub own_heads : (items heads : List ℕ) → AreHeads items heads → AreHeads items (heads_of items)
+own_heads items heads are = subst (AreHeads items) (sym are.found) are
+
+pub own_value : (items heads : List ℕ) → AreHeads items heads → value_of items ≡ record { clauses = clauses_at items heads; heads = heads; names = names_at items heads }
+own_value items heads are = ap (λ hs. let v : ArenaValue = record { clauses = clauses_at items hs; heads = hs; names = names_at items hs } in v) are.found
+
+module _ (items : List ℕ) (are : AreHeads items (heads_of items)) where
+  -- a clause is put behind the others by a name
+  module _ (name : ℕ) (row : List Literal) (new : List ℕ) (new_is : new ≡ items ++ length row ∷ name ∷ map code row) (short : length items + 2 + length row < 2 ^ 32) where
+    are_pushed : AreHeads (items ++ length row ∷ name ∷ map code row) (heads_of items ++ length items ∷ [])
+    are_pushed = are_more items (heads_of items) are name row (omega (arith, length_more items (heads_of items) are name row, short))
+
+    pub pushed_heads : AreHeads new (heads_of new)
+    pushed_heads = subst (λ xs. AreHeads xs (heads_of xs)) (sym new_is) (own_heads (items ++ length row ∷ name ∷ map code row) (heads_of items ++ length items ∷ []) are_pushed)
+
+    pub pushed_value : (h : ℕ) → h ≡ length items
+        → value_of new ≡ record { clauses = clauses_at items (heads_of items) ++ row ∷ []; heads = heads_of items ++ h ∷ []; names = names_at items (heads_of items) ++ name ∷ [] }
+    pushed_value h h_is =
+        ap value_of new_is ∙ own_value (items ++ length row ∷ name ∷ map code row) (heads_of items ++ length items ∷ []) are_pushed
+        ∙ ap₂ (λ cs ns. let v : ArenaValue = record { clauses = cs; heads = heads_of items ++ length items ∷ []; names = ns } in v)
+        (clauses_more items (heads_of items) are name row) (names_more items (heads_of items) are name row)
+        ∙ ap (λ k. let v : ArenaValue = record { clauses = clauses_at items (heads_of items) ++ row ∷ []; heads = heads_of items ++ k ∷ []; names = names_at items (heads_of items) ++ name ∷ [] } in v) (sym h_is)
+
+  -- the last clause is taken off by its head
+  module _ (head : ℕ) (there : Contains (heads_of items) head) (is_last : suc (number_of (heads_of items) head) ≡ length (clauses_at items (heads_of items))) where
+    some_heads : 0 < length (heads_of items)
+    some_heads = omega (arith, (number_low (heads_of items) head there).0)
+
+    last_number : number_of (heads_of items) head ≡ length (heads_of items) - 1
+    last_number = omega (arith, is_last, length_clauses items (heads_of items) are)
+
+    end_is : get_or (heads_of items) (length (heads_of items) - 1) 0 ≡ head
+    end_is = ap (λ n. get_or (heads_of items) n 0) (sym last_number) ∙ (number_low (heads_of items) head there).1
+
+    are_popped : AreHeads (take head items) (take (length (heads_of items) - 1) (heads_of items))
+    are_popped = subst (λ e. AreHeads (take e items) (take (length (heads_of items) - 1) (heads_of items))) end_is (are_fewer items (heads_of items) are some_heads)
+
+    pub popped_heads : AreHeads (take head items) (heads_of (take head items))
+    popped_heads = own_heads (take head items) (take (length (heads_of items) - 1) (heads_of items)) are_popped
+
+    pub popped_value : value_of (take head items) ≡ record {
+      clauses = take (length (clauses_at items (heads_of items)) - 1) (clauses_at items (heads_of items));
+      heads = take (length (clauses_at items (heads_of items)) - 1) (heads_of items);
+      names = take (length (clauses_at items (heads_of items)) - 1) (names_at items (heads_of items));
+    }
+    popped_value =
+        let last = length (heads_of items) - 1 in
+        own_value (take head items) (take last (heads_of items)) are_popped
+        ∙ ap₂ (λ cs ns. let v : ArenaValue = record { clauses = cs; heads = take last (heads_of items); names = ns } in v)
+        (ap (λ e. clauses_at (take e items) (take last (heads_of items))) (sym end_is) ∙ clauses_fewer items (heads_of items) are some_heads)
+        (ap (λ e. names_at (take e items) (take last (heads_of items))) (sym end_is) ∙ names_fewer items (heads_of items) are some_heads)
+        ∙ ap (λ n. let v : ArenaValue = record { clauses = take (n - 1) (clauses_at items (heads_of items)); heads = take (n - 1) (heads_of items); names = take (n - 1) (names_at items (heads_of items)) } in v)
+        (sym (length_clauses items (heads_of items) are))

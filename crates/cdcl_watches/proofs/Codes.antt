@@ -1,8 +1,8 @@
 -- Literals and their numbers.
-use Rattle.std.proofs.Common.{◌≡◌, ℕ, zero, suc, ◌+◌, ◌*◌, ◌/◌, ◌%◌, nat_eq, ◌<◌, Bool, true, false, if◌then◌else◌, List, [], ◌∷◌, map, Contains, length, get_or, refl, sym, ap, ap₂, ◌∙◌, subst, arith}
+use Rattle.std.proofs.Common.{◌≡◌, ℕ, ◌+◌, ◌*◌, ◌/◌, ◌%◌, nat_eq, ◌<◌, Bool, true, false, if◌then◌else◌, List, [], ◌∷◌, map, Contains, length, get_or, refl, sym, ap, ap₂, ◌∙◌, subst, arith}
 use Rattle.std.proofs.lemmas.List.Elements.{Contains-get_or}
 use Rattle.cnf_base.specs.declared.literal.Literal.{Literal}
-use Rattle.cdcl_watches.specs.Watching.{code, literal_of, blank}
+use Rattle.cdcl_watches.specs.Watching.{code, literal_of}
 
 -- the number of a literal gives it back
 pub literal_code : (l : Literal) → literal_of (code l) ≡ l
@@ -26,21 +26,6 @@ literal_code l = go l.negated refl
 -- the number of a clause's literal is that of a literal of the clause
 pub coded_in : (row : List Literal) (i n : ℕ) (d : Literal) → i < length row → n ≡ code (get_or row i d) → Contains row (literal_of n)
 coded_in row i n d low is = subst (Contains row) (sym (ap literal_of is ∙ literal_code (get_or row i d))) (Contains-get_or row i d low)
-
--- each number is a literal's
-pub literal_at : (k : ℕ) → (l : Literal) × (code l ≡ k)
-literal_at zero = (blank, refl)
-literal_at (suc k) = let before = literal_at k in next before.0 k before.1 before.0.negated refl
-  where
-    next : (l : Literal) (k : ℕ) → code l ≡ k → (b : Bool) → l.negated ≡ b → (m : Literal) × (code m ≡ suc k)
-    next l k is false plain =
-        let m : Literal = record { letter = l.letter; negated = true } in
-        let before : 2 * l.letter.0 ≡ k = omega (arith, is, ap (λ n. 2 * l.letter.0 + (if n then 1 else 0)) plain) in
-        (m, omega (arith, before))
-    next l k is true negated =
-        let m : Literal = record { letter = record { 0 = l.letter.0 + 1 }; negated = false } in
-        let before : 2 * l.letter.0 + 1 ≡ k = sym (ap (λ n. 2 * l.letter.0 + (if n then 1 else 0)) negated) ∙ is in
-        (m, omega (arith, before))
 
 -- the numbers of literals give them back
 pub literals_code : (ls : List Literal) → map literal_of (map code ls) ≡ ls

@@ -1,9 +1,7 @@
 -- The numbers of clauses by their heads.
-use Rattle.std.proofs.Common.{◌≡◌, ◌≢◌, ℕ, zero, suc, ◌<◌, nat_eq, if◌then◌else◌, Bool, true, false, inl, inr, List, [], ◌∷◌, ◌++◌, take, drop, length, get_or, Contains, refl, sym, ap, ◌∙◌, arith, length-take}
-use Rattle.std.proofs.lemmas.Bool.{cases_lt, cases_eq, eq-eqb, eqb-true}
-use Rattle.std.proofs.Math.Seq.{take-nil}
-use Rattle.std.proofs.lemmas.List.{get_or-take, get_or_default, get_or_append_left, get_or_at, length_push, take-append-drop}
-use Rattle.std.proofs.lemmas.List.Elements.{Contains-get_or}
+use Rattle.std.proofs.Common.{◌≡◌, ◌≢◌, ℕ, zero, suc, ◌<◌, nat_eq, if◌then◌else◌, Bool, true, false, inl, inr, List, [], ◌∷◌, ◌++◌, length, get_or, Contains, refl, sym, ap, ◌∙◌, arith}
+use Rattle.std.proofs.lemmas.Bool.{cases_eq, eq-eqb, eqb-true}
+use Rattle.std.proofs.lemmas.List.{get_or_append_left, get_or_at, length_push}
 use Rattle.cdcl_watches.specs.Watching.{AreApart}
 use Rattle.cdcl_watches.specs.Heads.{number_of}
 
@@ -48,41 +46,12 @@ pub number_last : (heads : List ℕ) (x : ℕ) → ¬ Contains heads x → numbe
 number_last [] x differ = number_head x [] x refl
 number_last (h ∷ heads) x differ = number_tail h (heads ++ x ∷ []) x (λ e. differ (zero, omega arith, e)) ∙ ap suc (number_last heads x (λ there. differ (in_whole h heads x there)))
 
--- the number of the head at a place
-pub number_place : (heads : List ℕ) → AreApart heads → (c : ℕ) → c < length heads → number_of heads (get_or heads c 0) ≡ c
-number_place heads apart c low =
-    let x = get_or heads c 0 in
-    let r = number_low heads x (Contains-get_or heads c 0 low) in
-    elim (cases_lt (number_of heads x) c) [
-      | inl lt ↦ absurd (apart (number_of heads x) c 0 lt low r.1)
-      | inr ge ↦ elim (cases_lt c (number_of heads x)) [
-        | inl gt ↦ absurd (apart c (number_of heads x) 0 gt r.0 (sym r.1))
-        | inr le ↦ omega (arith, ge, le)
-      ]
-    ]
-
 -- where the first head is 0, so is its number
 pub number_none : (heads : List ℕ) → get_or heads 0 0 ≡ 0 → number_of heads 0 ≡ 0
 number_none [] is = refl
 number_none (h ∷ heads) is = number_head h heads 0 is
 
-pub none_fewer : (n : ℕ) (heads : List ℕ) → number_of heads 0 ≡ 0 → number_of (take n heads) 0 ≡ 0
-none_fewer n [] is = ap (λ hs. number_of hs 0) (take-nil n)
-none_fewer zero (h ∷ heads) is = refl
-none_fewer (suc n) (h ∷ heads) is = elim (cases_eq h 0) [
-  | inl same ↦ number_head h (take n heads) 0 same
-  | inr differ ↦ absurd (omega (arith, is, number_tail h heads 0 differ))
-]
-
 -- a head that was put behind heads that are apart from it
 pub head_apart : (heads : List ℕ) (x : ℕ) → AreApart (heads ++ x ∷ []) → ¬ Contains heads x
 head_apart heads x apart (k, low, is) =
     apart k (length heads) x low (omega (arith, length_push heads x)) (get_or_append_left heads (x ∷ []) x k low ∙ is ∙ sym (get_or_at heads x [] x (length heads) refl))
-
--- a head with a low number stays when the last is taken off
-pub number_fewer : (heads : List ℕ) (n x : ℕ) → Contains heads x → number_of heads x < n → Contains (take n heads) x × (number_of (take n heads) x ≡ number_of heads x)
-number_fewer heads n x there low =
-    let r = number_low heads x there in
-    let k = number_of heads x in
-    let stays : Contains (take n heads) x = (k, omega (arith, length-take n heads, r.0), get_or-take n heads k x low ∙ get_or_default heads k x 0 r.0 ∙ r.1) in
-    (stays, sym (number_more (take n heads) (drop n heads) x stays) ∙ ap (λ hs. number_of hs x) (take-append-drop n heads))

@@ -1,5 +1,5 @@
 -- What keeps the clauses watched, each blocker a literal of its clause: a turn, a refreshed blocker, a letter more or fewer.
-use Rattle.std.proofs.Common.{◌≡◌, ℕ, ◌<◌, ◌≤◌, ◌-◌, List, [], ◌∷◌, ◌++◌, take, set, All, Contains, length, get_or, sym, ap, ap₂, ◌∙◌, subst, append_assoc, arith}
+use Rattle.std.proofs.Common.{◌≡◌, ℕ, ◌<◌, ◌≤◌, ◌-◌, List, [], ◌∷◌, ◌++◌, take, set, All, Contains, length, get_or, sym, ap, ◌∙◌, subst, append_assoc, arith}
 use Rattle.std.specs.List.{swap}
 use Rattle.std.proofs.lemmas.List.{length_push}
 use Rattle.std.proofs.lemmas.List.Elements.{All-push, All-take, All-nil, Contains-get_or}
@@ -45,7 +45,7 @@ letter_watchers heads clauses lists are = record {
 }
 
 -- two lists fewer
-module _ (w : WatchValue) (heads : List ℕ) (none : clause_number heads nobody ≡ 0) (clauses : List (List Literal)) (lists mid new : List (List Watcher)) (widened : IsWidened w (record { clauses = clauses; lists = numbers heads lists })) (first : mid ≡ take (length lists - 1) lists) where
+module _ (w : WatchValue) (heads names : List ℕ) (none : clause_number heads nobody ≡ 0) (clauses : List (List Literal)) (lists mid new : List (List Watcher)) (widened : IsWidened w (record { clauses = clauses; lists = numbers heads lists; names = names })) (first : mid ≡ take (length lists - 1) lists) where
   pub mid_numbers : numbers heads mid ≡ w.lists ++ [] ∷ []
   mid_numbers = take_back_is (w.lists ++ [] ∷ []) (numbers heads lists) (numbers heads mid) [] (numbers_shrink heads none lists mid first) (ap (λ (v : WatchValue). v.lists) widened.is ∙ sym (append_assoc w.lists ([] ∷ []) ([] ∷ [])))
 
@@ -53,9 +53,10 @@ module _ (w : WatchValue) (heads : List ℕ) (none : clause_number heads nobody 
   mid_some = omega (arith, length_numbers heads none mid, ap length mid_numbers, length_push w.lists [])
 
   module _ (second : new ≡ take (length mid - 1) mid) where
-    pub narrowed_is : (let v : WatchValue = record { clauses = clauses; lists = numbers heads new } in v) ≡ w
-    narrowed_is = ap₂ (λ cs ls. let v : WatchValue = record { clauses = cs; lists = ls } in v) (ap (λ (v : WatchValue). v.clauses) widened.is)
-        (take_back_is w.lists (numbers heads mid) (numbers heads new) [] (numbers_shrink heads none mid new second) mid_numbers)
+    pub narrowed_is : (let v : WatchValue = record { clauses = clauses; lists = numbers heads new; names = names } in v) ≡ w
+    narrowed_is =
+        ap (λ (v : WatchValue). let u : WatchValue = record { clauses = v.clauses; lists = numbers heads new; names = v.names } in u) widened.is
+        ∙ ap (λ ls. let u : WatchValue = record { clauses = w.clauses; lists = ls; names = w.names } in u) (take_back_is w.lists (numbers heads mid) (numbers heads new) [] (numbers_shrink heads none mid new second) mid_numbers)
 
     pub narrowed_watchers : AreWatchers heads clauses lists → AreWatchers heads clauses new
     narrowed_watchers are = record {

@@ -32,13 +32,6 @@ module _ (heads : List ℕ) (none : clause_number heads nobody ≡ 0) where
       → numbers heads (set lists k (get_or lists k [] ++ w ∷ [])) ≡ set (numbers heads lists) k (get_or (numbers heads lists) k [] ++ clause_number heads w ∷ [])
   numbers_push lists k w = numbers_edit lists k _ (λ ns. ns ++ clause_number heads w ∷ []) (map-append (clause_number heads) (get_or lists k []) (w ∷ []))
 
-  pub numbers_pop : (lists : List (List Watcher)) (k : ℕ)
-      → numbers heads (set lists k (take (length (get_or lists k []) - 1) (get_or lists k []))) ≡ set (numbers heads lists) k (take (length (get_or (numbers heads lists) k []) - 1) (get_or (numbers heads lists) k []))
-  numbers_pop lists k =
-      let ws = get_or lists k [] in
-      numbers_edit lists k _ (λ ns. take (length ns - 1) ns)
-      (sym (take-map (clause_number heads) (length ws - 1) ws) ∙ ap (λ n. take (n - 1) (map (clause_number heads) ws)) (sym (length-map ws (clause_number heads))))
-
   pub numbers_remove : (lists : List (List Watcher)) (k i : ℕ) → numbers heads (set lists k (remove (get_or lists k []) i)) ≡ set (numbers heads lists) k (remove (get_or (numbers heads lists) k []) i)
   numbers_remove lists k i = numbers_edit lists k _ (λ ns. remove ns i) (removed (get_or lists k []))
     where

@@ -69,7 +69,7 @@ module _ (arena : ArenaValue) (lists : List (List Watcher)) (l : Literal) (a b :
 
     pub stayed_same : walked arena (set lists (code l) (set (get_or lists (code l) []) a v)) (code l) (a + 1) (b + 1) ≡ walked arena lists (code l) a b
     stayed_same =
-        ap (λ ns. let w : WatchValue = record { clauses = arena.clauses; lists = ns } in w)
+        ap (λ ns. let w : WatchValue = record { clauses = arena.clauses; lists = ns; names = arena.names } in w)
         (ap (numbers arena.heads) stayed ∙ numbers_refreshed arena.heads is.watchers.none (without lists (code l) a b) (code l) a v named)
 
   -- its clause is watched by another literal, and it is taken off

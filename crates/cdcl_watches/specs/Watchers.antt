@@ -48,6 +48,6 @@ pub record IsWalked (arena : ArenaValue) (lists : List (List Watcher)) (k kept n
   pub inside : next ≤ length (slice_index_or lists k [])
   pub watchers : AreWatchers arena.heads arena.clauses (without lists k kept next)
 
--- the clauses and the lists as they are where the walk stands
+-- the clauses, the lists and the names as they are where the walk stands
 abbrev pub walked : ArenaValue → List (List Watcher) → ℕ → ℕ → ℕ → WatchValue
-walked arena lists k kept next = record { clauses = arena.clauses; lists = numbers arena.heads (without lists k kept next) }
+walked arena lists k kept next = record { clauses = arena.clauses; lists = numbers arena.heads (without lists k kept next); names = arena.names }

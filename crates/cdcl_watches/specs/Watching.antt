@@ -39,10 +39,11 @@ pub record IsWatching (clauses : List (List Literal)) (lists : List (List ℕ)) 
   pub only : (c : ℕ) (l : Literal) → Contains (list_of lists l) c → (c < length clauses) × IsWatch (clause_of clauses c) l
   pub once : (l : Literal) → AreApart (list_of lists l)
 
--- clauses and lists
+-- clauses, lists, and the names of the clauses
 pub record WatchValue : Type 0 where
   pub clauses : List (List Literal)
   pub lists : List (List ℕ)
+  pub names : List ℕ
 
 -- what a read past the end would give
 abbrev pub blank : Literal
@@ -53,23 +54,15 @@ abbrev pub with_watch : List (List ℕ) → Literal → ℕ → List (List ℕ)
 with_watch lists l c = slice_set lists (code l) (list_of lists l ++ c ∷ [])
 
 abbrev pub with_lists : WatchValue → List (List ℕ) → WatchValue
-with_lists w lists = record { clauses = w.clauses; lists = lists }
+with_lists w lists = record { clauses = w.clauses; lists = lists; names = w.names }
 
--- the clause stands behind the others, and in the lists of its first two literals
-abbrev pub with_clause : WatchValue → List Literal → WatchValue
-with_clause w clause = record {
+-- the clause stands behind the others by this name, and in the lists of its first two literals
+abbrev pub with_clause : WatchValue → List Literal → ℕ → WatchValue
+with_clause w clause name = record {
   clauses = w.clauses ++ clause ∷ [];
   lists = with_watch (with_watch w.lists (slice_index_or clause 0 blank) (length w.clauses)) (slice_index_or clause 1 blank) (length w.clauses);
+  names = w.names ++ name ∷ [];
 }
-
--- a clause of at least two literals was put behind the others
-pub record IsAdded (before now : WatchValue) : Type 0 where
-  pub clause : List Literal
-  pub watching : IsWatching before.clauses before.lists
-  pub long : 2 ≤ length clause
-  pub apart : AreApart clause
-  pub fits : All (λ l. code l < length before.lists) clause
-  pub is : now ≡ with_clause before clause
 
 -- two lists that are empty were put behind the others
 pub record IsWidened (before now : WatchValue) : Type 0 where

@@ -1,7 +1,8 @@
 // The clauses in one buffer of numbers, one behind the other: the head of a clause is its length and its
-// number, and the codes of its literals follow. Who has the place of a head comes to the clause by one read,
-// with no table between. After Een and Sorensson, An extensible SAT-solver (2003).
-ghost use Rattle.std.specs.Prelude.{◌≡◌, ℕ, ◌+◌, ◌-◌, ◌<◌, ◌≤◌, ◌^◌, List, [], ◌∷◌, ◌++◌, length, map, take, All, Contains, IfOk, OnOk, OnErr, slice_set};
+// name, and the codes of its literals follow. Who has the place of a head comes to the clause and to its
+// name by one read, with no table between. Where the heads are follows from the lengths, so no list of them
+// is kept. After Een and Sorensson, An extensible SAT-solver (2003).
+ghost use Rattle.std.specs.Prelude.{◌≡◌, ℕ, suc, ◌+◌, ◌-◌, ◌<◌, ◌≤◌, ◌^◌, List, [], ◌∷◌, ◌++◌, length, map, take, All, Contains, IfOk, OnOk, OnErr, slice_index_or, slice_set};
 ghost use Rattle.std.specs.List.{swap};
 ghost use Rattle.cdcl_watches.specs.Watching.{code, clause_of, AreApart};
 ghost use Rattle.cdcl_watches.specs.Heads.{number_of};
@@ -15,39 +16,42 @@ use std::marker::Model;
 /// The greatest number of 32 bits.
 const MAX_ITEMS: usize = 4294967295;
 
-/// Clauses, each at the place of its head; two literals of a clause can change places. There is room for
-/// 4,294,967,295 numbers, two of them a head: their places are numbers of 32 bits.
+/// Clauses, each at the place of its head and with a name that the caller gave it; two literals of a clause
+/// can change places. There is room for 4,294,967,295 numbers, two of them a head: their places are numbers
+/// of 32 bits.
 #[derive(Drop)]
 pub struct Arena {
     items: Vec<u32>,
-    /// The heads in order. They are read only where the last clause is taken off.
-    heads: Vec<u32>,
 }
 
 impl Model for Arena {
-    ghost use Rattle.cdcl_watches.specs.Heads.{ArenaValue, clauses_at, AreHeads};
+    ghost use Rattle.cdcl_watches.specs.Heads.{ArenaValue, clauses_at, heads_of, names_at, AreHeads};
 
     ghost Value = { ArenaValue };
 
-    ghost view = { λ a. record { clauses = clauses_at a.items.items a.heads.items; heads = a.heads.items } };
+    ghost view = { λ a. record {
+      clauses = clauses_at a.items.items (heads_of a.items.items);
+      heads = heads_of a.items.items;
+      names = names_at a.items.items (heads_of a.items.items);
+    } };
 
-    ghost invariant = { λ a. AreHeads a.items.items a.heads.items };
+    ghost invariant = { λ a. AreHeads a.items.items (heads_of a.items.items) };
 }
 
 impl Arena {
     /// No clauses.
     pub fn new(alloc: Global) -> Self
-        ensures { result ≡ record { clauses = []; heads = [] } }
+        ensures { result ≡ record { clauses = []; heads = []; names = [] } }
     {
         Arena {
             items: Vec::new(alloc),
-            heads: Vec::new(alloc),
         }
     }
 
-    /// Each clause has one head, the first of them 0.
+    /// Each clause has one head, the first of them 0, and one name.
     pub fn told(&self)
         ensures paired { length self.now.heads ≡ length self.now.clauses }
+        ensures named { length self.now.names ≡ length self.now.clauses }
         ensures apart { AreApart self.now.heads }
         ensures first { number_of self.now.heads 0 ≡ 0 }
     {
@@ -64,43 +68,30 @@ impl Arena {
         Clause::new(&self.items[from..to])
     }
 
-    /// The number of the clause of this head.
-    pub fn number(&self, head: u32) -> usize
+    /// The name of the clause of this head.
+    pub fn name(&self, head: u32) -> u32
         requires { Contains self.now.heads head }
-        ensures { result ≡ number_of self.now.heads head }
+        ensures { result ≡ slice_index_or self.now.names (number_of self.now.heads head) 0 }
     {
-        self.items[head as usize + 1] as usize
+        self.items[head as usize + 1]
     }
 
-    /// The head of the last clause.
-    pub fn last(&self) -> u32
-        requires { 0 < length self.now.clauses }
-        ensures stands { Contains self.now.heads result }
-        ensures is { number_of self.now.heads result ≡ length self.now.clauses - 1 }
-    {
-        self.heads[self.heads.len() - 1]
-    }
-
-    /// Puts the clause behind the others, and answers its head. Want of room is told as want of memory.
-    pub fn push(&mut self, row: &[Literal]) -> Result<u32, AllocError>
+    /// Puts the clause behind the others by this name, and answers its head. Want of room is told as want of
+    /// memory.
+    pub fn push(&mut self, name: u32, row: &[Literal]) -> Result<u32, AllocError>
         requires { All (λ l. code l < 2 ^ 32) row.now }
-        ensures pushed { IfOk result (λ head. self.new
-            ≡ record { clauses = self.old.clauses ++ row.now ∷ []; heads = self.old.heads ++ head ∷ [] }) }
+        ensures pushed { IfOk result (λ head. self.new ≡ record {
+          clauses = self.old.clauses ++ row.now ∷ [];
+          heads = self.old.heads ++ head ∷ [];
+          names = self.old.names ++ name ∷ [];
+        }) }
         ensures refused { OnErr result (self.new ≡ self.old) }
     {
         let from = self.items.len();
         if from + 2 + row.len() > MAX_ITEMS {
             return Err(AllocError);
         }
-        let number = self.heads.len() as u32;
-        match put_row(&mut self.items, number, row) {
-            Ok(()) => {}
-            Err(_) => {
-                self.items.truncate(from);
-                return Err(AllocError);
-            }
-        }
-        match self.heads.push(from as u32) {
+        match put_row(&mut self.items, name, row) {
             Ok(()) => {
                 return Ok(from as u32);
             }
@@ -111,18 +102,17 @@ impl Arena {
         }
     }
 
-    /// Takes the last clause off.
-    pub fn pop(&mut self)
-        requires { 0 < length self.old.clauses }
+    /// Takes the last clause off, which is the one of this head.
+    pub fn pop(&mut self, head: u32)
+        requires known { Contains self.old.heads head }
+        requires last { suc (number_of self.old.heads head) ≡ length self.old.clauses }
         ensures { self.new ≡ record {
           clauses = take (length self.old.clauses - 1) self.old.clauses;
           heads = take (length self.old.clauses - 1) self.old.heads;
+          names = take (length self.old.clauses - 1) self.old.names;
         } }
     {
-        let count = self.heads.len() - 1;
-        let end = self.heads[count] as usize;
-        self.heads.truncate(count);
-        self.items.truncate(end);
+        self.items.truncate(head as usize);
     }
 
     /// Lets two literals of a clause change places.
@@ -133,6 +123,7 @@ impl Arena {
         ensures clauses { self.new.clauses ≡ slice_set self.old.clauses (number_of self.old.heads head)
             (swap (clause_of self.old.clauses (number_of self.old.heads head)) i j) }
         ensures heads { self.new.heads ≡ self.old.heads }
+        ensures names { self.new.names ≡ self.old.names }
     {
         let from = head as usize + 2;
         let a = self.items[from + i];
@@ -154,15 +145,15 @@ fn put_codes(items: &mut Vec<u32>, row: &[Literal]) -> Result<(), AllocError>
     Ok(())
 }
 
-/// Puts a clause's length, its number and the codes of its literals behind the items.
-fn put_row(items: &mut Vec<u32>, number: u32, row: &[Literal]) -> Result<(), AllocError>
+/// Puts a clause's length, its name and the codes of its literals behind the items.
+fn put_row(items: &mut Vec<u32>, name: u32, row: &[Literal]) -> Result<(), AllocError>
     requires fits { All (λ l. code l < 2 ^ 32) row.now }
     requires short { length row.now < 2 ^ 32 }
     ensures kept { take (length items.old.items) items.new.items ≡ items.old.items }
-    ensures put { OnOk result (items.new.items ≡ items.old.items ++ length row.now ∷ number
+    ensures put { OnOk result (items.new.items ≡ items.old.items ++ length row.now ∷ name
         ∷ map code row.now) }
 {
     items.push(row.len() as u32)?;
-    items.push(number)?;
+    items.push(name)?;
     put_codes(items, row)
 }

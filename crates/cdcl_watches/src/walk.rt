@@ -86,6 +86,7 @@ pub fn rewatch(
         (number_of arena.old.heads head)
         (swap (clause_of arena.old.clauses (number_of arena.old.heads head)) 1 j)
         else arena.old.clauses) }
+    ensures names { arena.new.names ≡ arena.old.names }
     ensures lists { (walked arena.new lists.new (code second) walk.new.kept walk.new.next).lists
         ≡ (if is_ok result then slice_set (slice_set
         (walked arena.old lists.old (code second) walk.old.kept walk.old.next).lists (code other)

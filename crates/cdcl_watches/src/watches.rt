@@ -3,7 +3,7 @@
 // Zhao, Zhang and Malik, Chaff (2001). Each place of a list also gives a literal of its clause; contracts
 // promise no more of which one it is.
 ghost use Rattle.std.specs.Prelude.{◌≡◌, ℕ, ◌+◌, ◌-◌, ◌<◌, ◌≤◌, List, [], ◌∷◌, ◌++◌, length, All, Contains, if◌then◌else◌, is_ok, slice_index_or, slice_set};
-ghost use Rattle.cdcl_watches.specs.Watching.{code, list_of, clause_of, IsWatching, AreApart, IsAdded, IsWidened, WatchValue, with_clause, with_lists};
+ghost use Rattle.cdcl_watches.specs.Watching.{code, list_of, clause_of, IsWatching, AreApart, IsWidened, WatchValue, with_clause, with_lists};
 
 use crate::arena::Arena;
 use crate::watch_lists::WatchLists;
@@ -12,7 +12,7 @@ use cnf_base::Literal;
 use std::alloc::{AllocError, Global};
 use std::marker::Model;
 
-/// Clauses, and for each literal the list of those that watch it.
+/// Clauses by their names, and for each literal the list of those that watch it.
 #[derive(Drop)]
 pub struct Watches {
     pub arena: Arena,
@@ -25,7 +25,11 @@ impl Model for Watches {
 
     ghost Value = { WatchValue };
 
-    ghost view = { λ a. record { clauses = a.arena.clauses; lists = numbers a.arena.heads a.lists } };
+    ghost view = { λ a. record {
+      clauses = a.arena.clauses;
+      lists = numbers a.arena.heads a.lists;
+      names = a.arena.names;
+    } };
 
     ghost invariant = { λ a. AreWatchers a.arena.heads a.arena.clauses a.lists };
 }
@@ -38,31 +42,32 @@ pub fn number(literal: Literal) -> usize
 }
 
 impl Watches {
-    /// Each clause of at least two literals is in the lists of its first two.
+    /// Each clause of at least two literals is in the lists of its first two, and each has a name.
     pub fn watching(&self)
-        ensures { IsWatching self.now.clauses self.now.lists }
+        ensures watched { IsWatching self.now.clauses self.now.lists }
+        ensures named { length self.now.names ≡ length self.now.clauses }
     {
-        let _ = &self.arena;
+        self.arena.told();
     }
 
-    /// Puts the clause behind the others, and watches its first two literals.
-    pub fn add(&mut self, clause: &[Literal]) -> Result<(), AllocError>
+    /// Puts the clause behind the others by this name, and watches its first two literals.
+    pub fn add(&mut self, name: u32, clause: &[Literal]) -> Result<(), AllocError>
         requires long { 2 ≤ length clause.now }
         requires apart { AreApart clause.now }
         requires fits { All (λ l. code l < length self.old.lists) clause.now }
-        ensures { self.new ≡ (if is_ok result then with_clause self.old clause.now else self.old) }
+        ensures { self.new ≡ (if is_ok result then with_clause self.old clause.now name else self.old) }
     {
         let first = clause[0];
         let second = clause[1];
         self.lists.few();
-        let head = self.arena.push(clause)?;
+        let head = self.arena.push(name, clause)?;
         self.arena.told();
         let first_watcher = watch(head, second);
         let second_watcher = watch(head, first);
         match self.lists.push(number(first), first_watcher) {
             Ok(()) => {}
             Err(_) => {
-                self.arena.pop();
+                self.arena.pop(head);
                 return Err(AllocError);
             }
         }
@@ -72,24 +77,10 @@ impl Watches {
             }
             Err(_) => {
                 self.lists.pop(number(first));
-                self.arena.pop();
+                self.arena.pop(head);
                 return Err(AllocError);
             }
         }
-    }
-
-    /// Takes back the clause that was added last.
-    pub fn take_back(&mut self)
-        requires { (before : WatchValue) × IsAdded before self.old }
-        ensures { (before : WatchValue) → IsAdded before self.old → self.new ≡ before }
-    {
-        self.arena.told();
-        let head = self.arena.last();
-        let first = number(self.arena.clause(head).get(0));
-        let second = number(self.arena.clause(head).get(1));
-        self.lists.pop(second);
-        self.lists.pop(first);
-        self.arena.pop();
     }
 
     /// Makes one more letter known: two literals that nothing watches.
@@ -120,7 +111,7 @@ impl Watches {
 
     /// No clauses, and no lists.
     pub fn new(alloc: Global) -> Self
-        ensures { result ≡ record { clauses = []; lists = [] } }
+        ensures { result ≡ record { clauses = []; lists = []; names = [] } }
     {
         Watches {
             arena: Arena::new(alloc),

@@ -15,4 +15,4 @@ invariant_of-self-in-Err c =
 pub returns-in-Ok : goal.returns-in-Ok
 returns-in-Ok c =
     rw (← c.self.view_is, c.in-Ok.ensures, c.in_ok-grow.ensures)
-    (ap (λ ls. let v : WatchValue = record { clauses = c.self.inside.arena.clauses; lists = ls } in v) (numbers_two c.self.inside.arena.heads c.self.invariant.none c.self.inside.lists))
+    (ap (λ ls. let v : WatchValue = record { clauses = c.self.inside.arena.clauses; lists = ls; names = c.self.inside.arena.names } in v) (numbers_two c.self.inside.arena.heads c.self.invariant.none c.self.inside.lists))
