@@ -1,8 +1,8 @@
 -- A visit stands at one clause.
-use Rattle.std.proofs.Common.{◌≡◌, ◌≢◌, ℕ, ◌<◌, ◌≤◌, ◌+◌, ◌*◌, ◌-◌, ◌⊎◌, inl, inr, List, [], ◌∷◌, ◌++◌, Option, Some, None, IfSome, take, set, All, Contains, length, get_or, refl, sym, ap, ap₂, ◌∙◌, subst, arith, length-set, get_or-set_same, length-take-le}
+use Rattle.std.proofs.Common.{◌≡◌, ◌≢◌, ℕ, ◌<◌, ◌≤◌, ◌+◌, ◌*◌, ◌-◌, ◌⊎◌, inl, inr, List, [], ◌∷◌, ◌++◌, Option, Some, None, IfSome, take, map, set, All, Contains, length, get_or, refl, sym, ap, ap₂, ◌∙◌, subst, arith, length-set, get_or-set_same, length-take-le}
 use Rattle.std.specs.List.{remove, swap}
 use Rattle.std.proofs.lemmas.Bool.{cases_lt, cases_eq}
-use Rattle.std.proofs.lemmas.List.{map-append, get_or_default, get_or_append_left, get_or-take}
+use Rattle.std.proofs.lemmas.List.{map-append, length-map, get_or-map, get_or_default, get_or_append_left, get_or-take}
 use Rattle.std.proofs.lemmas.List.Edits.{swapped_from_swap, length-swap}
 use Rattle.std.proofs.lemmas.List.Elements.{All-contains, Contains-get_or, Contains-push}
 use Rattle.cnf_base.specs.declared.literal.Literal.{Literal}
@@ -10,12 +10,13 @@ use Rattle.cnf_base.specs.declared.literal.Hint.{Hint}
 use Rattle.cnf_base.specs.Literal.{opposite}
 use Rattle.cnf_base.proofs.SameLiteral.{opposite_opposite}
 use Rattle.cdcl_trail.specs.Trail.{literals_of, HasLevel, IsTrail, StandsAt, IsReason, IsConflict, blank_entry, literal_at}
+use Rattle.cdcl_trail.specs.Entries.{hint_of}
 use Rattle.cdcl_trail.specs.declared.assigned.Entry.{Entry}
 use Rattle.cdcl_trail.proofs.Assign.{entry_there, level_there}
 use Rattle.cdcl_watches.specs.Watching.{IsWatch, IsWatching, clause_of, list_of, code, WatchValue, blank}
 use Rattle.cdcl_watches.proofs.Moves.{first_two, code_same}
 use Rattle.cdcl_trail.specs.Assigned.{AssignedValue}
-use Rattle.cdcl_propagate.specs.Visit.{HasTrue, IsVisiting, IsFaced, IsReplacement, AreFalseFrom, false_at, list_length, watcher_at, blank_hint}
+use Rattle.cdcl_propagate.specs.Visit.{HasTrue, names_of, IsVisiting, IsFaced, IsReplacement, AreFalseFrom, false_at, list_length, watcher_at, blank_hint}
 use Rattle.cdcl_propagate.proofs.Guard.{visit_kept, visit_turned, visit_moved, visit_grown}
 
 -- the literal is the second already
@@ -27,8 +28,8 @@ faced_same w c l watch is = record {
 }
 
 pub faced_turned : (w v : WatchValue) (c : ℕ) (l : Literal) → c < length w.clauses → IsWatch (clause_of w.clauses c) l → code l ≢ code (get_or (clause_of w.clauses c) 1 blank)
-    → v.clauses ≡ set w.clauses c (swap (clause_of w.clauses c) 0 1) → v.lists ≡ w.lists → IsFaced w v c l
-faced_turned w v c l known watch differ clauses_is lists_is =
+    → v.clauses ≡ set w.clauses c (swap (clause_of w.clauses c) 0 1) → v.lists ≡ w.lists → v.names ≡ w.names → IsFaced w v c l
+faced_turned w v c l known watch differ clauses_is lists_is names_are =
     let r = clause_of w.clauses c in
     let s = swap r 0 1 in
     let long = watch.1.long in
@@ -41,7 +42,7 @@ faced_turned w v c l known watch differ clauses_is lists_is =
         | inl e ↦ e.0 ∙ sym S.1 ∙ get_or_default s 1 blank l (omega (arith, long)) ∙ ap (λ x. get_or x 1 l) (sym row)
         | inr e ↦ absurd (differ (ap code e.0))
       ];
-      same = inr (clauses_is, lists_is);
+      same = inr (clauses_is, lists_is, names_are);
     }
 
 -- facing a clause leaves the lists as they are
@@ -71,8 +72,8 @@ list_length_grown a t e k w low trail_is =
     ap (λ l. length (list_of w.lists l)) (ap (λ t. false_at t k) trail_is ∙ ap (λ (f : Entry). opposite f.literal) (get_or_append_left a (e ∷ []) blank_entry k low))
 
 -- the list was visited up to i, and the clause at i has the false literal second
-pub record IsAt (inputs lines : List (List Literal)) (names : List Hint) (k i : ℕ) (a : AssignedValue) (w : WatchValue) (c : ℕ) : Type 0 where
-  pub visiting : IsVisiting inputs lines names k i a w
+pub record IsAt (inputs lines : List (List Literal)) (k i : ℕ) (a : AssignedValue) (w : WatchValue) (c : ℕ) : Type 0 where
+  pub visiting : IsVisiting inputs lines k i a w
   pub watching : IsWatching w.clauses w.lists
   pub low : i < length (list_of w.lists (false_at a.trail k))
   pub at : get_or (list_of w.lists (false_at a.trail k)) i 0 ≡ c
@@ -81,8 +82,8 @@ pub record IsAt (inputs lines : List (List Literal)) (names : List Hint) (k i : 
   pub second : false_at a.trail k ≡ get_or (clause_of w.clauses c) 1 blank
 
 -- nothing is said of a list that is not begun
-pub visit_all : (inputs lines : List (List Literal)) (names : List Hint) (k i : ℕ) (a : AssignedValue) (w : WatchValue) → IsVisiting inputs lines names k i a w → IsVisiting inputs lines names k 0 a w
-visit_all inputs lines names k i a w v = record {
+pub visit_all : (inputs lines : List (List Literal)) (k i : ℕ) (a : AssignedValue) (w : WatchValue) → IsVisiting inputs lines k i a w → IsVisiting inputs lines k 0 a w
+visit_all inputs lines k i a w v = record {
   is_trail = v.is_trail;
   stored = v.stored;
   guarded = v.guarded;
@@ -91,13 +92,13 @@ visit_all inputs lines names k i a w v = record {
   done = λ j from below. absurd (omega (arith, from));
 }
 
-pub at_faced : (inputs lines : List (List Literal)) (names : List Hint) (k i : ℕ) (a : AssignedValue) (w v : WatchValue) (c : ℕ) (l : Literal) → l ≡ false_at a.trail k → IsWatching v.clauses v.lists
-    → i < length (list_of w.lists (false_at a.trail k)) → get_or (list_of w.lists (false_at a.trail k)) i 0 ≡ c → c < length w.clauses → IsFaced w v c l → IsVisiting inputs lines names k i a w → IsAt inputs lines names k i a v c
-at_faced inputs lines names k i a w v c l l_is new_watching low at known faced visiting =
+pub at_faced : (inputs lines : List (List Literal)) (k i : ℕ) (a : AssignedValue) (w v : WatchValue) (c : ℕ) (l : Literal) → l ≡ false_at a.trail k → IsWatching v.clauses v.lists
+    → i < length (list_of w.lists (false_at a.trail k)) → get_or (list_of w.lists (false_at a.trail k)) i 0 ≡ c → c < length w.clauses → IsFaced w v c l → IsVisiting inputs lines k i a w → IsAt inputs lines k i a v c
+at_faced inputs lines k i a w v c l l_is new_watching low at known faced visiting =
     let second : false_at a.trail k ≡ get_or (clause_of v.clauses c) 1 blank = sym l_is ∙ faced.second ∙ get_or_default (clause_of v.clauses c) 1 l blank (omega (arith, faced.long)) in
     elim faced.same [
       | inl same ↦ record {
-        visiting = subst (IsVisiting inputs lines names k i a) (sym same) visiting;
+        visiting = subst (IsVisiting inputs lines k i a) (sym same) visiting;
         watching = new_watching;
         low = subst (λ (u : WatchValue). i < length (list_of u.lists (false_at a.trail k))) (sym same) low;
         at = ap (λ (u : WatchValue). get_or (list_of u.lists (false_at a.trail k)) i 0) same ∙ at;
@@ -110,7 +111,7 @@ at_faced inputs lines names k i a w v c l l_is new_watching low at known faced v
           let row : clause_of v.clauses c ≡ s = ap (λ cs. clause_of cs c) turned.0 ∙ get_or-set_same w.clauses c s [] known in
           let was_long : 2 ≤ length (clause_of w.clauses c) = omega (arith, faced.long, ap length row, length-swap (clause_of w.clauses c) 0 1) in
           record {
-            visiting = visit_turned inputs lines names k i a w c v known was_long turned.0 turned.1 visiting;
+            visiting = visit_turned inputs lines k i a w c v known was_long turned.0 turned.1 turned.2 visiting;
             watching = new_watching;
             low = subst (λ ls. i < length (list_of ls (false_at a.trail k))) (sym turned.1) low;
             at = ap (λ ls. get_or (list_of ls (false_at a.trail k)) i 0) turned.1 ∙ at;
@@ -120,11 +121,11 @@ at_faced inputs lines names k i a w v c l l_is new_watching low at known faced v
           }
     ]
 
-module _ (inputs lines : List (List Literal)) (names : List Hint) (k i : ℕ) (a : AssignedValue) (w : WatchValue) (c : ℕ) (at : IsAt inputs lines names k i a w c) where
-  pub at_true : Contains (literals_of a.trail) (get_or (clause_of w.clauses c) 0 blank) → IsVisiting inputs lines names k (i + 1) a w
+module _ (inputs lines : List (List Literal)) (k i : ℕ) (a : AssignedValue) (w : WatchValue) (c : ℕ) (at : IsAt inputs lines k i a w c) where
+  pub at_true : Contains (literals_of a.trail) (get_or (clause_of w.clauses c) 0 blank) → IsVisiting inputs lines k (i + 1) a w
   at_true there =
       let r = clause_of w.clauses c in
-      visit_kept inputs lines names k i a w (subst (λ n. HasTrue (literals_of a.trail) (clause_of w.clauses n)) (sym at.at) (get_or r 0 blank, Contains-get_or r 0 blank (omega (arith, at.long)), there)) at.visiting
+      visit_kept inputs lines k i a w (subst (λ n. HasTrue (literals_of a.trail) (clause_of w.clauses n)) (sym at.at) (get_or r 0 blank, Contains-get_or r 0 blank (omega (arith, at.long)), there)) at.visiting
 
   pub at_second_false : Contains (literals_of a.trail) (opposite (false_at a.trail k))
   at_second_false = subst (Contains (literals_of a.trail)) (sym (opposite_opposite (literal_at a.trail k))) (entry_there a.trail k blank_entry at.visiting.within)
@@ -145,7 +146,7 @@ module _ (inputs lines : List (List Literal)) (names : List Hint) (k i : ℕ) (a
         ]
       ]
 
-  pub at_reason : AreFalseFrom a.trail (clause_of w.clauses c) 2 (length (clause_of w.clauses c)) → IsReason inputs lines (literals_of a.trail) (get_or (clause_of w.clauses c) 0 blank) (get_or names c blank_hint)
+  pub at_reason : AreFalseFrom a.trail (clause_of w.clauses c) 2 (length (clause_of w.clauses c)) → IsReason inputs lines (literals_of a.trail) (get_or (clause_of w.clauses c) 0 blank) (get_or (names_of w) c blank_hint)
   at_reason rest =
       let r = clause_of w.clauses c in
       let stored = at.visiting.stored.from_log c at.known in
@@ -156,7 +157,7 @@ module _ (inputs lines : List (List Literal)) (names : List Hint) (k i : ℕ) (a
         others = λ p d below. at_others rest (get_or stored.0 p d) (stored.2.there p d below);
       }
 
-  pub at_conflict : AreFalseFrom a.trail (clause_of w.clauses c) 2 (length (clause_of w.clauses c)) → Contains (literals_of a.trail) (opposite (get_or (clause_of w.clauses c) 0 blank)) → IsConflict inputs lines (literals_of a.trail) (get_or names c blank_hint)
+  pub at_conflict : AreFalseFrom a.trail (clause_of w.clauses c) 2 (length (clause_of w.clauses c)) → Contains (literals_of a.trail) (opposite (get_or (clause_of w.clauses c) 0 blank)) → IsConflict inputs lines (literals_of a.trail) (get_or (names_of w) c blank_hint)
   at_conflict rest first_false =
       let r = clause_of w.clauses c in
       let stored = at.visiting.stored.from_log c at.known in
@@ -170,12 +171,12 @@ module _ (inputs lines : List (List Literal)) (names : List Hint) (k i : ℕ) (a
       }
 
   pub at_moved : (v : WatchValue) (j : ℕ) → IsReplacement a.trail (clause_of w.clauses c) j → (m : Literal) → m ≡ get_or (clause_of w.clauses c) j blank → (f : Literal) → f ≡ false_at a.trail k
-      → v.clauses ≡ set w.clauses c (swap (clause_of w.clauses c) 1 j) → v.lists ≡ set (set w.lists (code m) (list_of w.lists m ++ c ∷ [])) (code f) (remove (list_of w.lists f) i)
-      → IsVisiting inputs lines names k i a v × (list_length a.trail v k + 1 ≡ list_length a.trail w k)
-  at_moved v j found m m_is f f_is clauses_is lists_is =
-      visit_moved inputs lines names k i a w v c j m at.watching at.low at.known found.behind found.within at.second m_is
+      → v.clauses ≡ set w.clauses c (swap (clause_of w.clauses c) 1 j) → v.lists ≡ set (set w.lists (code m) (list_of w.lists m ++ c ∷ [])) (code f) (remove (list_of w.lists f) i) → v.names ≡ w.names
+      → IsVisiting inputs lines k i a v × (list_length a.trail v k + 1 ≡ list_length a.trail w k)
+  at_moved v j found m m_is f f_is clauses_is lists_is names_are =
+      visit_moved inputs lines k i a w v c j m at.watching at.low at.known found.behind found.within at.second m_is
       (λ there. found.not_false (subst (λ l. Contains (literals_of a.trail) (opposite l)) m_is there)) clauses_is
-      (lists_is ∙ ap (λ l. set (set w.lists (code m) (list_of w.lists m ++ c ∷ [])) (code l) (remove (list_of w.lists l) i)) f_is) at.visiting
+      (lists_is ∙ ap (λ l. set (set w.lists (code m) (list_of w.lists m ++ c ∷ [])) (code l) (remove (list_of w.lists l) i)) f_is) names_are at.visiting
 
   -- the letters of the clause are known
   pub at_letters : All (λ l. l.letter.0 < length a.values) (clause_of w.clauses c)
@@ -218,7 +219,7 @@ last_level inputs lines trail is_trail some u hint reason =
         let told = subst (λ o. IfSome o (λ h. IsReason inputs lines (literals_of before) e.literal h × (e.level ≤ length before) × ((e.level ≡ 0) ⊎ HasLevel before e.level))) is here.reason in
         omega (arith, told.1, length-take-le (length trail - 1) trail (omega arith))
 
-module _ (inputs lines : List (List Literal)) (names : List Hint) (k i : ℕ) (a : AssignedValue) (w : WatchValue) (e : Entry) (l : Literal) (x : ℕ) where
+module _ (inputs lines : List (List Literal)) (k i : ℕ) (a : AssignedValue) (w : WatchValue) (e : Entry) (l : Literal) (x : ℕ) where
   pub false_is : e ≡ get_or a.trail k e → l ≡ opposite e.literal → k < length a.trail → l ≡ false_at a.trail k
   false_is e_is l_is within = l_is ∙ ap (λ (f : Entry). opposite f.literal) (e_is ∙ get_or_default a.trail k e blank_entry within)
 
@@ -230,15 +231,15 @@ module _ (inputs lines : List (List Literal)) (names : List Hint) (k i : ℕ) (a
       watching.only x l (subst (Contains (list_of w.lists l)) (sym x_is) (Contains-get_or (list_of w.lists l) i 0 low_l))
 
   pub at_from : (v : WatchValue) → e ≡ get_or a.trail k e → l ≡ opposite e.literal → x ≡ get_or (list_of w.lists l) i 0 → IsWatching w.clauses w.lists → IsWatching v.clauses v.lists
-      → i < length (list_of w.lists (false_at a.trail k)) → IsVisiting inputs lines names k i a w → IsFaced w v x l → IsAt inputs lines names k i a v x
+      → i < length (list_of w.lists (false_at a.trail k)) → IsVisiting inputs lines k i a w → IsFaced w v x l → IsAt inputs lines k i a v x
   at_from v e_is l_is x_is watching new_watching low visiting faced =
       let f_is = false_is e_is l_is visiting.within in
-      at_faced inputs lines names k i a w v x l f_is new_watching low (sym (x_is ∙ ap (λ m. get_or (list_of w.lists m) i 0) f_is)) (watch_from e_is l_is x_is watching low visiting.within).0 faced visiting
+      at_faced inputs lines k i a w v x l f_is new_watching low (sym (x_is ∙ ap (λ m. get_or (list_of w.lists m) i 0) f_is)) (watch_from e_is l_is x_is watching low visiting.within).0 faced visiting
 
-pub visit_same : (inputs lines : List (List Literal)) (names : List Hint) (k i : ℕ) (a n : AssignedValue) (w : WatchValue) → n.trail ≡ a.trail → length n.values ≡ length a.values → IsVisiting inputs lines names k i a w → IsVisiting inputs lines names k i n w
-visit_same inputs lines names k i a n w trail_is values_is v =
-    let P : List Entry → ℕ → Type 0 = λ t m. IsVisiting inputs lines names k i (record { values = n.values; trail = t }) w in
-    let here : IsVisiting inputs lines names k i (record { values = n.values; trail = a.trail }) w = record {
+pub visit_same : (inputs lines : List (List Literal)) (k i : ℕ) (a n : AssignedValue) (w : WatchValue) → n.trail ≡ a.trail → length n.values ≡ length a.values → IsVisiting inputs lines k i a w → IsVisiting inputs lines k i n w
+visit_same inputs lines k i a n w trail_is values_is v =
+    let P : List Entry → ℕ → Type 0 = λ t m. IsVisiting inputs lines k i (record { values = n.values; trail = t }) w in
+    let here : IsVisiting inputs lines k i (record { values = n.values; trail = a.trail }) w = record {
       is_trail = v.is_trail;
       stored = v.stored;
       guarded = v.guarded;
@@ -246,22 +247,29 @@ visit_same inputs lines names k i a n w trail_is values_is v =
       sized = v.sized ∙ ap (λ m. 2 * m) (sym values_is);
       done = v.done;
     } in
-    subst (λ t. IsVisiting inputs lines names k i (record { values = n.values; trail = t }) w) (sym trail_is) here
+    subst (λ t. IsVisiting inputs lines k i (record { values = n.values; trail = t }) w) (sym trail_is) here
 
-pub same_watch : (v w : WatchValue) → v.clauses ≡ w.clauses → v.lists ≡ w.lists → v ≡ w
-same_watch v w one two = ap₂ (λ x y. let u : WatchValue = record { clauses = x; lists = y } in u) one two
+pub same_watch : (v w : WatchValue) → v.clauses ≡ w.clauses → v.lists ≡ w.lists → v.names ≡ w.names → v ≡ w
+same_watch v w one two three =
+    ap₂ (λ x y. let u : WatchValue = record { clauses = x; lists = y; names = v.names } in u) one two
+    ∙ ap (λ z. let u : WatchValue = record { clauses = w.clauses; lists = w.lists; names = z } in u) three
+
+-- the hint that is read from the name of a clause
+pub named_at : (names : List ℕ) (clauses : List (List Literal)) (n name : ℕ) (hint : Hint) → length (map hint_of names) ≡ length clauses → n < length clauses → hint ≡ hint_of name → name ≡ get_or names n 0
+    → hint ≡ get_or (map hint_of names) n blank_hint
+named_at names clauses n name hint paired low is name_is = is ∙ ap hint_of name_is ∙ sym (get_or-map hint_of names n 0 blank_hint (omega (arith, paired, low, length-map names hint_of)))
 
 -- the first literal was put on the trail
-pub at_assigned : (inputs lines : List (List Literal)) (names : List Hint) (k i : ℕ) (a : AssignedValue) (w : WatchValue) (c : ℕ) → IsAt inputs lines names k i a w c → (e : Entry) (n : AssignedValue) → StandsAt inputs lines a.trail e
-    → e.literal ≡ get_or (clause_of w.clauses c) 0 blank → n.trail ≡ a.trail ++ e ∷ [] → length n.values ≡ length a.values → IsVisiting inputs lines names k (i + 1) n w
-at_assigned inputs lines names k i a w c at e n stands e_is trail_is values_is =
-    let after = visit_grown inputs lines names k i a w e n stands trail_is values_is at.visiting in
+pub at_assigned : (inputs lines : List (List Literal)) (k i : ℕ) (a : AssignedValue) (w : WatchValue) (c : ℕ) → IsAt inputs lines k i a w c → (e : Entry) (n : AssignedValue) → StandsAt inputs lines a.trail e
+    → e.literal ≡ get_or (clause_of w.clauses c) 0 blank → n.trail ≡ a.trail ++ e ∷ [] → length n.values ≡ length a.values → IsVisiting inputs lines k (i + 1) n w
+at_assigned inputs lines k i a w c at e n stands e_is trail_is values_is =
+    let after = visit_grown inputs lines k i a w e n stands trail_is values_is at.visiting in
     let b = get_or (clause_of w.clauses c) 0 blank in
     let same : false_at n.trail k ≡ false_at a.trail k =
     ap (λ t. false_at t k) trail_is ∙ ap (λ (f : Entry). opposite f.literal) (get_or_append_left a.trail (e ∷ []) blank_entry k at.visiting.within) in
     let pushed : literals_of n.trail ≡ literals_of a.trail ++ e.literal ∷ [] = ap literals_of trail_is ∙ map-append (λ f. f.literal) a.trail (e ∷ []) in
     let b_true : Contains (literals_of n.trail) b = subst (λ t. Contains t b) (sym pushed) (subst (Contains (literals_of a.trail ++ e.literal ∷ [])) e_is (Contains-push (literals_of a.trail) e.literal)) in
     let told : HasTrue (literals_of n.trail) (clause_of w.clauses c) = (b, Contains-get_or (clause_of w.clauses c) 0 blank (omega (arith, at.long)), b_true) in
-    visit_kept inputs lines names k i n w
+    visit_kept inputs lines k i n w
     (subst (λ f. HasTrue (literals_of n.trail) (watcher_at w f i)) (sym same) (subst (λ m. HasTrue (literals_of n.trail) (clause_of w.clauses m)) (sym at.at) told))
     after

@@ -2,7 +2,6 @@
 use Rattle.std.proofs.Common.{◌≡◌, ℕ, ◌<◌, ◌≤◌, ◌+◌, ◌*◌, inl, inr, List, [], set, Contains, length, get_or, refl, sym, ap, subst, arith}
 use Rattle.std.proofs.lemmas.List.Elements.{All-contains}
 use Rattle.cnf_base.specs.declared.literal.Literal.{Literal}
-use Rattle.cnf_base.specs.declared.literal.Hint.{Hint}
 use Rattle.cdcl_trail.specs.Trail.{literals_of}
 use Rattle.cdcl_trail.specs.Assigned.{AssignedValue}
 use Rattle.cdcl_trail.specs.declared.assigned.Entry.{Entry}
@@ -22,9 +21,9 @@ use Rattle.cdcl_propagate.proofs.SureVisit.{sure_faced}
 
 module _ (arena new : ArenaValue) (lists : List (List Watcher)) (l : Literal) (a b : ℕ) (is : IsWalked arena lists (code l) a b) (there : b < length (get_or lists (code l) []))
     (head : ℕ) (head_is : head ≡ (get_or (get_or lists (code l) []) b nobody).head) (heads_are : new.heads ≡ arena.heads)
-    (faced : (ls : List (List ℕ)) → IsFaced (watched_by arena.clauses ls) (watched_by new.clauses ls) (number_of arena.heads head) l) where
+    (faced : (ls : List (List ℕ)) → IsFaced (watched_by arena ls) (watched_by new ls) (number_of arena.heads head) l) where
   faced_there : IsFaced (walked arena lists (code l) a b) (walked new lists (code l) a b) (number_of arena.heads head) l
-  faced_there = subst (λ hs. IsFaced (walked arena lists (code l) a b) (watched_by new.clauses (numbers hs (without lists (code l) a b))) (number_of arena.heads head) l) (sym heads_are) (faced (numbers arena.heads (without lists (code l) a b)))
+  faced_there = subst (λ hs. IsFaced (walked arena lists (code l) a b) (watched_by new (numbers hs (without lists (code l) a b))) (number_of arena.heads head) l) (sym heads_are) (faced (numbers arena.heads (without lists (code l) a b)))
 
   pub faced_walked : IsWalked new lists (code l) a b
   faced_walked = record {
@@ -41,11 +40,11 @@ module _ (arena new : ArenaValue) (lists : List (List Watcher)) (l : Literal) (a
   pub faced_sure : (trail : List Entry) (n : ℕ) → IsSure arena.clauses trail n → IsSure new.clauses trail n
   faced_sure trail n = sure_faced (walked arena lists (code l) a b) (walked new lists (code l) a b) trail n (number_of arena.heads head) l (next_watched arena lists l a b is there head head_is).0 faced_there
 
-  module _ (inputs lines : List (List Literal)) (names : List Hint) (k : ℕ) (assigned : AssignedValue) (l_is : l ≡ false_at assigned.trail k) (visiting : IsVisiting inputs lines names k a assigned (walked arena lists (code l) a b)) where
-    pub walk_at : IsAt inputs lines names k a assigned (walked new lists (code l) a b) (number_of new.heads head)
+  module _ (inputs lines : List (List Literal)) (k : ℕ) (assigned : AssignedValue) (l_is : l ≡ false_at assigned.trail k) (visiting : IsVisiting inputs lines k a assigned (walked arena lists (code l) a b)) where
+    pub walk_at : IsAt inputs lines k a assigned (walked new lists (code l) a b) (number_of new.heads head)
     walk_at =
-        subst (λ hs. IsAt inputs lines names k a assigned (walked new lists (code l) a b) (number_of hs head)) (sym heads_are)
-        (at_faced inputs lines names k a assigned (walked arena lists (code l) a b) (walked new lists (code l) a b) (number_of arena.heads head) l l_is faced_walked.watchers.watching
+        subst (λ hs. IsAt inputs lines k a assigned (walked new lists (code l) a b) (number_of hs head)) (sym heads_are)
+        (at_faced inputs lines k a assigned (walked arena lists (code l) a b) (walked new lists (code l) a b) (number_of arena.heads head) l l_is faced_walked.watchers.watching
         (subst (λ f. a < length (list_of (walked arena lists (code l) a b).lists f)) l_is (next_listed arena lists l a b is there))
         (subst (λ f. get_or (list_of (walked arena lists (code l) a b).lists f) a 0 ≡ number_of arena.heads head) l_is (next_is arena lists l a b is there head head_is))
         (next_watched arena lists l a b is there head head_is).0 faced_there visiting)
@@ -69,15 +68,15 @@ module _ (arena : ArenaValue) (lists : List (List Watcher)) (l : Literal) (a b :
   pub passed_walked : IsWalked arena (set lists (code l) (set (get_or lists (code l) []) a (get_or (get_or lists (code l) []) b nobody))) (code l) (a + 1) (b + 1)
   passed_walked = stayed_walked arena lists l a b is there (get_or (get_or lists (code l) []) b nobody) refl (next_blocking arena lists l a b is there)
 
-  pub passed_visiting : (inputs lines : List (List Literal)) (names : List Hint) (k : ℕ) (assigned : AssignedValue) → l ≡ false_at assigned.trail k → IsVisiting inputs lines names k a assigned (walked arena lists (code l) a b)
+  pub passed_visiting : (inputs lines : List (List Literal)) (k : ℕ) (assigned : AssignedValue) → l ≡ false_at assigned.trail k → IsVisiting inputs lines k a assigned (walked arena lists (code l) a b)
       → Contains (literals_of assigned.trail) (blocker_of (get_or (get_or lists (code l) []) b nobody))
-      → IsVisiting inputs lines names k (a + 1) assigned (walked arena (set lists (code l) (set (get_or lists (code l) []) a (get_or (get_or lists (code l) []) b nobody))) (code l) (a + 1) (b + 1))
-  passed_visiting inputs lines names k assigned l_is visiting true_one =
+      → IsVisiting inputs lines k (a + 1) assigned (walked arena (set lists (code l) (set (get_or lists (code l) []) a (get_or (get_or lists (code l) []) b nobody))) (code l) (a + 1) (b + 1))
+  passed_visiting inputs lines k assigned l_is visiting true_one =
       let w = get_or (get_or lists (code l) []) b nobody in
       let told : HasTrue (literals_of assigned.trail) (watcher_at (walked arena lists (code l) a b) l a) =
       subst (λ n. HasTrue (literals_of assigned.trail) (clause_of arena.clauses n)) (sym (next_number arena lists l a b is there)) (blocker_of w, next_blocks, true_one) in
-      subst (IsVisiting inputs lines names k (a + 1) assigned) (sym (stayed_same arena lists l a b is there w refl (next_blocking arena lists l a b is there)))
-      (visit_kept inputs lines names k a assigned (walked arena lists (code l) a b) (subst (λ f. HasTrue (literals_of assigned.trail) (watcher_at (walked arena lists (code l) a b) f a)) l_is told) visiting)
+      subst (IsVisiting inputs lines k (a + 1) assigned) (sym (stayed_same arena lists l a b is there w refl (next_blocking arena lists l a b is there)))
+      (visit_kept inputs lines k a assigned (walked arena lists (code l) a b) (subst (λ f. HasTrue (literals_of assigned.trail) (watcher_at (walked arena lists (code l) a b) f a)) l_is told) visiting)
 
 -- nothing is still to come
 pub walk_ended : (arena : ArenaValue) (lists : List (List Watcher)) (l : Literal) (a b : ℕ) → IsWalked arena lists (code l) a b → length (get_or lists (code l) []) ≤ b → length (list_of (walked arena lists (code l) a b).lists l) ≤ a

@@ -1,5 +1,5 @@
 -- What a visit keeps.
-use Rattle.std.proofs.Common.{◌≡◌, ◌≢◌, ℕ, ◌<◌, ◌≤◌, ◌+◌, ◌*◌, ◌⊎◌, inl, inr, List, [], ◌∷◌, ◌++◌, set, Contains, length, get_or, refl, sym, ap, ◌∙◌, subst, arith, length-set, get_or-set_same, get_or-set_other}
+use Rattle.std.proofs.Common.{◌≡◌, ◌≢◌, ℕ, ◌<◌, ◌≤◌, ◌+◌, ◌*◌, ◌⊎◌, inl, inr, List, [], ◌∷◌, ◌++◌, map, set, Contains, length, get_or, refl, sym, ap, ◌∙◌, subst, arith, length-set, get_or-set_same, get_or-set_other}
 use Rattle.std.specs.List.{remove, swap}
 use Rattle.std.proofs.lemmas.Bool.{cases_lt, cases_eq}
 use Rattle.std.proofs.lemmas.List.{map-append, get_or_append_left, length_push}
@@ -9,13 +9,14 @@ use Rattle.cnf_base.specs.declared.literal.Literal.{Literal}
 use Rattle.cnf_base.specs.declared.literal.Hint.{Hint}
 use Rattle.cnf_base.specs.Literal.{opposite}
 use Rattle.cdcl_trail.specs.Trail.{literals_of, IsTrail, StandsAt, blank_entry, literal_at}
+use Rattle.cdcl_trail.specs.Entries.{hint_of}
 use Rattle.cdcl_trail.specs.declared.assigned.Entry.{Entry}
 use Rattle.cdcl_trail.proofs.Assign.{entry_there, trail_push}
 use Rattle.cdcl_watches.specs.Watching.{IsWatch, IsWatching, clause_of, list_of, code, WatchValue, blank}
 use Rattle.cdcl_watches.proofs.Moves.{first_two, are_first, contains_swapped, contains_unswapped, list_same}
 use Rattle.cdcl_watches.proofs.Removed.{length-removed, place_before}
 use Rattle.cdcl_trail.specs.Assigned.{AssignedValue}
-use Rattle.cdcl_propagate.specs.Visit.{HasTrue, HaveSame, IsStored, IsVisiting, false_at, list_length, watcher_at}
+use Rattle.cdcl_propagate.specs.Visit.{HasTrue, HaveSame, IsStored, names_of, IsVisiting, false_at, list_length, watcher_at}
 
 -- what the turned clause watches, the clause watches
 pub watch_turned : (r : List Literal) (a : Literal) → IsWatch (swap r 0 1) a → IsWatch r a
@@ -76,9 +77,9 @@ pub true_set : (clauses now : List (List Literal)) (true_ones : List Literal) (c
 true_set clauses now true_ones c i j k known i_low j_low is told =
     (told.0, subst (λ cs. Contains (clause_of cs k) told.0) (sym is) (literal_set clauses c i j k told.0 known i_low j_low told.1), told.2)
 
-module _ (inputs lines : List (List Literal)) (names : List Hint) (k i : ℕ) (a : AssignedValue) (w : WatchValue) where
+module _ (inputs lines : List (List Literal)) (k i : ℕ) (a : AssignedValue) (w : WatchValue) where
   -- the clause at i is done
-  pub visit_kept : HasTrue (literals_of a.trail) (watcher_at w (false_at a.trail k) i) → IsVisiting inputs lines names k i a w → IsVisiting inputs lines names k (i + 1) a w
+  pub visit_kept : HasTrue (literals_of a.trail) (watcher_at w (false_at a.trail k) i) → IsVisiting inputs lines k i a w → IsVisiting inputs lines k (i + 1) a w
   visit_kept told visiting = record {
     is_trail = visiting.is_trail;
     stored = visiting.stored;
@@ -92,7 +93,7 @@ module _ (inputs lines : List (List Literal)) (names : List Hint) (k i : ℕ) (a
   }
 
   -- the clauses from i on are done
-  pub visit_skipped : (m : ℕ) (l : Literal) → l ≡ false_at a.trail k → ((j : ℕ) → i ≤ j → j < m → HasTrue (literals_of a.trail) (watcher_at w l j)) → IsVisiting inputs lines names k i a w → IsVisiting inputs lines names k m a w
+  pub visit_skipped : (m : ℕ) (l : Literal) → l ≡ false_at a.trail k → ((j : ℕ) → i ≤ j → j < m → HasTrue (literals_of a.trail) (watcher_at w l j)) → IsVisiting inputs lines k i a w → IsVisiting inputs lines k m a w
   visit_skipped m l l_is told visiting = record {
     is_trail = visiting.is_trail;
     stored = visiting.stored;
@@ -106,9 +107,9 @@ module _ (inputs lines : List (List Literal)) (names : List Hint) (k i : ℕ) (a
   }
 
   -- the first two of a clause change places
-  pub visit_turned : (c : ℕ) (v : WatchValue) → c < length w.clauses → 2 ≤ length (clause_of w.clauses c) → v.clauses ≡ set w.clauses c (swap (clause_of w.clauses c) 0 1) → v.lists ≡ w.lists
-      → IsVisiting inputs lines names k i a w → IsVisiting inputs lines names k i a v
-  visit_turned c v known long clauses_is lists_is visiting =
+  pub visit_turned : (c : ℕ) (v : WatchValue) → c < length w.clauses → 2 ≤ length (clause_of w.clauses c) → v.clauses ≡ set w.clauses c (swap (clause_of w.clauses c) 0 1) → v.lists ≡ w.lists → v.names ≡ w.names
+      → IsVisiting inputs lines k i a w → IsVisiting inputs lines k i a v
+  visit_turned c v known long clauses_is lists_is names_are visiting =
       let r = clause_of w.clauses c in
       let T = literals_of a.trail in
       let f = false_at a.trail k in
@@ -121,7 +122,7 @@ module _ (inputs lines : List (List Literal)) (names : List Hint) (k i : ℕ) (a
       let len : length v.clauses ≡ length w.clauses = ap length clauses_is ∙ length-set w.clauses c (swap r 0 1) in
       record {
         is_trail = visiting.is_trail;
-        stored = subst (λ cs. IsStored inputs lines cs names) (sym clauses_is) (stored_swapped inputs lines w.clauses names c 0 1 known (omega arith) (omega arith) visiting.stored);
+        stored = subst (λ ns. IsStored inputs lines v.clauses (map hint_of ns)) (sym names_are) (subst (λ cs. IsStored inputs lines cs (names_of w)) (sym clauses_is) (stored_swapped inputs lines w.clauses (names_of w) c 0 1 known (omega arith) (omega arith) visiting.stored));
         guarded = λ n p x low watch below at. still n (visiting.guarded n p x (omega arith) (back n x watch) below at);
         within = visiting.within;
         sized = ap length lists_is ∙ visiting.sized;
@@ -132,9 +133,9 @@ module _ (inputs lines : List (List Literal)) (names : List Hint) (k i : ℕ) (a
   pub visit_moved : (v : WatchValue) (c j : ℕ) (m : Literal) → IsWatching w.clauses w.lists → i < length (list_of w.lists (false_at a.trail k)) → c < length w.clauses → 2 ≤ j → j < length (clause_of w.clauses c)
       → false_at a.trail k ≡ get_or (clause_of w.clauses c) 1 blank → m ≡ get_or (clause_of w.clauses c) j blank → ¬ Contains (literals_of a.trail) (opposite m)
       → v.clauses ≡ set w.clauses c (swap (clause_of w.clauses c) 1 j)
-      → v.lists ≡ set (set w.lists (code m) (list_of w.lists m ++ c ∷ [])) (code (false_at a.trail k)) (remove (list_of w.lists (false_at a.trail k)) i)
-      → IsVisiting inputs lines names k i a w → IsVisiting inputs lines names k i a v × (list_length a.trail v k + 1 ≡ list_length a.trail w k)
-  visit_moved v c j m watching low known high j_low second_is m_is not_false clauses_is lists_is visiting =
+      → v.lists ≡ set (set w.lists (code m) (list_of w.lists m ++ c ∷ [])) (code (false_at a.trail k)) (remove (list_of w.lists (false_at a.trail k)) i) → v.names ≡ w.names
+      → IsVisiting inputs lines k i a w → IsVisiting inputs lines k i a v × (list_length a.trail v k + 1 ≡ list_length a.trail w k)
+  visit_moved v c j m watching low known high j_low second_is m_is not_false clauses_is lists_is names_are visiting =
       let T = literals_of a.trail in
       let f = false_at a.trail k in
       let r = clause_of w.clauses c in
@@ -153,7 +154,7 @@ module _ (inputs lines : List (List Literal)) (names : List Hint) (k i : ℕ) (a
       let new_list : list_of v.lists f ≡ remove ls i = ap (λ x. list_of x f) lists_is ∙ list_same half f (remove ls i) (omega (arith, length-set w.lists (code m) grown)) in (
         record {
           is_trail = visiting.is_trail;
-          stored = subst (λ cs. IsStored inputs lines cs names) (sym clauses_is) (stored_swapped inputs lines w.clauses names c 1 j known (omega arith) (omega arith) visiting.stored);
+          stored = subst (λ ns. IsStored inputs lines v.clauses (map hint_of ns)) (sym names_are) (subst (λ cs. IsStored inputs lines cs (names_of w)) (sym clauses_is) (stored_swapped inputs lines w.clauses (names_of w) c 1 j known (omega arith) (omega arith) visiting.stored));
           guarded = λ n p x n_low watch below is_false. elim (watch_set w.clauses c s n x known (subst (λ cs. IsWatch (clause_of cs n) x) clauses_is watch)) [
             | inr other ↦ still n (visiting.guarded n p x (omega arith) other.1 below is_false)
             | inl here ↦
@@ -175,7 +176,7 @@ module _ (inputs lines : List (List Literal)) (names : List Hint) (k i : ℕ) (a
       )
 
   -- one entry more
-  pub visit_grown : (e : Entry) (n : AssignedValue) → StandsAt inputs lines a.trail e → n.trail ≡ a.trail ++ e ∷ [] → length n.values ≡ length a.values → IsVisiting inputs lines names k i a w → IsVisiting inputs lines names k i n w
+  pub visit_grown : (e : Entry) (n : AssignedValue) → StandsAt inputs lines a.trail e → n.trail ≡ a.trail ++ e ∷ [] → length n.values ≡ length a.values → IsVisiting inputs lines k i a w → IsVisiting inputs lines k i n w
   visit_grown e n stands trail_is values_is visiting =
       let pushed : literals_of (a.trail ++ e ∷ []) ≡ literals_of a.trail ++ e.literal ∷ [] = map-append (λ f. f.literal) a.trail (e ∷ []) in
       let more : (l : Literal) → Contains (literals_of a.trail) l → Contains (literals_of n.trail) l = λ l h.

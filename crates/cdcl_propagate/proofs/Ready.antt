@@ -4,7 +4,6 @@ use Rattle.std.proofs.lemmas.Bool.{cases_lt}
 use Rattle.std.proofs.lemmas.List.{append-nil, append_assoc, get_or_default, get_or_append_left}
 use Rattle.std.proofs.lemmas.List.Elements.{All-nil, All-append}
 use Rattle.cnf_base.specs.declared.literal.Literal.{Literal}
-use Rattle.cnf_base.specs.declared.literal.Hint.{Hint}
 use Rattle.cnf_base.specs.Literal.{opposite}
 use Rattle.cnf_base.proofs.SameLiteral.{opposite_opposite}
 use Rattle.cdcl_trail.specs.Trail.{literals_of, AreValues, blank_entry}
@@ -29,9 +28,9 @@ grown_at s t k grown low = ap (λ x. false_at x k) grown.trail ∙ ap (λ (e : E
 pub grown_longer : (s t : List Entry) → IsGrown s t → length s ≤ length t
 grown_longer s t grown = omega (arith, ap length grown.trail, length-append s grown.more)
 
-module _ (inputs lines : List (List Literal)) (names : List Hint) (k : ℕ) (a : AssignedValue) (w : WatchValue) where
+module _ (inputs lines : List (List Literal)) (k : ℕ) (a : AssignedValue) (w : WatchValue) where
   -- before the list is visited
-  pub begin_visit : k < length a.trail → IsReady inputs lines names k a w → IsVisiting inputs lines names k 0 a w
+  pub begin_visit : k < length a.trail → IsReady inputs lines k a w → IsVisiting inputs lines k 0 a w
   begin_visit there r = record {
     is_trail = r.is_trail;
     stored = r.stored;
@@ -41,11 +40,11 @@ module _ (inputs lines : List (List Literal)) (names : List Hint) (k : ℕ) (a :
     done = λ j from below. absurd (omega (arith, from));
   }
 
-  pub still_ready : (i : ℕ) → IsVisiting inputs lines names k i a w → IsReady inputs lines names k a w
+  pub still_ready : (i : ℕ) → IsVisiting inputs lines k i a w → IsReady inputs lines k a w
   still_ready i v = record { is_trail = v.is_trail; stored = v.stored; guarded = v.guarded; within = omega (arith, v.within); sized = v.sized }
 
   -- the whole list was visited
-  pub end_visit : (i : ℕ) → length (list_of w.lists (false_at a.trail k)) ≤ i → IsWatching w.clauses w.lists → IsVisiting inputs lines names k i a w → IsReady inputs lines names (k + 1) a w
+  pub end_visit : (i : ℕ) → length (list_of w.lists (false_at a.trail k)) ≤ i → IsWatching w.clauses w.lists → IsVisiting inputs lines k i a w → IsReady inputs lines (k + 1) a w
   end_visit i all watching v = record {
     is_trail = v.is_trail;
     stored = v.stored;

@@ -1,5 +1,5 @@
 -- What holds while the clauses that watch a false literal are visited.
-use Rattle.std.specs.Prelude.{◌≡◌, ◌≢◌, ℕ, ◌+◌, ◌*◌, ◌<◌, ◌≤◌, ◌⊎◌, ◌++◌, List, [], Some, None, length, All, Contains, slice_index_or, slice_set}
+use Rattle.std.specs.Prelude.{◌≡◌, ◌≢◌, ℕ, ◌+◌, ◌*◌, ◌<◌, ◌≤◌, ◌⊎◌, ◌++◌, List, [], Some, None, length, map, All, Contains, slice_index_or, slice_set}
 use Rattle.std.specs.List.{swap}
 use Rattle.cnf_base.specs.declared.literal.Literal.{Literal}
 use Rattle.cnf_base.specs.declared.literal.Hint.{Hint}
@@ -7,6 +7,7 @@ use Rattle.cnf_base.specs.declared.literal.Hint.TheVariants.{Clause}
 use Rattle.cnf_base.specs.Literal.{opposite}
 use Rattle.cnf_base.specs.Step.{named}
 use Rattle.cdcl_trail.specs.Trail.{literals_of, IsTrail, literal_at}
+use Rattle.cdcl_trail.specs.Entries.{hint_of}
 use Rattle.cdcl_trail.specs.declared.assigned.Entry.{Entry}
 use Rattle.cdcl_watches.specs.declared.watcher.Watcher.{Watcher}
 use Rattle.cdcl_watches.specs.Watching.{IsWatch, clause_of, list_of, WatchValue, blank}
@@ -22,6 +23,10 @@ pub record HaveSame (xs ys : List Literal) : Type 0 where
 -- what a read past the end would give
 abbrev pub blank_hint : Hint
 blank_hint = Clause 0
+
+-- the names of the watched clauses, as hints
+abbrev pub names_of : WatchValue → List Hint
+names_of w = map hint_of w.names
 
 -- each clause that is watched is one of the log's, in another order
 pub record IsStored (inputs lines clauses : List (List Literal)) (names : List Hint) : Type 0 where
@@ -45,9 +50,9 @@ abbrev pub watcher_at : WatchValue → Literal → ℕ → List Literal
 watcher_at w l i = clause_of w.clauses (slice_index_or (list_of w.lists l) i 0)
 
 -- the list of the literal that became false at the place k has been visited up to i: the clauses there have true literals
-pub record IsVisiting (inputs lines : List (List Literal)) (names : List Hint) (k i : ℕ) (a : AssignedValue) (w : WatchValue) : Type 0 where
+pub record IsVisiting (inputs lines : List (List Literal)) (k i : ℕ) (a : AssignedValue) (w : WatchValue) : Type 0 where
   pub is_trail : IsTrail inputs lines a.trail
-  pub stored : IsStored inputs lines w.clauses names
+  pub stored : IsStored inputs lines w.clauses (names_of w)
   pub guarded : IsGuarded w.clauses a.trail k
   pub within : k < length a.trail
   pub sized : length w.lists ≡ 2 * length a.values
@@ -58,12 +63,12 @@ abbrev pub list_length : List Entry → WatchValue → ℕ → ℕ
 list_length trail w k = length (list_of w.lists (false_at trail k))
 
 -- clauses that are watched by these lists
-abbrev pub watched_by : List (List Literal) → List (List ℕ) → WatchValue
-watched_by clauses lists = record { clauses = clauses; lists = lists }
+abbrev pub watched_by : ArenaValue → List (List ℕ) → WatchValue
+watched_by arena lists = record { clauses = arena.clauses; lists = lists; names = arena.names }
 
 -- the walk went on by one watcher of the list, whose length is still count, and all those that it kept are done
-pub record IsPassed (inputs lines : List (List Literal)) (names : List Hint) (k before count : ℕ) (a : AssignedValue) (arena : ArenaValue) (lists : List (List Watcher)) (list kept next : ℕ) : Type 0 where
-  pub visiting : IsVisiting inputs lines names k kept a (walked arena lists list kept next)
+pub record IsPassed (inputs lines : List (List Literal)) (k before count : ℕ) (a : AssignedValue) (arena : ArenaValue) (lists : List (List Watcher)) (list kept next : ℕ) : Type 0 where
+  pub visiting : IsVisiting inputs lines k kept a (walked arena lists list kept next)
   pub on : next ≡ before + 1
   pub same : length (slice_index_or lists list []) ≡ count
 
@@ -87,12 +92,12 @@ pub record IsReplacement (trail : List Entry) (clause : List Literal) (j : ℕ) 
 pub record IsFaced (old new : WatchValue) (c : ℕ) (l : Literal) : Type 0 where
   pub long : 2 ≤ length (clause_of new.clauses c)
   pub second : l ≡ slice_index_or (clause_of new.clauses c) 1 l
-  pub same : (new ≡ old) ⊎ ((new.clauses ≡ slice_set old.clauses c (swap (clause_of old.clauses c) 0 1)) × (new.lists ≡ old.lists))
+  pub same : (new ≡ old) ⊎ ((new.clauses ≡ slice_set old.clauses c (swap (clause_of old.clauses c) 0 1)) × (new.lists ≡ old.lists) × (new.names ≡ old.names))
 
 -- the watch rule holds below the head
-pub record IsReady (inputs lines : List (List Literal)) (names : List Hint) (head : ℕ) (a : AssignedValue) (w : WatchValue) : Type 0 where
+pub record IsReady (inputs lines : List (List Literal)) (head : ℕ) (a : AssignedValue) (w : WatchValue) : Type 0 where
   pub is_trail : IsTrail inputs lines a.trail
-  pub stored : IsStored inputs lines w.clauses names
+  pub stored : IsStored inputs lines w.clauses (names_of w)
   pub guarded : IsGuarded w.clauses a.trail head
   pub within : head ≤ length a.trail
   pub sized : length w.lists ≡ 2 * length a.values

@@ -2,7 +2,6 @@
 //! none is unit.
 #![tactic(auto)]
 
-pub mod names;
 pub mod propagate;
 pub mod units;
 pub mod visit;

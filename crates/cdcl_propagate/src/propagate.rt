@@ -10,7 +10,6 @@ ghost use Rattle.cdcl_watches.specs.Watching.{code};
 ghost use Rattle.cdcl_watches.specs.Watchers.{IsWalked, walked};
 ghost use Rattle.cdcl_propagate.specs.Visit.{IsGrown, IsReady, IsVisiting, false_at};
 
-use crate::names::Names;
 use crate::visit::visit;
 use cdcl_trail::assigned::Assigned;
 use cdcl_watches::arena::Arena;
@@ -28,7 +27,6 @@ fn along(
     assigned: &mut Assigned,
     arena: &mut Arena,
     lists: &mut WatchLists,
-    names: &Names,
     log: &Log,
     place: usize,
     falsified: Literal,
@@ -36,17 +34,18 @@ fn along(
 ) -> Result<Option<Hint>, AllocError>
     requires falsified { falsified ≡ false_at assigned.old.trail place }
     requires walked { IsWalked arena.old lists.old (code falsified) walk.old.kept walk.old.next }
-    requires visiting { IsVisiting log.now.inputs log.now.lines names.now place walk.old.kept assigned.old
+    requires visiting { IsVisiting log.now.inputs log.now.lines place walk.old.kept assigned.old
         (walked arena.old lists.old (code falsified) walk.old.kept walk.old.next) }
     ensures grown { IsGrown assigned.old.trail assigned.new.trail }
     ensures letters { length assigned.new.values ≡ length assigned.old.values }
     ensures walked { IsWalked arena.new lists.new (code falsified) walk.new.kept walk.new.next }
-    ensures kept { IsReady log.now.inputs log.now.lines names.now place assigned.new
+    ensures kept { IsReady log.now.inputs log.now.lines place assigned.new
         (walked arena.new lists.new (code falsified) walk.new.kept walk.new.next) }
+    ensures names { arena.new.names ≡ arena.old.names }
     ensures sure { (n : ℕ) → n ≤ place → IsSure arena.old.clauses assigned.old.trail n
         → IsSure arena.new.clauses assigned.new.trail n }
     ensures found { IfOk result (λ found. MatchOption found
-        (IsReady log.now.inputs log.now.lines names.now (place + 1) assigned.new
+        (IsReady log.now.inputs log.now.lines (place + 1) assigned.new
         (walked arena.new lists.new (code falsified) walk.new.kept walk.new.next))
         (IsConflict log.now.inputs log.now.lines (literals_of assigned.new.trail))) }
 {
@@ -61,7 +60,6 @@ fn along(
             assigned,
             arena,
             lists,
-            names,
             log,
             place,
             falsified,
@@ -79,19 +77,19 @@ fn along(
 fn visit_list(
     assigned: &mut Assigned,
     watches: &mut Watches,
-    names: &Names,
     log: &Log,
     place: usize,
 ) -> Result<Option<Hint>, AllocError>
-    requires ready { IsReady log.now.inputs log.now.lines names.now place assigned.old watches.old }
+    requires ready { IsReady log.now.inputs log.now.lines place assigned.old watches.old }
     requires there { place < length assigned.old.trail }
     ensures grown { IsGrown assigned.old.trail assigned.new.trail }
     ensures letters { length assigned.new.values ≡ length assigned.old.values }
-    ensures kept { IsReady log.now.inputs log.now.lines names.now place assigned.new watches.new }
+    ensures kept { IsReady log.now.inputs log.now.lines place assigned.new watches.new }
+    ensures names { watches.new.names ≡ watches.old.names }
     ensures sure { (n : ℕ) → n ≤ place → IsSure watches.old.clauses assigned.old.trail n
         → IsSure watches.new.clauses assigned.new.trail n }
     ensures found { IfOk result (λ found. MatchOption found
-        (IsReady log.now.inputs log.now.lines names.now (place + 1) assigned.new watches.new)
+        (IsReady log.now.inputs log.now.lines (place + 1) assigned.new watches.new)
         (IsConflict log.now.inputs log.now.lines (literals_of assigned.new.trail))) }
 {
     assigned.told();
@@ -101,7 +99,6 @@ fn visit_list(
         assigned,
         &mut watches.arena,
         &mut watches.lists,
-        names,
         log,
         place,
         falsified,
@@ -112,15 +109,8 @@ fn visit_list(
 }
 
 /// Counts the place as sure, if its level is the last one.
-fn extend(
-    assigned: &Assigned,
-    watches: &Watches,
-    names: &Names,
-    log: &Log,
-    head: usize,
-    sure: &mut usize,
-)
-    requires ready { IsReady log.now.inputs log.now.lines names.now (head + 1) assigned.now watches.now }
+fn extend(assigned: &Assigned, watches: &Watches, log: &Log, head: usize, sure: &mut usize)
+    requires ready { IsReady log.now.inputs log.now.lines (head + 1) assigned.now watches.now }
     requires low { sure.old ≤ head }
     requires sure { IsSure watches.now.clauses assigned.now.trail sure.old }
     ensures low { sure.new ≤ head + 1 }
@@ -140,17 +130,17 @@ fn extend(
 pub fn propagate(
     assigned: &mut Assigned,
     watches: &mut Watches,
-    names: &Names,
     log: &Log,
     head: &mut usize,
     sure: &mut usize,
 ) -> Result<Option<Hint>, AllocError>
     requires low { sure.old ≤ head.old }
     requires sure { IsSure watches.old.clauses assigned.old.trail sure.old }
-    requires ready { IsReady log.now.inputs log.now.lines names.now head.old assigned.old watches.old }
+    requires ready { IsReady log.now.inputs log.now.lines head.old assigned.old watches.old }
     ensures grown { IsGrown assigned.old.trail assigned.new.trail }
     ensures letters { length assigned.new.values ≡ length assigned.old.values }
-    ensures kept { IsReady log.now.inputs log.now.lines names.now head.new assigned.new watches.new }
+    ensures kept { IsReady log.now.inputs log.now.lines head.new assigned.new watches.new }
+    ensures names { watches.new.names ≡ watches.old.names }
     ensures low { sure.new ≤ head.new }
     ensures sure { IsSure watches.new.clauses assigned.new.trail sure.new }
     ensures found { IfOk result (λ found. MatchOption found (head.new ≡ length assigned.new.trail)
@@ -158,11 +148,11 @@ pub fn propagate(
 {
     'up: while *head < assigned.len() {
         assigned.told();
-        match visit_list(assigned, watches, names, log, *head)? {
+        match visit_list(assigned, watches, log, *head)? {
             Some(hint) => return Ok(Some(hint)),
             None => {}
         }
-        extend(assigned, watches, names, log, *head, sure);
+        extend(assigned, watches, log, *head, sure);
         *head += 1;
     }
     Ok(None)

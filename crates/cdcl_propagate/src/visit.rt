@@ -10,8 +10,8 @@ ghost use Rattle.cdcl_watches.specs.Heads.{number_of};
 ghost use Rattle.cdcl_propagate.specs.Sure.{IsSure};
 ghost use Rattle.cdcl_propagate.specs.Visit.{IsVisiting, IsPassed, IsGrown, IsFaced, IsReplacement, AreFalseFrom, false_at, watched_by};
 
-use crate::names::Names;
 use cdcl_trail::assigned::{Assigned, Entry};
+use cdcl_trail::hints::lengthen;
 use cdcl_watches::arena::Arena;
 use cdcl_watches::clause::Clause;
 use cdcl_watches::walk::{Walk, keep, rewatch};
@@ -46,8 +46,9 @@ fn face(arena: &mut Arena, head: u32, literal: Literal)
     requires low { number_of arena.old.heads head < length arena.old.clauses }
     requires watch { IsWatch (clause_of arena.old.clauses (number_of arena.old.heads head)) literal }
     ensures heads { arena.new.heads ≡ arena.old.heads }
-    ensures faced { (lists : List (List ℕ)) → IsFaced (watched_by arena.old.clauses lists)
-        (watched_by arena.new.clauses lists) (number_of arena.old.heads head) literal }
+    ensures names { arena.new.names ≡ arena.old.names }
+    ensures faced { (lists : List (List ℕ)) → IsFaced (watched_by arena.old lists)
+        (watched_by arena.new lists) (number_of arena.old.heads head) literal }
 {
     if number(arena.clause(head).get(1)) == number(literal) {
         return;
@@ -60,7 +61,6 @@ pub fn visit(
     assigned: &mut Assigned,
     arena: &mut Arena,
     lists: &mut WatchLists,
-    names: &Names,
     log: &Log,
     place: usize,
     falsified: Literal,
@@ -72,17 +72,18 @@ pub fn visit(
     requires there { walk.old.next < length (slice_index_or lists.old (code falsified) []) }
     requires head { head ≡ (slice_index_or (slice_index_or lists.old (code falsified) []) walk.old.next
         nobody).head }
-    requires visiting { IsVisiting log.now.inputs log.now.lines names.now place walk.old.kept assigned.old
+    requires visiting { IsVisiting log.now.inputs log.now.lines place walk.old.kept assigned.old
         (walked arena.old lists.old (code falsified) walk.old.kept walk.old.next) }
     ensures grown { IsGrown assigned.old.trail assigned.new.trail }
     ensures letters { length assigned.new.values ≡ length assigned.old.values }
     ensures walked { IsWalked arena.new lists.new (code falsified) walk.new.kept walk.new.next }
-    ensures kept { IsVisiting log.now.inputs log.now.lines names.now place 0 assigned.new
+    ensures kept { IsVisiting log.now.inputs log.now.lines place 0 assigned.new
         (walked arena.new lists.new (code falsified) walk.new.kept walk.new.next) }
+    ensures names { arena.new.names ≡ arena.old.names }
     ensures sure { (n : ℕ) → n ≤ place → IsSure arena.old.clauses assigned.old.trail n
         → IsSure arena.new.clauses assigned.new.trail n }
     ensures found { IfOk result (λ found. MatchOption found
-        (IsPassed log.now.inputs log.now.lines names.now place walk.old.next
+        (IsPassed log.now.inputs log.now.lines place walk.old.next
         (length (slice_index_or lists.old (code falsified) [])) assigned.new arena.new lists.new
         (code falsified) walk.new.kept walk.new.next)
         (IsConflict log.now.inputs log.now.lines (literals_of assigned.new.trail))) }
@@ -101,7 +102,7 @@ pub fn visit(
         }
         None => {}
     }
-    let hint = names.get(arena.number(head));
+    let hint = lengthen(arena.name(head));
     keep(arena, lists, falsified, walk, head);
     if assigned.holds(other.opposite()) {
         return Ok(Some(hint));

@@ -1,7 +1,7 @@
 -- A clause more in the log, and among those that are watched or short.
 use Rattle.std.proofs.Common.{◌≡◌, ℕ, zero, suc, ◌<◌, ◌≤◌, ◌+◌, ◌*◌, ◌⊎◌, inl, inr, List, [], ◌∷◌, ◌++◌, Option, Some, None, IfSome, take, All, length, get_or, refl, sym, ap, ◌∙◌, subst, arith, length-set}
 use Rattle.std.proofs.lemmas.Bool.{cases_lt}
-use Rattle.std.proofs.lemmas.List.{get_or_append_left, get_or_at, length_push}
+use Rattle.std.proofs.lemmas.List.{map-append, get_or_append_left, get_or_at, length_push}
 use Rattle.std.proofs.lemmas.List.Elements.{All-contains, All-push}
 use Rattle.std.proofs.lemmas.Option.{slice_get-get_or, slice_get_within, get_or_from_slice_get}
 use Rattle.cnf_base.specs.declared.literal.Literal.{Literal}
@@ -14,8 +14,9 @@ use Rattle.clause_log.specs.LogValue.{LogValue, with_input, with_line}
 use Rattle.cdcl_trail.specs.Trail.{literals_of, IsTrail, IsReason, StandsAt, HasLevel, literal_at, place_level}
 use Rattle.cdcl_watches.specs.Watching.{IsWatch, AreApart, WatchValue, clause_of, list_of, code, with_clause, with_watch, blank}
 use Rattle.cdcl_trail.specs.Assigned.{AssignedValue}
-use Rattle.cdcl_propagate.specs.Visit.{HasTrue, IsStored, IsGuarded, HaveSame, blank_hint}
-use Rattle.cdcl_state.specs.State.{IsUnwatched, IsRewound, IsState, IsListed, AreLong}
+use Rattle.cdcl_trail.specs.Entries.{hint_of}
+use Rattle.cdcl_propagate.specs.Visit.{HasTrue, IsStored, IsGuarded, HaveSame, blank_hint, names_of}
+use Rattle.cdcl_state.specs.State.{IsUnwatched, IsRewound, IsNamed, IsState, IsListed, AreAll, AreLong}
 use Rattle.cdcl_propagate.specs.Sure.{IsSure, IsTrueBy}
 use Rattle.cdcl_propagate.specs.Units.{IsOne, AreShort, AreFirm}
 use Rattle.cdcl_trail.specs.declared.assigned.Entry.{Entry}
@@ -166,55 +167,57 @@ module _ (clauses : List (List Literal)) (r : List Literal) (trail : List Entry)
   ]
 
 -- a clause that was put behind the watched ones leaves the number of lists
-pub lists_added : (w : WatchValue) (r : List Literal) → length (with_clause w r).lists ≡ length w.lists
-lists_added w r =
+pub lists_added : (w : WatchValue) (r : List Literal) (name : ℕ) → length (with_clause w r name).lists ≡ length w.lists
+lists_added w r name =
     let a = get_or r 0 blank in
     let b = get_or r 1 blank in
     let n = length w.clauses in
     length-set (with_watch w.lists a n) (code b) (list_of (with_watch w.lists a n) b ++ n ∷ []) ∙ length-set w.lists (code a) (list_of w.lists a ++ n ∷ [])
 
-module _ (letters : ℕ) (a : AssignedValue) (w : WatchValue) (names units : List Hint) (log next : LogValue) (head sure done firm marked : ℕ) (hint : Hint) (clause : List Literal)
-    (state : IsState letters a w names units log head sure done firm marked) (more : IsMore log next hint clause) (known_inputs : AreKnown letters next.inputs) (known_lines : AreKnown letters next.lines) where
+module _ (letters : ℕ) (a : AssignedValue) (w : WatchValue) (units : List Hint) (log next : LogValue) (head sure done firm marked : ℕ) (hint : Hint) (clause : List Literal)
+    (state : IsState letters a w units log head sure done firm marked) (more : IsMore log next hint clause) (known_inputs : AreKnown letters next.inputs) (known_lines : AreKnown letters next.lines) where
   -- a clause of at least two literals more
-  pub state_long : (r : List Literal) (h s : ℕ) → HaveSame clause r → 2 ≤ length r → AreApart r → IsRewound a.trail r head sure h s
-      → IsState letters a (with_clause w r) (names ++ hint ∷ []) units next h s done firm marked
-  state_long r h s same long apart rewound = record {
-    ready = record {
-      is_trail = trail_more log next hint clause more a.trail state.ready.is_trail;
-      stored = stored_more log next hint clause more w.clauses names r same state.ready.stored;
-      guarded = guarded_added w.clauses r a.trail h (λ c k x known watch below is. state.ready.guarded c k x known watch (omega (arith, below, rewound.head_falls)) is)
-          (λ k x watch below is. absurd (not_false_first a.trail r h k x rewound.free below watch is));
-      within = omega (arith, rewound.head_falls, state.ready.within);
-      sized = lists_added w r ∙ state.ready.sized;
-    };
-    low = rewound.low;
-    is_sure = sure_added w.clauses r a.trail s (λ c k x known watch below is. state.is_sure c k x known watch (omega (arith, below, rewound.sure_falls)) is)
-        (λ k x watch below is. absurd (not_false_first a.trail r h k x rewound.free (omega (arith, below, rewound.low)) watch is));
-    all = λ x c is. elim (more.only x c is) [
-      | inl old ↦ elim (state.all x c old) [ inl at ↦ inl (listed_more log next hint clause more names hint x at) | inr at ↦ inr at ]
-      | inr e ↦ inl (listed_last log next hint clause more names hint x e)
-    ];
-    long = long_more log next hint clause more w.clauses names r same long apart state.ready.stored state.long;
-    short = short_more log next hint clause more units state.short;
-    done_in = state.done_in;
-    firm_in = state.firm_in;
-    are_firm = firm_kept log next hint clause more units done _ state.done_in state.short state.are_firm;
-    known_inputs = known_inputs;
-    known_lines = known_lines;
-    decided = state.decided;
-    room = state.room;
-    few = state.few;
-    size = state.size;
-  }
+  pub state_long : (v : WatchValue) (r : List Literal) (h s : ℕ) → IsNamed w v r hint → HaveSame clause r → 2 ≤ length r → AreApart r → IsRewound a.trail r head sure h s → IsState letters a v units next h s done firm marked
+  state_long v r h s is_named same long apart rewound =
+      let u = with_clause w r is_named.name in
+      let names_are : names_of u ≡ names_of w ++ hint ∷ [] = map-append hint_of w.names (is_named.name ∷ []) ∙ ap (λ x. names_of w ++ x ∷ []) is_named.says in
+      subst (λ x. IsState letters a x units next h s done firm marked) (sym is_named.is) (record {
+        ready = record {
+          is_trail = trail_more log next hint clause more a.trail state.ready.is_trail;
+          stored = subst (IsStored next.inputs next.lines u.clauses) (sym names_are) (stored_more log next hint clause more w.clauses (names_of w) r same state.ready.stored);
+          guarded = guarded_added w.clauses r a.trail h (λ c k x known watch below is. state.ready.guarded c k x known watch (omega (arith, below, rewound.head_falls)) is)
+              (λ k x watch below is. absurd (not_false_first a.trail r h k x rewound.free below watch is));
+          within = omega (arith, rewound.head_falls, state.ready.within);
+          sized = lists_added w r is_named.name ∙ state.ready.sized;
+        };
+        low = rewound.low;
+        is_sure = sure_added w.clauses r a.trail s (λ c k x known watch below is. state.is_sure c k x known watch (omega (arith, below, rewound.sure_falls)) is)
+            (λ k x watch below is. absurd (not_false_first a.trail r h k x rewound.free (omega (arith, below, rewound.low)) watch is));
+        all = subst (λ ns. AreAll next.inputs next.lines ns units) (sym names_are) (λ x c is. elim (more.only x c is) [
+          | inl old ↦ elim (state.all x c old) [ inl at ↦ inl (listed_more log next hint clause more (names_of w) hint x at) | inr at ↦ inr at ]
+          | inr e ↦ inl (listed_last log next hint clause more (names_of w) hint x e)
+        ]);
+        long = subst (AreLong next.inputs next.lines) (sym names_are) (long_more log next hint clause more w.clauses (names_of w) r same long apart state.ready.stored state.long);
+        short = short_more log next hint clause more units state.short;
+        done_in = state.done_in;
+        firm_in = state.firm_in;
+        are_firm = firm_kept log next hint clause more units done _ state.done_in state.short state.are_firm;
+        known_inputs = known_inputs;
+        known_lines = known_lines;
+        decided = state.decided;
+        room = state.room;
+        few = state.few;
+        size = state.size;
+      })
 
   -- a short clause more
-  pub state_short : IsOne clause → IsState letters a w names (units ++ hint ∷ []) next head sure done firm marked
+  pub state_short : IsOne clause → IsState letters a w (units ++ hint ∷ []) next head sure done firm marked
   state_short one = record {
     ready = record {
       is_trail = trail_more log next hint clause more a.trail state.ready.is_trail;
       stored = record {
         paired = state.ready.stored.paired;
-        from_log = λ c known. let from = state.ready.stored.from_log c known in (from.0, more.kept (get_or names c blank_hint) from.0 from.1, from.2);
+        from_log = λ c known. let from = state.ready.stored.from_log c known in (from.0, more.kept (get_or (names_of w) c blank_hint) from.0 from.1, from.2);
       };
       guarded = state.ready.guarded;
       within = state.ready.within;
@@ -228,7 +231,7 @@ module _ (letters : ℕ) (a : AssignedValue) (w : WatchValue) (names units : Lis
     ];
     long = λ c other known is.
         let from = state.ready.stored.from_log c (omega (arith, known, state.ready.stored.paired)) in
-        let same : from.0 ≡ other = some_same (more.kept (get_or names c blank_hint) from.0 from.1) is in
+        let same : from.0 ≡ other = some_same (more.kept (get_or (names_of w) c blank_hint) from.0 from.1) is in
         λ is_one. state.long c from.0 known from.1 (subst IsOne (sym same) is_one);
     short = λ u low. elim (cases_lt u (length units)) [
       | inl old ↦

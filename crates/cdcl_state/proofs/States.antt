@@ -1,5 +1,5 @@
 -- What propagation, a way back and a decision leave of a state.
-use Rattle.std.proofs.Common.{◌≡◌, ℕ, ◌<◌, ◌≤◌, ◌+◌, ◌*◌, ◌-◌, ◌⊎◌, inl, inr, Bool, true, false, if◌then◌else◌, List, [], ◌∷◌, ◌++◌, Option, Some, None, take, drop, Contains, length, get_or, refl, sym, ap, ap₂, ◌∙◌, subst, arith, length-take-le, length-append}
+use Rattle.std.proofs.Common.{◌≡◌, ℕ, ◌<◌, ◌≤◌, ◌+◌, ◌*◌, ◌-◌, ◌⊎◌, inl, inr, Bool, true, false, if◌then◌else◌, List, [], ◌∷◌, ◌++◌, Option, Some, None, take, drop, map, Contains, length, get_or, refl, sym, ap, ap₂, ◌∙◌, subst, arith, length-take-le, length-append}
 use Rattle.std.proofs.lemmas.Bool.{cases_lt}
 use Rattle.std.proofs.lemmas.List.{take-take, take-append-le, get_or-take, get_or_default, get_or_append_left, get_or-map, length-map, map-append, length_push, take-append-drop, take_all}
 use Rattle.std.proofs.lemmas.List.Elements.{All-contains, All-append, Contains-append_left, All-push}
@@ -14,9 +14,10 @@ use Rattle.cdcl_state.specs.StateValue.{IsBack, IsSettled, Propagated, state_of}
 use Rattle.cdcl_trail.specs.Values.{AreBelow}
 use Rattle.cdcl_watches.specs.Watching.{WatchValue, IsWatching, clause_of}
 use Rattle.cdcl_trail.specs.Assigned.{AssignedValue}
-use Rattle.cdcl_propagate.specs.Visit.{HasTrue, IsReady, IsStored, IsGrown, IsGuarded, HaveSame, blank_hint}
+use Rattle.cdcl_trail.specs.Entries.{hint_of}
+use Rattle.cdcl_propagate.specs.Visit.{HasTrue, IsReady, IsStored, IsGrown, IsGuarded, HaveSame, blank_hint, names_of}
 use Rattle.cdcl_propagate.specs.Sure.{IsSure}
-use Rattle.cdcl_state.specs.State.{IsState, AreLong, AreKnownDecisions}
+use Rattle.cdcl_state.specs.State.{IsState, AreAll, AreLong, AreKnownDecisions}
 use Rattle.cdcl_propagate.specs.Units.{IsOne, AreFirm}
 use Rattle.cdcl_trail.specs.declared.assigned.Entry.{Entry}
 use Rattle.cdcl_trail.proofs.Standing.{not_both}
@@ -50,9 +51,9 @@ long_clause inputs lines clauses names stored long c known = elim (cases_lt (len
 ]
 
 -- where all lists were visited and all short clauses are true, the state is settled
-pub settled : (letters : ℕ) (a : AssignedValue) (w : WatchValue) (names units : List Hint) (log : LogValue) (head sure done firm marked : ℕ) → IsState letters a w names units log head sure done firm marked
+pub settled : (letters : ℕ) (a : AssignedValue) (w : WatchValue) (units : List Hint) (log : LogValue) (head sure done firm marked : ℕ) → IsState letters a w units log head sure done firm marked
     → AreValues a.values a.trail → IsWatching w.clauses w.lists → head ≡ length a.trail → done ≡ length units → IsSettled (state_of letters a.trail log)
-settled letters a w names units log head sure done firm marked state are watching all finished hint = (
+settled letters a w units log head sure done firm marked state are watching all finished hint = (
   (λ conflict. elim (state.all hint conflict.clause conflict.is) [
     | inl at ↦ (watched at).0 conflict
     | inr at ↦
@@ -73,10 +74,10 @@ settled letters a w names units log head sure done firm marked state are watchin
     guarded : IsGuarded w.clauses a.trail (length a.trail)
     guarded = subst (λ n. IsGuarded w.clauses a.trail n) all state.ready.guarded
 
-    watched : ((c : ℕ) × (c < length names) × (get_or names c blank_hint ≡ hint))
+    watched : ((c : ℕ) × (c < length (names_of w)) × (get_or (names_of w) c blank_hint ≡ hint))
         → (¬ IsConflict log.inputs log.lines (literals_of a.trail) hint) × ((u : Literal) → IsReason log.inputs log.lines (literals_of a.trail) u hint → ¬ IsUnset (literals_of a.trail) u)
     watched at =
-        settled_watched a.values a.trail are w.clauses guarded log hint watching.apart (long_clause log.inputs log.lines w.clauses names state.ready.stored state.long)
+        settled_watched a.values a.trail are w.clauses guarded log hint watching.apart (long_clause log.inputs log.lines w.clauses (names_of w) state.ready.stored state.long)
         (λ clause is.
         let known : at.0 < length w.clauses = omega (arith, at.1, state.ready.stored.paired) in
         let from = state.ready.stored.from_log at.0 known in
@@ -98,14 +99,14 @@ settled letters a w names units log head sure done firm marked state are watchin
             )
 
 -- forced entries more on the trail
-pub state_grown : (letters : ℕ) (a b : AssignedValue) (w v : WatchValue) (names units : List Hint) (log : LogValue) (head sure done firm next later marked : ℕ) → IsState letters a w names units log head sure done firm marked
-    → IsGrown a.trail b.trail → length b.values ≡ length a.values → later ≤ next → IsSure v.clauses b.trail later → IsReady log.inputs log.lines names next b v → IsState letters b v names units log next later done firm marked
-state_grown letters a b w v names units log head sure done firm next later marked state grown same low is_sure ready = record {
+pub state_grown : (letters : ℕ) (a b : AssignedValue) (w v : WatchValue) (units : List Hint) (log : LogValue) (head sure done firm next later marked : ℕ) → IsState letters a w units log head sure done firm marked
+    → IsGrown a.trail b.trail → length b.values ≡ length a.values → v.names ≡ w.names → later ≤ next → IsSure v.clauses b.trail later → IsReady log.inputs log.lines next b v → IsState letters b v units log next later done firm marked
+state_grown letters a b w v units log head sure done firm next later marked state grown same names_are low is_sure ready = record {
   ready = ready;
   low = low;
   is_sure = is_sure;
-  all = state.all;
-  long = state.long;
+  all = subst (λ ns. AreAll log.inputs log.lines (map hint_of ns) units) (sym names_are) state.all;
+  long = subst (λ ns. AreLong log.inputs log.lines (map hint_of ns)) (sym names_are) state.long;
   short = state.short;
   done_in = state.done_in;
   firm_in = omega (arith, state.firm_in, ap length grown.trail, length-append a.trail grown.more);
@@ -123,10 +124,10 @@ state_grown letters a b w v names units log head sure done firm next later marke
 }
 
 -- a front of the trail
-pub state_back : (letters : ℕ) (a b : AssignedValue) (w : WatchValue) (names units : List Hint) (log : LogValue) (head sure done firm marked m n level still solid : ℕ) → IsState letters a w names units log head sure done firm marked
+pub state_back : (letters : ℕ) (a b : AssignedValue) (w : WatchValue) (units : List Hint) (log : LogValue) (head sure done firm marked m n level still solid : ℕ) → IsState letters a w units log head sure done firm marked
     → b.trail ≡ take n a.trail → length b.values ≡ length a.values → n ≤ length a.trail → IsBack (state_of letters a.trail log) (state_of letters b.trail log) level → m ≤ sure → m ≤ n
-    → ((firm ≤ n) × (still ≡ done) × (solid ≡ firm)) ⊎ ((still ≡ 0) × (solid ≡ 0)) → IsState letters b w names units log m m still solid marked
-state_back letters a b w names units log head sure done firm marked m n level still solid state trail_is values_is fits back m_sure m_n units_are =
+    → ((firm ≤ n) × (still ≡ done) × (solid ≡ firm)) ⊎ ((still ≡ 0) × (solid ≡ 0)) → IsState letters b w units log m m still solid marked
+state_back letters a b w units log head sure done firm marked m n level still solid state trail_is values_is fits back m_sure m_n units_are =
     let len : length b.trail ≡ n = ap length trail_is ∙ length-take-le n a.trail fits in
     let new_sure = sure_back w.clauses (state_of letters a.trail log) (state_of letters b.trail log) level sure m state.ready.is_trail back state.is_sure m_sure (omega (arith, len)) in
     record {
@@ -207,9 +208,9 @@ decision_stands inputs lines trail l level is_trail is = record {
 }
 
 -- an entry more behind the trail
-module _ (letters : ℕ) (a b : AssignedValue) (w : WatchValue) (names units : List Hint) (log : LogValue) (head sure done firm marked : ℕ) (e : Entry) (state : IsState letters a w names units log head sure done firm marked)
+module _ (letters : ℕ) (a b : AssignedValue) (w : WatchValue) (units : List Hint) (log : LogValue) (head sure done firm marked : ℕ) (e : Entry) (state : IsState letters a w units log head sure done firm marked)
     (values_is : length b.values ≡ length a.values) (stands : StandsAt log.inputs log.lines a.trail e) (known : e.reason ≡ None → IsKnown letters e.literal) where
-  pub state_pushed : b.trail ≡ a.trail ++ e ∷ [] → IsState letters b w names units log head sure done firm marked
+  pub state_pushed : b.trail ≡ a.trail ++ e ∷ [] → IsState letters b w units log head sure done firm marked
   state_pushed is = record {
     ready = record {
       is_trail = subst (IsTrail log.inputs log.lines) (sym is) (trail_push log.inputs log.lines a.trail e state.ready.is_trail stands);
@@ -236,7 +237,7 @@ module _ (letters : ℕ) (a b : AssignedValue) (w : WatchValue) (names units : L
     size = omega (arith, values_is, state.size);
   }
 
-  pub state_same : b.trail ≡ a.trail → IsState letters b w names units log head sure done firm marked
+  pub state_same : b.trail ≡ a.trail → IsState letters b w units log head sure done firm marked
   state_same is = record {
     ready = record {
       is_trail = subst (IsTrail log.inputs log.lines) (sym is) state.ready.is_trail;
@@ -261,14 +262,14 @@ module _ (letters : ℕ) (a b : AssignedValue) (w : WatchValue) (names units : L
     size = omega (arith, values_is, state.size);
   }
 
-  pub state_assigned : (ok : Bool) → b.trail ≡ (if ok then a.trail ++ e ∷ [] else a.trail) → IsState letters b w names units log head sure done firm marked
+  pub state_assigned : (ok : Bool) → b.trail ≡ (if ok then a.trail ++ e ∷ [] else a.trail) → IsState letters b w units log head sure done firm marked
   state_assigned true is = state_pushed is
   state_assigned false is = state_same is
 
 -- forced entries more keep the watch rule below the head
-pub ready_grown : (inputs lines : List (List Literal)) (names : List Hint) (head : ℕ) (a b : AssignedValue) (w : WatchValue) → IsReady inputs lines names head a w → IsGrown a.trail b.trail → IsTrail inputs lines b.trail → length b.values ≡ length a.values
-    → IsReady inputs lines names head b w
-ready_grown inputs lines names head a b w ready grown is_trail same = record {
+pub ready_grown : (inputs lines : List (List Literal)) (head : ℕ) (a b : AssignedValue) (w : WatchValue) → IsReady inputs lines head a w → IsGrown a.trail b.trail → IsTrail inputs lines b.trail → length b.values ≡ length a.values
+    → IsReady inputs lines head b w
+ready_grown inputs lines head a b w ready grown is_trail same = record {
   is_trail = is_trail;
   stored = ready.stored;
   guarded = subst (λ t. IsGuarded w.clauses t head) (sym grown.trail) (guarded_push w.clauses a.trail grown.more head ready.within ready.guarded);
@@ -290,10 +291,10 @@ firm_now inputs lines units done firm trail fits are u clause below is =
     )
 
 -- all short clauses are true
-pub state_firm : (letters : ℕ) (a : AssignedValue) (w : WatchValue) (names units : List Hint) (log : LogValue) (head sure done firm still solid marked : ℕ) → IsState letters a w names units log head sure done firm marked
+pub state_firm : (letters : ℕ) (a : AssignedValue) (w : WatchValue) (units : List Hint) (log : LogValue) (head sure done firm still solid marked : ℕ) → IsState letters a w units log head sure done firm marked
     → AreFirm log.inputs log.lines units (length units) (literals_of a.trail) → ((length units ≤ done) × (still ≡ done) × (solid ≡ firm)) ⊎ ((still ≡ length units) × (solid ≡ length a.trail))
-    → IsState letters a w names units log head sure still solid marked
-state_firm letters a w names units log head sure done firm still solid marked state are cases = record {
+    → IsState letters a w units log head sure still solid marked
+state_firm letters a w units log head sure done firm still solid marked state are cases = record {
   ready = state.ready;
   low = state.low;
   is_sure = state.is_sure;
@@ -322,9 +323,9 @@ pub propagated : (letters : ℕ) (log : LogValue) (old new : List Entry) → IsG
 propagated letters log old new grown = record { letters = refl; log = refl; more = grown.more; trail = grown.trail; forced = grown.forced }
 
 -- the short clauses were visited
-pub state_visited : (letters : ℕ) (a b : AssignedValue) (w : WatchValue) (names units : List Hint) (log : LogValue) (head sure done firm marked : ℕ) → IsState letters a w names units log head sure done firm marked
-    → IsGrown a.trail b.trail → IsTrail log.inputs log.lines b.trail → length b.values ≡ length a.values → IsState letters b w names units log head sure done firm marked
-state_visited letters a b w names units log head sure done firm marked state grown is_trail same =
-    state_grown letters a b w w names units log head sure done firm head sure marked state grown same state.low
+pub state_visited : (letters : ℕ) (a b : AssignedValue) (w : WatchValue) (units : List Hint) (log : LogValue) (head sure done firm marked : ℕ) → IsState letters a w units log head sure done firm marked
+    → IsGrown a.trail b.trail → IsTrail log.inputs log.lines b.trail → length b.values ≡ length a.values → IsState letters b w units log head sure done firm marked
+state_visited letters a b w units log head sure done firm marked state grown is_trail same =
+    state_grown letters a b w w units log head sure done firm head sure marked state grown same refl state.low
     (sure_grown w.clauses a.trail b.trail sure (omega (arith, state.low, state.ready.within)) grown state.is_sure)
-    (ready_grown log.inputs log.lines names head a b w state.ready grown is_trail same)
+    (ready_grown log.inputs log.lines head a b w state.ready grown is_trail same)

@@ -6,10 +6,11 @@ use Rattle.cnf_base.specs.Step.{named}
 use Rattle.cnf_base.specs.Known.{IsKnown, AreKnown}
 use Rattle.clause_log.specs.LogValue.{LogValue}
 use Rattle.cdcl_trail.specs.Trail.{literals_of, literal_at}
-use Rattle.cdcl_watches.specs.Watching.{WatchValue, blank}
+use Rattle.cdcl_trail.specs.Entries.{hint_of}
+use Rattle.cdcl_watches.specs.Watching.{WatchValue, with_clause, blank}
 use Rattle.cdcl_trail.specs.Assigned.{AssignedValue}
 use Rattle.cdcl_propagate.specs.Sure.{IsSure}
-use Rattle.cdcl_propagate.specs.Visit.{IsReady, blank_hint}
+use Rattle.cdcl_propagate.specs.Visit.{IsReady, blank_hint, names_of}
 use Rattle.cdcl_trail.specs.declared.assigned.Entry.{Entry}
 use Rattle.cnf_base.specs.Literal.{opposite}
 use Rattle.cdcl_propagate.specs.Units.{IsOne, AreShort, AreFirm}
@@ -38,6 +39,12 @@ AreKnownDecisions letters trail = All (λ e. e.reason ≡ None → IsKnown lette
 abbrev pub IsUnwatched : List Entry → List Literal → ℕ → Type 0
 IsUnwatched trail clause place = (k : ℕ) → k < place → (literal_at trail k ≢ opposite (slice_index_or clause 0 blank)) × (literal_at trail k ≢ opposite (slice_index_or clause 1 blank))
 
+-- the clause stands behind the watched ones by a name that says the hint
+pub record IsNamed (old new : WatchValue) (clause : List Literal) (hint : Hint) : Type 0 where
+  pub name : ℕ
+  pub says : hint_of name ≡ hint
+  pub is : new ≡ with_clause old clause name
+
 -- the marks went back to where neither of the first two literals is false
 pub record IsRewound (trail : List Entry) (clause : List Literal) (old_head old_sure head sure : ℕ) : Type 0 where
   pub head_falls : head ≤ old_head
@@ -45,12 +52,12 @@ pub record IsRewound (trail : List Entry) (clause : List Literal) (old_head old_
   pub low : sure ≤ head
   pub free : IsUnwatched trail clause head
 
-pub record IsState (letters : ℕ) (a : AssignedValue) (w : WatchValue) (names units : List Hint) (log : LogValue) (head sure done firm marked : ℕ) : Type 0 where
-  pub ready : IsReady log.inputs log.lines names head a w
+pub record IsState (letters : ℕ) (a : AssignedValue) (w : WatchValue) (units : List Hint) (log : LogValue) (head sure done firm marked : ℕ) : Type 0 where
+  pub ready : IsReady log.inputs log.lines head a w
   pub low : sure ≤ head
   pub is_sure : IsSure w.clauses a.trail sure
-  pub all : AreAll log.inputs log.lines names units
-  pub long : AreLong log.inputs log.lines names
+  pub all : AreAll log.inputs log.lines (names_of w) units
+  pub long : AreLong log.inputs log.lines (names_of w)
   pub short : AreShort log.inputs log.lines units
   pub done_in : done ≤ length units
   pub firm_in : firm ≤ length a.trail

@@ -15,7 +15,6 @@ use crate::store::{distinct, is_ready, lead, rewind, store};
 use crate::widen::widen;
 use cdcl_activity::choices::Choices;
 use cdcl_analyze::marks::Marks;
-use cdcl_propagate::names::Names;
 use cdcl_propagate::propagate::propagate;
 use cdcl_propagate::units::visit_units;
 use cdcl_trail::assigned::{Assigned, Entry};
@@ -36,9 +35,8 @@ pub struct State {
     letters: usize,
     assigned: Assigned,
     log: Log,
-    // The clauses of at least two literals, and the hint that names each in the log.
+    // The clauses of at least two literals. The name of each says which of the log's it is.
     watches: Watches,
-    names: Names,
     /// The lists of what became false before this place of the trail were visited.
     head: usize,
     /// Of those, the ones that a way back need not visit again.
@@ -62,7 +60,7 @@ impl Model for State {
 
     ghost view = { λ a. record { letters = a.letters; trail = a.assigned.trail; log = a.log } };
 
-    ghost invariant = { λ a. IsState a.letters a.assigned a.watches a.names a.units.items a.log a.head a.sure
+    ghost invariant = { λ a. IsState a.letters a.assigned a.watches a.units.items a.log a.head a.sure
         a.done a.firm (length a.marks.stamps) };
 }
 
@@ -80,7 +78,6 @@ impl State {
             assigned: Assigned::new(alloc),
             log: Log::new(alloc),
             watches: Watches::new(alloc),
-            names: Names::new(alloc),
             head: 0,
             sure: 0,
             units: Vec::new(alloc),
@@ -110,7 +107,6 @@ impl State {
         let found = propagate(
             &mut self.assigned,
             &mut self.watches,
-            &self.names,
             &self.log,
             &mut self.head,
             &mut self.sure,
@@ -268,12 +264,7 @@ impl State {
     {
         let _ = self.log.view();
         let number = self.log.add_input(clause)?;
-        match store(
-            &mut self.watches,
-            &mut self.names,
-            stored,
-            Hint::Clause(number),
-        ) {
+        match store(stored, Hint::Clause(number), &mut self.watches) {
             Ok(()) => {
                 rewind(&self.assigned, stored, &mut self.head, &mut self.sure);
                 return Ok(number);
@@ -354,12 +345,7 @@ impl State {
         ensures refused { OnErr result (self.new ≡ self.old) }
     {
         let number = self.log.derive(clause, hints)?;
-        match store(
-            &mut self.watches,
-            &mut self.names,
-            stored,
-            Hint::Line(number),
-        ) {
+        match store(stored, Hint::Line(number), &mut self.watches) {
             Ok(()) => {
                 rewind(&self.assigned, stored, &mut self.head, &mut self.sure);
                 return Ok(number);

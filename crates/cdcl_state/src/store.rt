@@ -1,16 +1,16 @@
 // A clause comes into the state: each of its literals once, watched by the first two. A repeated literal is
 // dropped.
-ghost use Rattle.std.specs.Prelude.{◌≡◌, ◌≢◌, ℕ, ◌<◌, ◌≤◌, ◌⊎◌, ◌↔◌, IsTrue, List, [], ◌∷◌, ◌++◌, length, All, Contains, OnOk, if◌then◌else◌, is_ok};
-ghost use Rattle.cdcl_watches.specs.Watching.{code, AreApart, with_clause};
+ghost use Rattle.std.specs.Prelude.{◌≡◌, ◌≢◌, ℕ, ◌<◌, ◌≤◌, ◌⊎◌, ◌↔◌, IsTrue, [], length, All, Contains, OnErr, OnOk};
+ghost use Rattle.cdcl_watches.specs.Watching.{code, AreApart};
 ghost use Rattle.cnf_base.specs.Literal.{opposite};
 ghost use Rattle.cdcl_trail.specs.Trail.{literal_at};
 ghost use Rattle.cdcl_propagate.specs.Visit.{HaveSame};
-ghost use Rattle.cdcl_state.specs.State.{IsRewound};
+ghost use Rattle.cdcl_state.specs.State.{IsNamed, IsRewound};
 
 use crate::repeats::repeats;
 use cdcl_analyze::marks::Marks;
-use cdcl_propagate::names::Names;
 use cdcl_trail::assigned::Assigned;
+use cdcl_trail::hints::shorten;
 use cdcl_watches::watches::Watches;
 use cnf_base::{Hint, Literal};
 use std::alloc::AllocError;
@@ -105,30 +105,18 @@ pub fn is_ready(assigned: &Assigned, marks: &mut Marks, clause: &[Literal]) -> b
     !repeats(marks, clause)
 }
 
-/// Puts the clause among the watched ones, under its name.
-pub fn store(
-    watches: &mut Watches,
-    names: &mut Names,
-    clause: &[Literal],
-    hint: Hint,
-) -> Result<(), AllocError>
+/// Puts the clause among the watched ones, under the name of the hint. A hint whose number is beyond
+/// 2,147,483,646 is refused as want of memory.
+pub fn store(clause: &[Literal], hint: Hint, watches: &mut Watches) -> Result<(), AllocError>
     requires long { 2 ≤ length clause.now }
     requires apart { AreApart clause.now }
     requires fits { All (λ l. code l < length watches.old.lists) clause.now }
-    ensures watches { watches.new ≡ (if is_ok result then with_clause watches.old clause.now else
-        watches.old) }
-    ensures names { names.new ≡ (if is_ok result then names.old ++ hint ∷ [] else names.old) }
+    ensures stored { OnOk result (IsNamed watches.old watches.new clause.now hint) }
+    ensures refused { OnErr result (watches.new ≡ watches.old) }
 {
-    let count = names.len();
-    names.push(hint)?;
-    match watches.add(clause) {
-        Ok(()) => {
-            return Ok(());
-        }
-        Err(_) => {
-            names.truncate(count);
-            return Err(AllocError);
-        }
+    match shorten(hint) {
+        None => Err(AllocError),
+        Some(name) => watches.add(name, clause),
     }
 }
 

@@ -21,6 +21,7 @@ fn widen_one(
     requires marks { length assigned.old.values ≤ length marks.old.stamps }
     ensures trail { assigned.new.trail ≡ assigned.old.trail }
     ensures clauses { watches.new.clauses ≡ watches.old.clauses }
+    ensures names { watches.new.names ≡ watches.old.names }
     ensures sized { length watches.new.lists ≡ 2 * length assigned.new.values }
     ensures more { length assigned.old.values ≤ length assigned.new.values }
     ensures few { length assigned.new.values ≤ length assigned.old.values + 1 }
@@ -59,6 +60,7 @@ pub fn widen(
     requires marks { length assigned.old.values ≤ length marks.old.stamps }
     ensures trail { assigned.new.trail ≡ assigned.old.trail }
     ensures clauses { watches.new.clauses ≡ watches.old.clauses }
+    ensures names { watches.new.names ≡ watches.old.names }
     ensures sized { length watches.new.lists ≡ 2 * length assigned.new.values }
     ensures more { length assigned.old.values ≤ length assigned.new.values }
     ensures few { length assigned.new.values ≤ 2 ^ 32 }

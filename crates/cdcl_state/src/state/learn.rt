@@ -31,12 +31,7 @@ impl State {
     {
         self.assigned.told();
         let line = self.log.derive(&learnt.clause, &learnt.hints)?;
-        match store(
-            &mut self.watches,
-            &mut self.names,
-            &learnt.clause,
-            Hint::Line(line),
-        ) {
+        match store(&learnt.clause, Hint::Line(line), &mut self.watches) {
             Ok(()) => {}
             Err(_) => {
                 self.log.take_back_line();

@@ -26,7 +26,8 @@ along-preserved-then-holds c =
     record {
       same = c.along.invariant.same;
       walk = rw (lists_are, c.pass.ensures.kept, c.pass.ensures.next) (passed_walked c.along.arena c.along.lists c.args.falsified c.along.walk.kept c.along.walk.next c.along.invariant.walk there);
-      visiting = rw (lists_are, c.pass.ensures.kept, c.pass.ensures.next) (passed_visiting c.along.arena c.along.lists c.args.falsified c.along.walk.kept c.along.walk.next c.along.invariant.walk there c.args.log.now.inputs c.args.log.now.lines c.args.names.now c.args.place c.along.assigned c.along.invariant.same c.along.invariant.visiting true_one);
+      visiting = rw (lists_are, c.pass.ensures.kept, c.pass.ensures.next) (passed_visiting c.along.arena c.along.lists c.args.falsified c.along.walk.kept c.along.walk.next c.along.invariant.walk there c.args.log.now.inputs c.args.log.now.lines c.args.place c.along.assigned c.along.invariant.same c.along.invariant.visiting true_one);
+      named = c.along.invariant.named;
       grown = c.along.invariant.grown;
       letters = c.along.invariant.letters;
       sure = c.along.invariant.sure;
@@ -51,6 +52,7 @@ along-preserved c =
       same = c.along.invariant.same ∙ sym (grown_at c.along.assigned.trail c.visit.new.assigned.trail c.args.place c.in_ok-hint.ensures.grown c.along.invariant.visiting.within);
       walk = c.in_ok-hint.ensures.walked;
       visiting = passed.visiting;
+      named = c.in_ok-hint.ensures.names ∙ c.along.invariant.named;
       grown = grown_more c.args.assigned.now.trail c.along.assigned.trail c.visit.new.assigned.trail c.along.invariant.grown c.in_ok-hint.ensures.grown;
       letters = c.in_ok-hint.ensures.letters ∙ c.along.invariant.letters;
       sure = λ n low sure. c.in_ok-hint.ensures.sure n low (c.along.invariant.sure n low sure);
@@ -61,5 +63,5 @@ returns-clause-found c =
     let w = walked c.along.arena c.along.lists (code c.args.falsified) c.along.walk.kept c.along.walk.next in
     let len : c.len.result ≡ length (get_or c.along.lists (code c.args.falsified) []) = rw c.number-list.ensures at c.len.ensures in
     let all = walk_ended c.along.arena c.along.lists c.args.falsified c.along.walk.kept c.along.walk.next c.along.invariant.walk (omega (arith, c.along-test.false, len)) in
-    end_visit c.args.log.now.inputs c.args.log.now.lines c.args.names.now c.args.place c.along.assigned w c.along.walk.kept
+    end_visit c.args.log.now.inputs c.args.log.now.lines c.args.place c.along.assigned w c.along.walk.kept
     (omega (arith, all, ap (λ (l : Literal). length (get_or w.lists (code l) [])) c.along.invariant.same)) c.along.invariant.walk.watchers.watching c.along.invariant.visiting

@@ -9,7 +9,8 @@ abbrev pub invariant-along : goal.invariant-along
 invariant-along l = record {
   same : l.falsified ≡ false_at l.assigned.trail l.place;
   walk : IsWalked l.arena l.lists (code l.falsified) l.walk.kept l.walk.next;
-  visiting : IsVisiting l.log.inputs l.log.lines l.names l.place l.walk.kept l.assigned (walked l.arena l.lists (code l.falsified) l.walk.kept l.walk.next);
+  visiting : IsVisiting l.log.inputs l.log.lines l.place l.walk.kept l.assigned (walked l.arena l.lists (code l.falsified) l.walk.kept l.walk.next);
+  named : l.arena.names ≡ l.initial.arena.names;
   grown : IsGrown l.initial.assigned.trail l.assigned.trail;
   letters : length l.assigned.values ≡ length l.initial.assigned.values;
   sure : (n : ℕ) → n ≤ l.place → IsSure l.initial.arena.clauses l.initial.assigned.trail n → IsSure l.arena.clauses l.assigned.trail n;

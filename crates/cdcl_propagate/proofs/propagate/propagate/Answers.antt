@@ -22,6 +22,7 @@ up-preserved c =
       ready = none_case _ c.in_ok-hint.field-0 c.in-None.is c.in_ok-hint.ensures.found;
       grown = grown_more c.args.assigned.now.trail c.up.assigned.trail c.visit_list.new.assigned.trail c.up.invariant.grown c.in_ok-hint.ensures.grown;
       letters = c.in_ok-hint.ensures.letters ∙ c.up.invariant.letters;
+      named = c.in_ok-hint.ensures.names ∙ c.up.invariant.named;
       low = c.extend.ensures.low;
       sure = c.extend.ensures.sure;
     }

@@ -5,8 +5,9 @@ use Rattle.cdcl_propagate.proofs.propagate.propagate.Given as goal
 
 abbrev pub invariant-up : goal.invariant-up
 invariant-up l = record {
-  ready : IsReady l.log.inputs l.log.lines l.names l.head l.assigned l.watches;
+  ready : IsReady l.log.inputs l.log.lines l.head l.assigned l.watches;
   grown : IsGrown l.initial.assigned.trail l.assigned.trail;
+  named : l.watches.names ≡ l.initial.watches.names;
   low : l.sure ≤ l.head;
   sure : IsSure l.watches.clauses l.assigned.trail l.sure;
   letters : length l.assigned.values ≡ length l.initial.assigned.values;

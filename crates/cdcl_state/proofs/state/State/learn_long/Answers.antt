@@ -6,7 +6,8 @@ use Rattle.clause_log.specs.LogValue.{LogValue, with_line}
 use Rattle.cdcl_state.specs.StateValue.{StateValue, with_log, state_of}
 use Rattle.cdcl_analyze.specs.Learnt.{IsLearnt}
 use Rattle.cdcl_state.specs.Turns.{IsAsserting, IsTarget, IsTurn}
-use Rattle.cdcl_watches.specs.Watching.{AreApart, with_clause, blank}
+use Rattle.cdcl_state.specs.State.{IsNamed}
+use Rattle.cdcl_watches.specs.Watching.{AreApart, blank}
 use Rattle.cdcl_trail.specs.declared.assigned.Entry.{Entry}
 use Rattle.cdcl_state.proofs.Attach.{line_more, known_more}
 use Rattle.cdcl_state.proofs.Learned.{learnt_apart, learned_stands, learned_cut, learned}
@@ -40,8 +41,8 @@ assign-requires-clause-unset c =
     let more = line_more log clause learnt.hints.items line count in
     let known_lines = known_more letters log.lines clause c.self.invariant.known_lines known in
     let next_is : c.derive.new.self ≡ next = c.in_ok-line.ensures.added.0 ∙ ap₂ (with_line log) c.deref.ensures.value c.deref-2.ensures.value in
-    let w_is : c.store.new.watches ≡ with_clause w clause = c.in-Ok.ensures.watches ∙ ap (with_clause w) c.deref-3.ensures.value in
-    (learned_stands letters a b w c.self.inside.names c.self.inside.units.items log next c.self.inside.head c.self.inside.sure c.self.inside.done c.self.inside.firm (length c.self.inside.marks.stamps) c.smaller-sure.result c.front-front.result c.args.level c.loosen.new.done c.loosen.new.firm line clause places c.index.result.now
+    let is_named = subst (λ r. IsNamed w c.store.new.watches r (Line line)) c.deref-3.ensures.value c.in-Ok.ensures.stored in
+    (learned_stands letters a b w c.self.inside.units.items log next c.self.inside.head c.self.inside.sure c.self.inside.done c.self.inside.firm (length c.self.inside.marks.stamps) c.smaller-sure.result c.front-front.result c.args.level c.loosen.new.done c.loosen.new.firm line clause places c.index.result.now
     c.self.invariant c.told.ensures more c.self.invariant.known_inputs known_lines c.cut.ensures.trail c.cut.ensures.letters c.front-front.ensures.within c.front-front.ensures.low c.front-front.ensures.high c.smaller-sure.ensures.one c.smaller-sure.ensures.two c.loosen.ensures.all
     is.clause_is is.inside is.falling asserting target c.index.ensures).0.unset
 
@@ -65,16 +66,16 @@ invariant_of-self-in_err-assign c =
     let more = line_more log clause learnt.hints.items line count in
     let known_lines = known_more letters log.lines clause c.self.invariant.known_lines known in
     let next_is : c.derive.new.self ≡ next = c.in_ok-line.ensures.added.0 ∙ ap₂ (with_line log) c.deref.ensures.value c.deref-2.ensures.value in
-    let w_is : c.store.new.watches ≡ with_clause w clause = c.in-Ok.ensures.watches ∙ ap (with_clause w) c.deref-3.ensures.value in
+    let is_named = subst (λ r. IsNamed w c.store.new.watches r (Line line)) c.deref-3.ensures.value c.in-Ok.ensures.stored in
     let e : Entry = record { literal = c.index.result.now; level = c.args.level; reason = Some (Line line) } in
-    let stands = learned_stands letters a b w c.self.inside.names c.self.inside.units.items log next c.self.inside.head c.self.inside.sure c.self.inside.done c.self.inside.firm (length c.self.inside.marks.stamps) c.smaller-sure.result c.front-front.result c.args.level c.loosen.new.done c.loosen.new.firm line clause places c.index.result.now
+    let stands = learned_stands letters a b w c.self.inside.units.items log next c.self.inside.head c.self.inside.sure c.self.inside.done c.self.inside.firm (length c.self.inside.marks.stamps) c.smaller-sure.result c.front-front.result c.args.level c.loosen.new.done c.loosen.new.firm line clause places c.index.result.now
     c.self.invariant c.told.ensures more c.self.invariant.known_inputs known_lines c.cut.ensures.trail c.cut.ensures.letters c.front-front.ensures.within c.front-front.ensures.low c.front-front.ensures.high c.smaller-sure.ensures.one c.smaller-sure.ensures.two c.loosen.ensures.all
     is.clause_is is.inside is.falling asserting target c.index.ensures in
-    let cut = learned_cut letters a b w c.self.inside.names c.self.inside.units.items log next c.self.inside.head c.self.inside.sure c.self.inside.done c.self.inside.firm (length c.self.inside.marks.stamps) c.smaller-sure.result c.front-front.result c.args.level c.loosen.new.done c.loosen.new.firm line clause places c.index.result.now
+    let cut = learned_cut letters a b w c.self.inside.units.items log next c.self.inside.head c.self.inside.sure c.self.inside.done c.self.inside.firm (length c.self.inside.marks.stamps) c.smaller-sure.result c.front-front.result c.args.level c.loosen.new.done c.loosen.new.firm line clause places c.index.result.now
     c.self.invariant c.told.ensures more c.self.invariant.known_inputs known_lines c.cut.ensures.trail c.cut.ensures.letters c.front-front.ensures.within c.front-front.ensures.low c.front-front.ensures.high c.smaller-sure.ensures.one c.smaller-sure.ensures.two c.loosen.ensures.all
-    is.clause_is is.inside is.falling asserting target c.index.ensures c.requires.long in
-    rw (w_is, c.in-Ok.ensures.names, next_is)
-    (state_same letters b c.assign.new.self (with_clause w clause) (c.self.inside.names ++ Line line ∷ []) c.self.inside.units.items next 0 0 c.loosen.new.done c.loosen.new.firm (length c.self.inside.marks.stamps) e cut c.in_err-assign.ensures.letters stands.0.stands (λ free. cc) c.in_err-assign.ensures.trail)
+    is.clause_is is.inside is.falling asserting target c.index.ensures c.store.new.watches is_named c.requires.long in
+    rw next_is
+    (state_same letters b c.assign.new.self c.store.new.watches c.self.inside.units.items next 0 0 c.loosen.new.done c.loosen.new.firm (length c.self.inside.marks.stamps) e cut c.in_err-assign.ensures.letters stands.0.stands (λ free. cc) c.in_err-assign.ensures.trail)
 
 pub invariant_of-self-2 : goal.invariant_of-self-2
 invariant_of-self-2 c =
@@ -96,12 +97,12 @@ invariant_of-self-2 c =
     let more = line_more log clause learnt.hints.items line count in
     let known_lines = known_more letters log.lines clause c.self.invariant.known_lines known in
     let next_is : c.derive.new.self ≡ next = c.in_ok-line.ensures.added.0 ∙ ap₂ (with_line log) c.deref.ensures.value c.deref-2.ensures.value in
-    let w_is : c.store.new.watches ≡ with_clause w clause = c.in-Ok.ensures.watches ∙ ap (with_clause w) c.deref-3.ensures.value in
+    let is_named = subst (λ r. IsNamed w c.store.new.watches r (Line line)) c.deref-3.ensures.value c.in-Ok.ensures.stored in
     let first : c.index.result.now ≡ get_or clause 0 blank = c.index.ensures ∙ get_or_default clause 0 c.index.result.now blank (omega (arith, c.requires.long)) in
-    rw (w_is, c.in-Ok.ensures.names, next_is)
-    (learned letters a b w c.self.inside.names c.self.inside.units.items log next c.self.inside.head c.self.inside.sure c.self.inside.done c.self.inside.firm (length c.self.inside.marks.stamps) c.smaller-sure.result c.front-front.result c.args.level c.loosen.new.done c.loosen.new.firm line clause places c.index.result.now
+    rw next_is
+    (learned letters a b w c.self.inside.units.items log next c.self.inside.head c.self.inside.sure c.self.inside.done c.self.inside.firm (length c.self.inside.marks.stamps) c.smaller-sure.result c.front-front.result c.args.level c.loosen.new.done c.loosen.new.firm line clause places c.index.result.now
     c.self.invariant c.told.ensures more c.self.invariant.known_inputs known_lines c.cut.ensures.trail c.cut.ensures.letters c.front-front.ensures.within c.front-front.ensures.low c.front-front.ensures.high c.smaller-sure.ensures.one c.smaller-sure.ensures.two c.loosen.ensures.all
-    is.clause_is is.inside is.falling asserting target c.index.ensures c.assign.new.self c.told-2.ensures c.in_ok-assign.ensures.letters c.in_ok-assign.ensures.trail first c.requires.long)
+    is.clause_is is.inside is.falling asserting target c.index.ensures c.store.new.watches is_named c.assign.new.self c.told-2.ensures c.in_ok-assign.ensures.letters c.in_ok-assign.ensures.trail first c.requires.long)
 
 pub returns-clause-turned : goal.returns-clause-turned
 returns-clause-turned c =
@@ -123,9 +124,9 @@ returns-clause-turned c =
     let more = line_more log clause learnt.hints.items line count in
     let known_lines = known_more letters log.lines clause c.self.invariant.known_lines known in
     let next_is : c.derive.new.self ≡ next = c.in_ok-line.ensures.added.0 ∙ ap₂ (with_line log) c.deref.ensures.value c.deref-2.ensures.value in
-    let w_is : c.store.new.watches ≡ with_clause w clause = c.in-Ok.ensures.watches ∙ ap (with_clause w) c.deref-3.ensures.value in
+    let is_named = subst (λ r. IsNamed w c.store.new.watches r (Line line)) c.deref-3.ensures.value c.in-Ok.ensures.stored in
     let e : Entry = record { literal = c.index.result.now; level = c.args.level; reason = Some (Line line) } in
-    let stands = learned_stands letters a b w c.self.inside.names c.self.inside.units.items log next c.self.inside.head c.self.inside.sure c.self.inside.done c.self.inside.firm (length c.self.inside.marks.stamps) c.smaller-sure.result c.front-front.result c.args.level c.loosen.new.done c.loosen.new.firm line clause places c.index.result.now
+    let stands = learned_stands letters a b w c.self.inside.units.items log next c.self.inside.head c.self.inside.sure c.self.inside.done c.self.inside.firm (length c.self.inside.marks.stamps) c.smaller-sure.result c.front-front.result c.args.level c.loosen.new.done c.loosen.new.firm line clause places c.index.result.now
     c.self.invariant c.told.ensures more c.self.invariant.known_inputs known_lines c.cut.ensures.trail c.cut.ensures.letters c.front-front.ensures.within c.front-front.ensures.low c.front-front.ensures.high c.smaller-sure.ensures.one c.smaller-sure.ensures.two c.loosen.ensures.all
     is.clause_is is.inside is.falling asserting target c.index.ensures in
     let n = length b.trail in
@@ -142,7 +143,7 @@ returns-clause-turned c =
 pub invariant_of-self-in-Err : goal.invariant_of-self-in-Err
 invariant_of-self-in-Err c =
     let back = c.take_back_line.ensures c.self.inside.log (record { clause = c.deref.result.now; hints = c.deref-2.result.now; is = c.in_ok-line.ensures.added.0 }) in
-    rw (c.in-Err.ensures.watches, c.in-Err.ensures.names, back) c.self.invariant
+    rw (c.in-Err.ensures.refused, back) c.self.invariant
 
 pub returns-in-Err-clause-refused : goal.returns-in-Err-clause-refused
 returns-in-Err-clause-refused c =

@@ -18,22 +18,22 @@ visit_units-requires-clause-firm c =
 
 pub invariant_of-self : goal.invariant_of-self
 invariant_of-self c =
-    state_visited c.self.inside.letters c.self.inside.assigned c.visit_units.new.assigned c.self.inside.watches c.self.inside.names c.self.inside.units.items c.self.inside.log c.self.inside.head c.self.inside.sure c.self.inside.done c.self.inside.firm (length c.self.inside.marks.stamps)
+    state_visited c.self.inside.letters c.self.inside.assigned c.visit_units.new.assigned c.self.inside.watches c.self.inside.units.items c.self.inside.log c.self.inside.head c.self.inside.sure c.self.inside.done c.self.inside.firm (length c.self.inside.marks.stamps)
     c.self.invariant c.in_err-hint.ensures.grown c.in_err-hint.ensures.is_trail c.in_err-hint.ensures.letters
 
 pub invariant_of-self-in-Some : goal.invariant_of-self-in-Some
 invariant_of-self-in-Some c =
-    state_visited c.self.inside.letters c.self.inside.assigned c.visit_units.new.assigned c.self.inside.watches c.self.inside.names c.self.inside.units.items c.self.inside.log c.self.inside.head c.self.inside.sure c.self.inside.done c.self.inside.firm (length c.self.inside.marks.stamps)
+    state_visited c.self.inside.letters c.self.inside.assigned c.visit_units.new.assigned c.self.inside.watches c.self.inside.units.items c.self.inside.log c.self.inside.head c.self.inside.sure c.self.inside.done c.self.inside.firm (length c.self.inside.marks.stamps)
     c.self.invariant c.in_ok-hint.ensures.grown c.in_ok-hint.ensures.is_trail c.in_ok-hint.ensures.letters
 
 pub propagate-requires-clause-sure : goal.propagate-requires-clause-sure
 propagate-requires-clause-sure c =
-    (state_visited c.self.inside.letters c.self.inside.assigned c.visit_units.new.assigned c.self.inside.watches c.self.inside.names c.self.inside.units.items c.self.inside.log c.self.inside.head c.self.inside.sure c.self.inside.done c.self.inside.firm (length c.self.inside.marks.stamps)
+    (state_visited c.self.inside.letters c.self.inside.assigned c.visit_units.new.assigned c.self.inside.watches c.self.inside.units.items c.self.inside.log c.self.inside.head c.self.inside.sure c.self.inside.done c.self.inside.firm (length c.self.inside.marks.stamps)
     c.self.invariant c.in_ok-hint.ensures.grown c.in_ok-hint.ensures.is_trail c.in_ok-hint.ensures.letters).is_sure
 
 pub propagate-requires-clause-ready : goal.propagate-requires-clause-ready
 propagate-requires-clause-ready c =
-    let state = state_visited c.self.inside.letters c.self.inside.assigned c.visit_units.new.assigned c.self.inside.watches c.self.inside.names c.self.inside.units.items c.self.inside.log c.self.inside.head c.self.inside.sure c.self.inside.done c.self.inside.firm (length c.self.inside.marks.stamps)
+    let state = state_visited c.self.inside.letters c.self.inside.assigned c.visit_units.new.assigned c.self.inside.watches c.self.inside.units.items c.self.inside.log c.self.inside.head c.self.inside.sure c.self.inside.done c.self.inside.firm (length c.self.inside.marks.stamps)
     c.self.invariant c.in_ok-hint.ensures.grown c.in_ok-hint.ensures.is_trail c.in_ok-hint.ensures.letters in
     state.ready
 
@@ -44,21 +44,20 @@ pub invariant_of-self-in_err-found : goal.invariant_of-self-in_err-found
 invariant_of-self-in_err-found c =
     let letters = c.self.inside.letters in
     let log = c.self.inside.log in
-    let names = c.self.inside.names in
     let units = c.self.inside.units.items in
     let w = c.self.inside.watches in
     let b = c.visit_units.new.assigned in
     let done = c.self.inside.done in
     let solid = c.self.inside.firm in
     let marked = length c.self.inside.marks.stamps in
-    let state = state_visited letters c.self.inside.assigned b w names units log c.self.inside.head c.self.inside.sure done solid marked
+    let state = state_visited letters c.self.inside.assigned b w units log c.self.inside.head c.self.inside.sure done solid marked
     c.self.invariant c.in_ok-hint.ensures.grown c.in_ok-hint.ensures.is_trail c.in_ok-hint.ensures.letters in
     let true_units = subst (λ us. AreFirm log.inputs log.lines us (length us) (literals_of b.trail)) c.deref.ensures.value (none_case _ c.in_ok-hint.field-0 c.in-None.is c.in_ok-hint.ensures.found) in
     let count : c.len.result ≡ length units = omega arith in
     let cases : IsSettle (length units) done c.settle.new.done c.settle.new.firm solid (length b.trail) = rw (← count, ← c.len-2.ensures) c.settle.ensures.all in
-    let firm = state_firm letters b w names units log c.self.inside.head c.self.inside.sure done solid c.settle.new.done c.settle.new.firm marked state true_units cases in
-    let whole = state_grown letters b c.propagate.new.assigned w c.propagate.new.watches names units log c.self.inside.head c.self.inside.sure c.settle.new.done c.settle.new.firm c.propagate.new.head c.propagate.new.sure marked firm
-    c.in_err-found.ensures.grown c.in_err-found.ensures.letters c.in_err-found.ensures.low c.in_err-found.ensures.sure
+    let firm = state_firm letters b w units log c.self.inside.head c.self.inside.sure done solid c.settle.new.done c.settle.new.firm marked state true_units cases in
+    let whole = state_grown letters b c.propagate.new.assigned w c.propagate.new.watches units log c.self.inside.head c.self.inside.sure c.settle.new.done c.settle.new.firm c.propagate.new.head c.propagate.new.sure marked firm
+    c.in_err-found.ensures.grown c.in_err-found.ensures.letters c.in_err-found.ensures.names c.in_err-found.ensures.low c.in_err-found.ensures.sure
     c.in_err-found.ensures.kept in
     whole
 
@@ -76,21 +75,20 @@ pub invariant_of-self-2 : goal.invariant_of-self-2
 invariant_of-self-2 c =
     let letters = c.self.inside.letters in
     let log = c.self.inside.log in
-    let names = c.self.inside.names in
     let units = c.self.inside.units.items in
     let w = c.self.inside.watches in
     let b = c.visit_units.new.assigned in
     let done = c.self.inside.done in
     let solid = c.self.inside.firm in
     let marked = length c.self.inside.marks.stamps in
-    let state = state_visited letters c.self.inside.assigned b w names units log c.self.inside.head c.self.inside.sure done solid marked
+    let state = state_visited letters c.self.inside.assigned b w units log c.self.inside.head c.self.inside.sure done solid marked
     c.self.invariant c.in_ok-hint.ensures.grown c.in_ok-hint.ensures.is_trail c.in_ok-hint.ensures.letters in
     let true_units = subst (λ us. AreFirm log.inputs log.lines us (length us) (literals_of b.trail)) c.deref.ensures.value (none_case _ c.in_ok-hint.field-0 c.in-None.is c.in_ok-hint.ensures.found) in
     let count : c.len.result ≡ length units = omega arith in
     let cases : IsSettle (length units) done c.settle.new.done c.settle.new.firm solid (length b.trail) = rw (← count, ← c.len-2.ensures) c.settle.ensures.all in
-    let firm = state_firm letters b w names units log c.self.inside.head c.self.inside.sure done solid c.settle.new.done c.settle.new.firm marked state true_units cases in
-    let whole = state_grown letters b c.propagate.new.assigned w c.propagate.new.watches names units log c.self.inside.head c.self.inside.sure c.settle.new.done c.settle.new.firm c.propagate.new.head c.propagate.new.sure marked firm
-    c.in_ok-found.ensures.grown c.in_ok-found.ensures.letters c.in_ok-found.ensures.low c.in_ok-found.ensures.sure
+    let firm = state_firm letters b w units log c.self.inside.head c.self.inside.sure done solid c.settle.new.done c.settle.new.firm marked state true_units cases in
+    let whole = state_grown letters b c.propagate.new.assigned w c.propagate.new.watches units log c.self.inside.head c.self.inside.sure c.settle.new.done c.settle.new.firm c.propagate.new.head c.propagate.new.sure marked firm
+    c.in_ok-found.ensures.grown c.in_ok-found.ensures.letters c.in_ok-found.ensures.names c.in_ok-found.ensures.low c.in_ok-found.ensures.sure
     c.in_ok-found.ensures.kept in
     whole
 
@@ -112,24 +110,23 @@ pub returns-clause-found : goal.returns-clause-found
 returns-clause-found c =
     let letters = c.self.inside.letters in
     let log = c.self.inside.log in
-    let names = c.self.inside.names in
     let units = c.self.inside.units.items in
     let w = c.self.inside.watches in
     let b = c.visit_units.new.assigned in
     let done = c.self.inside.done in
     let solid = c.self.inside.firm in
     let marked = length c.self.inside.marks.stamps in
-    let state = state_visited letters c.self.inside.assigned b w names units log c.self.inside.head c.self.inside.sure done solid marked
+    let state = state_visited letters c.self.inside.assigned b w units log c.self.inside.head c.self.inside.sure done solid marked
     c.self.invariant c.in_ok-hint.ensures.grown c.in_ok-hint.ensures.is_trail c.in_ok-hint.ensures.letters in
     let true_units = subst (λ us. AreFirm log.inputs log.lines us (length us) (literals_of b.trail)) c.deref.ensures.value (none_case _ c.in_ok-hint.field-0 c.in-None.is c.in_ok-hint.ensures.found) in
     let count : c.len.result ≡ length units = omega arith in
     let cases : IsSettle (length units) done c.settle.new.done c.settle.new.firm solid (length b.trail) = rw (← count, ← c.len-2.ensures) c.settle.ensures.all in
-    let firm = state_firm letters b w names units log c.self.inside.head c.self.inside.sure done solid c.settle.new.done c.settle.new.firm marked state true_units cases in
-    let whole = state_grown letters b c.propagate.new.assigned w c.propagate.new.watches names units log c.self.inside.head c.self.inside.sure c.settle.new.done c.settle.new.firm c.propagate.new.head c.propagate.new.sure marked firm
-    c.in_ok-found.ensures.grown c.in_ok-found.ensures.letters c.in_ok-found.ensures.low c.in_ok-found.ensures.sure
+    let firm = state_firm letters b w units log c.self.inside.head c.self.inside.sure done solid c.settle.new.done c.settle.new.firm marked state true_units cases in
+    let whole = state_grown letters b c.propagate.new.assigned w c.propagate.new.watches units log c.self.inside.head c.self.inside.sure c.settle.new.done c.settle.new.firm c.propagate.new.head c.propagate.new.sure marked firm
+    c.in_ok-found.ensures.grown c.in_ok-found.ensures.letters c.in_ok-found.ensures.names c.in_ok-found.ensures.low c.in_ok-found.ensures.sure
     c.in_ok-found.ensures.kept in
     let d = c.propagate.new.assigned in
     let finish = finished (length units) done c.settle.new.done c.settle.new.firm solid (length b.trail) c.self.invariant.done_in cases in
     found_weaker (c.propagate.new.head ≡ length d.trail) (IsSettled (state_of letters d.trail log)) (IsConflict log.inputs log.lines (literals_of d.trail)) c.in_ok-found.found
-    (λ all. settled letters d c.propagate.new.watches names units log c.propagate.new.head c.propagate.new.sure c.settle.new.done c.settle.new.firm marked whole c.told.ensures c.watching.ensures all finish)
+    (λ all. settled letters d c.propagate.new.watches units log c.propagate.new.head c.propagate.new.sure c.settle.new.done c.settle.new.firm marked whole c.told.ensures c.watching.ensures.watched all finish)
     c.in_ok-found.ensures.found
