@@ -55,7 +55,7 @@ impl Solver {
         ensures known { OnOk result (self.new ≡ record { letters = count; log = self.old.log; model = [] }) }
         ensures refused { OnErr result (self.new ≡ self.old) }
     {
-        self.state.letters(self.alloc, count)?;
+        self.state.letters(count)?;
         self.model.truncate(0);
         Ok(())
     }

@@ -358,13 +358,12 @@ impl State {
     }
 
     /// Makes the letters up to the count known.
-    pub fn letters(&mut self, alloc: Global, count: u32) -> Result<(), AllocError>
+    pub fn letters(&mut self, count: u32) -> Result<(), AllocError>
         requires { self.old.letters ≤ count }
         ensures known { OnOk result (self.new ≡ with_letters self.old count) }
         ensures refused { OnErr result (self.new ≡ self.old) }
     {
         widen(
-            alloc,
             &mut self.assigned,
             &mut self.watches,
             &mut self.marks,

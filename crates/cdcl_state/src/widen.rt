@@ -7,11 +7,10 @@ use cdcl_activity::choices::Choices;
 use cdcl_analyze::marks::Marks;
 use cdcl_trail::assigned::Assigned;
 use cdcl_watches::watches::Watches;
-use std::alloc::{AllocError, Global};
+use std::alloc::AllocError;
 
 /// Makes room for one letter more.
 fn widen_one(
-    alloc: Global,
     assigned: &mut Assigned,
     watches: &mut Watches,
     marks: &mut Marks,
@@ -34,7 +33,7 @@ fn widen_one(
     marks.letter()?;
     choices.letter()?;
     watches.watching();
-    watches.letter(alloc)?;
+    watches.letter()?;
     match assigned.letter() {
         Ok(()) => {
             return Ok(());
@@ -48,7 +47,6 @@ fn widen_one(
 
 /// Makes room for the letters up to the count.
 pub fn widen(
-    alloc: Global,
     assigned: &mut Assigned,
     watches: &mut Watches,
     marks: &mut Marks,
@@ -69,7 +67,7 @@ pub fn widen(
     ensures ok { OnOk result (count < length assigned.new.values) }
 {
     'more: while assigned.letters() <= count as usize {
-        widen_one(alloc, assigned, watches, marks, choices)?;
+        widen_one(assigned, watches, marks, choices)?;
     }
     Ok(())
 }

@@ -15,3 +15,6 @@ pub mod Kept
 pub mod Rewatched
 pub mod AddedWatchers
 pub mod Walks
+pub mod PoolBlocks
+pub mod PoolContents
+pub mod PoolCalls

@@ -1,3 +1,4 @@
 pub mod Watching
 pub mod Heads
 pub mod Watchers
+pub mod Pool

@@ -5,6 +5,9 @@
 pub mod arena;
 pub mod clause;
 pub mod coded;
+pub mod pool;
+pub mod span;
+pub mod spare;
 pub mod walk;
 pub mod watch_lists;
 pub mod watcher;

@@ -1,8 +1,12 @@
-// For each literal the list of the clauses that watch it.
+// For each literal the list of the clauses that watch it. The lists stand in one pool, each in a block of its
+// own whose room is a power of two: so lists of a watcher or two cost little, and a list that grows moves
+// seldom. A block that a list has outgrown serves another list.
 ghost use Rattle.std.specs.Prelude.{◌≡◌, ◌+◌, ◌-◌, ◌<◌, ◌≤◌, ◌^◌, List, [], ◌∷◌, ◌++◌, length, take, if◌then◌else◌, is_ok, slice_index_or, slice_set};
-ghost use Rattle.std.specs.List.{remove_range};
 ghost use Rattle.cdcl_watches.specs.Watchers.{nobody, without};
 
+use crate::pool::{put, widen};
+use crate::span::{Span, room};
+use crate::spare::Spare;
 use crate::watcher::Watcher;
 use std::alloc::{AllocError, Global};
 use std::marker::Model;
@@ -11,21 +15,25 @@ use std::marker::Model;
 const MAX_LISTS: usize = 4294967296;
 
 /// Lists of watchers, one for each literal. There is room for 4,294,967,296 of them, so many as there are
-/// codes.
+/// codes, and for 4,294,967,295 watchers in all: their places are numbers of 32 bits.
 #[derive(Drop)]
 pub struct WatchLists {
-    lists: Vec<Vec<Watcher>>,
+    spans: Vec<Span>,
+    /// The blocks of the lists, the spare ones, and what counts for nothing.
+    pool: Vec<Watcher>,
+    spare: Spare,
 }
 
 impl Model for WatchLists {
-    ghost use Rattle.std.specs.Prelude.{◌≤◌, ◌^◌, List, map, length};
+    ghost use Rattle.std.specs.Prelude.{List};
     ghost use Rattle.cdcl_watches.specs.declared.watcher.Watcher.{Watcher};
+    ghost use Rattle.cdcl_watches.specs.Pool.{contents, IsPool};
 
     ghost Value = { List (List Watcher) };
 
-    ghost view = { λ a. map (λ v. v.items) a.lists.items };
+    ghost view = { λ a. contents a.pool.items a.spans.items };
 
-    ghost invariant = { λ a. length a.lists.items ≤ 2 ^ 32 };
+    ghost invariant = { λ a. IsPool a.pool.items a.spans.items a.spare };
 }
 
 impl WatchLists {
@@ -34,26 +42,35 @@ impl WatchLists {
         ensures { result ≡ [] }
     {
         WatchLists {
-            lists: Vec::new(alloc),
+            spans: Vec::new(alloc),
+            pool: Vec::new(alloc),
+            spare: Spare::new(alloc),
         }
     }
 
     /// Puts an empty list behind the others.
-    pub fn grow(&mut self, alloc: Global) -> Result<(), AllocError>
+    pub fn grow(&mut self) -> Result<(), AllocError>
         ensures { self.new ≡ (if is_ok result then self.old ++ [] ∷ [] else self.old) }
     {
-        if self.lists.len() >= MAX_LISTS {
+        if self.spans.len() >= MAX_LISTS {
             return Err(AllocError);
         }
-        self.lists.push(Vec::new(alloc))?;
-        Ok(())
+        let nowhere = Span {
+            from: 0,
+            len: 0,
+            class: 0,
+        };
+        match self.spans.push(nowhere) {
+            Ok(()) => return Ok(()),
+            Err(_) => return Err(AllocError),
+        }
     }
 
     /// Each list has a number of 32 bits.
     pub fn few(&self)
         ensures { length self.now ≤ 2 ^ 32 }
     {
-        let _ = &self.lists;
+        let _ = &self.spans;
     }
 
     /// Takes the last list off.
@@ -61,8 +78,8 @@ impl WatchLists {
         requires { 0 < length self.old }
         ensures { self.new ≡ take (length self.old - 1) self.old }
     {
-        let count = self.lists.len() - 1;
-        self.lists.truncate(count);
+        let count = self.spans.len() - 1;
+        self.spans.truncate(count);
     }
 
     /// The length of a list.
@@ -70,7 +87,7 @@ impl WatchLists {
         requires { list < length self.now }
         ensures { result ≡ length (slice_index_or self.now list []) }
     {
-        self.lists[list].len()
+        self.spans[list].len as usize
     }
 
     /// The watcher at a place of a list.
@@ -79,7 +96,7 @@ impl WatchLists {
         requires place { place < length (slice_index_or self.now list []) }
         ensures { result ≡ slice_index_or (slice_index_or self.now list []) place nobody }
     {
-        self.lists[list][place]
+        self.pool[self.spans[list].from as usize + place]
     }
 
     /// Puts the watcher at a place of a list.
@@ -89,19 +106,24 @@ impl WatchLists {
         ensures { self.new ≡ slice_set self.old list (slice_set
             (slice_index_or self.old list []) place watcher) }
     {
-        self.lists[list][place] = watcher;
+        let from = self.spans[list].from as usize;
+        self.pool[from + place] = watcher;
     }
 
-    /// Puts the watcher behind a list.
+    /// Puts the watcher behind a list. Want of room is told as want of memory.
     pub fn push(&mut self, list: usize, watcher: Watcher) -> Result<(), AllocError>
         requires { list < length self.old }
         ensures { self.new ≡ (if is_ok result then slice_set self.old list
             (slice_index_or self.old list [] ++ watcher ∷ []) else self.old) }
     {
-        match self.lists[list].push(watcher) {
-            Ok(()) => return Ok(()),
-            Err(_) => return Err(AllocError),
+        let span = self.spans[list];
+        if span.len < room(span.class) {
+            put(&mut self.spans, &mut self.pool, list, watcher);
+            return Ok(());
         }
+        widen(&mut self.spans, &mut self.pool, &mut self.spare, list)?;
+        put(&mut self.spans, &mut self.pool, list, watcher);
+        Ok(())
     }
 
     /// Takes the last watcher off a list.
@@ -111,8 +133,7 @@ impl WatchLists {
         ensures { self.new ≡ slice_set self.old list (take (length (slice_index_or self.old list []) - 1)
             (slice_index_or self.old list [])) }
     {
-        let count = self.lists[list].len() - 1;
-        self.lists[list].truncate(count);
+        self.spans[list].len -= 1;
     }
 
     /// Takes the watchers from `kept` to `next` out of a list; the others keep their order.
@@ -125,31 +146,14 @@ impl WatchLists {
         if kept == next {
             return;
         }
-        shut(&mut self.lists[list], kept, next);
+        let span = self.spans[list];
+        let from = span.from as usize;
+        let len = span.len as usize;
+        self.pool.copy_within(from + next..from + len, from + kept);
+        self.spans[list] = Span {
+            from: span.from,
+            len: (kept + (len - next)) as u32,
+            class: span.class,
+        };
     }
-}
-
-/// Moves the items from `next` on down to `kept`.
-fn carry(items: &mut Vec<Watcher>, kept: usize, next: usize)
-    requires order { kept ≤ next }
-    requires within { next ≤ length items.old.items }
-    ensures len { length items.new.items ≡ length items.old.items }
-    ensures rest { take (kept + (length items.old.items - next)) items.new.items
-        ≡ remove_range items.old.items kept next }
-{
-    let count = items.len() - next;
-    for i in 0..count {
-        items[kept + i] = items[next + i];
-    }
-}
-
-/// Takes the items from `kept` to `next` out.
-fn shut(items: &mut Vec<Watcher>, kept: usize, next: usize)
-    requires order { kept ≤ next }
-    requires within { next ≤ length items.old.items }
-    ensures { items.new.items ≡ remove_range items.old.items kept next }
-{
-    let count = items.len() - next;
-    carry(items, kept, next);
-    items.truncate(kept + count);
 }

@@ -84,12 +84,12 @@ impl Watches {
     }
 
     /// Makes one more letter known: two literals that nothing watches.
-    pub fn letter(&mut self, alloc: Global) -> Result<(), AllocError>
+    pub fn letter(&mut self) -> Result<(), AllocError>
         ensures { self.new ≡ (if is_ok result then with_lists self.old
             (self.old.lists ++ [] ∷ [] ∷ []) else self.old) }
     {
-        self.lists.grow(alloc)?;
-        match self.lists.grow(alloc) {
+        self.lists.grow()?;
+        match self.lists.grow() {
             Ok(()) => {
                 return Ok(());
             }

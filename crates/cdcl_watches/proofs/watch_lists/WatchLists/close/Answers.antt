@@ -1,16 +1,14 @@
-use Rattle.std.proofs.Common.{◌<◌, List, length, ap, ◌∙◌, arith, Vec, Global}
-use Rattle.std.specs.List.{remove_range}
-use Rattle.std.proofs.lemmas.List.{length-map}
-use Rattle.cdcl_watches.specs.declared.watcher.Watcher.{Watcher}
-use Rattle.cdcl_watches.proofs.ListEdits.{map_edit}
+use Rattle.std.proofs.Common.{arith}
+use Rattle.cdcl_watches.proofs.PoolCalls.{close_pool, close_call}
 use Rattle.cdcl_watches.proofs.watch_lists.WatchLists.close.Goals as goal
 
-abbrev items_of : Vec Watcher Global → List Watcher
-items_of v = v.items
+pub invariant_of-self : goal.invariant_of-self
+invariant_of-self c =
+    close_pool c.self.inside.pool.items c.self.inside.spans.items c.self.inside.spare c.self.invariant c.args.list (rw (← c.self.view_is) at c.requires.list) c.index-span.result.now c.index-span.ensures
+    c.copy_within.new.self.items c.args.kept c.args.next c.requires.order (rw (← c.self.view_is) at c.requires.within) (omega (arith, c.copy_within.ensures.len))
 
 pub returns : goal.returns
 returns c =
-    let vs = c.self.inside.lists.items in
-    let low : c.args.list < length vs = omega (arith, c.requires.list, length-map vs items_of, ap length c.self.view_is) in
-    rw (← c.self.view_is) (map_edit items_of (λ xs. remove_range xs c.args.kept c.args.next) vs c.args.list c.shut.new.items c.index_mut.result.now low
-    (c.shut.ensures ∙ ap (λ v. remove_range (items_of v) c.args.kept c.args.next) c.index_mut.ensures.value))
+    let copied = c.copy_within.ensures.by_index in
+    rw (← c.self.view_is) (close_call c.self.inside.pool.items c.self.inside.spans.items c.self.inside.spare c.self.invariant c.args.list (rw (← c.self.view_is) at c.requires.list) c.index-span.result.now c.index-span.ensures
+    c.copy_within.new.self.items c.args.kept c.args.next c.requires.order (rw (← c.self.view_is) at c.requires.within) (omega (arith, c.copy_within.ensures.len)) copied.0 copied.1 copied.2)

@@ -1,21 +1,25 @@
-use Rattle.std.proofs.Common.{◌<◌, List, [], ◌∷◌, ◌++◌, length, ap, ◌∙◌, arith, Vec, Global}
-use Rattle.std.proofs.Math.Seq.{map-set_same}
-use Rattle.std.proofs.lemmas.List.{length-map}
-use Rattle.cdcl_watches.specs.declared.watcher.Watcher.{Watcher}
-use Rattle.cdcl_watches.proofs.ListEdits.{map_edit}
+use Rattle.std.proofs.Common.{[], ◌∷◌, ◌++◌, set, get_or, ap, ap₂, ◌∙◌, arith}
+use Rattle.cdcl_watches.specs.Pool.{contents}
+use Rattle.cdcl_watches.proofs.PoolCalls.{known_list, room_at, put_pool, put_call}
 use Rattle.cdcl_watches.proofs.watch_lists.WatchLists.push.Goals as goal
 
-abbrev items_of : Vec Watcher Global → List Watcher
-items_of v = v.items
+pub returns-then-span-room : goal.returns-then-span-room
+returns-then-span-room c =
+    let pool = c.self.inside.pool.items in
+    let spans = c.self.inside.spans.items in
+    let known = known_list pool spans c.args.list (rw (← c.self.view_is) at c.requires) in
+    let room = room_at spans c.args.list c.index-span.result.now known c.index-span.ensures (omega (arith, c.if-span-room.true, c.room.ensures)) in
+    rw (← c.self.view_is) (ap₂ contents c.put.ensures.pool c.put.ensures.spans ∙ put_call pool spans c.self.inside.spare c.self.invariant c.args.list known room c.args.watcher)
 
-pub returns-in-Ok : goal.returns-in-Ok
-returns-in-Ok c =
-    let vs = c.self.inside.lists.items in
-    let low : c.args.list < length vs = omega (arith, c.requires, length-map vs items_of, ap length c.self.view_is) in
-    rw (← c.self.view_is) (map_edit items_of (λ xs. xs ++ c.args.watcher ∷ []) vs c.args.list c.push.new.self c.index_mut.result.now low
-    (c.in-Ok.ensures.items ∙ ap (λ v. items_of v ++ c.args.watcher ∷ []) c.index_mut.ensures.value))
+pub invariant_of-self-2 : goal.invariant_of-self-2
+invariant_of-self-2 c =
+    let known = known_list c.self.inside.pool.items c.self.inside.spans.items c.args.list (rw (← c.self.view_is) at c.requires) in
+    rw (c.put-2.ensures.pool, c.put-2.ensures.spans)
+    (put_pool c.widen.new.pool.items c.widen.new.spans.items c.widen.new.spare c.in_ok-widen.ensures.pool c.args.list (omega (arith, known, c.in_ok-widen.ensures.lists)) c.in_ok-widen.ensures.room c.args.watcher)
 
-pub returns-in-Err : goal.returns-in-Err
-returns-in-Err c =
-    rw (← c.self.view_is) (map-set_same items_of c.self.inside.lists.items c.args.list c.push.new.self c.index_mut.result.now
-    (c.in-Err.ensures.items ∙ ap items_of c.index_mut.ensures.value))
+pub returns : goal.returns
+returns c =
+    let known = known_list c.self.inside.pool.items c.self.inside.spans.items c.args.list (rw (← c.self.view_is) at c.requires) in
+    rw (← c.self.view_is) (ap₂ contents c.put-2.ensures.pool c.put-2.ensures.spans
+    ∙ put_call c.widen.new.pool.items c.widen.new.spans.items c.widen.new.spare c.in_ok-widen.ensures.pool c.args.list (omega (arith, known, c.in_ok-widen.ensures.lists)) c.in_ok-widen.ensures.room c.args.watcher
+    ∙ ap (λ ls. set ls c.args.list (get_or ls c.args.list [] ++ c.args.watcher ∷ [])) c.in_ok-widen.ensures.same)

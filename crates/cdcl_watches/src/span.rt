@@ -1,0 +1,20 @@
+// Where a list of watchers stands in the pool.
+ghost use Rattle.std.specs.Prelude.{◌≡◌, ◌<◌};
+ghost use Rattle.cdcl_watches.specs.Pool.{room_of};
+
+/// A list begins at `from` in the pool and has `len` watchers. Its block has room for 2 ^ `class` of them; a
+/// list of class 0 has no block.
+#[derive(Clone, Copy, Drop)]
+pub struct Span {
+    pub from: u32,
+    pub len: u32,
+    pub class: u32,
+}
+
+/// So many watchers have room in a block of the class.
+pub fn room(class: u32) -> u32
+    requires { class < 32 }
+    ensures { result ≡ room_of class }
+{
+    if class == 0 { 0 } else { 1 << class }
+}
