@@ -50,7 +50,8 @@ fn along(
         (IsConflict log.now.inputs log.now.lines (literals_of assigned.new.trail))) }
 {
     let list = number(falsified);
-    'along: while lists.len(list) > walk.next {
+    let count = lists.len(list);
+    'along: while walk.next < count {
         let watcher = lists.get(list, walk.next);
         if assigned.holds(decode(watcher.blocker)) {
             pass(lists, list, walk, watcher);

@@ -91,7 +91,7 @@ pub fn visit(
     face(arena, head, falsified);
     let other = arena.clause(head).get(0);
     if assigned.holds(other) {
-        keep(arena, lists, falsified, walk, head);
+        keep(arena, lists, falsified, walk, head, other);
         return Ok(None);
     }
     match find(assigned, &arena.clause(head)) {
@@ -103,7 +103,7 @@ pub fn visit(
         None => {}
     }
     let hint = lengthen(arena.name(head));
-    keep(arena, lists, falsified, walk, head);
+    keep(arena, lists, falsified, walk, head, other);
     if assigned.holds(other.opposite()) {
         return Ok(Some(hint));
     }

@@ -108,6 +108,7 @@ pub fn widen(
 }
 
 /// Puts the watcher behind a list that has room for it.
+#[inline(always)]
 pub fn put(spans: &mut Vec<Span>, pool: &mut Vec<Watcher>, list: usize, watcher: Watcher)
     requires list { list < length spans.old.items }
     requires inside { (span_at spans.old.items list).from + (span_at spans.old.items list).len

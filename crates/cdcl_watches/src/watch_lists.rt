@@ -111,6 +111,7 @@ impl WatchLists {
     }
 
     /// Puts the watcher behind a list. Want of room is told as want of memory.
+    #[inline(always)]
     pub fn push(&mut self, list: usize, watcher: Watcher) -> Result<(), AllocError>
         requires { list < length self.old }
         ensures { self.new ≡ (if is_ok result then slice_set self.old list

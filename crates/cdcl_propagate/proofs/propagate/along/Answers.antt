@@ -1,4 +1,4 @@
-use Rattle.std.proofs.Common.{◌≡◌, ◌<◌, [], set, Contains, length, get_or, sym, ap, ◌∙◌, subst, arith}
+use Rattle.std.proofs.Common.{◌≡◌, ◌<◌, [], set, Contains, length, get_or, sym, ap, ◌∙◌, subst, arith, length-set, get_or-set_same}
 use Rattle.cnf_base.specs.declared.literal.Literal.{Literal}
 use Rattle.cdcl_trail.specs.Trail.{literals_of, IsConflict}
 use Rattle.cdcl_watches.specs.Watching.{code}
@@ -9,15 +9,13 @@ use Rattle.cdcl_propagate.proofs.propagate.along.Goals as goal
 
 pub holds-requires : goal.holds-requires
 holds-requires c =
-    let len : c.len.result ≡ length (get_or c.along.lists (code c.args.falsified) []) = rw c.number-list.ensures at c.len.ensures in
-    let there : c.along.walk.next < length (get_or c.along.lists (code c.args.falsified) []) = omega (arith, c.along-test.true, len) in
+    let there : c.along.walk.next < length (get_or c.along.lists (code c.args.falsified) []) = omega (arith, c.along-test.true, c.along.invariant.count) in
     let w_is : c.get-watcher.result ≡ get_or (get_or c.along.lists (code c.args.falsified) []) c.along.walk.next nobody = rw c.number-list.ensures at c.get-watcher.ensures in
     subst (λ (m : Literal). m.letter.0 < length c.along.assigned.values) (sym (c.decode.ensures ∙ ap blocker_of w_is)) (next_letter c.along.arena c.along.lists c.args.falsified c.along.walk.kept c.along.walk.next c.along.invariant.walk there (length c.along.assigned.values) c.along.invariant.visiting.sized)
 
 pub along-preserved-then-holds : goal.along-preserved-then-holds
 along-preserved-then-holds c =
-    let len : c.len.result ≡ length (get_or c.along.lists (code c.args.falsified) []) = rw c.number-list.ensures at c.len.ensures in
-    let there : c.along.walk.next < length (get_or c.along.lists (code c.args.falsified) []) = omega (arith, c.along-test.true, len) in
+    let there : c.along.walk.next < length (get_or c.along.lists (code c.args.falsified) []) = omega (arith, c.along-test.true, c.along.invariant.count) in
     let w_is : c.get-watcher.result ≡ get_or (get_or c.along.lists (code c.args.falsified) []) c.along.walk.next nobody = rw c.number-list.ensures at c.get-watcher.ensures in
     let w = get_or (get_or c.along.lists (code c.args.falsified) []) c.along.walk.next nobody in
     let pushed : c.pass.new.lists ≡ set c.along.lists (code c.args.falsified) (set (get_or c.along.lists (code c.args.falsified) []) c.along.walk.kept c.get-watcher.result) = rw c.number-list.ensures at c.pass.ensures.lists in
@@ -27,6 +25,7 @@ along-preserved-then-holds c =
       same = c.along.invariant.same;
       walk = rw (lists_are, c.pass.ensures.kept, c.pass.ensures.next) (passed_walked c.along.arena c.along.lists c.args.falsified c.along.walk.kept c.along.walk.next c.along.invariant.walk there);
       visiting = rw (lists_are, c.pass.ensures.kept, c.pass.ensures.next) (passed_visiting c.along.arena c.along.lists c.args.falsified c.along.walk.kept c.along.walk.next c.along.invariant.walk there c.args.log.now.inputs c.args.log.now.lines c.args.place c.along.assigned c.along.invariant.same c.along.invariant.visiting true_one);
+      count = c.along.invariant.count ∙ sym (ap (λ ls. length (get_or ls (code c.args.falsified) [])) lists_are ∙ ap length (get_or-set_same c.along.lists (code c.args.falsified) (set (get_or c.along.lists (code c.args.falsified) []) c.along.walk.kept w) [] c.along.invariant.walk.known) ∙ length-set (get_or c.along.lists (code c.args.falsified) []) c.along.walk.kept w);
       named = c.along.invariant.named;
       grown = c.along.invariant.grown;
       letters = c.along.invariant.letters;
@@ -52,6 +51,7 @@ along-preserved c =
       same = c.along.invariant.same ∙ sym (grown_at c.along.assigned.trail c.visit.new.assigned.trail c.args.place c.in_ok-hint.ensures.grown c.along.invariant.visiting.within);
       walk = c.in_ok-hint.ensures.walked;
       visiting = passed.visiting;
+      count = c.along.invariant.count ∙ sym passed.same;
       named = c.in_ok-hint.ensures.names ∙ c.along.invariant.named;
       grown = grown_more c.args.assigned.now.trail c.along.assigned.trail c.visit.new.assigned.trail c.along.invariant.grown c.in_ok-hint.ensures.grown;
       letters = c.in_ok-hint.ensures.letters ∙ c.along.invariant.letters;
@@ -61,7 +61,6 @@ along-preserved c =
 pub returns-clause-found : goal.returns-clause-found
 returns-clause-found c =
     let w = walked c.along.arena c.along.lists (code c.args.falsified) c.along.walk.kept c.along.walk.next in
-    let len : c.len.result ≡ length (get_or c.along.lists (code c.args.falsified) []) = rw c.number-list.ensures at c.len.ensures in
-    let all = walk_ended c.along.arena c.along.lists c.args.falsified c.along.walk.kept c.along.walk.next c.along.invariant.walk (omega (arith, c.along-test.false, len)) in
+    let all = walk_ended c.along.arena c.along.lists c.args.falsified c.along.walk.kept c.along.walk.next c.along.invariant.walk (omega (arith, c.along-test.false, c.along.invariant.count)) in
     end_visit c.args.log.now.inputs c.args.log.now.lines c.args.place c.along.assigned w c.along.walk.kept
     (omega (arith, all, ap (λ (l : Literal). length (get_or w.lists (code l) [])) c.along.invariant.same)) c.along.invariant.walk.watchers.watching c.along.invariant.visiting

@@ -10,6 +10,7 @@ invariant-along l = record {
   same : l.falsified ≡ false_at l.assigned.trail l.place;
   walk : IsWalked l.arena l.lists (code l.falsified) l.walk.kept l.walk.next;
   visiting : IsVisiting l.log.inputs l.log.lines l.place l.walk.kept l.assigned (walked l.arena l.lists (code l.falsified) l.walk.kept l.walk.next);
+  count : l.count ≡ length (get_or l.lists (code l.falsified) []);
   named : l.arena.names ≡ l.initial.arena.names;
   grown : IsGrown l.initial.assigned.trail l.assigned.trail;
   letters : length l.assigned.values ≡ length l.initial.assigned.values;

@@ -211,3 +211,15 @@ pub returns-clause-sure : goal.returns-clause-sure
 returns-clause-sure c =
     λ n low sure. subst (λ t. IsSure c.face.new.arena.clauses t n) (sym c.in_ok-assign.ensures.trail)
     (sure_grown c.face.new.arena.clauses c.args.assigned.now.trail n (record { literal = c.get-other.result; level = c.level-level.result; reason = Some c.lengthen-hint.result }) (omega (arith, low, c.requires.visiting.within)) (faced_sure c.args.arena.now c.face.new.arena c.args.lists.now c.args.falsified c.args.walk.now.kept c.args.walk.now.next c.requires.walked c.requires.there c.args.head c.requires.head c.face.ensures.heads c.face.ensures.faced c.args.assigned.now.trail n sure))
+
+pub keep-requires-clause-first : goal.keep-requires-clause-first
+keep-requires-clause-first c =
+    let at = walk_at c.args.arena.now c.face.new.arena c.args.lists.now c.args.falsified c.args.walk.now.kept c.args.walk.now.next c.requires.walked c.requires.there c.args.head c.requires.head c.face.ensures.heads c.face.ensures.faced c.args.log.now.inputs c.args.log.now.lines c.args.place c.args.assigned.now c.requires.falsified c.requires.visiting in
+    let row = clause_of c.face.new.arena.clauses (number_of c.face.new.arena.heads c.args.head) in
+    c.get-other.ensures ∙ ap (λ r. get_or r 0 blank) c.clause.ensures ∙ get_or_default row 0 blank c.get-other.result (omega (arith, at.long))
+
+pub keep-requires-2-clause-first : goal.keep-requires-2-clause-first
+keep-requires-2-clause-first c =
+    let at = walk_at c.args.arena.now c.face.new.arena c.args.lists.now c.args.falsified c.args.walk.now.kept c.args.walk.now.next c.requires.walked c.requires.there c.args.head c.requires.head c.face.ensures.heads c.face.ensures.faced c.args.log.now.inputs c.args.log.now.lines c.args.place c.args.assigned.now c.requires.falsified c.requires.visiting in
+    let row = clause_of c.face.new.arena.clauses (number_of c.face.new.arena.heads c.args.head) in
+    c.get-other.ensures ∙ ap (λ r. get_or r 0 blank) c.clause.ensures ∙ get_or_default row 0 blank c.get-other.result (omega (arith, at.long))
