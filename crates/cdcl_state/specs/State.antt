@@ -1,5 +1,5 @@
 -- What holds of a state: the log is watched, but for its clauses of one literal or none.
-use Rattle.std.specs.Prelude.{◌≡◌, ℕ, ◌^◌, ◌<◌, ◌≤◌, ◌⊎◌, List, length, take, Some, None, All, AllPairs, slice_index_or, ◌≢◌}
+use Rattle.std.specs.Prelude.{◌≡◌, ℕ, ◌^◌, ◌<◌, ◌≤◌, ◌⊎◌, List, length, take, Some, None, All, AllPairs, Contains, slice_index_or, ◌≢◌}
 use Rattle.cnf_base.specs.declared.literal.Literal.{Literal}
 use Rattle.cnf_base.specs.declared.literal.Hint.{Hint}
 use Rattle.cnf_base.specs.Step.{named}
@@ -38,6 +38,12 @@ AreKnownDecisions letters trail = All (λ e. e.reason ≡ None → IsKnown lette
 -- no entry below the place makes one of the first two literals false
 abbrev pub IsUnwatched : List Entry → List Literal → ℕ → Type 0
 IsUnwatched trail clause place = (k : ℕ) → k < place → (literal_at trail k ≢ opposite (slice_index_or clause 0 blank)) × (literal_at trail k ≢ opposite (slice_index_or clause 1 blank))
+
+-- no letter stands in the clause twice, and neither of its first two literals is false
+pub record IsWatchable (trail : List Entry) (clause : List Literal) : Type 0 where
+  pub once : HasLettersOnce clause
+  pub first : 0 < length clause → ¬ Contains (literals_of trail) (opposite (slice_index_or clause 0 blank))
+  pub second : 1 < length clause → ¬ Contains (literals_of trail) (opposite (slice_index_or clause 1 blank))
 
 -- the clause stands behind the watched ones by a name that says the hint
 pub record IsNamed (old new : WatchValue) (clause : List Literal) (hint : Hint) : Type 0 where

@@ -1,11 +1,11 @@
 // A clause comes into the state: each of its literals once, watched by the first two. A repeated literal is
 // dropped.
-ghost use Rattle.std.specs.Prelude.{◌≡◌, ◌≢◌, ℕ, ◌<◌, ◌≤◌, ◌⊎◌, ◌↔◌, IsTrue, [], length, All, Contains, OnErr, OnOk};
-ghost use Rattle.cdcl_watches.specs.Watching.{code, AreApart};
+ghost use Rattle.std.specs.Prelude.{◌≡◌, ◌≢◌, ℕ, ◌<◌, ◌≤◌, ◌⊎◌, ◌↔◌, IsTrue, [], length, All, Contains, OnErr, OnOk, slice_index_or};
+ghost use Rattle.cdcl_watches.specs.Watching.{code, AreApart, blank};
 ghost use Rattle.cnf_base.specs.Literal.{opposite};
-ghost use Rattle.cdcl_trail.specs.Trail.{literal_at};
+ghost use Rattle.cdcl_trail.specs.Trail.{literals_of, literal_at};
 ghost use Rattle.cdcl_propagate.specs.Visit.{HaveSame};
-ghost use Rattle.cdcl_state.specs.State.{IsNamed, IsRewound};
+ghost use Rattle.cdcl_state.specs.State.{IsNamed, IsRewound, IsWatchable};
 
 use crate::repeats::repeats;
 use cdcl_analyze::marks::Marks;
@@ -64,6 +64,8 @@ pub fn distinct(clause: &[Literal], out: &mut Vec<Literal>) -> Result<(), AllocE
 fn is_false(assigned: &Assigned, clause: &[Literal], place: usize) -> bool
     requires place { place < length clause.now }
     requires known { All (λ l. l.letter.0 < length assigned.now.values) clause.now }
+    ensures { IsTrue result ↔ Contains (literals_of assigned.now.trail)
+        (opposite (slice_index_or clause.now place blank)) }
 {
     assigned.holds(clause[place].opposite())
 }
@@ -95,6 +97,7 @@ pub fn is_ready(assigned: &Assigned, marks: &mut Marks, clause: &[Literal]) -> b
     requires marks { length assigned.now.values ≤ length marks.old.stamps }
     ensures size { length marks.new.stamps ≡ length marks.old.stamps }
     ensures apart { IsTrue result → AreApart clause.now }
+    ensures watchable { IsTrue result ↔ IsWatchable assigned.now.trail clause.now }
 {
     if 0 < clause.len() && is_false(assigned, clause, 0) {
         return false;
