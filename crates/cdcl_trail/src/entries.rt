@@ -31,7 +31,7 @@ fn shorten_literal(literal: Literal) -> Option<u32>
     if literal.letter.0 > MAX_LETTER {
         return None;
     }
-    Some(2 * literal.letter.0 + if literal.negated { 1 } else { 0 })
+    Some(2 * literal.letter.0 + literal.negated as u32)
 }
 
 /// The literal of a number.

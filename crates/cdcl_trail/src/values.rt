@@ -12,7 +12,7 @@ use std::marker::Model;
 fn place(literal: Literal) -> usize
     ensures { result ≡ truth_place literal }
 {
-    2 * literal.letter.0 as usize + if literal.negated { 1 } else { 0 }
+    2 * literal.letter.0 as usize + literal.negated as usize
 }
 
 /// The values of the letters below a number.

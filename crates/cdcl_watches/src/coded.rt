@@ -15,7 +15,7 @@ pub fn encode(literal: Literal) -> Code
     requires { code literal < 2 ^ 32 }
     ensures { result.0 ≡ code literal }
 {
-    Code(2 * literal.letter.0 + if literal.negated { 1 } else { 0 })
+    Code(2 * literal.letter.0 + literal.negated as u32)
 }
 
 /// The literal of a number.

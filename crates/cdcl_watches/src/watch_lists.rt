@@ -138,6 +138,7 @@ impl WatchLists {
     }
 
     /// Takes the watchers from `kept` to `next` out of a list; the others keep their order.
+    #[inline(always)]
     pub fn close(&mut self, list: usize, kept: usize, next: usize)
         requires list { list < length self.old }
         requires order { kept ≤ next }

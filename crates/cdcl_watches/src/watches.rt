@@ -38,7 +38,7 @@ impl Model for Watches {
 pub fn number(literal: Literal) -> usize
     ensures { result ≡ code literal }
 {
-    2 * literal.letter.0 as usize + if literal.negated { 1 } else { 0 }
+    2 * literal.letter.0 as usize + literal.negated as usize
 }
 
 impl Watches {
