@@ -10,100 +10,100 @@ use itoa::Buffer;
 use ltl_syntax::Kind;
 use std::alloc::AllocError;
 
-fn push_number(out: &mut Vec<u8>, number: u64) -> Result<(), AllocError>
+fn push_number(number: u64, out: &mut Vec<u8>) -> Result<(), AllocError>
     ensures { OnOk result (out.new.items ≡ out.old.items ++ decimal number) }
 {
     let mut buffer = Buffer::new();
     out.extend_from_slice(buffer.format(number).as_bytes())
 }
 
-fn push_literal(out: &mut Vec<u8>, literal: Literal) -> Result<(), AllocError>
+fn push_literal(literal: Literal, out: &mut Vec<u8>) -> Result<(), AllocError>
     ensures { OnOk result (out.new.items ≡ out.old.items ++ literal_text literal) }
 {
     if literal.negated {
         out.push(b'-')?;
     }
-    push_number(out, literal.letter.0 as u64)?;
+    push_number(literal.letter.0 as u64, out)?;
     out.push(b' ')?;
     Ok(())
 }
 
-fn push_hint(out: &mut Vec<u8>, hint: Hint) -> Result<(), AllocError>
+fn push_hint(hint: Hint, out: &mut Vec<u8>) -> Result<(), AllocError>
     ensures { OnOk result (out.new.items ≡ out.old.items ++ hint_text hint) }
 {
     match hint {
-        Hint::Clause(number) => push_number(out, number)?,
+        Hint::Clause(number) => push_number(number, out)?,
         Hint::Line(number) => {
             out.push(b'-')?;
-            push_number(out, number)?;
+            push_number(number, out)?;
         }
     }
     out.push(b' ')?;
     Ok(())
 }
 
-fn push_literals(out: &mut Vec<u8>, literals: &[Literal]) -> Result<(), AllocError>
+fn push_literals(literals: &[Literal], out: &mut Vec<u8>) -> Result<(), AllocError>
     ensures { OnOk result (out.new.items ≡ out.old.items ++ flat_map literal_text literals.now) }
 {
     for literal in literals {
-        push_literal(out, *literal)?;
+        push_literal(*literal, out)?;
     }
     Ok(())
 }
 
-fn push_hints(out: &mut Vec<u8>, hints: &[Hint]) -> Result<(), AllocError>
+fn push_hints(hints: &[Hint], out: &mut Vec<u8>) -> Result<(), AllocError>
     ensures { OnOk result (out.new.items ≡ out.old.items ++ flat_map hint_text hints.now) }
 {
     for hint in hints {
-        push_hint(out, *hint)?;
+        push_hint(*hint, out)?;
     }
     Ok(())
 }
 
-fn push_target(out: &mut Vec<u8>, target: u64) -> Result<(), AllocError>
+fn push_target(target: u64, out: &mut Vec<u8>) -> Result<(), AllocError>
     ensures { OnOk result (out.new.items ≡ out.old.items ++ target_text target) }
 {
     out.push(b' ')?;
-    push_number(out, target)
+    push_number(target, out)
 }
 
-fn push_targets(out: &mut Vec<u8>, targets: &[u64]) -> Result<(), AllocError>
+fn push_targets(targets: &[u64], out: &mut Vec<u8>) -> Result<(), AllocError>
     ensures { OnOk result (out.new.items ≡ out.old.items ++ flat_map target_text targets.now) }
 {
     for target in targets {
-        push_target(out, *target)?;
+        push_target(*target, out)?;
     }
     Ok(())
 }
 
-pub fn push_line(out: &mut Vec<u8>, literals: &[Literal], hints: &[Hint]) -> Result<(), AllocError>
+pub fn push_line(literals: &[Literal], hints: &[Hint], out: &mut Vec<u8>) -> Result<(), AllocError>
     ensures { OnOk result (out.new.items ≡ out.old.items ++ part_text (text.Line literals.now hints.now)) }
 {
-    push_literals(out, literals)?;
+    push_literals(literals, out)?;
     out.extend_from_slice(b"0 ")?;
-    push_hints(out, hints)?;
+    push_hints(hints, out)?;
     out.extend_from_slice(b"0\n")?;
     Ok(())
 }
 
 /// A delete that names these lines, where there are any.
-pub fn push_delete(out: &mut Vec<u8>, lines: &[u64]) -> Result<(), AllocError>
+pub fn push_delete(lines: &[u64], out: &mut Vec<u8>) -> Result<(), AllocError>
     ensures { OnOk result (out.new.items ≡ out.old.items ++ flat_map part_text (delete_of lines.now)) }
 {
     if lines.is_empty() {
         return Ok(());
     }
     out.push(b'd')?;
-    push_targets(out, lines)?;
+    push_targets(lines, out)?;
     out.push(b'\n')?;
     Ok(())
 }
 
-pub fn push_close(out: &mut Vec<u8>, targets: &[u64]) -> Result<(), AllocError>
+pub fn push_close(targets: &[u64], out: &mut Vec<u8>) -> Result<(), AllocError>
     ensures { OnOk result (out.new.items ≡ out.old.items ++ close_text targets.now) }
 {
     out.extend_from_slice(b"close")?;
-    push_targets(out, targets)?;
+    push_targets(targets, out)?;
     out.push(b'\n')?;
     Ok(())
 }
@@ -117,14 +117,14 @@ fn kind_bytes(kind: Kind) -> &'static [u8]
     }
 }
 
-pub fn push_header(out: &mut Vec<u8>, kind: Kind, depth: u32) -> Result<(), AllocError>
+pub fn push_header(kind: Kind, depth: u32, out: &mut Vec<u8>) -> Result<(), AllocError>
     ensures { OnOk result (out.new.items ≡ out.old.items
         ++ (codes "ltlcert 2 " ++ (kind_text kind ++ (codes " " ++ (decimal depth ++ codes "\n"))))) }
 {
     out.extend_from_slice(b"ltlcert 2 ")?;
     out.extend_from_slice(kind_bytes(kind))?;
     out.push(b' ')?;
-    push_number(out, depth as u64)?;
+    push_number(depth as u64, out)?;
     out.push(b'\n')?;
     Ok(())
 }

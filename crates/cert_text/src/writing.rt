@@ -17,11 +17,11 @@ use std::alloc::{AllocError, Global};
 
 /// Puts the line behind the others, where this line is its last use and it is no target.
 fn push_ended(
-    found: &mut Vec<u64>,
     number: u64,
     last: &[u64],
     targets: &[u64],
     line: u64,
+    found: &mut Vec<u64>,
 ) -> Result<(), AllocError>
     ensures { OnOk result (found.new.items ≡ found.old.items
         ++ (if is_ended last.now targets.now line number then number ∷ [] else [])) }
@@ -38,55 +38,55 @@ fn push_ended(
 
 /// The line that the hint names, if it names one, where this line is its last use and it is no target.
 fn push_hinted(
-    found: &mut Vec<u64>,
     hint: Hint,
     last: &[u64],
     targets: &[u64],
     line: u64,
+    found: &mut Vec<u64>,
 ) -> Result<(), AllocError>
     ensures { OnOk result (found.new.items ≡ found.old.items
         ++ filter (is_ended last.now targets.now line) (named_lines (hint ∷ []))) }
 {
     match hint {
         Hint::Clause(_) => Ok(()),
-        Hint::Line(number) => push_ended(found, number, last, targets, line),
+        Hint::Line(number) => push_ended(number, last, targets, line, found),
     }
 }
 
 /// The lines whose last use is this one, in the order of the hints and with repeats, in place of what was
 /// there.
 fn ended_by(
-    found: &mut Vec<u64>,
     hints: &[Hint],
     last: &[u64],
     targets: &[u64],
     line: u64,
+    found: &mut Vec<u64>,
 ) -> Result<(), AllocError>
     ensures { OnOk result (found.new.items ≡ filter (is_ended last.now targets.now line)
         (line ∷ named_lines hints.now)) }
 {
     found.clear();
-    push_ended(found, line, last, targets, line)?;
+    push_ended(line, last, targets, line, found)?;
     for hint in hints {
-        push_hinted(found, *hint, last, targets, line)?;
+        push_hinted(*hint, last, targets, line, found)?;
     }
     Ok(())
 }
 
 /// The lines whose last use is this one, ascending, in place of what was there.
 fn ended(
-    found: &mut Vec<u64>,
     hints: &[Hint],
     last: &[u64],
     targets: &[u64],
     line: u64,
+    found: &mut Vec<u64>,
 ) -> Result<(), AllocError>
     ensures { OnOk result ((hss : List (List SomeHint)) (k : ℕ) → AreLast hss (length hss) last.now
         → k < length hss → line ≡ k + 1 → hints.now ≡ slice_index_or hss k []
         → ((m : ℕ) → Contains hints.now (hint_kinds.Line m) → m ≤ k)
         → found.new.items ≡ ended_at hss targets.now line) }
 {
-    ended_by(found, hints, last, targets, line)?;
+    ended_by(hints, last, targets, line, found)?;
     found.sort()?;
     found.dedup();
     Ok(())
@@ -94,12 +94,12 @@ fn ended(
 
 /// One line of the log, and the delete behind it. What is deleted is gathered in `found`.
 fn push_step(
-    found: &mut Vec<u64>,
-    out: &mut Vec<u8>,
     view: &LogView<'_>,
     last: &[u64],
     targets: &[u64],
     index: u64,
+    found: &mut Vec<u64>,
+    out: &mut Vec<u8>,
 ) -> Result<(), AllocError>
     requires log { IsLog view.now }
     requires last { AreLast view.now.hints (length view.now.hints) last.now }
@@ -111,9 +111,9 @@ fn push_step(
 {
     let line = index + 1;
     let hints = view.hints(line);
-    push_line(out, view.literals(line), hints)?;
-    ended(found, hints, last, targets, line)?;
-    push_delete(out, found)?;
+    push_line(view.literals(line), hints, out)?;
+    ended(hints, last, targets, line, found)?;
+    push_delete(found, out)?;
     Ok(())
 }
 
@@ -135,10 +135,10 @@ pub fn write(
     let last = last_uses(alloc, view)?;
     let mut found = Vec::new(alloc);
     let mut out = Vec::new(alloc);
-    push_header(&mut out, kind, depth)?;
+    push_header(kind, depth, &mut out)?;
     for index in 0..view.lines() {
-        push_step(&mut found, &mut out, view, &last, targets, index)?;
+        push_step(view, &last, targets, index, &mut found, &mut out)?;
     }
-    push_close(&mut out, targets)?;
+    push_close(targets, &mut out)?;
     Ok(out)
 }

@@ -10,12 +10,12 @@ pub fn answers(alloc: Global, answers: &[bool]) -> Result<Vec<u8>, AllocError>
 {
     let mut text = Vec::new(alloc);
     for answer in answers {
-        add_answer(&mut text, *answer)?;
+        add_answer(*answer, &mut text)?;
     }
     Ok(text)
 }
 
-fn add_answer(text: &mut Vec<u8>, answer: bool) -> Result<(), AllocError>
+fn add_answer(answer: bool, text: &mut Vec<u8>) -> Result<(), AllocError>
     ensures { IfOk result (λ _. text.new.items ≡ text.old.items ++ answer_text answer) }
 {
     if answer {

@@ -32,7 +32,7 @@ pub fn unsat(
         ≡ unsat_text depth (option_copied core.entry) (option_copied certificate.entry)) }
 {
     let mut text = numbered(alloc, b"UNSAT ", depth.into())?;
-    add_core(&mut text, core)?;
+    add_core(core, &mut text)?;
     if let Some(certificate) = certificate {
         text.extend_from_slice(certificate)?;
     }
@@ -78,7 +78,7 @@ pub fn checked(alloc: Global, verdict: &Verdict) -> Result<Vec<u8>, AllocError>
 }
 
 /// Puts the line of a core behind the text.
-fn add_core(text: &mut Vec<u8>, core: Option<&[u8]>) -> Result<(), AllocError>
+fn add_core(core: Option<&[u8]>, text: &mut Vec<u8>) -> Result<(), AllocError>
     ensures { IfOk result (λ _. text.new.items ≡ text.old.items ++ core_text (option_copied core.entry)) }
 {
     if let Some(core) = core {

@@ -43,13 +43,13 @@ pub fn svg(alloc: Global, grid: &Grid) -> Result<Vec<u8>, AllocError>
     let lanes = grid.rows().len();
     let mut svg = Vec::new(alloc);
     let width = x_of(names, grid.states()) + 16;
-    add_opening(&mut svg, width, bottom(lanes) + 36)?;
-    add_sheet(&mut svg, width, bottom(lanes) + 36)?;
-    add_band_of(&mut svg, names, lanes, grid)?;
-    add_edges(&mut svg, names, lanes, grid.states())?;
-    add_numerals(&mut svg, names, grid.states())?;
-    add_lanes(alloc, &mut svg, names, grid)?;
-    add_arrow_of(&mut svg, names, lanes, grid)?;
+    add_opening(width, bottom(lanes) + 36, &mut svg)?;
+    add_sheet(width, bottom(lanes) + 36, &mut svg)?;
+    add_band_of(names, lanes, grid, &mut svg)?;
+    add_edges(names, lanes, grid.states(), &mut svg)?;
+    add_numerals(names, grid.states(), &mut svg)?;
+    add_lanes(alloc, names, grid, &mut svg)?;
+    add_arrow_of(names, lanes, grid, &mut svg)?;
     svg.extend_from_slice(b"</svg>\n")?;
     Ok(svg)
 }
@@ -79,7 +79,7 @@ fn bottom(lanes: usize) -> u128
     44 + 36 * lanes as u128
 }
 
-fn add_worded(svg: &mut Vec<u8>, words: &[u8], number: u128) -> Result<(), AllocError>
+fn add_worded(words: &[u8], number: u128, svg: &mut Vec<u8>) -> Result<(), AllocError>
     ensures { OnOk result (svg.new.items ≡ svg.old.items ++ worded words.now number) }
 {
     let mut buffer = Buffer::new();
@@ -87,17 +87,17 @@ fn add_worded(svg: &mut Vec<u8>, words: &[u8], number: u128) -> Result<(), Alloc
     svg.extend_from_slice(buffer.format(number).as_bytes())
 }
 
-fn add_opening(svg: &mut Vec<u8>, width: u128, height: u128) -> Result<(), AllocError>
+fn add_opening(width: u128, height: u128, svg: &mut Vec<u8>) -> Result<(), AllocError>
     ensures { OnOk result (svg.new.items ≡ svg.old.items ++ opening width height) }
 {
     add_worded(
-        svg,
         b"<?xml version='1.0' encoding='UTF-8'?>\n<svg xmlns='http://www.w3.org/2000/svg' version='1.1' width='",
         width,
+        svg,
     )?;
-    add_worded(svg, b"' height='", height)?;
-    add_worded(svg, b"' viewBox='0 0 ", width)?;
-    add_worded(svg, b" ", height)?;
+    add_worded(b"' height='", height, svg)?;
+    add_worded(b"' viewBox='0 0 ", width, svg)?;
+    add_worded(b" ", height, svg)?;
     svg.extend_from_slice(b"'>\n<title>A trace</title>\n")?;
     add_style(svg)?;
     Ok(())
@@ -113,120 +113,120 @@ fn add_style(svg: &mut Vec<u8>) -> Result<(), AllocError>
     Ok(())
 }
 
-fn add_sheet(svg: &mut Vec<u8>, width: u128, height: u128) -> Result<(), AllocError>
+fn add_sheet(width: u128, height: u128, svg: &mut Vec<u8>) -> Result<(), AllocError>
     ensures { OnOk result (svg.new.items ≡ svg.old.items ++ sheet width height) }
 {
-    add_worded(svg, b"<rect class='paper' width='", width)?;
-    add_worded(svg, b"' height='", height)?;
+    add_worded(b"<rect class='paper' width='", width, svg)?;
+    add_worded(b"' height='", height, svg)?;
     svg.extend_from_slice(b"'/>\n")?;
     Ok(())
 }
 
-fn add_band_of(svg: &mut Vec<u8>, names: usize, lanes: usize, grid: &Grid) -> Result<(), AllocError>
+fn add_band_of(names: usize, lanes: usize, grid: &Grid, svg: &mut Vec<u8>) -> Result<(), AllocError>
     ensures { OnOk result (svg.new.items
         ≡ svg.old.items ++ band_of names lanes grid.now.states grid.now.loop_at) }
 {
     match grid.loop_at() {
-        Some(start) => add_band(svg, names, lanes, grid.states(), start),
+        Some(start) => add_band(names, lanes, grid.states(), start, svg),
         None => Ok(()),
     }
 }
 
 fn add_band(
-    svg: &mut Vec<u8>,
     names: usize,
     lanes: usize,
     states: usize,
     start: usize,
+    svg: &mut Vec<u8>,
 ) -> Result<(), AllocError>
     ensures { OnOk result (svg.new.items ≡ svg.old.items ++ band names lanes states start) }
 {
     let width = 40 * states.saturating_sub(start) as u128;
-    add_worded(svg, b"<rect class='loop' x='", x_of(names, start))?;
-    add_worded(svg, b"' y='36' width='", width)?;
-    add_worded(svg, b"' height='", 8 + 36 * lanes as u128)?;
+    add_worded(b"<rect class='loop' x='", x_of(names, start), svg)?;
+    add_worded(b"' y='36' width='", width, svg)?;
+    add_worded(b"' height='", 8 + 36 * lanes as u128, svg)?;
     svg.extend_from_slice(b"'/>\n")?;
     Ok(())
 }
 
 #[tactic(auto, using(crate::proofs::Pieces::piece_behind))]
-fn add_edges(svg: &mut Vec<u8>, names: usize, lanes: usize, states: usize) -> Result<(), AllocError>
+fn add_edges(names: usize, lanes: usize, states: usize, svg: &mut Vec<u8>) -> Result<(), AllocError>
     ensures { OnOk result (svg.new.items ≡ svg.old.items ++ edges names lanes states) }
 {
     svg.extend_from_slice(b"<path class='edge' d='")?;
     'states: for state in 0..states {
-        add_edge(svg, names, lanes, state)?;
+        add_edge(names, lanes, state, svg)?;
     }
-    add_edge(svg, names, lanes, states)?;
+    add_edge(names, lanes, states, svg)?;
     svg.extend_from_slice(b"'/>\n")?;
     Ok(())
 }
 
-fn add_edge(svg: &mut Vec<u8>, names: usize, lanes: usize, state: usize) -> Result<(), AllocError>
+fn add_edge(names: usize, lanes: usize, state: usize, svg: &mut Vec<u8>) -> Result<(), AllocError>
     ensures { OnOk result (svg.new.items ≡ svg.old.items ++ edge names lanes state) }
 {
-    add_worded(svg, b"M", x_of(names, state))?;
-    add_worded(svg, b" 36V", bottom(lanes))
+    add_worded(b"M", x_of(names, state), svg)?;
+    add_worded(b" 36V", bottom(lanes), svg)
 }
 
 #[tactic(auto, using(crate::proofs::Pieces::piece_behind))]
-fn add_numerals(svg: &mut Vec<u8>, names: usize, states: usize) -> Result<(), AllocError>
+fn add_numerals(names: usize, states: usize, svg: &mut Vec<u8>) -> Result<(), AllocError>
     ensures { OnOk result (svg.new.items ≡ svg.old.items ++ below states (numeral names)) }
 {
     'states: for state in 0..states {
-        add_numeral(svg, names, state)?;
+        add_numeral(names, state, svg)?;
     }
     Ok(())
 }
 
-fn add_numeral(svg: &mut Vec<u8>, names: usize, state: usize) -> Result<(), AllocError>
+fn add_numeral(names: usize, state: usize, svg: &mut Vec<u8>) -> Result<(), AllocError>
     ensures { OnOk result (svg.new.items ≡ svg.old.items ++ numeral names state) }
 {
-    add_worded(svg, b"<text class='number' x='", x_of(names, state) + 20)?;
-    add_worded(svg, b"' y='30'>", state as u128)?;
+    add_worded(b"<text class='number' x='", x_of(names, state) + 20, svg)?;
+    add_worded(b"' y='30'>", state as u128, svg)?;
     svg.extend_from_slice(b"</text>\n")?;
     Ok(())
 }
 
-fn add_lanes(alloc: Global, svg: &mut Vec<u8>, names: usize, grid: &Grid) -> Result<(), AllocError>
+fn add_lanes(alloc: Global, names: usize, grid: &Grid, svg: &mut Vec<u8>) -> Result<(), AllocError>
     ensures { OnOk result (svg.new.items
         ≡ svg.old.items ++ lanes_from names grid.now.states 0 grid.now.rows) }
 {
     let mut lane = 0;
     for row in grid.rows() {
-        add_title(alloc, svg, lane, row)?;
-        add_wave(svg, names, grid.states(), lane, row)?;
+        add_title(alloc, lane, row, svg)?;
+        add_wave(names, grid.states(), lane, row, svg)?;
         lane += 1;
     }
     Ok(())
 }
 
-fn add_title(alloc: Global, svg: &mut Vec<u8>, lane: usize, row: &Row) -> Result<(), AllocError>
+fn add_title(alloc: Global, lane: usize, row: &Row, svg: &mut Vec<u8>) -> Result<(), AllocError>
     ensures { OnOk result (svg.new.items ≡ svg.old.items ++ title lane row.now) }
 {
     let name = shown(alloc, row.name())?;
     add_worded(
-        svg,
         b"<text class='name' x='12' y='",
         63 + 36 * lane as u128,
+        svg,
     )?;
     svg.extend_from_slice(b"'>")?;
-    add_escaped(svg, name.as_bytes())?;
+    add_escaped(name.as_bytes(), svg)?;
     svg.extend_from_slice(b"</text>\n")?;
     Ok(())
 }
 
 /// Adds a text, with an entity in place of each byte that XML would read as markup.
-fn add_escaped(svg: &mut Vec<u8>, text: &[u8]) -> Result<(), AllocError>
+fn add_escaped(text: &[u8], svg: &mut Vec<u8>) -> Result<(), AllocError>
     ensures { OnOk result (svg.new.items ≡ svg.old.items ++ escaped text.now) }
 {
     for byte in text {
-        add_escaped_byte(svg, *byte)?;
+        add_escaped_byte(*byte, svg)?;
     }
     Ok(())
 }
 
-fn add_escaped_byte(svg: &mut Vec<u8>, byte: u8) -> Result<(), AllocError>
+fn add_escaped_byte(byte: u8, svg: &mut Vec<u8>) -> Result<(), AllocError>
     ensures { OnOk result (svg.new.items ≡ svg.old.items ++ escaped_byte byte) }
 {
     match byte {
@@ -242,42 +242,42 @@ fn add_escaped_byte(svg: &mut Vec<u8>, byte: u8) -> Result<(), AllocError>
 
 #[tactic(auto, using(crate::proofs::Pieces::piece_behind))]
 fn add_wave(
-    svg: &mut Vec<u8>,
     names: usize,
     states: usize,
     lane: usize,
     row: &Row,
+    svg: &mut Vec<u8>,
 ) -> Result<(), AllocError>
     ensures { OnOk result (svg.new.items ≡ svg.old.items ++ wave names states lane row.now) }
 {
-    add_worded(svg, b"<path class='lane' d='M", x_of(names, 0))?;
-    add_worded(svg, b" ", level(lane, false))?;
+    add_worded(b"<path class='lane' d='M", x_of(names, 0), svg)?;
+    add_worded(b" ", level(lane, false), svg)?;
     'states: for state in 0..states {
-        add_stroke(svg, names, lane, row, state)?;
+        add_stroke(names, lane, row, state, svg)?;
     }
-    add_worded(svg, b"V", level(lane, false))?;
+    add_worded(b"V", level(lane, false), svg)?;
     svg.extend_from_slice(b"'/>\n")?;
     Ok(())
 }
 
 fn add_stroke(
-    svg: &mut Vec<u8>,
     names: usize,
     lane: usize,
     row: &Row,
     state: usize,
+    svg: &mut Vec<u8>,
 ) -> Result<(), AllocError>
     ensures { OnOk result (svg.new.items ≡ svg.old.items ++ stroke names lane row.now state) }
 {
-    add_worded(svg, b"V", level(lane, row.is_filled(state)))?;
-    add_worded(svg, b"H", x_of(names, state) + 40)
+    add_worded(b"V", level(lane, row.is_filled(state)), svg)?;
+    add_worded(b"H", x_of(names, state) + 40, svg)
 }
 
 fn add_arrow_of(
-    svg: &mut Vec<u8>,
     names: usize,
     lanes: usize,
     grid: &Grid,
+    svg: &mut Vec<u8>,
 ) -> Result<(), AllocError>
     ensures { OnOk result (svg.new.items
         ≡ svg.old.items ++ arrow_of names lanes grid.now.states grid.now.loop_at) }
@@ -285,35 +285,35 @@ fn add_arrow_of(
     let Some(start) = grid.loop_at() else {
         return Ok(());
     };
-    add_arrow(svg, names, lanes, grid.states(), start)?;
-    add_head(svg, names, lanes, start)?;
+    add_arrow(names, lanes, grid.states(), start, svg)?;
+    add_head(names, lanes, start, svg)?;
     Ok(())
 }
 
 fn add_arrow(
-    svg: &mut Vec<u8>,
     names: usize,
     lanes: usize,
     states: usize,
     start: usize,
+    svg: &mut Vec<u8>,
 ) -> Result<(), AllocError>
     ensures { OnOk result (svg.new.items ≡ svg.old.items ++ arrow names lanes states start) }
 {
     let last = states.saturating_sub(1);
-    add_worded(svg, b"<path class='back' d='M", x_of(names, last) + 28)?;
-    add_worded(svg, b" ", bottom(lanes))?;
-    add_worded(svg, b"V", bottom(lanes) + 20)?;
-    add_worded(svg, b"H", x_of(names, start) + 12)?;
-    add_worded(svg, b"V", bottom(lanes) + 4)?;
+    add_worded(b"<path class='back' d='M", x_of(names, last) + 28, svg)?;
+    add_worded(b" ", bottom(lanes), svg)?;
+    add_worded(b"V", bottom(lanes) + 20, svg)?;
+    add_worded(b"H", x_of(names, start) + 12, svg)?;
+    add_worded(b"V", bottom(lanes) + 4, svg)?;
     svg.extend_from_slice(b"'/>\n")?;
     Ok(())
 }
 
-fn add_head(svg: &mut Vec<u8>, names: usize, lanes: usize, start: usize) -> Result<(), AllocError>
+fn add_head(names: usize, lanes: usize, start: usize, svg: &mut Vec<u8>) -> Result<(), AllocError>
     ensures { OnOk result (svg.new.items ≡ svg.old.items ++ head names lanes start) }
 {
-    add_worded(svg, b"<path class='head' d='M", x_of(names, start) + 12)?;
-    add_worded(svg, b" ", bottom(lanes))?;
+    add_worded(b"<path class='head' d='M", x_of(names, start) + 12, svg)?;
+    add_worded(b" ", bottom(lanes), svg)?;
     svg.extend_from_slice(b"l5 9h-10Z'/>\n")?;
     Ok(())
 }

@@ -16,24 +16,24 @@ pub fn letters_of(alloc: Global, trace: &Trace) -> Result<StateSet, AllocError>
     let mut names = Vec::new(alloc);
     match trace {
         Trace::Infinite { stem, loop_part } => {
-            push_states(alloc, &mut names, stem.as_slice())?;
-            push_states(alloc, &mut names, loop_part.as_slice())?;
+            push_states(alloc, stem.as_slice(), &mut names)?;
+            push_states(alloc, loop_part.as_slice(), &mut names)?;
         }
-        Trace::Finite { states } => push_states(alloc, &mut names, states.as_slice())?,
+        Trace::Finite { states } => push_states(alloc, states.as_slice(), &mut names)?,
     }
     StateSet::from_names(names)
 }
 
-fn push_states(alloc: Global, names: &mut Vec<Name>, states: &[StateSet]) -> Result<(), AllocError>
+fn push_states(alloc: Global, states: &[StateSet], names: &mut Vec<Name>) -> Result<(), AllocError>
     ensures { OnOk result (names.new.items ≡ names.old.items ++ all_names states.now) }
 {
     for state in states {
-        push_state(alloc, names, state)?;
+        push_state(alloc, state, names)?;
     }
     Ok(())
 }
 
-fn push_state(alloc: Global, names: &mut Vec<Name>, state: &StateSet) -> Result<(), AllocError>
+fn push_state(alloc: Global, state: &StateSet, names: &mut Vec<Name>) -> Result<(), AllocError>
     ensures { OnOk result (names.new.items ≡ names.old.items ++ state.now) }
 {
     for name in state.names() {

@@ -29,7 +29,7 @@ pub fn text(alloc: Global, grid: &Grid, width: usize) -> Result<Vec<u8>, AllocEr
     let measures = measured(alloc, grid, width)?;
     let mut lines = Vec::new(alloc);
     'states: for state in 0..grid.states() {
-        add_block_at(alloc, &mut lines, grid, measures, state)?;
+        add_block_at(alloc, grid, measures, state, &mut lines)?;
     }
     Ok(lines)
 }
@@ -50,10 +50,10 @@ fn measured(alloc: Global, grid: &Grid, width: usize) -> Result<Measures, AllocE
 // A block begins at each multiple of the number of states that one has.
 fn add_block_at(
     alloc: Global,
-    lines: &mut Vec<u8>,
     grid: &Grid,
     measures: Measures,
     state: usize,
+    lines: &mut Vec<u8>,
 ) -> Result<(), AllocError>
     requires block { 0 < measures.block }
     requires state { state < grid.now.states }
@@ -64,16 +64,16 @@ fn add_block_at(
     }
     let states = grid.states();
     let to = state + measures.block.min(states - state);
-    add_block(alloc, lines, grid, measures, state, to)
+    add_block(alloc, grid, measures, state, to, lines)
 }
 
 fn add_block(
     alloc: Global,
-    lines: &mut Vec<u8>,
     grid: &Grid,
     measures: Measures,
     from: usize,
     to: usize,
+    lines: &mut Vec<u8>,
 ) -> Result<(), AllocError>
     requires { (from ≤ to) × (to ≤ grid.now.states) }
     ensures { OnOk result (lines.new.items ≡ lines.old.items ++ block grid.now measures from to) }
@@ -81,32 +81,32 @@ fn add_block(
     if from > 0 {
         lines.push(b'\n')?;
     }
-    add_numbers(lines, grid, measures, from, to)?;
-    add_rows(alloc, lines, grid, measures, from, to)?;
-    add_loop(lines, grid, measures, from, to)
+    add_numbers(grid, measures, from, to, lines)?;
+    add_rows(alloc, grid, measures, from, to, lines)?;
+    add_loop(grid, measures, from, to, lines)
 }
 
 #[tactic(auto, using(crate::proofs::Pieces::piece_from))]
 fn add_numbers(
-    lines: &mut Vec<u8>,
     grid: &Grid,
     measures: Measures,
     from: usize,
     to: usize,
+    lines: &mut Vec<u8>,
 ) -> Result<(), AllocError>
     requires { from ≤ to }
     ensures { OnOk result (lines.new.items
         ≡ lines.old.items ++ line (spaces measures.names) (number grid.now measures) from to) }
 {
     let mut buffer = Buffer::new();
-    add_repeated(lines, b' ', measures.names)?;
+    add_repeated(b' ', measures.names, lines)?;
     'states: for state in from..to {
         add_column(
-            lines,
             grid,
             measures,
             state,
             buffer.format(state).as_bytes(),
+            lines,
         )?;
     }
     lines.push(b'\n')?;
@@ -115,18 +115,18 @@ fn add_numbers(
 
 fn add_rows(
     alloc: Global,
-    lines: &mut Vec<u8>,
     grid: &Grid,
     measures: Measures,
     from: usize,
     to: usize,
+    lines: &mut Vec<u8>,
 ) -> Result<(), AllocError>
     requires { from ≤ to }
     ensures { OnOk result (lines.new.items
         ≡ lines.old.items ++ flat_map (row_line grid.now measures from to) grid.now.rows) }
 {
     for row in grid.rows() {
-        add_row(alloc, lines, grid, measures, row, from, to)?;
+        add_row(alloc, grid, measures, row, from, to, lines)?;
     }
     Ok(())
 }
@@ -134,20 +134,20 @@ fn add_rows(
 #[tactic(auto, using(crate::proofs::Pieces::piece_from))]
 fn add_row(
     alloc: Global,
-    lines: &mut Vec<u8>,
     grid: &Grid,
     measures: Measures,
     row: &Row,
     from: usize,
     to: usize,
+    lines: &mut Vec<u8>,
 ) -> Result<(), AllocError>
     requires { from ≤ to }
     ensures { OnOk result (lines.new.items
         ≡ lines.old.items ++ row_line grid.now measures from to row.now) }
 {
-    add_label(alloc, lines, measures, row)?;
+    add_label(alloc, measures, row, lines)?;
     'states: for state in from..to {
-        add_column(lines, grid, measures, state, mark(row.is_filled(state)))?;
+        add_column(grid, measures, state, mark(row.is_filled(state)), lines)?;
     }
     lines.push(b'\n')?;
     Ok(())
@@ -155,16 +155,16 @@ fn add_row(
 
 fn add_label(
     alloc: Global,
-    lines: &mut Vec<u8>,
     measures: Measures,
     row: &Row,
+    lines: &mut Vec<u8>,
 ) -> Result<(), AllocError>
     ensures { OnOk result (lines.new.items ≡ lines.old.items ++ label measures row.now) }
 {
     let name = shown(alloc, row.name())?;
     lines.extend_from_slice(name.as_bytes())?;
     let columns = columns_of(alloc, row.name())?;
-    add_repeated(lines, b' ', measures.names.saturating_sub(columns))
+    add_repeated(b' ', measures.names.saturating_sub(columns), lines)
 }
 
 fn mark(filled: bool) -> &'static [u8]
@@ -175,11 +175,11 @@ fn mark(filled: bool) -> &'static [u8]
 
 // A state's column of a line, with its text at the right.
 fn add_column(
-    lines: &mut Vec<u8>,
     grid: &Grid,
     measures: Measures,
     state: usize,
     text: &[u8],
+    lines: &mut Vec<u8>,
 ) -> Result<(), AllocError>
     ensures { OnOk result (lines.new.items
         ≡ lines.old.items ++ column grid.now measures state text.now) }
@@ -189,43 +189,43 @@ fn add_column(
     } else {
         b' '
     })?;
-    add_repeated(lines, b' ', measures.numbers.saturating_sub(text.len()))?;
+    add_repeated(b' ', measures.numbers.saturating_sub(text.len()), lines)?;
     lines.extend_from_slice(text)
 }
 
 fn add_loop(
-    lines: &mut Vec<u8>,
     grid: &Grid,
     measures: Measures,
     from: usize,
     to: usize,
+    lines: &mut Vec<u8>,
 ) -> Result<(), AllocError>
     requires { (from ≤ to) × (to ≤ grid.now.states) }
     ensures { OnOk result (lines.new.items
         ≡ lines.old.items ++ loop_line grid.now measures grid.now.loop_at from to) }
 {
     match grid.loop_at() {
-        Some(start) if start < to => { add_loop_from(lines, grid, measures, start, from, to) }
+        Some(start) if start < to => { add_loop_from(grid, measures, start, from, to, lines) }
         _ => Ok(()),
     }
 }
 
 #[tactic(auto, using(crate::proofs::Pieces::piece_from))]
 fn add_loop_from(
-    lines: &mut Vec<u8>,
     grid: &Grid,
     measures: Measures,
     start: usize,
     from: usize,
     to: usize,
+    lines: &mut Vec<u8>,
 ) -> Result<(), AllocError>
     requires { (from ≤ to) × (to ≤ grid.now.states) }
     ensures { OnOk result (lines.new.items
         ≡ lines.old.items ++ line (spaces measures.names) (under grid.now measures start) from to) }
 {
-    add_repeated(lines, b' ', measures.names)?;
+    add_repeated(b' ', measures.names, lines)?;
     'states: for state in from..to {
-        add_under(lines, grid, measures, start, state)?;
+        add_under(grid, measures, start, state, lines)?;
     }
     lines.push(b'\n')?;
     Ok(())
@@ -233,27 +233,27 @@ fn add_loop_from(
 
 // What stands under a state.
 fn add_under(
-    lines: &mut Vec<u8>,
     grid: &Grid,
     measures: Measures,
     start: usize,
     state: usize,
+    lines: &mut Vec<u8>,
 ) -> Result<(), AllocError>
     requires { state < grid.now.states }
     ensures { OnOk result (lines.new.items ≡ lines.old.items ++ under grid.now measures start state) }
 {
     if state < start {
         lines.push(b' ')?;
-        return add_repeated(lines, b' ', measures.numbers);
+        return add_repeated(b' ', measures.numbers, lines);
     }
     lines.push(if state == start { b'^' } else { b'-' })?;
-    add_repeated(lines, b'-', measures.numbers.saturating_sub(1))?;
+    add_repeated(b'-', measures.numbers.saturating_sub(1), lines)?;
     let states = grid.states();
     lines.push(if state + 1 == states { b'<' } else { b'-' })?;
     Ok(())
 }
 
-fn add_repeated(lines: &mut Vec<u8>, byte: u8, count: usize) -> Result<(), AllocError>
+fn add_repeated(byte: u8, count: usize, lines: &mut Vec<u8>) -> Result<(), AllocError>
     ensures { OnOk result (lines.new.items ≡ lines.old.items ++ replicate count byte) }
 {
     'bytes: for _byte in 0..count {
