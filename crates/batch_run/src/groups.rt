@@ -46,7 +46,7 @@ pub fn answers<R: Threads + Sync, G: Gate + Sync>(
     let mut lines = Vec::with_capacity(alloc, most as usize)?;
     let mut answers = Vec::new(alloc);
     let mut rest = Rest { text, number: 1 };
-    fill(&mut lines, &mut rest, most)?;
+    fill(&mut rest, most, &mut lines)?;
     'groups: while !lines.is_empty() {
         decide_groups(
             rt,
@@ -56,11 +56,11 @@ pub fn answers<R: Threads + Sync, G: Gate + Sync>(
             asked,
             answers.len() as u32,
             gate,
-            &mut lanes,
             workers as usize,
+            &mut lanes,
         );
         collect(&lines, &lanes, &mut answers)?;
-        fill(&mut lines, &mut rest, most)?;
+        fill(&mut rest, most, &mut lines)?;
     }
     Ok(answers)
 }
@@ -93,7 +93,7 @@ fn lanes(alloc: Global, workers: u32, most: u32) -> Result<Vec<Lane>, AllocError
 }
 
 /// Takes the next formula lines, so many at most, or all that are left.
-fn fill<'t>(lines: &mut Vec<Line<'t>>, rest: &mut Rest<'t>, most: u32) -> Result<(), AllocError>
+fn fill<'t>(rest: &mut Rest<'t>, most: u32, lines: &mut Vec<Line<'t>>) -> Result<(), AllocError>
     requires some { 1 ≤ most }
     requires small { end_of rest.old < 2 ^ 32 }
     ensures lines { OnOk result (Passes rest.old rest.new (lines_of lines.new.items)) }
@@ -121,8 +121,8 @@ fn decide_groups<R: Threads + Sync, G: Gate + Sync>(
     asked: u32,
     first: u32,
     gate: &G,
-    lanes: &mut Vec<Lane>,
     workers: usize,
+    lanes: &mut Vec<Lane>,
 )
     requires lanes { length lanes.old.items ≡ workers }
     requires some { 1 ≤ workers }

@@ -12,37 +12,37 @@ pub fn batch_text(alloc: Global, answers: &[Answer]) -> Result<Vec<u8>, AllocErr
 {
     let mut text = Vec::new(alloc);
     'answers: for answer in answers {
-        push_answer(&mut text, *answer)?;
+        push_answer(*answer, &mut text)?;
     }
     Ok(text)
 }
 
-fn push_answer(text: &mut Vec<u8>, answer: Answer) -> Result<(), AllocError>
+fn push_answer(answer: Answer, text: &mut Vec<u8>) -> Result<(), AllocError>
     ensures { OnOk result (text.new.items ≡ text.old.items ++ answer_text answer) }
 {
-    push_number(text, b"", answer.line)?;
+    push_number(b"", answer.line, text)?;
     text.push(b' ')?;
-    push_outcome(text, answer.outcome)?;
+    push_outcome(answer.outcome, text)?;
     text.push(b'\n')?;
     Ok(())
 }
 
-fn push_outcome(text: &mut Vec<u8>, outcome: Outcome) -> Result<(), AllocError>
+fn push_outcome(outcome: Outcome, text: &mut Vec<u8>) -> Result<(), AllocError>
     ensures { OnOk result (text.new.items ≡ text.old.items ++ outcome_text outcome) }
 {
     match outcome {
-        Outcome::Sat(depth) => push_number(text, b"SAT ", depth),
-        Outcome::Unsat(depth) => push_number(text, b"UNSAT ", depth),
-        Outcome::Undecided(depth) => push_number(text, b"UNDECIDED ", depth),
+        Outcome::Sat(depth) => push_number(b"SAT ", depth, text),
+        Outcome::Unsat(depth) => push_number(b"UNSAT ", depth, text),
+        Outcome::Undecided(depth) => push_number(b"UNDECIDED ", depth, text),
         Outcome::Text => text.extend_from_slice(b"limit text 1048576"),
-        Outcome::Lexical(byte) => push_number(text, b"lexical fault at byte ", byte),
-        Outcome::Grammar(byte) => push_number(text, b"grammar fault at byte ", byte),
-        Outcome::Nodes(count) => push_number(text, b"limit nodes 16384 have ", count),
+        Outcome::Lexical(byte) => push_number(b"lexical fault at byte ", byte, text),
+        Outcome::Grammar(byte) => push_number(b"grammar fault at byte ", byte, text),
+        Outcome::Nodes(count) => push_number(b"limit nodes 16384 have ", count, text),
     }
 }
 
 /// Adds the words and the number, in decimal.
-fn push_number(text: &mut Vec<u8>, words: &[u8], number: u32) -> Result<(), AllocError>
+fn push_number(words: &[u8], number: u32, text: &mut Vec<u8>) -> Result<(), AllocError>
     ensures { OnOk result (text.new.items ≡ text.old.items ++ worded words.now number) }
 {
     let mut buffer = Buffer::new();

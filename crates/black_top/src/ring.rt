@@ -17,15 +17,15 @@ pub fn demo_text(alloc: Global, number: u32) -> Result<Vec<u8>, AllocError>
     ensures { IfOk result (λ text. text.items ≡ text_of (ring number)) }
 {
     let mut text = Vec::new(alloc);
-    push_opening(&mut text, 2 * number + number * (number - 1) / 2)?;
-    push_place(&mut text, 0)?;
-    push_moves(&mut text, number)?;
-    push_returns(&mut text, number)?;
-    push_all_apart(&mut text, number)?;
+    push_opening(2 * number + number * (number - 1) / 2, &mut text)?;
+    push_place(0, &mut text)?;
+    push_moves(number, &mut text)?;
+    push_returns(number, &mut text)?;
+    push_all_apart(number, &mut text)?;
     Ok(text)
 }
 
-fn push_opening(text: &mut Vec<u8>, count: u32) -> Result<(), AllocError>
+fn push_opening(count: u32, text: &mut Vec<u8>) -> Result<(), AllocError>
     ensures { OnOk result (text.new.items ≡ text.old.items ++ replicate count 40) }
 {
     'parts: for _part in 0..count {
@@ -34,7 +34,7 @@ fn push_opening(text: &mut Vec<u8>, count: u32) -> Result<(), AllocError>
     Ok(())
 }
 
-fn push_place(text: &mut Vec<u8>, index: u32) -> Result<(), AllocError>
+fn push_place(index: u32, text: &mut Vec<u8>) -> Result<(), AllocError>
     ensures { OnOk result (text.new.items ≡ text.old.items ++ text_of (place index)) }
 {
     let mut buffer = Buffer::new();
@@ -43,78 +43,78 @@ fn push_place(text: &mut Vec<u8>, index: u32) -> Result<(), AllocError>
 }
 
 #[tactic(auto, using(crate::proofs::Joining::piece_behind))]
-fn push_moves(text: &mut Vec<u8>, number: u32) -> Result<(), AllocError>
+fn push_moves(number: u32, text: &mut Vec<u8>) -> Result<(), AllocError>
     requires few { number ≤ 64 }
     ensures { OnOk result (text.new.items ≡ text.old.items ++ below number (move_text number)) }
 {
     'places: for index in 0..number {
-        push_move(text, number, index)?;
+        push_move(number, index, text)?;
     }
     Ok(())
 }
 
-fn push_move(text: &mut Vec<u8>, number: u32, index: u32) -> Result<(), AllocError>
+fn push_move(number: u32, index: u32, text: &mut Vec<u8>) -> Result<(), AllocError>
     requires few { index < 64 }
     ensures { OnOk result (text.new.items ≡ text.old.items ++ move_text number index) }
 {
     let behind = if index + 1 < number { index + 1 } else { 0 };
     text.extend_from_slice(b" & G (")?;
-    push_place(text, index)?;
+    push_place(index, text)?;
     text.extend_from_slice(b" -> X ")?;
-    push_place(text, behind)?;
+    push_place(behind, text)?;
     text.extend_from_slice(b"))")?;
     Ok(())
 }
 
 #[tactic(auto, using(crate::proofs::Joining::piece_behind))]
-fn push_returns(text: &mut Vec<u8>, number: u32) -> Result<(), AllocError>
+fn push_returns(number: u32, text: &mut Vec<u8>) -> Result<(), AllocError>
     ensures { OnOk result (text.new.items ≡ text.old.items ++ below number return_text) }
 {
     'places: for index in 0..number {
-        push_return(text, index)?;
+        push_return(index, text)?;
     }
     Ok(())
 }
 
-fn push_return(text: &mut Vec<u8>, index: u32) -> Result<(), AllocError>
+fn push_return(index: u32, text: &mut Vec<u8>) -> Result<(), AllocError>
     ensures { OnOk result (text.new.items ≡ text.old.items ++ return_text index) }
 {
     text.extend_from_slice(b" & G F ")?;
-    push_place(text, index)?;
+    push_place(index, text)?;
     text.extend_from_slice(b")")?;
     Ok(())
 }
 
 #[tactic(auto, using(crate::proofs::Joining::piece_behind))]
-fn push_all_apart(text: &mut Vec<u8>, number: u32) -> Result<(), AllocError>
+fn push_all_apart(number: u32, text: &mut Vec<u8>) -> Result<(), AllocError>
     requires few { number ≤ 64 }
     ensures { OnOk result (text.new.items ≡ text.old.items ++ below number (later_text number)) }
 {
     'places: for index in 0..number {
-        push_later_apart(text, number, index)?;
+        push_later_apart(number, index, text)?;
     }
     Ok(())
 }
 
 #[tactic(auto, using(crate::proofs::Joining::piece_behind))]
-fn push_later_apart(text: &mut Vec<u8>, number: u32, index: u32) -> Result<(), AllocError>
+fn push_later_apart(number: u32, index: u32, text: &mut Vec<u8>) -> Result<(), AllocError>
     requires few { number ≤ 64 }
     requires inside { index < number }
     ensures { OnOk result (text.new.items ≡ text.old.items ++ later_text number index) }
 {
     'later: for count in 0..number - (index + 1) {
-        push_apart(text, index, index + 1 + count)?;
+        push_apart(index, index + 1 + count, text)?;
     }
     Ok(())
 }
 
-fn push_apart(text: &mut Vec<u8>, index: u32, later: u32) -> Result<(), AllocError>
+fn push_apart(index: u32, later: u32, text: &mut Vec<u8>) -> Result<(), AllocError>
     ensures { OnOk result (text.new.items ≡ text.old.items ++ part_text (apart index later)) }
 {
     text.extend_from_slice(b" & G !(")?;
-    push_place(text, index)?;
+    push_place(index, text)?;
     text.extend_from_slice(b" & ")?;
-    push_place(text, later)?;
+    push_place(later, text)?;
     text.extend_from_slice(b"))")?;
     Ok(())
 }
