@@ -146,15 +146,15 @@ module _ (truths : List Bool) (are : AreTruths truths) (l : Literal) (known : l.
         let v : Option Bool = if x then Some (not l.negated) else None in
         let half : length changed / 2 ≡ length truths / 2 = ap (λ n. n / 2) (length-set truths (truth_place l) x) in
         same_lists (values_of changed) (set (values_of truths) l.letter.0 v)
-            (length_values changed ∙ half ∙ sym (length_values truths) ∙ sym (length-set (values_of truths) l.letter.0 v))
-            (λ k d below.
-            let k_low : k < length changed / 2 = omega (arith, below, length_values changed) in
-            let at : get_or (values_of changed) k d ≡ letter_value changed k = get_or_default (values_of changed) k d None below ∙ value_there changed k k_low in
-            elim (cases_eq k l.letter.0) [
-              | inl same ↦ at ∙ ap (letter_value changed) same ∙ letter_here ∙ sym (ap (λ i. get_or (set (values_of truths) l.letter.0 v) i d) same ∙ get_or-set_same (values_of truths) l.letter.0 v d known)
-              | inr apart ↦ at ∙ letter_elsewhere k apart ∙ sym (value_there truths k (omega (arith, k_low, half)))
-                  ∙ get_or_default (values_of truths) k None d (omega (arith, k_low, half, length_values truths)) ∙ sym (get_or-set_other (values_of truths) l.letter.0 k v d apart)
-            ])
+        (length_values changed ∙ half ∙ sym (length_values truths) ∙ sym (length-set (values_of truths) l.letter.0 v))
+        (λ k d below.
+        let k_low : k < length changed / 2 = omega (arith, below, length_values changed) in
+        let at : get_or (values_of changed) k d ≡ letter_value changed k = get_or_default (values_of changed) k d None below ∙ value_there changed k k_low in
+        elim (cases_eq k l.letter.0) [
+          | inl same ↦ at ∙ ap (letter_value changed) same ∙ letter_here ∙ sym (ap (λ i. get_or (set (values_of truths) l.letter.0 v) i d) same ∙ get_or-set_same (values_of truths) l.letter.0 v d known)
+          | inr apart ↦ at ∙ letter_elsewhere k apart ∙ sym (value_there truths k (omega (arith, k_low, half)))
+              ∙ get_or_default (values_of truths) k None d (omega (arith, k_low, half, length_values truths)) ∙ sym (get_or-set_other (values_of truths) l.letter.0 k v d apart)
+        ])
 
     pub truths_set : AreTruths changed
     truths_set = record {
@@ -199,15 +199,15 @@ module _ (truths : List Bool) (are : AreTruths truths) where
   values_push =
       let half : length widened / 2 ≡ length truths / 2 + 1 = omega (arith, longer, are.even) in
       same_lists (values_of widened) (values_of truths ++ None ∷ [])
-          (length_values widened ∙ half ∙ sym (length_push (values_of truths) None ∙ ap (λ n. n + 1) (length_values truths)))
-          (λ k d below.
-          let k_low : k < length widened / 2 = omega (arith, below, length_values widened) in
-          let at : get_or (values_of widened) k d ≡ letter_value widened k = get_or_default (values_of widened) k d None below ∙ value_there widened k k_low in
-          elim (cases_lt k (length truths / 2)) [
-            | inl early ↦ let in_values : k < length (values_of truths) = omega (arith, early, length_values truths) in
-                at ∙ letter_before k early ∙ sym (value_there truths k early) ∙ get_or_default (values_of truths) k None d in_values ∙ sym (get_or_append_left (values_of truths) (None ∷ []) d k in_values)
-            | inr high ↦ at ∙ letter_at_end k high ∙ sym (get_or_at (values_of truths) None [] d k (omega (arith, high, k_low, half, length_values truths)))
-          ])
+      (length_values widened ∙ half ∙ sym (length_push (values_of truths) None ∙ ap (λ n. n + 1) (length_values truths)))
+      (λ k d below.
+      let k_low : k < length widened / 2 = omega (arith, below, length_values widened) in
+      let at : get_or (values_of widened) k d ≡ letter_value widened k = get_or_default (values_of widened) k d None below ∙ value_there widened k k_low in
+      elim (cases_lt k (length truths / 2)) [
+        | inl early ↦ let in_values : k < length (values_of truths) = omega (arith, early, length_values truths) in
+            at ∙ letter_before k early ∙ sym (value_there truths k early) ∙ get_or_default (values_of truths) k None d in_values ∙ sym (get_or_append_left (values_of truths) (None ∷ []) d k in_values)
+        | inr high ↦ at ∙ letter_at_end k high ∙ sym (get_or_at (values_of truths) None [] d k (omega (arith, high, k_low, half, length_values truths)))
+      ])
 
   pub truths_push : AreTruths widened
   truths_push = record {

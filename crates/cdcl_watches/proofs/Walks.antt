@@ -59,8 +59,11 @@ module _ (arena : ArenaValue) (lists : List (List Watcher)) (l : Literal) (a b :
 
       pub first_fits : code first < length (without lists (code l) a b)
       first_fits =
-          omega (arith, subst (λ m. code m < length (numbers arena.heads (without lists (code l) a b))) (sym first_read) (is.watchers.watching.fits (number_of arena.heads head) next_watched.0 0 blank (omega (arith, next_long))),
-          length_numbers arena.heads is.watchers.none (without lists (code l) a b))
+          omega (
+            arith,
+            subst (λ m. code m < length (numbers arena.heads (without lists (code l) a b))) (sym first_read) (is.watchers.watching.fits (number_of arena.heads head) next_watched.0 0 blank (omega (arith, next_long))),
+            length_numbers arena.heads is.watchers.none (without lists (code l) a b),
+          )
 
   -- it stays, with this blocker
   module _ (v : Watcher) (head_is : v.head ≡ (get_or (get_or lists (code l) []) b nobody).head) (blocking : IsBlocking arena.heads arena.clauses v) where

@@ -1,4 +1,4 @@
-use Rattle.std.proofs.Common.{sym, ap, subst, ◌∙◌}
+use Rattle.std.proofs.Common.{sym, ap, subst}
 use Rattle.cnf_base.specs.Step.{IsHintedStep}
 use Rattle.clause_log.specs.LogValue.{greatest_u32}
 use Rattle.cdcl_state.specs.StateValue.{StateValue}
