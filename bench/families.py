@@ -172,6 +172,8 @@ SET = [
 def main(words):
     if not words:
         print("\n".join(FAMILIES))
+    elif len(words) != 2 or words[0] != "--write" and (words[0] not in FAMILIES or not words[1].isdecimal()):
+        sys.exit(__doc__)
     elif words[0] == "--write":
         os.makedirs(words[1], exist_ok=True)
         for name, size in SET:
