@@ -8,8 +8,10 @@ use Rattle.cnf_base.specs.declared.literal.Literal.{Literal}
 use Rattle.cnf_base.specs.RowPieces.{Place, row_pieces, IsPlace, AreFlat}
 use Rattle.cnf_base.proofs.RowLemmas.{pieces-push, pieces-take, spans_before}
 use Rattle.cdcl_watches.specs.Watching.{code, literal_of, clause_of, AreApart}
+use Rattle.cdcl_watches.specs.Turned.{turned, turned_place}
 use Rattle.cdcl_watches.specs.Heads.{place_at, decoded, clauses_at, names_at, heads_of, left_from, number_of, AreHeads, ArenaValue}
 use Rattle.cdcl_watches.proofs.Codes.{literals_code}
+use Rattle.cdcl_watches.proofs.Turned.{length_turned, turned_turned, place_low, turned-swap}
 use Rattle.cdcl_watches.proofs.HeadWalk.{heads_more, whole_more, heads_fewer, heads_two}
 use Rattle.cdcl_watches.proofs.HeadNumbers.{number_low}
 use Rattle.cdcl_watches.proofs.Pieces.{set_set_row, length_range}
@@ -76,27 +78,30 @@ module _ (items heads : List ℕ) (are : AreHeads items heads) where
     pub clause_length : length (clause_of (clauses_at items heads) c) ≡ get_or items (get_or heads c 0) 0
     clause_length =
         let row = get_or (row_pieces items (map (place_at items) heads)) c [] in
-        ap length clause_row ∙ length-map (drop 2 row) literal_of ∙ length-drop 2 row ∙ omega (arith, row_length)
+        ap length clause_row ∙ length_turned (map literal_of (drop 2 row)) ∙ length-map (drop 2 row) literal_of ∙ length-drop 2 row ∙ omega (arith, row_length)
 
-    pub clause_range : map literal_of (slice_range items (get_or heads c 0 + 2) (get_or heads c 0 + 2 + get_or items (get_or heads c 0) 0)) ≡ clause_of (clauses_at items heads) c
+    pub clause_range : turned (map literal_of (slice_range items (get_or heads c 0 + 2) (get_or heads c 0 + 2 + get_or items (get_or heads c 0) 0))) ≡ clause_of (clauses_at items heads) c
     clause_range =
         let h = get_or heads c 0 in
         let n = get_or items h 0 in
         let whole : (h + 2 + n) - h ≡ 2 + n = omega arith in
         let rest : (h + 2 + n) - (h + 2) ≡ n = omega arith in
-        ap (λ m. map literal_of (take m (drop (h + 2) items))) rest
-        ∙ ap (λ xs. map literal_of (take n xs)) (sym (drop-drop 2 h items))
-        ∙ ap (map literal_of) (sym (drop-take 2 n (drop h items)))
-        ∙ ap (λ m. map literal_of (drop 2 (take m (drop h items)))) (sym whole)
+        ap (λ m. turned (map literal_of (take m (drop (h + 2) items)))) rest
+        ∙ ap (λ xs. turned (map literal_of (take n xs))) (sym (drop-drop 2 h items))
+        ∙ ap (λ xs. turned (map literal_of xs)) (sym (drop-take 2 n (drop h items)))
+        ∙ ap (λ m. turned (map literal_of (drop 2 (take m (drop h items))))) (sym whole)
         ∙ ap decoded (sym row_at) ∙ sym clause_row
+
+length_codes : (row : List Literal) → length (map code (turned row)) ≡ length row
+length_codes row = length-map (turned row) code ∙ length_turned row
 
 -- a clause is put behind the others
 module _ (items heads : List ℕ) (are : AreHeads items heads) (name : ℕ) (row : List Literal) where
   abbrev more : List ℕ
-  more = items ++ length row ∷ name ∷ map code row
+  more = items ++ length row ∷ name ∷ map code (turned row)
 
   item_kept : (p : ℕ) → p < length items → get_or more p 0 ≡ get_or items p 0
-  item_kept p low = get_or_append_left items (length row ∷ name ∷ map code row) 0 p low
+  item_kept p low = get_or_append_left items (length row ∷ name ∷ map code (turned row)) 0 p low
 
   head_kept : (c : ℕ) → c < length heads → get_or (heads ++ length items ∷ []) c 0 ≡ get_or heads c 0
   head_kept c low = get_or_append_left heads (length items ∷ []) 0 c low
@@ -105,16 +110,16 @@ module _ (items heads : List ℕ) (are : AreHeads items heads) (name : ℕ) (row
   head_new = get_or_at heads (length items) [] 0 (length heads) refl
 
   length_new : get_or more (length items) 0 ≡ length row
-  length_new = get_or_at items (length row) (name ∷ map code row) 0 (length items) refl
+  length_new = get_or_at items (length row) (name ∷ map code (turned row)) 0 (length items) refl
 
   name_new : get_or more (length items + 1) 0 ≡ name
   name_new =
       let one : length items + 1 - length items ≡ 1 = omega arith in
-      get_or-append_right items (length row ∷ name ∷ map code row) (length items) (length items + 1) 0 refl (omega arith)
-      ∙ ap (λ n. get_or (length row ∷ name ∷ map code row) n 0) one
+      get_or-append_right items (length row ∷ name ∷ map code (turned row)) (length items) (length items + 1) 0 refl (omega arith)
+      ∙ ap (λ n. get_or (length row ∷ name ∷ map code (turned row)) n 0) one
 
   pub length_more : length more ≡ length items + 2 + length row
-  length_more = length-append items (length row ∷ name ∷ map code row) ∙ omega (arith, length-map row code)
+  length_more = length-append items (length row ∷ name ∷ map code (turned row)) ∙ omega (arith, length_codes row)
 
   places_more : map (place_at more) (heads ++ length items ∷ []) ≡ map (place_at items) heads ++ (let p : Place = record { from = length items; to = length items + (2 + length row) } in p) ∷ []
   places_more =
@@ -125,13 +130,13 @@ module _ (items heads : List ℕ) (are : AreHeads items heads) (name : ℕ) (row
 
   pub clauses_more : clauses_at more (heads ++ length items ∷ []) ≡ clauses_at items heads ++ row ∷ []
   clauses_more =
-      let tail = length row ∷ name ∷ map code row in
+      let tail = length row ∷ name ∷ map code (turned row) in
       let span : Place = record { from = length items; to = length items + (2 + length row) } in
       let rows = row_pieces items (map (place_at items) heads) in
       ap (λ ps. map decoded (row_pieces more ps)) places_more
-      ∙ ap (map decoded) (pieces-push items tail (map (place_at items) heads) span (heads_flat items heads are) refl (omega (arith, length-map row code)))
+      ∙ ap (map decoded) (pieces-push items tail (map (place_at items) heads) span (heads_flat items heads are) refl (omega (arith, length_codes row)))
       ∙ map-append decoded rows (tail ∷ [])
-      ∙ ap (λ r. map decoded rows ++ r ∷ []) (literals_code row)
+      ∙ ap (λ r. map decoded rows ++ r ∷ []) (ap turned (literals_code (turned row)) ∙ turned_turned row)
 
   pub names_more : names_at more (heads ++ length items ∷ []) ≡ names_at items heads ++ name ∷ []
   names_more =
@@ -139,7 +144,7 @@ module _ (items heads : List ℕ) (are : AreHeads items heads) (name : ℕ) (row
       ∙ ap₂ (λ ns n. ns ++ n ∷ []) (names_same more items heads (λ c low. item_kept (get_or heads c 0 + 1) (omega (arith, are.inside c low)))) name_new
 
   found_more : heads_of more ≡ heads ++ length items ∷ []
-  found_more = heads_more items (map code row) (length row) name are.whole (length-map row code) ∙ ap (λ hs. hs ++ length items ∷ []) are.found
+  found_more = heads_more items (map code (turned row)) (length row) name are.whole (length_codes row) ∙ ap (λ hs. hs ++ length items ∷ []) are.found
 
   pub are_more : length more < 2 ^ 32 → AreHeads more (heads ++ length items ∷ [])
   are_more short =
@@ -150,7 +155,7 @@ module _ (items heads : List ℕ) (are : AreHeads items heads) (name : ℕ) (row
       omega (arith, head_kept c low, ap (λ h. get_or more h 0) (head_kept c low), item_kept (get_or heads c 0) (omega (arith, are.inside c low)), are.inside c low) in
       record {
         found = found_more;
-        whole = whole_more items (map code row) (length row) name are.whole (length-map row code);
+        whole = whole_more items (map code (turned row)) (length row) name are.whole (length_codes row);
         inside = λ c low. elim (which c low) [
           | inl lt ↦ omega (arith, end_old c lt, length_more)
           | inr e ↦ omega (arith, ap (λ n. get_or heads' n 0) e, head_new, ap (λ n. get_or more (get_or heads' n 0) 0) e, ap (λ h. get_or more h 0) head_new, length_new, length_more)
@@ -239,24 +244,36 @@ module _ (items heads : List ℕ) (are : AreHeads items heads) (some : 0 < lengt
       last_is : length (take last heads) ≡ 0 → length (take last heads) ≡ last → last ≡ 0
       last_is e is = omega (arith, e, is)
 
+-- the literals as they stand in the buffer
+abbrev literals : List ℕ → List Literal
+literals row = map literal_of (drop 2 row)
+
 -- an item of the literals is changed
-set_decoded : (row : List ℕ) (i x : ℕ) → decoded (set row (suc (suc i)) x) ≡ set (decoded row) i (literal_of x)
-set_decoded [] i x = refl
-set_decoded (a ∷ []) i x = refl
-set_decoded (a ∷ b ∷ row) i x = map-set literal_of row i x
+set_literals : (row : List ℕ) (i x : ℕ) → literals (set row (suc (suc i)) x) ≡ set (literals row) i (literal_of x)
+set_literals [] i x = refl
+set_literals (a ∷ []) i x = refl
+set_literals (a ∷ b ∷ row) i x = map-set literal_of row i x
 
 -- two literals change places
-swap_decoded : (row : List ℕ) (i j : ℕ) → i + 2 < length row → j + 2 < length row → decoded (swap row (suc (suc i)) (suc (suc j))) ≡ swap (decoded row) i j
-swap_decoded row i j i_low j_low =
-    let len : length (decoded row) ≡ length row - 2 = length-map (drop 2 row) literal_of ∙ length-drop 2 row in
-    let at : (k : ℕ) → k + 2 < length row → literal_of (get_or row (suc (suc k)) 0) ≡ get_or (decoded row) k (literal_of 0) = λ k low.
+swap_literals : (row : List ℕ) (i j : ℕ) → i + 2 < length row → j + 2 < length row → literals (swap row (suc (suc i)) (suc (suc j))) ≡ swap (literals row) i j
+swap_literals row i j i_low j_low =
+    let len : length (literals row) ≡ length row - 2 = length-map (drop 2 row) literal_of ∙ length-drop 2 row in
+    let at : (k : ℕ) → k + 2 < length row → literal_of (get_or row (suc (suc k)) 0) ≡ get_or (literals row) k (literal_of 0) = λ k low.
     let two : 2 + k ≡ suc (suc k) = omega arith in
     ap literal_of (ap (λ n. get_or row n 0) (sym two) ∙ sym (get_or-drop 2 row k 0)) ∙ sym (get_or-map literal_of (drop 2 row) k 0 (literal_of 0) (omega (arith, length-drop 2 row))) in
-    ap decoded (sym (swap_is row (suc (suc i)) (suc (suc j)) 0 (omega arith) (omega arith)))
-    ∙ set_decoded (set row (suc (suc i)) (get_or row (suc (suc j)) 0)) j (get_or row (suc (suc i)) 0)
-    ∙ ap (λ ls. set ls j (literal_of (get_or row (suc (suc i)) 0))) (set_decoded row i (get_or row (suc (suc j)) 0))
-    ∙ ap₂ (λ x y. set (set (decoded row) i x) j y) (at j j_low) (at i i_low)
-    ∙ swap_is (decoded row) i j (literal_of 0) (omega (arith, len)) (omega (arith, len))
+    ap literals (sym (swap_is row (suc (suc i)) (suc (suc j)) 0 (omega arith) (omega arith)))
+    ∙ set_literals (set row (suc (suc i)) (get_or row (suc (suc j)) 0)) j (get_or row (suc (suc i)) 0)
+    ∙ ap (λ ls. set ls j (literal_of (get_or row (suc (suc i)) 0))) (set_literals row i (get_or row (suc (suc j)) 0))
+    ∙ ap₂ (λ x y. set (set (literals row) i x) j y) (at j j_low) (at i i_low)
+    ∙ swap_is (literals row) i j (literal_of 0) (omega (arith, len)) (omega (arith, len))
+
+-- two literals change places in the clause
+swap_decoded : (row : List ℕ) (n k l : ℕ) → length row ≡ 2 + n → k < n → l < n → decoded (swap row (suc (suc (turned_place n k))) (suc (suc (turned_place n l)))) ≡ swap (decoded row) k l
+swap_decoded row n k l row_len k_low l_low =
+    let len : length (literals row) ≡ n = length-map (drop 2 row) literal_of ∙ length-drop 2 row ∙ omega (arith, row_len) in
+    ap turned (swap_literals row (turned_place n k) (turned_place n l) (omega (arith, row_len, place_low n k k_low)) (omega (arith, row_len, place_low n l l_low)))
+    ∙ ap (λ m. turned (swap (literals row) (turned_place m k) (turned_place m l))) (sym len)
+    ∙ turned-swap (literals row) k l (literal_of 0) (omega (arith, len, k_low)) (omega (arith, len, l_low))
 
 module _ (items heads : List ℕ) (are : AreHeads items heads) (c : ℕ) (known : c < length heads) (i j a b : ℕ)
     (i_low : i < get_or items (get_or heads c 0) 0) (j_low : j < get_or items (get_or heads c 0) 0)
@@ -315,8 +332,9 @@ module _ (items heads : List ℕ) (are : AreHeads items heads) (c : ℕ) (known 
     few = omega (arith, length_same, are.few);
   }
 
-  pub clauses_swapped : clauses_at new heads ≡ set (clauses_at items heads) c (swap (clause_of (clauses_at items heads) c) i j)
-  clauses_swapped =
+  pub clauses_swapped : (k l : ℕ) → k < get_or items head 0 → l < get_or items head 0 → i ≡ turned_place (get_or items head 0) k → j ≡ turned_place (get_or items head 0) l
+      → clauses_at new heads ≡ set (clauses_at items heads) c (swap (clause_of (clauses_at items heads) c) k l)
+  clauses_swapped k l k_low l_low i_is j_is =
       let ps = map (place_at items) heads in
       let rows = row_pieces items ps in
       let row = get_or rows c [] in
@@ -329,18 +347,19 @@ module _ (items heads : List ℕ) (are : AreHeads items heads) (c : ℕ) (known 
       ∙ ap (map decoded) (set_set_row items ps (heads_flat items heads are) p c (suc (suc i)) (suc (suc j)) a b (omega (arith, length-map heads (place_at items)))
       (sym (get_or-map (place_at items) heads c 0 p known)) (omega (arith, len, i_low)) (omega (arith, len, j_low)) (a_is ∙ ap (λ n. get_or items n a) i_at) (b_is ∙ ap (λ n. get_or items n b) j_at))
       ∙ map-set decoded rows c (swap row (suc (suc i)) (suc (suc j)))
-      ∙ ap (set (map decoded rows) c) (swap_decoded row i j (omega (arith, len, i_low)) (omega (arith, len, j_low)) ∙ ap (λ ls. swap ls i j) (sym (clause_row items heads are c known)))
+      ∙ ap (set (map decoded rows) c) (ap₂ (λ u v. decoded (swap row (suc (suc u)) (suc (suc v)))) i_is j_is ∙ swap_decoded row (get_or items head 0) k l len k_low l_low
+      ∙ ap (λ ls. swap ls k l) (sym (clause_row items heads are c known)))
 
 -- the clause that is read at a head
 pub clause_at_head : (items heads : List ℕ) → AreHeads items heads → (head n : ℕ) → n ≡ get_or items head n → Contains heads head
-    → map literal_of (slice_range items (head + 2) (head + 2 + n)) ≡ clause_of (clauses_at items heads) (number_of heads head)
+    → turned (map literal_of (slice_range items (head + 2) (head + 2 + n))) ≡ clause_of (clauses_at items heads) (number_of heads head)
 clause_at_head items heads are head n n_is there =
     let r = number_low heads head there in
     let c = number_of heads head in
     let low : head < length items = omega (arith, are.inside c r.0, r.1) in
     let len : n ≡ get_or items head 0 = n_is ∙ get_or_default items head n 0 low in
-    ap (λ m. map literal_of (slice_range items (head + 2) (head + 2 + m))) len
-    ∙ ap (λ h. map literal_of (slice_range items (h + 2) (h + 2 + get_or items h 0))) (sym r.1)
+    ap (λ m. turned (map literal_of (slice_range items (head + 2) (head + 2 + m)))) len
+    ∙ ap (λ h. turned (map literal_of (slice_range items (h + 2) (h + 2 + get_or items h 0)))) (sym r.1)
     ∙ clause_range items heads are c r.0
 
 -- the name that is read at a head
@@ -351,42 +370,52 @@ name_at_head items heads are head n n_is there =
     let low : head + 1 < length items = omega (arith, are.inside c r.0, r.1) in
     n_is ∙ get_or_default items (head + 1) n 0 low ∙ ap (λ h. get_or items (h + 1) 0) (sym r.1) ∙ sym (get_or-map (λ h. get_or items (h + 1) 0) heads c 0 0 r.0)
 
--- two literals of the clause at a head change places
-module _ (items heads : List ℕ) (are : AreHeads items heads) (h : ℕ) (there : Contains heads h) where
+-- a clause of n literals stands at a head
+module _ (items heads : List ℕ) (are : AreHeads items heads) (h : ℕ) (there : Contains heads h) (n : ℕ) (n_is : n ≡ get_or items h n) where
+  abbrev clause : List Literal
+  clause = clause_of (clauses_at items heads) (number_of heads h)
+
+  known_head : number_of heads h < length heads
+  known_head = (number_low heads h there).0
+
+  at_head : get_or heads (number_of heads h) 0 ≡ h
+  at_head = (number_low heads h there).1
+
+  length_here : n ≡ get_or items (get_or heads (number_of heads h) 0) 0
+  length_here = n_is ∙ get_or_default items h n 0 (omega (arith, are.inside (number_of heads h) known_head, at_head)) ∙ ap (λ m. get_or items m 0) (sym at_head)
+
+  pub length_at_head : n ≡ length clause
+  length_at_head = length_here ∙ sym (clause_length items heads are (number_of heads h) known_head)
+
+  low_here : (k : ℕ) → k < length clause → k < get_or items (get_or heads (number_of heads h) 0) 0
+  low_here k low = omega (arith, low, clause_length items heads are (number_of heads h) known_head)
+
+  place_here : (k p : ℕ) → k < length clause → p ≡ turned_place n k → p < get_or items (get_or heads (number_of heads h) 0) 0
+  place_here k p low is = omega (arith, is, length_here, place_low n k (omega (arith, length_at_head, low)))
+
   -- a literal stands in the buffer
-  pub literal_inside : (i : ℕ) → i < length (clause_of (clauses_at items heads) (number_of heads h)) → h + 2 + i < length items
-  literal_inside i low =
-      let r = number_low heads h there in
-      let c = number_of heads h in
-      omega (arith, are.inside c r.0, r.1, clause_length items heads are c r.0, low)
+  pub literal_inside : (k p : ℕ) → k < length clause → p ≡ turned_place n k → h + 2 + p < length items
+  literal_inside k p low is = omega (arith, are.inside (number_of heads h) known_head, at_head, place_here k p low is)
 
-  module _ (i j a b : ℕ) (i_low : i < length (clause_of (clauses_at items heads) (number_of heads h))) (j_low : j < length (clause_of (clauses_at items heads) (number_of heads h)))
-      (a_is : a ≡ get_or items (h + 2 + i) a) (b_is : b ≡ get_or items (h + 2 + j) b) where
-    at_head : get_or heads (number_of heads h) 0 ≡ h
-    at_head = (number_low heads h there).1
+  -- two literals change places
+  module _ (i j p q a b : ℕ) (i_low : i < length clause) (j_low : j < length clause) (p_is : p ≡ turned_place n i) (q_is : q ≡ turned_place n j) (a_is : a ≡ get_or items (h + 2 + p) a) (b_is : b ≡ get_or items (h + 2 + q) b) where
+    pub swapped_heads : AreHeads (set (set items (h + 2 + p) b) (h + 2 + q) a) heads
+    swapped_heads = subst (λ m. AreHeads (set (set items (m + 2 + p) b) (m + 2 + q) a) heads) at_head
+        (are_swapped items heads are (number_of heads h) known_head p q a b (place_here i p i_low p_is) (place_here j q j_low q_is)
+        (a_is ∙ ap (λ m. get_or items (m + 2 + p) a) (sym at_head)) (b_is ∙ ap (λ m. get_or items (m + 2 + q) b) (sym at_head)))
 
-    known_head : number_of heads h < length heads
-    known_head = (number_low heads h there).0
-
-    low_at : (k : ℕ) → k < length (clause_of (clauses_at items heads) (number_of heads h)) → k < get_or items (get_or heads (number_of heads h) 0) 0
-    low_at k low = omega (arith, low, clause_length items heads are (number_of heads h) known_head)
-
-    pub swapped_heads : AreHeads (set (set items (h + 2 + i) b) (h + 2 + j) a) heads
-    swapped_heads = subst (λ m. AreHeads (set (set items (m + 2 + i) b) (m + 2 + j) a) heads) at_head
-        (are_swapped items heads are (number_of heads h) known_head i j a b (low_at i i_low) (low_at j j_low)
-        (a_is ∙ ap (λ m. get_or items (m + 2 + i) a) (sym at_head)) (b_is ∙ ap (λ m. get_or items (m + 2 + j) b) (sym at_head)))
-
-    pub swapped_names : names_at (set (set items (h + 2 + i) b) (h + 2 + j) a) heads ≡ names_at items heads
+    pub swapped_names : names_at (set (set items (h + 2 + p) b) (h + 2 + q) a) heads ≡ names_at items heads
     swapped_names =
-        ap (λ m. names_at (set (set items (m + 2 + i) b) (m + 2 + j) a) heads) (sym at_head)
-        ∙ names_swapped items heads are (number_of heads h) known_head i j a b (low_at i i_low) (low_at j j_low)
-        (a_is ∙ ap (λ m. get_or items (m + 2 + i) a) (sym at_head)) (b_is ∙ ap (λ m. get_or items (m + 2 + j) b) (sym at_head))
+        ap (λ m. names_at (set (set items (m + 2 + p) b) (m + 2 + q) a) heads) (sym at_head)
+        ∙ names_swapped items heads are (number_of heads h) known_head p q a b (place_here i p i_low p_is) (place_here j q j_low q_is)
+        (a_is ∙ ap (λ m. get_or items (m + 2 + p) a) (sym at_head)) (b_is ∙ ap (λ m. get_or items (m + 2 + q) b) (sym at_head))
 
-    pub swapped_clauses : clauses_at (set (set items (h + 2 + i) b) (h + 2 + j) a) heads ≡ set (clauses_at items heads) (number_of heads h) (swap (clause_of (clauses_at items heads) (number_of heads h)) i j)
+    pub swapped_clauses : clauses_at (set (set items (h + 2 + p) b) (h + 2 + q) a) heads ≡ set (clauses_at items heads) (number_of heads h) (swap clause i j)
     swapped_clauses =
-        ap (λ m. clauses_at (set (set items (m + 2 + i) b) (m + 2 + j) a) heads) (sym at_head)
-        ∙ clauses_swapped items heads are (number_of heads h) known_head i j a b (low_at i i_low) (low_at j j_low)
-        (a_is ∙ ap (λ m. get_or items (m + 2 + i) a) (sym at_head)) (b_is ∙ ap (λ m. get_or items (m + 2 + j) b) (sym at_head))
+        ap (λ m. clauses_at (set (set items (m + 2 + p) b) (m + 2 + q) a) heads) (sym at_head)
+        ∙ clauses_swapped items heads are (number_of heads h) known_head p q a b (place_here i p i_low p_is) (place_here j q j_low q_is)
+        (a_is ∙ ap (λ m. get_or items (m + 2 + p) a) (sym at_head)) (b_is ∙ ap (λ m. get_or items (m + 2 + q) b) (sym at_head))
+        i j (low_here i i_low) (low_here j j_low) (p_is ∙ ap (λ m. turned_place m i) length_here) (q_is ∙ ap (λ m. turned_place m j) length_here)
 
 -- what the items are seen as
 abbrev pub value_of : List ℕ → ArenaValue
@@ -401,17 +430,17 @@ own_value items heads are = ap (λ hs. let v : ArenaValue = record { clauses = c
 
 module _ (items : List ℕ) (are : AreHeads items (heads_of items)) where
   -- a clause is put behind the others by a name
-  module _ (name : ℕ) (row : List Literal) (new : List ℕ) (new_is : new ≡ items ++ length row ∷ name ∷ map code row) (short : length items + 2 + length row < 2 ^ 32) where
-    are_pushed : AreHeads (items ++ length row ∷ name ∷ map code row) (heads_of items ++ length items ∷ [])
+  module _ (name : ℕ) (row : List Literal) (new : List ℕ) (new_is : new ≡ items ++ length row ∷ name ∷ map code (turned row)) (short : length items + 2 + length row < 2 ^ 32) where
+    are_pushed : AreHeads (items ++ length row ∷ name ∷ map code (turned row)) (heads_of items ++ length items ∷ [])
     are_pushed = are_more items (heads_of items) are name row (omega (arith, length_more items (heads_of items) are name row, short))
 
     pub pushed_heads : AreHeads new (heads_of new)
-    pushed_heads = subst (λ xs. AreHeads xs (heads_of xs)) (sym new_is) (own_heads (items ++ length row ∷ name ∷ map code row) (heads_of items ++ length items ∷ []) are_pushed)
+    pushed_heads = subst (λ xs. AreHeads xs (heads_of xs)) (sym new_is) (own_heads (items ++ length row ∷ name ∷ map code (turned row)) (heads_of items ++ length items ∷ []) are_pushed)
 
     pub pushed_value : (h : ℕ) → h ≡ length items
         → value_of new ≡ record { clauses = clauses_at items (heads_of items) ++ row ∷ []; heads = heads_of items ++ h ∷ []; names = names_at items (heads_of items) ++ name ∷ [] }
     pushed_value h h_is =
-        ap value_of new_is ∙ own_value (items ++ length row ∷ name ∷ map code row) (heads_of items ++ length items ∷ []) are_pushed
+        ap value_of new_is ∙ own_value (items ++ length row ∷ name ∷ map code (turned row)) (heads_of items ++ length items ∷ []) are_pushed
         ∙ ap₂ (λ cs ns. let v : ArenaValue = record { clauses = cs; heads = heads_of items ++ length items ∷ []; names = ns } in v)
         (clauses_more items (heads_of items) are name row) (names_more items (heads_of items) are name row)
         ∙ ap (λ k. let v : ArenaValue = record { clauses = clauses_at items (heads_of items) ++ row ∷ []; heads = heads_of items ++ k ∷ []; names = names_at items (heads_of items) ++ name ∷ [] } in v) (sym h_is)

@@ -1,4 +1,5 @@
 pub mod Codes
+pub mod Turned
 pub mod HeadWalk
 pub mod Buffer
 pub mod HeadNumbers

@@ -1,8 +1,10 @@
--- Clauses in one buffer of numbers: each is its length, its name and the codes of its literals.
+-- Clauses in one buffer of numbers: each is its length, its name and the codes of its literals. The codes
+-- behind the first two stand from the last down.
 use Rattle.std.specs.Prelude.{◌≡◌, ℕ, zero, suc, ◌+◌, ◌<◌, ◌≤◌, ◌^◌, nat_eq, if◌then◌else◌, List, [], ◌∷◌, length, map, drop, slice_index_or}
 use Rattle.cnf_base.specs.declared.literal.Literal.{Literal}
 use Rattle.cnf_base.specs.RowPieces.{Place, row_pieces}
 use Rattle.cdcl_watches.specs.Watching.{literal_of}
+use Rattle.cdcl_watches.specs.Turned.{turned}
 
 -- where the clause of a head stands: its length and its name, and behind them as many codes as the length says
 abbrev pub place_at : List ℕ → ℕ → Place
@@ -10,7 +12,7 @@ place_at items head = record { from = head; to = head + 2 + slice_index_or items
 
 -- the literals of a clause
 abbrev pub decoded : List ℕ → List Literal
-decoded row = map literal_of (drop 2 row)
+decoded row = turned (map literal_of (drop 2 row))
 
 -- the heads among items of which the first stands at place, and belongs to a clause that skip items are still to come of
 abbrev pub heads_from : ℕ → ℕ → List ℕ → List ℕ

@@ -1,4 +1,5 @@
 pub mod Watching
+pub mod Turned
 pub mod Heads
 pub mod Watchers
 pub mod Pool

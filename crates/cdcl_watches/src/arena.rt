@@ -2,12 +2,17 @@
 // name, and the codes of its literals follow. Who has the place of a head comes to the clause and to its
 // name by one read, with no table between. Where the heads are follows from the lengths, so no list of them
 // is kept. After Een and Sorensson, An extensible SAT-solver (2003).
+//
+// The codes behind the first two stand from the last down. Propagation looks at the first two literals and
+// then from the end of the clause on: so what it looks at first stands beside the head, and a long clause
+// costs one read of memory far away in place of two. Callers see each clause in its own order.
 ghost use Rattle.std.specs.Prelude.{◌≡◌, ℕ, suc, ◌+◌, ◌-◌, ◌<◌, ◌≤◌, ◌^◌, List, [], ◌∷◌, ◌++◌, length, map, take, All, Contains, IfOk, OnOk, OnErr, slice_index_or, slice_set};
 ghost use Rattle.std.specs.List.{swap};
 ghost use Rattle.cdcl_watches.specs.Watching.{code, clause_of, AreApart};
+ghost use Rattle.cdcl_watches.specs.Turned.{turned};
 ghost use Rattle.cdcl_watches.specs.Heads.{number_of};
 
-use crate::clause::Clause;
+use crate::clause::{Clause, place_of};
 use crate::coded::encode;
 use cnf_base::Literal;
 use std::alloc::{AllocError, Global};
@@ -126,21 +131,27 @@ impl Arena {
         ensures names { self.new.names ≡ self.old.names }
     {
         let from = head as usize + 2;
-        let a = self.items[from + i];
-        let b = self.items[from + j];
-        self.items[from + i] = b;
-        self.items[from + j] = a;
+        let len = self.items[head as usize] as usize;
+        let first = from + place_of(len, i);
+        let second = from + place_of(len, j);
+        let a = self.items[first];
+        let b = self.items[second];
+        self.items[first] = b;
+        self.items[second] = a;
     }
 }
 
-/// Puts the codes of the literals behind the items.
+/// Puts the codes of the literals behind the items, as a clause has them: the first two, and then the others
+/// from the last down.
 fn put_codes(items: &mut Vec<u32>, row: &[Literal]) -> Result<(), AllocError>
     requires { All (λ l. code l < 2 ^ 32) row.now }
     ensures kept { take (length items.old.items) items.new.items ≡ items.old.items }
-    ensures put { OnOk result (items.new.items ≡ items.old.items ++ map code row.now) }
+    ensures put { OnOk result (items.new.items ≡ items.old.items ++ map code (turned row.now)) }
 {
-    for literal in row {
-        items.push(encode(*literal).0)?;
+    let len = row.len();
+    for place in 0..len {
+        let next = place_of(len, place);
+        items.push(encode(row[next]).0)?;
     }
     Ok(())
 }
@@ -151,7 +162,7 @@ fn put_row(items: &mut Vec<u32>, name: u32, row: &[Literal]) -> Result<(), Alloc
     requires short { length row.now < 2 ^ 32 }
     ensures kept { take (length items.old.items) items.new.items ≡ items.old.items }
     ensures put { OnOk result (items.new.items ≡ items.old.items ++ length row.now ∷ name
-        ∷ map code row.now) }
+        ∷ map code (turned row.now)) }
 {
     items.push(row.len() as u32)?;
     items.push(name)?;

@@ -1,6 +1,8 @@
-// A clause that is lent out of the buffer: its literals stand there by their codes, four bytes each.
+// A clause that is lent out of the buffer: its literals stand there by their codes, four bytes each, the
+// first two and then the others from the last down. Callers see the clause in its own order.
 ghost use Rattle.std.specs.Prelude.{◌≡◌, ◌<◌, length, map, slice_index_or};
 ghost use Rattle.cdcl_watches.specs.Watching.{literal_of, blank};
+ghost use Rattle.cdcl_watches.specs.Turned.{turned, turned_place};
 
 use crate::coded::{Code, decode};
 use cnf_base::Literal;
@@ -16,16 +18,17 @@ impl<'a> Model for Clause<'a> {
     ghost use Rattle.std.specs.Prelude.{List, map};
     ghost use Rattle.cnf_base.specs.declared.literal.Literal.{Literal};
     ghost use Rattle.cdcl_watches.specs.Watching.{literal_of};
+    ghost use Rattle.cdcl_watches.specs.Turned.{turned};
 
     ghost Value = { List Literal };
 
-    ghost view = { λ a. map literal_of a.codes.now };
+    ghost view = { λ a. turned (map literal_of a.codes.now) };
 }
 
 impl<'a> Clause<'a> {
-    /// The clause of these codes.
+    /// The clause of these codes, which stand as in the buffer.
     pub fn new(codes: &'a [u32]) -> Self
-        ensures { result ≡ map literal_of codes.now }
+        ensures { result ≡ turned (map literal_of codes.now) }
     {
         Clause { codes }
     }
@@ -44,6 +47,16 @@ impl<'a> Clause<'a> {
         ensures { result ≡ slice_index_or self.now place blank }
     {
         let codes = self.codes;
+        let place = place_of(codes.len(), place);
         decode(Code(codes[place]))
     }
+}
+
+/// Where the literal at a place stands among the codes of a clause of `len` literals.
+#[inline(always)]
+pub fn place_of(len: usize, place: usize) -> usize
+    requires { place < len }
+    ensures { result ≡ turned_place len place }
+{
+    if place < 2 { place } else { len - place + 1 }
 }
