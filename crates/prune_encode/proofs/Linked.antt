@@ -1,5 +1,5 @@
 -- The clauses over the numbers of entries are those of the formula.
-use Rattle.std.proofs.Common.{◌≡◌, ℕ, suc, ◌<◌, ◌≤◌, arith, false, IsTrue, ap, ap₂, sym, ◌∙◌, subst, List, [], ◌∷◌, ◌++◌, length, get_or, Contains, All}
+use Rattle.std.proofs.Common.{◌≡◌, ℕ, suc, ◌<◌, false, IsTrue, ap, ap₂, sym, ◌∙◌, subst, List, [], ◌∷◌, ◌++◌, length, get_or, Contains, All}
 use Rattle.std.proofs.lemmas.List.{get_or-map, length-map}
 use Rattle.std.proofs.lemmas.List.Elements.{Contains-get_or}
 use Rattle.ltl_syntax.specs.declared.node.Kind.TheVariants as Kinds
@@ -14,7 +14,6 @@ use Rattle.ltl_closure.proofs.Known.{numbers_known, eventuality_in}
 use Rattle.enc_layout.specs.Letters.{LayoutValue, below}
 use Rattle.enc_layout.specs.Clauses.{layout_of, eventuality, new_clauses, pruned_clause, part_f}
 use Rattle.enc_layout.proofs.ByIndex.{below_same}
-use Rattle.enc_layout.proofs.Counting.{eventualities_few}
 use Rattle.enc_layout.proofs.Standing.{stands, entries_count}
 use Rattle.prune_encode.specs.ByNumber.{seen_part, new_entry, new_by, pruned_row, pruned_pair, pruned_part}
 
@@ -59,11 +58,3 @@ module _ (layout : LayoutValue) (c : ClosureValue) (own : layout ≡ layout_of c
 
   pub eventualities_count : length numbers ≡ layout.counts.eventualities
   eventualities_count = ap length is ∙ (eventualities_long c.formula ∙ sym (ap (λ l. l.counts.eventualities) own))
-
-  pub eventualities_short : (entries : List Entry) → AreEntries c.names c.formula entries → length numbers ≤ length entries
-  eventualities_short entries are =
-      let a = ap length is in
-      let b = eventualities_long c.formula in
-      let d = eventualities_few c.formula in
-      let e = are.long in
-      omega arith

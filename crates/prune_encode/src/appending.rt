@@ -23,10 +23,10 @@ fn push_part(closure: &Closure<'_>, step: &Step<'_>, out: &mut ClauseList) -> Re
     match closure.kind() {
         Kind::Finite => push_repeats(step, out),
         Kind::Infinite => {
-            let entries = closure.entries();
-            let eventualities = closure.eventualities();
+            // The entries are those of the formula's closure.
+            let _ = closure.entries();
             push_seen(step, out)?;
-            push_pairs(step, entries, eventualities, out)?;
+            push_pairs(closure, step, closure.eventualities(), out)?;
             Ok(())
         }
     }

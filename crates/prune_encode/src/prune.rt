@@ -1,9 +1,10 @@
 // Which pairs prune. On infinite traces a carry that comes a third time must bring something new: an
 // eventuality that is pending, and that is fulfilled since the second time and was not seen then. On finite
 // traces a carry that comes a second time is enough.
-ghost use Rattle.std.specs.Prelude.{◌≡◌, ◌<◌, ◌≤◌, [], ◌∷◌, ◌++◌, length, slice_index_or, All, OnOk, OnErr};
+ghost use Rattle.std.specs.Prelude.{◌≡◌, ◌<◌, ◌≤◌, [], ◌∷◌, ◌++◌, length, All, OnOk, OnErr};
 ghost use Rattle.ltl_syntax.specs.declared.node.Kind.TheVariants as Kinds;
 ghost use Rattle.ltl_closure.specs.Entries.{IsNumber};
+ghost use Rattle.enc_layout.specs.Clauses.{layout_of};
 ghost use Rattle.enc_layout.specs.Steps.{clauses_at};
 ghost use Rattle.enc_layout.specs.Numbered.{IsInside, Extends};
 ghost use Rattle.prune_encode.specs.New.{new_rows};
@@ -11,7 +12,7 @@ ghost use Rattle.prune_encode.specs.ByNumber.{new_entry, new_pair, pruned_row, p
 
 use cnf_base::{ClauseList, Literal};
 use enc_layout::{Part, Step};
-use ltl_closure::Entry;
+use ltl_closure::{Closure, Entry};
 use std::alloc::AllocError;
 
 /// What is new is pending, fulfilled and not seen.
@@ -61,27 +62,24 @@ fn push_new_entry(
 }
 
 fn push_news(
+    closure: &Closure<'_>,
     step: &Step<'_>,
     earlier: u32,
-    entries: &[Entry],
     eventualities: &[u32],
     out: &mut ClauseList,
 ) -> Result<(), AllocError>
+    requires own { step.now.layout ≡ layout_of closure.now }
     requires infinite { step.now.layout.kind ≡ Kinds.Infinite }
     requires earlier { earlier < step.now.number }
-    requires all { length entries.now ≡ step.now.layout.counts.entries }
-    requires inside { All (IsInside step.now.layout.counts.entries) entries.now }
     requires known { All (IsNumber step.now.layout.counts.entries) eventualities.now }
     requires count { length eventualities.now ≡ step.now.layout.counts.eventualities }
-    requires short { length eventualities.now ≤ 1073741824 }
     ensures ok { OnOk result (out.new ≡ out.old ++ clauses_at step.now
-        (new_pair entries.now eventualities.now step.now.number earlier)) }
+        (new_pair closure.now.entries eventualities.now step.now.number earlier)) }
     ensures err { OnErr result (Extends out.old out.new) }
 {
-    for (m, eventuality) in eventualities.iter().enumerate() {
-        let number = m as u32 + 1;
-        let entry = entries[*eventuality as usize - 1];
-        push_new_entry(step, earlier, number, entry, out)?;
+    for index in 0..step.eventualities() {
+        let entry = closure.entry(eventualities[index as usize]);
+        push_new_entry(step, earlier, index + 1, entry, out)?;
     }
     Ok(())
 }
@@ -105,24 +103,22 @@ fn push_pruned(step: &Step<'_>, earlier: u32, out: &mut ClauseList) -> Result<()
 }
 
 fn push_pair(
+    closure: &Closure<'_>,
     step: &Step<'_>,
     earlier: u32,
-    entries: &[Entry],
     eventualities: &[u32],
     out: &mut ClauseList,
 ) -> Result<(), AllocError>
+    requires own { step.now.layout ≡ layout_of closure.now }
     requires infinite { step.now.layout.kind ≡ Kinds.Infinite }
     requires earlier { earlier < step.now.number }
-    requires all { length entries.now ≡ step.now.layout.counts.entries }
-    requires inside { All (IsInside step.now.layout.counts.entries) entries.now }
     requires known { All (IsNumber step.now.layout.counts.entries) eventualities.now }
     requires count { length eventualities.now ≡ step.now.layout.counts.eventualities }
-    requires short { length eventualities.now ≤ 1073741824 }
     ensures ok { OnOk result (out.new ≡ out.old ++ clauses_at step.now
-        (pruned_pair entries.now eventualities.now step.now.number earlier)) }
+        (pruned_pair closure.now.entries eventualities.now step.now.number earlier)) }
     ensures err { OnErr result (Extends out.old out.new) }
 {
-    push_news(step, earlier, entries, eventualities, out)?;
+    push_news(closure, step, earlier, eventualities, out)?;
     push_pruned(step, earlier, out)?;
     Ok(())
 }
@@ -130,23 +126,21 @@ fn push_pair(
 /// Where the step's pair with each earlier step prunes on infinite traces, the first step first. The
 /// eventualities are entries' numbers.
 pub fn push_pairs(
+    closure: &Closure<'_>,
     step: &Step<'_>,
-    entries: &[Entry],
     eventualities: &[u32],
     out: &mut ClauseList,
 ) -> Result<(), AllocError>
+    requires own { step.now.layout ≡ layout_of closure.now }
     requires infinite { step.now.layout.kind ≡ Kinds.Infinite }
-    requires all { length entries.now ≡ step.now.layout.counts.entries }
-    requires inside { All (IsInside step.now.layout.counts.entries) entries.now }
     requires known { All (IsNumber step.now.layout.counts.entries) eventualities.now }
     requires count { length eventualities.now ≡ step.now.layout.counts.eventualities }
-    requires short { length eventualities.now ≤ 1073741824 }
     ensures ok { OnOk result (out.new ≡ out.old ++ clauses_at step.now
-        (pruned_part entries.now eventualities.now step.now.number)) }
+        (pruned_part closure.now.entries eventualities.now step.now.number)) }
     ensures err { OnErr result (Extends out.old out.new) }
 {
     for earlier in 0..step.number() {
-        push_pair(step, earlier, entries, eventualities, out)?;
+        push_pair(closure, step, earlier, eventualities, out)?;
     }
     Ok(())
 }

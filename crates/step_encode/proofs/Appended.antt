@@ -1,12 +1,12 @@
 -- What the pieces that are appended make together, where the layout is the closure's.
-use Rattle.std.proofs.Common.{◌≡◌, ℕ, zero, suc, ◌-◌, ◌<◌, ap, ap₂, sym, ◌∙◌, subst, arith, List, [], ◌∷◌, ◌++◌}
+use Rattle.std.proofs.Common.{◌≡◌, ℕ, zero, suc, ◌+◌, ◌-◌, ◌<◌, ap, ap₂, sym, ◌∙◌, subst, arith, add-one, List, [], ◌∷◌, ◌++◌}
 use Rattle.ltl_syntax.specs.Formula.{Formula}
 use Rattle.cnf_base.specs.declared.literal.Literal.{Literal as Signed}
 use Rattle.ltl_closure.specs.Norm.{pos_of}
 use Rattle.ltl_closure.specs.Closure.{closure as closure_of, nexts, yesterdays}
 use Rattle.ltl_closure.specs.Entries.{place_in, numbers_of, AreEntries, ClosureValue}
 use Rattle.ltl_closure.specs.declared.entry.Entry.{Entry}
-use Rattle.enc_layout.specs.Letters.{LayoutValue, Here, EntryAt}
+use Rattle.enc_layout.specs.Letters.{LayoutValue, Here, EntryAt, below}
 use Rattle.enc_layout.specs.Clauses.{Clause, Plus, Minus, part_c, state_clauses, literal_in, clauses_in}
 use Rattle.enc_layout.proofs.Pieces.{pieces_more}
 use Rattle.step_encode.specs.ByNumber.{gates_part, starts_part, nexts_part, yesterdays_part}
@@ -40,6 +40,12 @@ module _ (closure : ClosureValue) (entries : List Entry) (are : AreEntries closu
 module _ (layout : LayoutValue) (old mid new : List (List Signed)) where
   abbrev rows : List Clause → List (List Signed)
   rows cs = clauses_in layout.kind layout.counts cs
+
+  -- the next piece of a part
+  pub piece_done : (k : ℕ) (g : ℕ → List Clause) (piece : List Clause) → piece ≡ g k → mid ≡ old ++ rows (below k g) → new ≡ mid ++ rows piece → new ≡ old ++ rows (below (k + 1) g)
+  piece_done k g piece is a b =
+      subst (λ n. new ≡ old ++ rows (below n g)) (sym (add-one k))
+      (pieces_more layout.kind layout.counts old mid new (below k g) (g k) a (b ∙ ap (λ cs. mid ++ rows cs) is))
 
   pub first_done : (closure : ClosureValue) (entries : List Entry) → AreEntries closure.names closure.formula entries
       → (root : ℕ) (numbers : List ℕ) → root ≡ place_in (closure_of closure.formula) (pos_of closure.formula) → numbers ≡ numbers_of closure.formula (yesterdays closure.formula)

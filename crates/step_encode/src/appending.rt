@@ -1,6 +1,7 @@
 // The clauses of a step's states, put behind those that are there. Where memory runs out, the list is cut
 // back to what it was.
 ghost use Rattle.std.specs.Prelude.{◌≡◌, ◌<◌, ◌≤◌, ◌++◌, OnOk, OnErr};
+ghost use Rattle.ltl_closure.specs.Entries.{AreEntries};
 ghost use Rattle.enc_layout.specs.Letters.{Fits};
 ghost use Rattle.enc_layout.specs.Clauses.{layout_of, part_c, state_clauses, signed_clauses};
 ghost use Rattle.enc_layout.specs.Steps.{clauses_at};
@@ -20,13 +21,14 @@ fn push_first(
     out: &mut ClauseList,
 ) -> Result<(), AllocError>
     requires own { step.now.layout ≡ layout_of closure.now }
+    requires entries { AreEntries closure.now.names closure.now.formula closure.now.entries }
     ensures ok { OnOk result (out.new ≡ out.old ++ clauses_at step.now (part_c closure.now.formula 0)) }
     ensures err { OnErr result (Extends out.old out.new) }
 {
     let first = step.up_to(0);
     let here = first.positive(Part::Here);
     out.push(&[here.opposite(), first.entry(closure.root())])?;
-    push_starts(step, closure.entries(), closure.yesterdays(), out)?;
+    push_starts(closure, step, closure.yesterdays(), out)?;
     Ok(())
 }
 
@@ -37,14 +39,14 @@ fn push_later(
     out: &mut ClauseList,
 ) -> Result<(), AllocError>
     requires own { step.now.layout ≡ layout_of closure.now }
+    requires entries { AreEntries closure.now.names closure.now.formula closure.now.entries }
     requires later { 0 < step.now.number }
     ensures ok { OnOk result (out.new ≡ out.old ++ clauses_at step.now
         (part_c closure.now.formula step.now.number)) }
     ensures err { OnErr result (Extends out.old out.new) }
 {
-    let entries = closure.entries();
-    push_nexts(step, entries, closure.nexts(), out)?;
-    push_yesterdays(step, entries, closure.yesterdays(), out)?;
+    push_nexts(closure, step, closure.nexts(), out)?;
+    push_yesterdays(closure, step, closure.yesterdays(), out)?;
     Ok(())
 }
 

@@ -1,8 +1,9 @@
 // The links between neighbouring states: a next request has the value that its argument has one state later,
 // a yesterday request the value that its argument had one state before. Before the first state a yesterday
 // request is false, and a weak one true.
-ghost use Rattle.std.specs.Prelude.{◌≡◌, ◌<◌, ◌≤◌, ◌++◌, length, slice_index_or, All, OnOk, OnErr};
+ghost use Rattle.std.specs.Prelude.{◌≡◌, ◌<◌, ◌≤◌, ◌++◌, All, OnOk, OnErr};
 ghost use Rattle.ltl_closure.specs.Entries.{IsNumber};
+ghost use Rattle.enc_layout.specs.Clauses.{layout_of};
 ghost use Rattle.enc_layout.specs.Steps.{clauses_at};
 ghost use Rattle.enc_layout.specs.Numbered.{IsInside, Extends};
 ghost use Rattle.step_encode.specs.Gates.{link_rows};
@@ -10,7 +11,7 @@ ghost use Rattle.step_encode.specs.ByNumber.{start_entry, next_entry, yesterday_
 
 use cnf_base::{ClauseList, Literal};
 use enc_layout::{Part, Step};
-use ltl_closure::Entry;
+use ltl_closure::{Closure, Entry};
 use std::alloc::AllocError;
 
 /// Where the state is there, the request has the value of its argument.
@@ -50,19 +51,19 @@ fn push_start(
 
 /// What each of the yesterday requests is at the first state, in their order.
 pub fn push_starts(
+    closure: &Closure<'_>,
     step: &Step<'_>,
-    entries: &[Entry],
     requests: &[u32],
     out: &mut ClauseList,
 ) -> Result<(), AllocError>
-    requires all { length entries.now ≡ step.now.layout.counts.entries }
+    requires own { step.now.layout ≡ layout_of closure.now }
     requires known { All (IsNumber step.now.layout.counts.entries) requests.now }
     ensures ok { OnOk result (out.new ≡ out.old ++ clauses_at step.now
-        (starts_part entries.now requests.now)) }
+        (starts_part closure.now.entries requests.now)) }
     ensures err { OnErr result (Extends out.old out.new) }
 {
     for request in requests {
-        push_start(step, *request, entries[*request as usize - 1], out)?;
+        push_start(step, *request, closure.entry(*request), out)?;
     }
     Ok(())
 }
@@ -91,21 +92,20 @@ fn push_next(
 
 /// The link of each of the next requests, in their order.
 pub fn push_nexts(
+    closure: &Closure<'_>,
     step: &Step<'_>,
-    entries: &[Entry],
     requests: &[u32],
     out: &mut ClauseList,
 ) -> Result<(), AllocError>
+    requires own { step.now.layout ≡ layout_of closure.now }
     requires later { 0 < step.now.number }
-    requires all { length entries.now ≡ step.now.layout.counts.entries }
-    requires inside { All (IsInside step.now.layout.counts.entries) entries.now }
     requires known { All (IsNumber step.now.layout.counts.entries) requests.now }
     ensures ok { OnOk result (out.new ≡ out.old ++ clauses_at step.now
-        (nexts_part step.now.number entries.now requests.now)) }
+        (nexts_part step.now.number closure.now.entries requests.now)) }
     ensures err { OnErr result (Extends out.old out.new) }
 {
     for request in requests {
-        push_next(step, *request, entries[*request as usize - 1], out)?;
+        push_next(step, *request, closure.entry(*request), out)?;
     }
     Ok(())
 }
@@ -134,21 +134,20 @@ fn push_yesterday(
 
 /// The link of each of the yesterday requests, in their order.
 pub fn push_yesterdays(
+    closure: &Closure<'_>,
     step: &Step<'_>,
-    entries: &[Entry],
     requests: &[u32],
     out: &mut ClauseList,
 ) -> Result<(), AllocError>
+    requires own { step.now.layout ≡ layout_of closure.now }
     requires later { 0 < step.now.number }
-    requires all { length entries.now ≡ step.now.layout.counts.entries }
-    requires inside { All (IsInside step.now.layout.counts.entries) entries.now }
     requires known { All (IsNumber step.now.layout.counts.entries) requests.now }
     ensures ok { OnOk result (out.new ≡ out.old ++ clauses_at step.now
-        (yesterdays_part step.now.number entries.now requests.now)) }
+        (yesterdays_part step.now.number closure.now.entries requests.now)) }
     ensures err { OnErr result (Extends out.old out.new) }
 {
     for request in requests {
-        push_yesterday(step, *request, entries[*request as usize - 1], out)?;
+        push_yesterday(step, *request, closure.entry(*request), out)?;
     }
     Ok(())
 }

@@ -19,6 +19,6 @@ pub returns-clause-ok : goal.returns-clause-ok
 returns-clause-ok c =
     let here = subst (λ s. c.positive-here.result ≡ literal_in s.layout.kind s.layout.counts (Plus (Here s.number))) c.up_to-first.ensures c.positive-here.ensures in
     let root = subst (λ s. c.entry.result ≡ literal_in s.layout.kind s.layout.counts (Plus (EntryAt s.number c.root.result))) c.up_to-first.ensures c.entry.ensures in
-    first_done c.args.step.now.layout c.args.out.now c.push.new.self c.push_starts.new.out c.args.closure.now c.entries.result.now c.entries.ensures.closure
+    first_done c.args.step.now.layout c.args.out.now c.push.new.self c.push_starts.new.out c.args.closure.now c.args.closure.now.entries c.requires.entries
     c.root.result c.yesterdays.result.now c.root.ensures.number c.yesterdays.ensures.numbers c.opposite.result c.entry.result (c.opposite.ensures ∙ ap opposite here) root
     c.in_ok-push.ensures c.in_ok-push_starts.ensures.ok
