@@ -1,4 +1,5 @@
-//! Laws of batches. Each function is empty: its contract is the law, and a proof cites it by a call.
+//! Laws of batches. Each function is empty or calls other laws: its contract is the law, and a proof cites it
+//! by a call.
 ghost use Rattle.batch_run.specs.Laws.{LinesAreOne, AnswersAreOne};
 ghost use Rattle.batch_run.specs.Laws.{SatHasTrace, UnsatHasNone, UndecidedIsBelow};
 

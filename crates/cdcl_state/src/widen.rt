@@ -1,4 +1,5 @@
-// Room for more letters: a value, two lists of watchers and a mark for each. What is there keeps its place.
+// Room for more letters: a value, two lists of watchers, a mark and a place among the choices for each. What
+// is there keeps its place.
 ghost use Rattle.std.specs.Prelude.{◌≡◌, ℕ, ◌<◌, ◌≤◌, ◌⊎◌, ◌↔◌, ◌*◌, ◌^◌, ◌+◌, length, OnOk};
 ghost use Rattle.cdcl_activity.specs.Order.{IsWaiting};
 ghost use Rattle.cdcl_activity.specs.Choices.{IsNew};

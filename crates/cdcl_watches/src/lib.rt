@@ -1,5 +1,5 @@
-//! Clauses that are watched by two of their literals: the literals in one buffer, and for each literal the
-//! list of the clauses that watch it.
+//! Clauses that are watched by two of their literals: the literals in one buffer, and the lists of the
+//! clauses that watch each literal in one pool.
 #![tactic(auto)]
 
 pub mod arena;

@@ -1,5 +1,6 @@
-// Blocks of the pool: a list that has no room left moves to a block of twice the room. Its old block is spare
-// then, and serves the next list that wants one of that room, so that the pool stays small.
+// Blocks of the pool: a list that has no room left moves to a block of twice the room, the first one of two
+// watchers. Its old block is spare then, and serves the next list that wants one of that room, so that the
+// pool stays small.
 ghost use Rattle.std.specs.Prelude.{◌≡◌, ◌+◌, ◌<◌, ◌≤◌, ◌^◌, List, ℕ, length, IfOk, OnOk, slice_set};
 ghost use Rattle.std.specs.List.{SameBelow};
 ghost use Rattle.cdcl_watches.specs.declared.span.Span.{Span};
@@ -75,7 +76,7 @@ fn leave(spare: &mut Spare, span: Span)
     }
 }
 
-/// Moves a list to a block of twice the room.
+/// Moves a list to a block of twice the room, or of two where it has none.
 pub fn widen(
     spans: &mut Vec<Span>,
     pool: &mut Vec<Watcher>,

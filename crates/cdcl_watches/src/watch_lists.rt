@@ -15,7 +15,7 @@ use std::marker::Model;
 const MAX_LISTS: usize = 4294967296;
 
 /// Lists of watchers, one for each literal. There is room for 4,294,967,296 of them, so many as there are
-/// codes, and for 4,294,967,295 watchers in all: their places are numbers of 32 bits.
+/// codes, and for 4,294,967,295 places in the pool, spare ones among them: places are numbers of 32 bits.
 #[derive(Drop)]
 pub struct WatchLists {
     spans: Vec<Span>,

@@ -12,7 +12,7 @@ use cnf_base::Literal;
 use std::alloc::{AllocError, Global};
 use std::marker::Model;
 
-/// Clauses by their names, and for each literal the list of those that watch it.
+/// Clauses, each with a name, and for each literal the list of those that watch it.
 #[derive(Drop)]
 pub struct Watches {
     pub arena: Arena,

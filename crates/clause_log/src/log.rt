@@ -1,6 +1,6 @@
-// A log: input clauses, and lines that follow from them, each with the hints that show it. A line is checked
-// by unit propagation over its hints alone (Goldberg and Novikov: proofs of unsatisfiability for CNF
-// formulas), so what a log says can be trusted whatever search produced it.
+// A log: input clauses, and lines that follow from them, each with the hints that show it. That a line
+// follows shows by unit propagation over its hints alone (Goldberg and Novikov: proofs of unsatisfiability
+// for CNF formulas); `derive` asks for it, so what a log says can be trusted whatever search produced it.
 ghost use Rattle.std.specs.Prelude.{◌≡◌, ◌≤◌, [], length, IfOk, OnErr};
 ghost use Rattle.cnf_base.specs.Step.{IsHintedStep, clause_at};
 ghost use Rattle.clause_log.specs.LogValue.{LogValue, IsLog, IsInputAdded, IsLineAdded, with_input, with_line, with_lines, greatest_u32, hints_at};

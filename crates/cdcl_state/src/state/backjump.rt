@@ -1,6 +1,6 @@
-// Going back: the entries above a level come off the trail, and their letters may be decided again. The lists
-// that were visited for the entries that stay need no new visit. After Marques-Silva and Sakallah, GRASP
-// (1999).
+// Going back: the entries above a level come off the trail, and their letters may be decided again. Of the
+// lists that were visited for the entries that stay, those below `sure` need no new visit. After
+// Marques-Silva and Sakallah, GRASP (1999).
 ghost use Rattle.std.specs.Prelude.{◌≡◌, ◌≢◌, ◌↔◌, ℕ, ◌<◌, ◌≤◌, ◌⊎◌, All, Contains, IsTrue, None, length, slice_index_or};
 ghost use Rattle.cdcl_state.specs.StateValue.{IsBack};
 ghost use Rattle.cdcl_trail.specs.Trail.{blank_entry, literal_at, IsDecision};

@@ -38,7 +38,8 @@ impl State {
     }
 
     /// Explains a conflict by a clause that forces a literal after a way back, or by the empty clause: by the
-    /// first unique implication point, and where that is on level 0 alone, by decisions.
+    /// first unique implication point, and where that clause would force nothing after a way back, by
+    /// decisions.
     pub fn analyze(&mut self, alloc: Global, conflict: Hint) -> Result<Learnt, AllocError>
         requires { IsConflict self.old.log.inputs self.old.log.lines (literals_of self.old.trail) conflict }
         ensures same { self.new ≡ self.old }

@@ -1,6 +1,6 @@
 // A learnt clause is put behind the lines and watched, the trail is cut to the second highest of its levels,
-// and its first literal is forced there, without a new visit of what stays. After Marques-Silva and Sakallah,
-// GRASP (1999).
+// and its first literal is forced there, without a new visit of what stays below `sure`. After Marques-Silva
+// and Sakallah, GRASP (1999).
 ghost use Rattle.std.specs.Prelude.{◌≡◌, ◌<◌, ◌≤◌, ◌↔◌, [], ◌∷◌, ◌++◌, All, length, Some, OnErr, OnOk, IsTrue};
 ghost use Rattle.cnf_base.specs.Known.{IsKnown};
 ghost use Rattle.cdcl_state.specs.StateValue.{MayStand, with_log, with_trail};
