@@ -15,8 +15,8 @@ use clap::error::ErrorKind;
 use ltl_io::{StdSink, StdSource};
 use request::requested;
 use status::Status;
-use std::env;
 use std::process::ExitCode;
+use std::{env, io};
 use view::run;
 
 /// The code where the system did not give the words. Nothing is written then.
@@ -25,7 +25,12 @@ const NO_WORDS: u8 = 8;
 fn main(rt: HostRuntime) -> ExitCode {
     let words = match env::args(&rt) {
         Ok(words) => words,
-        Err(_) => return ExitCode::from(NO_WORDS),
+        Err(error) => {
+            return ExitCode::from(match error.kind() {
+                io::ErrorKind::OutOfMemory => Status::NoMemory.code(),
+                _ => NO_WORDS,
+            });
+        }
     };
     let Ok(words) = words.collect::<Vec<String>>(rt.alloc()) else {
         return ExitCode::from(Status::NoMemory.code());
