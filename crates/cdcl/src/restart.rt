@@ -3,6 +3,9 @@
 // ends. After Luby, Sinclair and Zuckerman, Optimal speedup of Las Vegas algorithms (1993).
 ghost use Rattle.std.specs.Prelude.{◌≡◌, ◌+◌, ◌⊎◌, true, false};
 
+/// So many conflicts go by for each one that the sequence says.
+const STEP: u64 = 140;
+
 /// The conflicts of one question, as far as they decide when the search begins anew.
 #[derive(Drop)]
 pub struct Pace {
@@ -32,7 +35,7 @@ impl Pace {
         if self.left == 0 {
             return false;
         }
-        if self.conflicts < luby(1000_u32.saturating_sub(self.left)).saturating_mul(100) {
+        if self.conflicts < luby(1000_u32.saturating_sub(self.left)).saturating_mul(STEP) {
             return false;
         }
         self.conflicts = 0;
