@@ -3,6 +3,7 @@ ghost use Rattle.std.specs.Prelude.{◌≡◌, ℕ, ◌+◌, ◌-◌, ◌≤◌,
 ghost use Rattle.cert_text.specs.Text.{Certificate, IsTextOf, IsCertificate, IsFormFault};
 ghost use Rattle.cert_text.specs.Shape.{form_of};
 ghost use Rattle.cert_text.specs.Live.{lines_of, hints_of, live_line, last_user};
+ghost use Rattle.cert_text.specs.Reading.{line_start};
 ghost use Rattle.cert_text.specs.declared.refused.CertRefused.TheVariants as refusals;
 
 use crate::finding::find;
@@ -120,6 +121,15 @@ impl<'t> CertView<'t> {
         ensures { result ≡ length (lines_of self.now.parts) }
     {
         self.form.lines
+    }
+
+    /// Where a line begins in the text, in bytes from the beginning of the text.
+    pub fn place(&self, line: u64) -> usize
+        requires from_one { 1 ≤ line }
+        requires in_text { line ≤ length (lines_of self.now.parts) }
+        ensures { result ≡ line_start self.now (line - 1) }
+    {
+        self.spans[(line - 1) as usize].start
     }
 
     /// The literals of a line, as they stand.

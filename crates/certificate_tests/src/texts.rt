@@ -49,6 +49,7 @@ fn tells_of_each_line(rt: HostRuntime) -> Result<(), Fail> {
     let mut told = Vec::new(rt.alloc());
     for line in 1..=view.lines() {
         let live = view.live_at_close(line);
+        told.push(view.place(line) as u64)?;
         told.push(view.last_user(line))?;
         told.push(if live { 1 } else { 0 })?;
         push_literals(view.literals(line), &mut told)?;
@@ -60,7 +61,7 @@ fn tells_of_each_line(rt: HostRuntime) -> Result<(), Fail> {
     }
     assert_eq!(rt;
         told.as_slice(),
-        [2, 0, 1002, 2, 1, 2, 1, 1002, 1001, 2, 2].as_slice()
+        [21, 2, 0, 1002, 2, 1, 32, 2, 1, 1002, 1001, 2, 2].as_slice()
     );
     assert_eq!(rt; (view.version(), view.depth(), view.lines()), (2, 0, 2));
     assert!(rt; view.kind() == Kind::Infinite);

@@ -8,7 +8,7 @@ pub mod Named
 pub mod Assuming
 pub mod Refuting
 pub mod Entries
-pub mod Starts
+pub mod Cutting
 pub mod AtLine
 pub mod Whole
 pub mod ShortForms

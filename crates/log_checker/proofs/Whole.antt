@@ -1,41 +1,58 @@
 -- What the answers of all pieces are together.
-use Rattle.std.proofs.Common.{◌≡◌, ℕ, zero, suc, ◌+◌, ◌-◌, ◌%◌, ◌<◌, ◌≤◌, List, [], ◌∷◌, length, get_or, take, All, Some, None, refl, sym, subst, arith}
-use Rattle.std.proofs.lemmas.List.{length-take}
-use Rattle.std.proofs.Math.Nat.{mod-lt}
+use Rattle.std.proofs.Common.{◌≡◌, ℕ, zero, suc, ◌+◌, ◌-◌, ◌<◌, List, [], ◌∷◌, length, get_or, take, All, IfSome, Option, Some, None, refl, sym, subst, arith}
+use Rattle.std.proofs.lemmas.List.Elements.{All-head, All-tail}
 use Rattle.cnf_base.specs.declared.literal.Literal.{Literal}
 use Rattle.cert_text.specs.Text.{Part}
 use Rattle.cert_text.specs.Live.{lines_of, IsGoodLine}
 use Rattle.log_checker.specs.Judging.{IsFirstBad, IsLinesAnswer}
-use Rattle.log_checker.specs.Pieces.{start_at, IsFirstOf, IsJudged, IsScratch}
+use Rattle.log_checker.specs.Pieces.{AreCuts, IsFirstOf, IsJudged}
 use Rattle.log_checker.specs.declared.pieces.Area.{Area}
 use Rattle.log_checker.specs.declared.lines.Lines.{Lines}
 use Rattle.log_checker.specs.declared.lines.Lines.TheVariants.{AllGood, FirstBad}
 use Rattle.log_checker.proofs.Ranges.{joined}
-use Rattle.log_checker.proofs.Starts.{starts, start_up, start_within, start_end}
+use Rattle.log_checker.proofs.Cutting.{cuts_up, cuts_within, cuts_same}
 
-module _ (Good : ℕ → Type 0) (lines : ℕ) (areas : List Area) (some : 1 ≤ length areas)
-    (each : (i : ℕ) (d : Area) → i < length areas → IsFirstBad Good (start_at lines (length areas) i) (start_at lines (length areas) (i + 1)) (get_or areas i d).first_bad) where
-  -- the pieces before this one are good
-  before : (i : ℕ) → i ≤ length areas → ((j : ℕ) (d : Area) → j < i → (get_or areas j d).first_bad ≡ None) → (d : Area) → IsFirstBad Good 0 (start_at lines (length areas) i) None
-  before zero low none d = λ k above below. absurd (omega (arith, below, starts lines (length areas)))
-  before (suc i) low none d =
-      let rest = before i (omega (arith, low)) (λ j d' less. none j d' (omega (arith, less))) d in
-      let here = subst (IsFirstBad Good (start_at lines (length areas) i) (start_at lines (length areas) (i + 1))) (none i d (omega arith)) (each i d (omega (arith, low))) in
-      let both = joined Good 0 (start_at lines (length areas) i) (start_at lines (length areas) (i + 1)) None None (omega arith) (start_up lines (length areas) i) rest here in
-      let e : i + 1 ≡ suc i = omega arith in
-      subst (λ n. IsFirstBad Good 0 (start_at lines (length areas) n) None) e both
+-- a piece's answer is its first bad line
+abbrev IsAnswer : (ℕ → Type 0) → Area → Type 0
+IsAnswer Good a = IsFirstBad Good a.from a.to a.first_bad
 
-  pub all_good : lines % length areas < length areas → ((j : ℕ) (d : Area) → j < length areas → (get_or areas j d).first_bad ≡ None) → (d : Area) → IsFirstBad Good 0 lines None
-  all_good rest none d = subst (λ n. IsFirstBad Good 0 n None) (start_end lines (length areas) some rest) (before (length areas) (omega arith) none d)
+abbrev HasNone : Area → Type 0
+HasNone a = a.first_bad ≡ None
 
-  pub first_is : (i k : ℕ) → i < length areas → ((d : Area) → (get_or areas i d).first_bad ≡ Some k) → ((j : ℕ) (d : Area) → j < i → (get_or areas j d).first_bad ≡ None) → (d : Area) → IsFirstBad Good 0 lines (Some k)
-  first_is i k low at none d =
-      let here = subst (IsFirstBad Good (start_at lines (length areas) i) (start_at lines (length areas) (i + 1))) (at d) (each i d low) in
-      let both = joined Good 0 (start_at lines (length areas) i) (start_at lines (length areas) (i + 1)) None (Some k) (omega arith) (start_up lines (length areas) i) (before i (omega (arith, low)) none d) here in
-      (both.0, omega (arith, both.1, start_within lines (length areas) (i + 1) some (omega (arith, low))), both.2, both.3)
+module _ (Good : ℕ → Type 0) (to : ℕ) where
+  -- the first piece, where its answer is this one
+  first_piece : (from : ℕ) (a : Area) (areas : List Area) (answer : Option ℕ) → AreCuts from (a ∷ areas) to → All (IsAnswer Good) (a ∷ areas) → a.first_bad ≡ answer → IsFirstBad Good from a.to answer
+  first_piece from a areas answer cut each is = subst (λ n. IsFirstBad Good n a.to answer) cut.0 (subst (IsFirstBad Good a.from a.to) is (All-head (IsAnswer Good) a areas each))
 
-blank_area : Area
-blank_area = record { assignment = []; first_bad = None }
+  pub all_good : (from : ℕ) (areas : List Area) → AreCuts from areas to → All (IsAnswer Good) areas → All HasNone areas → IsFirstBad Good from to None
+  all_good from [] cut each none = λ k above below. absurd (omega (arith, cut, above, below))
+  all_good from (a ∷ areas) cut each none =
+      let here = first_piece from a areas None cut each (All-head HasNone a areas none) in
+      let rest = all_good a.to areas cut.2 (All-tail (IsAnswer Good) a areas each) (All-tail HasNone a areas none) in
+      joined Good from a.to to None None cut.1 (cuts_up a.to to areas cut.2) here rest
+
+  pub first_is : (i k from : ℕ) (areas : List Area) → AreCuts from areas to → All (IsAnswer Good) areas → i < length areas → ((d : Area) → (get_or areas i d).first_bad ≡ Some k) → All HasNone (take i areas) → IsFirstBad Good from to (Some k)
+  first_is i k from [] cut each low at none = absurd (omega (arith, low))
+  first_is zero k from (a ∷ areas) cut each low at none =
+      let here = first_piece from a areas (Some k) cut each (at a) in
+      (here.0, omega (arith, here.1, cuts_up a.to to areas cut.2), here.2, here.3)
+  first_is (suc i) k from (a ∷ areas) cut each low at none =
+      let here = first_piece from a areas None cut each (All-head HasNone a (take i areas) none) in
+      let rest = first_is i k a.to areas cut.2 (All-tail (IsAnswer Good) a areas each) (omega (arith, low)) at (All-tail HasNone a (take i areas) none) in
+      joined Good from a.to to None (Some k) cut.1 (cuts_up a.to to areas cut.2) here rest
+
+-- a bad place is below the end of its range
+bad_below : (Good : ℕ → Type 0) (from to limit : ℕ) (answer : Option ℕ) → to < limit → IsFirstBad Good from to answer → IfSome answer (λ k. k + 1 < limit)
+bad_below Good from to limit None low is = tt
+bad_below Good from to limit (Some k) low is = omega (arith, low, is.1)
+
+-- the number of a bad line fits where that of the lines does
+pub answers_fit : (clauses : List (List Literal)) (parts : List Part) (limit : ℕ) (old new : List Area) → length (lines_of parts) < limit → AreCuts 0 old (length (lines_of parts)) → length new ≡ length old
+    → ((i : ℕ) (d : Area) → i < length old → IsJudged clauses parts (get_or old i d) (get_or new i d)) → All (λ (a : Area). IfSome a.first_bad (λ k. k + 1 < limit)) new
+answers_fit clauses parts limit old new low cut same judged = λ i d there.
+    let at : i < length old = omega (arith, there, same) in
+    let within = cuts_within 0 (length (lines_of parts)) old cut i d at in
+    bad_below (IsGoodLine clauses (length (get_or old i d).assignment - 1) parts) (get_or old i d).from (get_or old i d).to limit (get_or new i d).first_bad (omega (arith, within.1, low)) (judged i d at).first
 
 -- an element is read with any default
 pub read_any : {X : Type 0} (xs : List X) (i : ℕ) (d e : X) → i < length xs → get_or xs i d ≡ get_or xs i e
@@ -43,33 +60,27 @@ read_any [] i d e below = absurd (omega (arith, below))
 read_any (x ∷ xs) zero d e below = refl
 read_any (x ∷ xs) (suc i) d e below = read_any xs i d e (omega (arith, below))
 
--- the elements before a place are read in the first ones
-read_take : {X : Type 0} (xs : List X) (i j : ℕ) (d : X) → j < i → i ≤ length xs → get_or (take i xs) j d ≡ get_or xs j d
-read_take [] i j d less low = absurd (omega (arith, less, low))
-read_take (x ∷ xs) zero j d less low = absurd (omega (arith, less))
-read_take (x ∷ xs) (suc i) zero d less low = refl
-read_take (x ∷ xs) (suc i) (suc j) d less low = read_take xs i j d (omega (arith, less)) (omega (arith, low))
-
-none_before : (areas : List Area) (i : ℕ) → i ≤ length areas → All (λ (area : Area). area.first_bad ≡ None) (take i areas) → (j : ℕ) (d : Area) → j < i → (get_or areas j d).first_bad ≡ None
-none_before areas i low all j d less = subst (λ (a : Area). a.first_bad ≡ None) (read_take areas i j d less low) (all j d (omega (arith, less, low, length-take i areas)))
-
 -- the answer of the first piece that has one is that of all lines
-pub whole_answer : (clauses : List (List Literal)) (parts : List Part) (letters : ℕ) (old new : List Area) (r : Lines) → IsScratch letters old → length new ≡ length old
-    → ((i : ℕ) (d : Area) → i < length old → IsJudged clauses parts (length old) i (get_or old i d) (get_or new i d)) → IsFirstOf new r → IsLinesAnswer clauses letters parts r
-whole_answer clauses parts letters old new r is same judged first = go r first
+pub whole_answer : (clauses : List (List Literal)) (parts : List Part) (letters : ℕ) (old new : List Area) (r : Lines) → All (λ (a : Area). length a.assignment ≡ letters + 1) old
+    → AreCuts 0 old (length (lines_of parts)) → length new ≡ length old
+    → ((i : ℕ) (d : Area) → i < length old → IsJudged clauses parts (get_or old i d) (get_or new i d)) → IsFirstOf new r → IsLinesAnswer clauses letters parts r
+whole_answer clauses parts letters old new r sizes cut same judged first = go r first
   where
     Good : ℕ → Type 0
     Good = IsGoodLine clauses letters parts
 
-    each : (i : ℕ) (d : Area) → i < length new → IsFirstBad (IsGoodLine clauses letters parts) (start_at (length (lines_of parts)) (length new) i) (start_at (length (lines_of parts)) (length new) (i + 1)) (get_or new i d).first_bad
+    each : All (λ (a : Area). IsFirstBad (IsGoodLine clauses letters parts) a.from a.to a.first_bad) new
     each i d low =
-        let known : length (get_or old i d).assignment - 1 ≡ letters = omega (arith, is.sizes i d (omega (arith, low, same))) in
-        let at = subst (λ n. IsFirstBad (IsGoodLine clauses n parts) (start_at (length (lines_of parts)) (length old) i) (start_at (length (lines_of parts)) (length old) (i + 1)) (get_or new i d).first_bad) known (judged i d (omega (arith, low, same))).first in
-        subst (λ n. IsFirstBad (IsGoodLine clauses letters parts) (start_at (length (lines_of parts)) n i) (start_at (length (lines_of parts)) n (i + 1)) (get_or new i d).first_bad) (sym same) at
+        let at : i < length old = omega (arith, low, same) in
+        let done = judged i d at in
+        let known : length (get_or old i d).assignment - 1 ≡ letters = omega (arith, sizes i d at) in
+        let one = subst (λ n. IsFirstBad (IsGoodLine clauses n parts) (get_or old i d).from (get_or old i d).to (get_or new i d).first_bad) known done.first in
+        let two = subst (λ n. IsFirstBad (IsGoodLine clauses letters parts) n (get_or old i d).to (get_or new i d).first_bad) (sym done.from) one in
+        subst (λ n. IsFirstBad (IsGoodLine clauses letters parts) (get_or new i d).from n (get_or new i d).first_bad) (sym done.to) two
 
-    some : 1 ≤ length new
-    some = omega (arith, is.some, same)
+    cuts : AreCuts 0 new (length (lines_of parts))
+    cuts = cuts_same 0 (length (lines_of parts)) old new same (λ i d low. ((judged i d low).from, (judged i d low).to)) cut
 
     go : (q : Lines) → IsFirstOf new q → IsLinesAnswer clauses letters parts q
-    go AllGood none = all_good (IsGoodLine clauses letters parts) (length (lines_of parts)) new some each (mod-lt (length (lines_of parts)) (omega (arith, some))) (λ j d less. none j d less) blank_area
-    go (FirstBad n) (i, k, low, at, here, none) = (k, at, first_is (IsGoodLine clauses letters parts) (length (lines_of parts)) new some each i k low here (none_before new i (omega (arith, low)) none) blank_area)
+    go AllGood none = all_good (IsGoodLine clauses letters parts) (length (lines_of parts)) 0 new cuts each none
+    go (FirstBad n) (i, k, low, at, here, none) = (k, at, first_is (IsGoodLine clauses letters parts) (length (lines_of parts)) i k 0 new cuts each low here none)

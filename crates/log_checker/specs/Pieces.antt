@@ -1,21 +1,24 @@
 -- How the lines are cut into consecutive pieces, and what each worker answers.
-use Rattle.std.specs.Prelude.{◌≡◌, ℕ, suc, ◌+◌, ◌*◌, ◌/◌, ◌%◌, ◌<◌, ◌≤◌, nat_lt, if◌then◌else◌, List, length, take, slice_index_or, All, Some, None}
+use Rattle.std.specs.Prelude.{◌≡◌, ℕ, suc, ◌+◌, ◌<◌, ◌≤◌, List, [], ◌∷◌, length, take, slice_index_or, All, Some, None}
 use Rattle.cnf_base.specs.declared.literal.Literal.{Literal}
 use Rattle.cert_text.specs.Text.{Part}
-use Rattle.cert_text.specs.Live.{lines_of, IsGoodLine}
+use Rattle.cert_text.specs.Live.{IsGoodLine}
 use Rattle.log_checker.specs.Values.{letters_in}
 use Rattle.log_checker.specs.Judging.{IsFirstBad}
 use Rattle.log_checker.specs.declared.lines.Lines.{Lines}
 use Rattle.log_checker.specs.declared.lines.Lines.TheVariants.{AllGood, FirstBad}
 use Rattle.log_checker.specs.declared.pieces.Area.{Area}
 
--- where a piece begins: each has as many lines as another, or one more where it is one of the first
-abbrev pub start_at : ℕ → ℕ → ℕ → ℕ
-start_at lines workers piece = (lines / workers) * piece + (if nat_lt piece (lines % workers) then piece else lines % workers)
+-- the pieces are consecutive: the first begins at this line, each at the end of the one before, none ends before it begins, and the last ends at that line
+abbrev pub AreCuts : ℕ → List Area → ℕ → Type 0
+AreCuts from [] to = from ≡ to
+AreCuts from (area ∷ areas) to = (area.from ≡ from) × (from ≤ area.to) × AreCuts area.to areas to
 
--- a worker leaves the first bad line of its piece in its area, which keeps its size
-pub record IsJudged (clauses : List (List Literal)) (parts : List Part) (workers piece : ℕ) (old new : Area) : Type 0 where
-  pub first : IsFirstBad (IsGoodLine clauses (letters_in old.assignment) parts) (start_at (length (lines_of parts)) workers piece) (start_at (length (lines_of parts)) workers (piece + 1)) new.first_bad
+-- a worker leaves the first bad line of its piece in its area, which keeps its piece and its size
+pub record IsJudged (clauses : List (List Literal)) (parts : List Part) (old new : Area) : Type 0 where
+  pub first : IsFirstBad (IsGoodLine clauses (letters_in old.assignment) parts) old.from old.to new.first_bad
+  pub from : new.from ≡ old.from
+  pub to : new.to ≡ old.to
   pub size : length new.assignment ≡ length old.assignment
 
 -- the answer of the first area that has one

@@ -2,6 +2,7 @@
 #![tactic(auto)]
 
 mod assignment;
+mod cuts;
 mod judge;
 mod kept;
 pub mod laws;

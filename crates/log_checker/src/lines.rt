@@ -2,11 +2,13 @@
 // judges one in an area of its own, and the answer of the first piece that has a bad line is that of all.
 ghost use Rattle.std.specs.Prelude.{◌≡◌, ℕ, ◌+◌, ◌^◌, ◌<◌, ◌≤◌, length, All, IfOk, IfSome, slice_index_or};
 ghost use Rattle.cnf_base.specs.Known.{AreKnown};
+ghost use Rattle.cert_text.specs.Live.{lines_of};
 ghost use Rattle.log_checker.specs.Values.{letters_in};
 ghost use Rattle.log_checker.specs.Judging.{IsLinesAnswer};
-ghost use Rattle.log_checker.specs.Pieces.{IsFirstOf, IsJudged};
+ghost use Rattle.log_checker.specs.Pieces.{AreCuts, IsFirstOf, IsJudged};
 
 use crate::assignment::Assignment;
+use crate::cuts::cut_lines;
 use crate::judge::NamedClauses;
 use crate::pieces::{Area, judge_piece};
 use cert_text::CertView;
@@ -57,6 +59,8 @@ impl Scratch {
             let assignment = Assignment::new(alloc, letters)?;
             areas.push(Area {
                 assignment,
+                from: 0,
+                to: 0,
                 first_bad: None,
             })?;
         }
@@ -65,8 +69,8 @@ impl Scratch {
 }
 
 /// Judges each line over the clauses and the lines that are live at it. The lines are cut into as many
-/// consecutive pieces as the scratch has workers, numbered from 0. Each piece, an empty one too, tells the
-/// gate that it begins.
+/// consecutive pieces as the scratch has workers, numbered from 0, of nearly equally many bytes. Each piece,
+/// an empty one too, tells the gate that it begins.
 pub fn check_lines<R: Threads + Sync, C: NamedClauses + Sync, G: Gate + Sync>(
     rt: &R,
     view: &CertView<'_>,
@@ -79,6 +83,7 @@ pub fn check_lines<R: Threads + Sync, C: NamedClauses + Sync, G: Gate + Sync>(
     ensures same { scratch.new ≡ scratch.old }
 {
     let _lines = view.lines();
+    cut_lines(view, &mut scratch.areas);
     judge_pieces(rt, view, clauses, gate, &mut scratch.areas);
     first_answer(&scratch.areas)
 }
@@ -95,9 +100,10 @@ fn judge_pieces<R: Threads + Sync, C: NamedClauses + Sync, G: Gate + Sync>(
     requires few { length areas.old.items ≤ 16 }
     requires known { All (λ area. AreKnown (letters_in area.assignment)
         (C.clauses clauses.now)) areas.old.items }
+    requires cut { AreCuts 0 areas.old.items (length (lines_of view.now.parts)) }
     ensures count { length areas.new.items ≡ length areas.old.items }
     ensures judged { (i : ℕ) (d : _) → i < length areas.old.items →
-        IsJudged (C.clauses clauses.now) view.now.parts (length areas.old.items) i
+        IsJudged (C.clauses clauses.now) view.now.parts
         (slice_index_or areas.old.items i d) (slice_index_or areas.new.items i d) }
 {
     let workers = areas.len();
@@ -105,7 +111,7 @@ fn judge_pieces<R: Threads + Sync, C: NamedClauses + Sync, G: Gate + Sync>(
         rt,
         areas.as_mut_slice(),
         workers,
-        &|piece, area| { judge_piece(view, clauses, gate, area, piece, workers) },
+        &|piece, area| { judge_piece(view, clauses, gate, area, piece) },
     );
 }
 

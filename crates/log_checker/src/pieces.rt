@@ -1,11 +1,11 @@
 // A piece of the lines, judged by one worker in an area of its own. A line may name earlier lines whether
 // these are hinted steps or not, so nothing of one piece is asked in another.
-ghost use Rattle.std.specs.Prelude.{◌≡◌, ℕ, ◌+◌, ◌-◌, ◌<◌, ◌≤◌, ◌↔◌, IsTrue, length};
+ghost use Rattle.std.specs.Prelude.{◌≡◌, ℕ, ◌-◌, ◌<◌, ◌≤◌, ◌↔◌, IsTrue, length};
 ghost use Rattle.cnf_base.specs.Known.{AreKnown};
 ghost use Rattle.cert_text.specs.Live.{lines_of, live_at, IsGoodLine};
 ghost use Rattle.log_checker.specs.Values.{letters_in};
 ghost use Rattle.log_checker.specs.Judging.{IsFirstBad};
-ghost use Rattle.log_checker.specs.Pieces.{start_at, IsJudged};
+ghost use Rattle.log_checker.specs.Pieces.{IsJudged};
 
 use crate::assignment::Assignment;
 use crate::judge::{NamedClauses, NamedLines, judge};
@@ -16,6 +16,9 @@ use ltl_io::Gate;
 #[derive(Drop)]
 pub struct Area {
     pub assignment: Assignment,
+    /// The piece: the lines from `from` up to `to`, counted from 0.
+    pub from: u64,
+    pub to: u64,
     /// The first line of the piece that is no hinted step, counted from 0.
     pub first_bad: Option<u64>,
 }
@@ -47,17 +50,6 @@ impl<'v, 't> NamedLines for LinesAt<'v, 't> {
         }
         Some(self.view.literals(number))
     }
-}
-
-/// Where a piece begins; the one behind the last begins behind the last line.
-fn start_of(lines: u64, workers: u64, piece: u64) -> u64
-    requires some { 1 ≤ workers }
-    requires within { piece ≤ workers }
-    ensures { result ≡ start_at lines workers piece }
-{
-    let rest = lines % workers;
-    let extra = if piece < rest { piece } else { rest };
-    lines / workers * piece + extra
 }
 
 /// The first of these lines that is no hinted step. Lines are counted from 0 here.
@@ -107,23 +99,20 @@ fn is_good<C: NamedClauses>(
     )
 }
 
-/// Judges the lines of one of so many pieces, and leaves the answer in the area.
+/// Judges the lines of the area's piece, which has this number, and leaves the answer in the area.
 pub fn judge_piece<C: NamedClauses, G: Gate>(
     view: &CertView<'_>,
     clauses: &C,
     gate: &G,
     area: &mut Area,
     piece: usize,
-    workers: usize,
 )
     requires known { AreKnown (letters_in area.old.assignment) (C.clauses clauses.now) }
-    requires piece { piece < workers }
-    requires few { workers ≤ 16 }
-    ensures { IsJudged (C.clauses clauses.now) view.now.parts workers piece area.old area.new }
+    requires order { area.old.from ≤ area.old.to }
+    requires within { area.old.to ≤ length (lines_of view.now.parts) }
+    requires few { piece < 16 }
+    ensures { IsJudged (C.clauses clauses.now) view.now.parts area.old area.new }
 {
     gate.begin(piece as u32);
-    let lines = view.lines();
-    let from = start_of(lines, workers as u64, piece as u64);
-    let to = start_of(lines, workers as u64, piece as u64 + 1);
-    area.first_bad = first_bad(&mut area.assignment, view, clauses, from, to);
+    area.first_bad = first_bad(&mut area.assignment, view, clauses, area.from, area.to);
 }

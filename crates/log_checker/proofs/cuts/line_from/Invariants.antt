@@ -1,0 +1,11 @@
+use Rattle.std.proofs.Common.{◌-◌, ◌<◌, ◌≤◌}
+use Rattle.cert_text.specs.Reading.{line_start}
+use Rattle.log_checker.proofs.cuts.line_from.Given as goal
+
+abbrev pub invariant-halves : goal.invariant-halves
+invariant-halves l = (l.from ≤ l.low) × (l.low ≤ l.high) × (l.high ≤ l.to)
+    × (l.from < l.low → line_start l.view (l.low - 1) < l.byte)
+    × (l.high < l.to → l.byte ≤ line_start l.view l.high)
+
+abbrev pub decreases-halves : goal.decreases-halves
+decreases-halves l = l.high - l.low
