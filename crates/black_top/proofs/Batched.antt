@@ -80,7 +80,7 @@ answers_from {words} {rest} {before} {after} {s} settings bytes asks told small 
 
 -- ---- the promise
 
-pub batch_broken : (settings : List Setting) (IsQuiet : Type 0) (rest left before after : Option (List ℕ)) (status : Status) → IsBroken IsQuiet status → LosesAtMost 16781312 rest left
+pub batch_broken : (settings : List Setting) (IsQuiet : Type 0) (rest left before after : Option (List ℕ)) (status : Status) → IsBroken IsQuiet status → LosesAtMost 16842752 rest left
     → (IsTrue (has_read status) → IsTakenUpTo 16777216 rest left) → BatchPromise settings IsQuiet rest left before after status
 batch_broken settings IsQuiet rest left before after status broken most taken = record {
   when_verdicts = λ e. absurd (broken_not status statuses.Good broken.none refl e);
@@ -92,7 +92,7 @@ batch_broken settings IsQuiet rest left before after status broken most taken = 
 }
 
 pub batch_kept : (settings : List Setting) (IsQuiet : Type 0) (words : List (List ℕ)) (rest left before after : Option (List ℕ)) (status : Status) → Asks words (Batch settings) → IsAnswered words rest before after status
-    → LosesAtMost 16781312 rest left → IsTakenUpTo 16777216 rest left → BatchPromise settings IsQuiet rest left before after status
+    → LosesAtMost 16842752 rest left → IsTakenUpTo 16777216 rest left → BatchPromise settings IsQuiet rest left before after status
 batch_kept settings IsQuiet words rest left before after status asks answer most taken =
     let kind = kind_of settings in
     let wanted = depth_of settings in

@@ -194,7 +194,7 @@ verdict_from {words} {rest} {before} {after} {s} laws settings bytes f asks told
 
 -- ---- the promise
 
-pub solve_broken : (settings : List Setting) (IsQuiet : Type 0) (rest left before after : Option (List ℕ)) (status : Status) → IsBroken IsQuiet status → LosesAtMost 1052672 rest left
+pub solve_broken : (settings : List Setting) (IsQuiet : Type 0) (rest left before after : Option (List ℕ)) (status : Status) → IsBroken IsQuiet status → LosesAtMost 1114112 rest left
     → (IsTrue (has_read status) → IsTakenUpTo 1048576 rest left) → SolvePromise settings IsQuiet rest left before after status
 solve_broken settings IsQuiet rest left before after status broken most taken = record {
   when_sat = λ e. absurd (broken_not status statuses.Sat broken.none refl e);
@@ -206,7 +206,7 @@ solve_broken settings IsQuiet rest left before after status broken most taken = 
 }
 
 pub solve_kept : (settings : List Setting) (IsQuiet : Type 0) (words : List (List ℕ)) (rest left before after : Option (List ℕ)) (status : Status) → RunsSatisfy → UnsatIsSound → BoundSettles → TextLaws → CoreLaws → Asks words (Solve settings)
-    → IsAnswered words rest before after status → LosesAtMost 1052672 rest left → IsTakenUpTo 1048576 rest left → SolvePromise settings IsQuiet rest left before after status
+    → IsAnswered words rest before after status → LosesAtMost 1114112 rest left → IsTakenUpTo 1048576 rest left → SolvePromise settings IsQuiet rest left before after status
 solve_kept settings IsQuiet words rest left before after status satisfy sound settles laws cores asks answer most taken = record {
   when_sat = λ e. sat_from satisfy settings asks (subst (IsAnswered words rest before after) e answer);
   when_unsat = λ e. unsat_from sound cores settings asks (subst (IsAnswered words rest before after) e answer);

@@ -67,6 +67,6 @@ pub record BatchPromise (settings : List Setting) (IsQuiet : Type 0) (rest left 
   pub answers : (bytes : List ℕ) → rest ≡ Some bytes → length bytes ≤ max_batch → IsQuiet
       → (status ≡ statuses.NoMemory) ⊎ PrintsAnswers (kind_of settings) (depth_of settings) bytes before after status
   -- the source is untouched past the first read that brings what was taken above the limit
-  pub most : LosesAtMost 16781312 rest left
+  pub most : LosesAtMost 16842752 rest left
   -- and it is read until then, or to its end
   pub taken : IsTrue (has_read status) → IsTakenUpTo max_batch rest left

@@ -118,6 +118,6 @@ pub record SolvePromise (settings : List Setting) (IsQuiet : Type 0) (rest left 
   pub verdict : (bytes : List ℕ) (f : Formula) → rest ≡ Some bytes → IsAccepted bytes f → AreFewLetters (kind_of settings) (depth_of settings) f → IsQuiet
       → (status ≡ statuses.NoMemory) ⊎ PrintsVerdict (kind_of settings) (depth_of settings) (core_of settings) (cert_of settings) f before after status
   -- the source is untouched past the first read that brings what was taken above the limit of a text
-  pub most : LosesAtMost 1052672 rest left
+  pub most : LosesAtMost 1114112 rest left
   -- and it is read until then, or to its end
   pub taken : IsTrue (has_read status) → IsTakenUpTo 1048576 rest left

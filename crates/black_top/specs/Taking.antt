@@ -7,10 +7,10 @@ use Rattle.command_words.specs.Words.{Command, Solve, Check, Trace, Demo, Batch,
 abbrev pub AreLeft : Option (List ℕ) → List ℕ → Type 0
 AreLeft rest bytes = IfSome rest (λ told. told ≡ bytes)
 
--- a told rest was taken whole, or up to the first read that brought what was taken above the limit. A read brings at most 4,096 bytes
+-- a told rest was taken whole, or up to the first read that brought what was taken above the limit. A read brings at most 65,536 bytes
 abbrev pub IsTakenUpTo : ℕ → Option (List ℕ) → Option (List ℕ) → Type 0
 IsTakenUpTo limit before after = IfSome before (λ rest. (bytes left : List ℕ) × (rest ≡ bytes ++ left) × (after ≡ Some left)
-    × (length bytes ≤ limit + 4096) × ((left ≡ []) ⊎ (limit < length bytes)))
+    × (length bytes ≤ limit + 65536) × ((left ≡ []) ⊎ (limit < length bytes)))
 
 -- nothing is left of a told rest
 abbrev pub IsTakenWhole : Option (List ℕ) → Option (List ℕ) → Type 0
@@ -29,6 +29,6 @@ Takes Depast before after = IsTakenWhole before after
 
 -- and what it takes at most, wherever a read fails
 abbrev pub TakesAtMost : Command → Option (List ℕ) → Option (List ℕ) → Type 0
-TakesAtMost (Solve settings) before after = LosesAtMost 1052672 before after
-TakesAtMost (Batch settings) before after = LosesAtMost 16781312 before after
+TakesAtMost (Solve settings) before after = LosesAtMost 1114112 before after
+TakesAtMost (Batch settings) before after = LosesAtMost 16842752 before after
 TakesAtMost command before after = Unit {0}

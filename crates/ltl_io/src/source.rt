@@ -47,7 +47,7 @@ pub trait Source {
 }
 
 // How many bytes are asked for at once.
-const PIECE: usize = 4096;
+const PIECE: usize = 65_536;
 
 /// Reads to the end of input, or until more than `stop_after` bytes were taken, and answers the
 /// bytes in order. So an input above a limit is known by its length, and what stands behind the

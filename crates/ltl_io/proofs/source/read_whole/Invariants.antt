@@ -5,7 +5,7 @@ use Rattle.ltl_io.proofs.source.read_whole.Given as goal
 abbrev pub invariant-loop-buffer : goal.invariant-loop-buffer
 invariant-loop-buffer g l = record {
   taken : Loses l.bytes.items (g.S.Source.rest l.fn.source) (g.S.Source.rest l.source);
-  bounded : length l.bytes.items ≤ l.stop_after + 4096;
+  bounded : length l.bytes.items ≤ l.stop_after + 65536;
   count : g.S.Source.faults l.source ≡ g.S.Source.faults l.fn.source;
 }
 
