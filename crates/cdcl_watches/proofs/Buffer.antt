@@ -1,4 +1,4 @@
--- Clauses in one buffer: one is read with its name, put behind the others, taken off, and two literals of one change places.
+-- Clauses in one buffer: one is read with its name, the next is found, one is put behind the others, taken off, and two literals of one change places.
 use Rattle.std.proofs.Common.{◌≡◌, ◌≢◌, ℕ, suc, ◌+◌, ◌-◌, ◌<◌, ◌≤◌, ◌^◌, ◌⊎◌, inl, inr, List, [], ◌∷◌, ◌++◌, map, take, drop, set, length, get_or, slice_range, All, Contains, refl, sym, ap, ap₂, ◌∙◌, subst, arith, length-set, length-append, length-drop, length-take-le, get_or-set_other}
 use Rattle.std.specs.List.{swap}
 use Rattle.std.proofs.lemmas.Bool.{cases_lt}
@@ -12,7 +12,7 @@ use Rattle.cdcl_watches.specs.Turned.{turned, turned_place}
 use Rattle.cdcl_watches.specs.Heads.{place_at, decoded, clauses_at, names_at, heads_of, left_from, number_of, AreHeads, ArenaValue}
 use Rattle.cdcl_watches.proofs.Codes.{literals_code}
 use Rattle.cdcl_watches.proofs.Turned.{length_turned, turned_turned, place_low, turned-swap}
-use Rattle.cdcl_watches.proofs.HeadWalk.{heads_more, whole_more, heads_fewer, heads_two}
+use Rattle.cdcl_watches.proofs.HeadWalk.{heads_more, whole_more, heads_fewer, heads_next, heads_two}
 use Rattle.cdcl_watches.proofs.HeadNumbers.{number_low}
 use Rattle.cdcl_watches.proofs.Pieces.{set_set_row, length_range}
 
@@ -369,6 +369,26 @@ name_at_head items heads are head n n_is there =
     let c = number_of heads head in
     let low : head + 1 < length items = omega (arith, are.inside c r.0, r.1) in
     n_is ∙ get_or_default items (head + 1) n 0 low ∙ ap (λ h. get_or items (h + 1) 0) (sym r.1) ∙ sym (get_or-map (λ h. get_or items (h + 1) 0) heads c 0 0 r.0)
+
+-- no clause stands behind the one of a head
+pub none_after : (items heads : List ℕ) → AreHeads items heads → (head n : ℕ) → n ≡ get_or items head n → Contains heads head → length items ≤ head + 2 + n → suc (number_of heads head) ≡ length heads
+none_after items heads are head n n_is there past =
+    let r = number_low heads head there in
+    let c = number_of heads head in
+    let len : n ≡ get_or items (get_or heads c 0) 0 = n_is ∙ get_or_default items head n 0 (omega (arith, are.inside c r.0, r.1)) ∙ ap (λ h. get_or items h 0) (sym r.1) in
+    elim (cases_lt (suc c) (length heads)) [
+      | inl more ↦ absurd (omega (arith, are.ordered c (suc c) (omega arith) more, are.inside (suc c) more, len, r.1, past))
+      | inr ge ↦ omega (arith, ge, r.0)
+    ]
+
+-- the head of the clause behind the one of a head
+pub head_after : (items : List ℕ) → AreHeads items (heads_of items) → (head n : ℕ) → n ≡ get_or items head n → Contains (heads_of items) head → head + 2 + n < length items
+    → (suc (number_of (heads_of items) head) < length (heads_of items)) × (head + 2 + n ≡ get_or (heads_of items) (suc (number_of (heads_of items) head)) 0)
+head_after items are head n n_is there low =
+    let r = number_low (heads_of items) head there in
+    let len : n ≡ get_or items head 0 = n_is ∙ get_or_default items head n 0 (omega (arith, low)) in
+    let next = heads_next items (number_of (heads_of items) head) head r.0 (sym r.1) (omega (arith, low, len)) in
+    (next.0, omega (arith, next.1, len))
 
 -- a clause of n literals stands at a head
 module _ (items heads : List ℕ) (are : AreHeads items heads) (h : ℕ) (there : Contains heads h) (n : ℕ) (n_is : n ≡ get_or items h n) where

@@ -1,7 +1,7 @@
 -- The numbers of clauses by their heads.
 use Rattle.std.proofs.Common.{◌≡◌, ◌≢◌, ℕ, zero, suc, ◌<◌, nat_eq, if◌then◌else◌, Bool, true, false, inl, inr, List, [], ◌∷◌, ◌++◌, length, get_or, Contains, refl, sym, ap, ◌∙◌, arith}
-use Rattle.std.proofs.lemmas.Bool.{cases_eq, eq-eqb, eqb-true}
-use Rattle.std.proofs.lemmas.List.{get_or_append_left, get_or_at, length_push}
+use Rattle.std.proofs.lemmas.Bool.{cases_eq, cases_lt, eq-eqb, eqb-true}
+use Rattle.std.proofs.lemmas.List.{get_or_default, get_or_append_left, get_or_at, length_push}
 use Rattle.cdcl_watches.specs.Watching.{AreApart}
 use Rattle.cdcl_watches.specs.Heads.{number_of}
 
@@ -55,3 +55,21 @@ number_none (h ∷ heads) is = number_head h heads 0 is
 pub head_apart : (heads : List ℕ) (x : ℕ) → AreApart (heads ++ x ∷ []) → ¬ Contains heads x
 head_apart heads x apart (k, low, is) =
     apart k (length heads) x low (omega (arith, length_push heads x)) (get_or_append_left heads (x ∷ []) x k low ∙ is ∙ sym (get_or_at heads x [] x (length heads) refl))
+
+-- of heads that are apart, each stands among them and has the number of its place
+pub number_at : (heads : List ℕ) (c : ℕ) → AreApart heads → c < length heads → Contains heads (get_or heads c 0) × (number_of heads (get_or heads c 0) ≡ c)
+number_at heads c apart low = (there, same)
+  where
+    there : Contains heads (get_or heads c 0)
+    there = (c, low, get_or_default heads c (get_or heads c 0) 0 low)
+
+    same : number_of heads (get_or heads c 0) ≡ c
+    same =
+        let r = number_low heads (get_or heads c 0) there in
+        elim (cases_lt (number_of heads (get_or heads c 0)) c) [
+          | inl less ↦ absurd (apart (number_of heads (get_or heads c 0)) c 0 less low r.1)
+          | inr ge ↦ elim (cases_lt c (number_of heads (get_or heads c 0))) [
+            | inl more ↦ absurd (apart c (number_of heads (get_or heads c 0)) 0 more r.0 (sym r.1))
+            | inr le ↦ omega (arith, ge, le)
+          ]
+        ]

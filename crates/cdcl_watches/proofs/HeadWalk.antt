@@ -1,4 +1,4 @@
--- The heads that a walk over the items finds: after a clause is put behind the others, after the last is taken off, and after items that are no heads change.
+-- The heads that a walk over the items finds: one behind the other, after a clause is put behind the others, after the last is taken off, and after items that are no heads change.
 use Rattle.std.proofs.Common.{◌≡◌, ◌≢◌, ℕ, zero, suc, ◌+◌, ◌<◌, ◌≤◌, List, [], ◌∷◌, ◌++◌, take, set, length, get_or, refl, sym, ap, ◌∙◌, subst, arith}
 use Rattle.cdcl_watches.specs.Heads.{heads_from, heads_of, left_from}
 
@@ -66,6 +66,37 @@ heads_cut (suc skip) place (x ∷ items) k (suc e) low is = heads_cut skip (suc 
 
 pub heads_fewer : (items : List ℕ) (k e : ℕ) → k < length (heads_of items) → e ≡ get_or (heads_of items) k 0 → (heads_of (take e items) ≡ take k (heads_of items)) × (left_from 0 (take e items) ≡ 0)
 heads_fewer items k e low is = heads_cut 0 0 items k e low (omega (arith, is))
+
+-- the first head stands behind the items that are still to come of a clause
+head_behind : (skip place : ℕ) (items : List ℕ) → skip < length items → (0 < length (heads_from skip place items)) × (get_or (heads_from skip place items) 0 0 ≡ place + skip)
+head_behind skip place [] low = absurd (omega (arith, low))
+head_behind zero place (n ∷ items) low = (omega arith, omega arith)
+head_behind (suc skip) place (x ∷ items) low =
+    let r = head_behind skip (suc place) items (omega (arith, low)) in
+    (r.0, omega (arith, r.1))
+
+-- the head behind the k-th
+head_next : (skip place : ℕ) (items : List ℕ) (k e : ℕ) → k < length (heads_from skip place items) → place + e ≡ get_or (heads_from skip place items) k 0 → e + 2 + get_or items e 0 < length items
+    → (suc k < length (heads_from skip place items)) × (get_or (heads_from skip place items) (suc k) 0 ≡ place + (e + 2 + get_or items e 0))
+head_next skip place [] k e low is more = absurd (omega (arith, low))
+head_next zero place (n ∷ items) zero zero low is more =
+    let r = head_behind (suc n) (suc place) items (omega (arith, more)) in
+    (omega (arith, r.0), omega (arith, r.1))
+head_next zero place (n ∷ items) zero (suc e) low is more = absurd (omega (arith, is))
+head_next zero place (n ∷ items) (suc k) zero low is more = absurd (omega (arith, is, heads_low (suc n) (suc place) items k (omega (arith, low))))
+head_next zero place (n ∷ items) (suc k) (suc e) low is more =
+    let r = head_next (suc n) (suc place) items k e (omega (arith, low)) (omega (arith, is)) (omega (arith, more)) in
+    (omega (arith, r.0), omega (arith, r.1))
+head_next (suc skip) place (x ∷ items) k zero low is more = absurd (omega (arith, is, heads_low skip (suc place) items k low))
+head_next (suc skip) place (x ∷ items) k (suc e) low is more =
+    let r = head_next skip (suc place) items k e low (omega (arith, is)) (omega (arith, more)) in
+    (r.0, omega (arith, r.1))
+
+pub heads_next : (items : List ℕ) (k e : ℕ) → k < length (heads_of items) → e ≡ get_or (heads_of items) k 0 → e + 2 + get_or items e 0 < length items
+    → (suc k < length (heads_of items)) × (get_or (heads_of items) (suc k) 0 ≡ e + 2 + get_or items e 0)
+heads_next items k e low is more =
+    let r = head_next 0 0 items k e low (omega (arith, is)) more in
+    (r.0, omega (arith, r.1))
 
 -- an item that is no head changes
 heads_set : (skip place : ℕ) (items : List ℕ) (p x : ℕ) → ((k : ℕ) → k < length (heads_from skip place items) → get_or (heads_from skip place items) k 0 ≢ place + p)

@@ -6,7 +6,7 @@
 // The codes behind the first two stand from the last down. Propagation looks at the first two literals and
 // then from the end of the clause on: so what it looks at first stands beside the head, and a long clause
 // costs one read of memory far away in place of two. Callers see each clause in its own order.
-ghost use Rattle.std.specs.Prelude.{◌≡◌, ℕ, suc, ◌+◌, ◌-◌, ◌<◌, ◌≤◌, ◌^◌, List, [], ◌∷◌, ◌++◌, length, map, take, All, Contains, IfOk, OnOk, OnErr, slice_index_or, slice_set};
+ghost use Rattle.std.specs.Prelude.{◌≡◌, ℕ, suc, ◌+◌, ◌-◌, ◌<◌, ◌≤◌, ◌^◌, List, [], ◌∷◌, ◌++◌, length, map, take, All, Contains, IfOk, OnOk, OnErr, MatchOption, slice_index_or, slice_set};
 ghost use Rattle.std.specs.List.{swap};
 ghost use Rattle.cdcl_watches.specs.Watching.{code, clause_of, AreApart};
 ghost use Rattle.cdcl_watches.specs.Turned.{turned};
@@ -79,6 +79,31 @@ impl Arena {
         ensures { result ≡ slice_index_or self.now.names (number_of self.now.heads head) 0 }
     {
         self.items[head as usize + 1]
+    }
+
+    /// The head of the first clause, if there is one.
+    pub fn first(&self) -> Option<u32>
+        ensures { MatchOption result (self.now.heads ≡ [])
+            (λ head. (0 < length self.now.heads) × (head ≡ slice_index_or self.now.heads 0 0)) }
+    {
+        if self.items.is_empty() {
+            return None;
+        }
+        Some(0)
+    }
+
+    /// The head of the clause behind the one of this head, if there is one.
+    pub fn after(&self, head: u32) -> Option<u32>
+        requires { Contains self.now.heads head }
+        ensures { MatchOption result (suc (number_of self.now.heads head) ≡ length self.now.heads)
+            (λ next. (suc (number_of self.now.heads head) < length self.now.heads)
+            × (next ≡ slice_index_or self.now.heads (suc (number_of self.now.heads head)) 0)) }
+    {
+        let next = head as usize + 2 + self.items[head as usize] as usize;
+        if next >= self.items.len() {
+            return None;
+        }
+        Some(next as u32)
     }
 
     /// Puts the clause behind the others by this name, and answers its head. Want of room is told as want of
