@@ -1,5 +1,5 @@
 -- How a search begins, begins anew, and ends.
-use Rattle.std.proofs.Common.{◌≡◌, ◌≢◌, ℕ, ◌<◌, ◌≤◌, ◌+◌, ◌*◌, ◌^◌, ◌⊎◌, inl, inr, [], ◌∷◌, List, All, AllPairs, Contains, take, length, get_or, None, sym, ap, ◌∙◌, subst, arith, length-take-le}
+use Rattle.std.proofs.Common.{◌≡◌, ◌≢◌, ℕ, ◌<◌, ◌≤◌, ◌+◌, ◌*◌, ◌^◌, ◌⊎◌, inl, inr, [], ◌∷◌, List, All, AllPairs, Contains, Bool, false, true, take, length, get_or, None, refl, sym, ap, ◌∙◌, subst, arith, length-take-le}
 use Rattle.std.proofs.lemmas.Bool.{cases_lt, cases_eq}
 use Rattle.std.proofs.lemmas.List.{get_or-take, get_or_append_left, get_or_at, length_push}
 use Rattle.std.proofs.lemmas.List.Elements.{All-contains}
@@ -8,29 +8,37 @@ use Rattle.cnf_base.specs.declared.literal.Hint.{Hint}
 use Rattle.cnf_base.specs.Literal.{opposite}
 use Rattle.cnf_base.specs.Step.{IsHintedStep, clause_at}
 use Rattle.cnf_base.proofs.SameLiteral.{opposite_opposite}
-use Rattle.clause_log.specs.LogValue.{greatest_u32}
-use Rattle.cdcl_state.specs.StateValue.{StateValue, IsBack}
+use Rattle.clause_log.specs.LogValue.{greatest_u32, with_line}
+use Rattle.cdcl_state.specs.StateValue.{StateValue, with_log, with_whole, IsBack, Propagated}
 use Rattle.cdcl_trail.specs.Trail.{literals_of, blank_entry, literal_at, IsDecision}
-use Rattle.cdcl_state.specs.Turns.{IsFront, IsRefuted}
+use Rattle.cdcl_state.specs.Turns.{IsFront, IsRefuted, IsTurn}
 use Rattle.cdcl_analyze.specs.Analysis.{refuted_at}
 use Rattle.cdcl_trail.specs.declared.assigned.Entry.{Entry}
 use Rattle.cdcl_analyze.specs.declared.analyze.Learnt.{Learnt}
 use Rattle.cdcl_trail.proofs.Measure.{measure, restart_falls}
 use Rattle.cdcl_trail.proofs.Standing.{true_place}
 use Rattle.cdcl.specs.Choice.{IsAssumedTop, IsFreeTop}
-use Rattle.cdcl.specs.Solving.{IsNegated, IsConsistent, IsLineOf, IsFound}
+use Rattle.cdcl.specs.Solving.{IsAfter, IsRested, IsNegated, IsConsistent, IsLineOf, IsFound}
 use Rattle.cdcl.specs.declared.solve.Answer.{Answer}
 use Rattle.cdcl.specs.declared.solve.Answer.TheVariants.{Sat, Unsat}
-use Rattle.cdcl.proofs.Search.{EachDecision, IsGuided, IsAssumed, HasNoNear, IsSearch, each_take, each_forced, assumed_negated, after_none, after_trail, places_of, fuel}
+use Rattle.cdcl.proofs.Search.{EachDecision, IsGuided, IsAssumed, HasNoNear, IsSearch, each_take, each_forced, assumed_negated, after_none, after_same, after_trail, search_propagated, search_turned, places_of, fuel}
 
--- at the start no decision stands but of assumptions
-pub search_start : (old new : StateValue) (assumptions : List Literal) → IsFront old new → All (λ e. e.reason ≡ None → Contains assumptions e.literal) new.trail → IsSearch old new assumptions
+-- what is forgotten, or heeded again, stays in the log
+pub after_whole : (old s new : StateValue) (whole : Bool) → IsAfter old s → new ≡ with_whole s whole → IsAfter old new
+after_whole old s new whole after is = after_same old s new after (ap (λ (x : StateValue). x.letters) is) (ap (λ (x : StateValue). x.log) is)
+
+-- at the start no decision stands but of assumptions, and each line is heeded
+pub search_start : (old new : StateValue) (assumptions : List Literal) → IsFront (with_whole old true) new → All (λ e. e.reason ≡ None → Contains assumptions e.literal) new.trail → IsSearch old new assumptions
 search_start old new assumptions front decided =
     let each : EachDecision (IsAssumed assumptions) new.trail = λ k below free. decided k blank_entry below free in
     record {
-      after = after_trail old old _ new (after_none old) front.after;
+      after = after_trail old (with_whole old true) _ new (after_whole old old (with_whole old true) true (after_none old) refl) front.after;
       guided = λ k below free. inl (each k below free);
-      near = inl (each, ap (λ (s : StateValue). s.log.lines) front.after);
+      near = inl (record {
+        decided = each;
+        lines = ap (λ (s : StateValue). s.log.lines) front.after;
+        whole = ap (λ (s : StateValue). s.whole) front.after;
+      });
     }
 
 -- a way back keeps what holds of the search
@@ -41,19 +49,45 @@ search_back old s new assumptions level search back =
       after = after_trail old s _ new search.after back.front;
       guided = subst (EachDecision (IsGuided assumptions)) (sym t) (each_take (IsGuided assumptions) (length new.trail) s.trail back.short search.guided);
       near = elim search.near [
-        | inl quiet ↦ inl (subst (EachDecision (IsAssumed assumptions)) (sym t) (each_take (IsAssumed assumptions) (length new.trail) s.trail back.short quiet.0), ap (λ (x : StateValue). x.log.lines) back.front ∙ quiet.1)
+        | inl quiet ↦ inl (record {
+          decided = subst (EachDecision (IsAssumed assumptions)) (sym t) (each_take (IsAssumed assumptions) (length new.trail) s.trail back.short quiet.decided);
+          lines = ap (λ (x : StateValue). x.log.lines) back.front ∙ quiet.lines;
+          whole = ap (λ (x : StateValue). x.whole) back.front ∙ quiet.whole;
+        })
         | inr none ↦ inr none
       ];
     }
 
--- what comes of a conflict, after the search did or did not begin anew
-pub search_rested : (old s new : StateValue) (assumptions : List Literal) (left before : ℕ) → IsSearch old s assumptions → ((new ≡ s) × (left ≡ before)) ⊎ (IsBack s new 0 × (before ≡ left + 1)) → IsSearch old new assumptions
-search_rested old s new assumptions left before search cases = elim cases [
-  | inl same ↦ subst (λ (x : StateValue). IsSearch old x assumptions) (sym same.0) search
-  | inr back ↦ search_back old s new assumptions 0 search back.0
+-- where no clause is near, lines may be forgotten
+pub search_lightened : (old s new : StateValue) (assumptions : List Literal) → HasNoNear old.log assumptions → IsSearch old s assumptions → (new ≡ s) ⊎ (new ≡ with_whole s false) → IsSearch old new assumptions
+search_lightened old s new assumptions none search cases = elim cases [
+  | inl same ↦ subst (λ (x : StateValue). IsSearch old x assumptions) (sym same) search
+  | inr light ↦ record {
+    after = after_whole old s new false search.after light;
+    guided = subst (EachDecision (IsGuided assumptions)) (sym (ap (λ (x : StateValue). x.trail) light)) search.guided;
+    near = inr none;
+  }
 ]
 
-pub rest_falls : (first s new : StateValue) (left before : ℕ) → s.letters ≡ first.letters → fuel s < fuel first → ((new ≡ s) × (left ≡ before)) ⊎ (IsBack s new 0 × (before ≡ left + 1))
+-- what comes of a conflict, after the search did or did not begin anew
+pub search_rested : (old s new : StateValue) (assumptions : List Literal) (left before : ℕ) → HasNoNear old.log assumptions → IsSearch old s assumptions
+    → ((new ≡ s) × (left ≡ before)) ⊎ (IsRested s new × (before ≡ left + 1)) → IsSearch old new assumptions
+search_rested old s new assumptions left before none search cases = elim cases [
+  | inl same ↦ subst (λ (x : StateValue). IsSearch old x assumptions) (sym same.0) search
+  | inr anew ↦
+      let rested = anew.0 in
+      search_lightened old rested.mid new assumptions none (search_back old s rested.mid assumptions 0 search rested.back) rested.after
+]
+
+rested_letters : (old new : StateValue) → IsRested old new → new.letters ≡ old.letters
+rested_letters old new rested =
+    let back : rested.mid.letters ≡ old.letters = ap (λ (x : StateValue). x.letters) rested.back.front in
+    elim rested.after [
+      | inl same ↦ ap (λ (x : StateValue). x.letters) same ∙ back
+      | inr light ↦ ap (λ (x : StateValue). x.letters) light ∙ back
+    ]
+
+pub rest_falls : (first s new : StateValue) (left before : ℕ) → s.letters ≡ first.letters → fuel s < fuel first → ((new ≡ s) × (left ≡ before)) ⊎ (IsRested s new × (before ≡ left + 1))
     → measure left (places_of new) new.trail < measure before (places_of first) first.trail
 rest_falls first s new left before letters falls cases = elim cases [
   | inl same ↦
@@ -62,10 +96,10 @@ rest_falls first s new left before letters falls cases = elim cases [
       subst (λ (x : StateValue). measure left (places_of x) x.trail < measure before (places_of first) first.trail) (sym same.0)
       (subst (λ n. measure n (places_of s) s.trail < measure before (places_of first) first.trail) (sym same.1)
       (subst (λ n. before * (n + 1) + fuel s < before * (3 ^ places_of first + 1) + fuel first) (sym power) (omega (arith, falls))))
-  | inr back ↦
-      let places : places_of new ≡ places_of first = ap (λ (x : StateValue). places_of x) back.0.front ∙ ap (λ n. n + 2) letters in
+  | inr anew ↦
+      let places : places_of new ≡ places_of first = ap (λ n. n + 2) (rested_letters s new anew.0 ∙ letters) in
       subst (λ n. measure left n new.trail < measure before (places_of first) first.trail) (sym places)
-      (subst (λ n. measure left (places_of first) new.trail < measure n (places_of first) first.trail) (sym back.1) (restart_falls left (places_of first) first.trail new.trail))
+      (subst (λ n. measure left (places_of first) new.trail < measure n (places_of first) first.trail) (sym anew.1) (restart_falls left (places_of first) first.trail new.trail))
 ]
 
 module _ (trail : List Entry) (apart : AllPairs (λ e f. e.literal.letter.0 ≢ f.literal.letter.0) trail) where
@@ -137,15 +171,28 @@ refuted_negated s assumptions l learnt apart guided there is =
 -- where the last decision is no assumption, no clause is near
 pub none_near : (old s : StateValue) (assumptions : List Literal) → IsSearch old s assumptions → IsFreeTop s.trail assumptions → HasNoNear old.log assumptions
 none_near old s assumptions search top = elim search.near [
-  | inl quiet ↦ absurd (top.1 (subst (Contains assumptions) top.2.is (quiet.0 top.2.place top.2.decision.within top.2.decision.free)))
+  | inl quiet ↦ absurd (top.1 (subst (Contains assumptions) top.2.is (quiet.decided top.2.place top.2.decision.within top.2.decision.free)))
   | inr none ↦ none
 ]
+
+-- what came of a conflict where the last decision is no assumption
+module _ (old first s : StateValue) (assumptions : List Literal) (search : IsSearch old first assumptions) (grown : Propagated first s) (top : IsFreeTop s.trail assumptions) where
+  pub conflict_none : HasNoNear old.log assumptions
+  conflict_none = none_near old s assumptions (search_propagated old first s assumptions search grown) top
+
+  -- it was explained and learnt from, and then the search did or did not begin anew
+  pub conflict_rested : (same learnt new : StateValue) (clause : List Literal) (hints : List Hint) (left before : ℕ) → same ≡ s → IsTurn (with_log same (with_line same.log clause hints)) learnt
+      → ((new ≡ learnt) × (left ≡ before)) ⊎ (IsRested learnt new × (before ≡ left + 1)) → IsSearch old new assumptions
+  conflict_rested same learnt new clause hints left before is turn cases =
+      let derived = ap (λ (x : StateValue). with_log x (with_line x.log clause hints)) is in
+      let turned = search_turned old s _ learnt clause hints assumptions (search_propagated old first s assumptions search grown) conflict_none derived turn in
+      search_rested old learnt new assumptions left before conflict_none turned cases
 
 -- with one line more, the question added at most one where a clause is near
 pub near_one : (old s new : StateValue) (assumptions : List Literal) → IsSearch old s assumptions → length new.log.lines ≤ length s.log.lines + 1
     → (clause : List Literal) (hints : List Hint) → IsNegated assumptions clause → IsHintedStep old.log.inputs old.log.lines greatest_u32 clause hints → length new.log.lines ≤ length old.log.lines + 1
 near_one old s new assumptions search few clause hints negated step = elim search.near [
-  | inl quiet ↦ omega (arith, few, ap length quiet.1)
+  | inl quiet ↦ omega (arith, few, ap length quiet.lines)
   | inr none ↦ absurd (none clause hints negated step)
 ]
 

@@ -1,19 +1,19 @@
 -- What holds from turn to turn of the search.
-use Rattle.std.proofs.Common.{◌≡◌, ◌≢◌, ℕ, zero, suc, ◌<◌, ◌≤◌, ◌+◌, ◌-◌, ◌⊎◌, inl, inr, ◌++◌, [], ◌∷◌, List, All, Any, Contains, take, drop, length, get_or, add-one, Some, None, refl, sym, ap, ◌∙◌, subst, arith, length-append, length-take}
+use Rattle.std.proofs.Common.{◌≡◌, ◌≢◌, ℕ, zero, suc, ◌<◌, ◌≤◌, ◌+◌, ◌-◌, ◌⊎◌, inl, inr, ◌++◌, [], ◌∷◌, List, All, Any, Contains, take, drop, length, get_or, add-one, Bool, true, Some, None, refl, sym, ap, ◌∙◌, subst, arith, length-append, length-take}
 use Rattle.std.proofs.lemmas.Bool.{cases_lt}
 use Rattle.std.proofs.lemmas.List.{append-nil, append_assoc, take-take, take-append-le, take_at, take-append-drop, drop_more, get_or-take, get_or_append_left, get_or_at, get_or-map, length-map, length_push}
 use Rattle.std.proofs.lemmas.Option.{slice_get-get_or, slice_get_within, get_or_from_slice_get}
 use Rattle.std.proofs.lemmas.List.Elements.{All-nil, All-cons, All-head, All-tail, All-contains}
 use Rattle.cnf_base.specs.declared.literal.Literal.{Literal}
 use Rattle.cnf_base.specs.declared.literal.Hint.{Hint}
-use Rattle.cnf_base.specs.declared.literal.Hint.TheVariants.{Clause}
+use Rattle.cnf_base.specs.declared.literal.Hint.TheVariants.{Clause, Line}
 use Rattle.cnf_base.specs.Literal.{opposite}
 use Rattle.cnf_base.specs.Step.{numbered, clause_at, IsHintedStep, Refutes, conflict, propagate}
 use Rattle.cnf_base.specs.Known.{IsKnown, AreKnown}
 use Rattle.cnf_base.proofs.SameLiteral.{opposite_opposite}
 use Rattle.cnf_base.proofs.MoreClauses.{refutes_more}
 use Rattle.clause_log.specs.LogValue.{LogValue, greatest_u32, with_line}
-use Rattle.cdcl_state.specs.StateValue.{StateValue, with_trail, with_log, IsSettled, AreSet, Propagated}
+use Rattle.cdcl_state.specs.StateValue.{StateValue, with_trail, with_log, IsHeeded, IsSettled, AreSet, Propagated}
 use Rattle.cdcl_trail.specs.Trail.{literals_of, IsReason, blank_entry, literal_at, IsDecision}
 use Rattle.cdcl_analyze.specs.Learnt.{IsLearnt}
 use Rattle.cdcl_state.specs.Turns.{IsTurn, IsUnturned, IsDecided}
@@ -37,10 +37,16 @@ IsAssumed assumptions before l = Contains assumptions l
 abbrev pub HasNoNear : LogValue → List Literal → Type 0
 HasNoNear log assumptions = (clause : List Literal) (hints : List Hint) → IsNegated assumptions clause → ¬ IsHintedStep log.inputs log.lines greatest_u32 clause hints
 
+-- only assumptions were decided, and each line is an earlier one and is heeded
+pub record IsQuiet (old s : StateValue) (assumptions : List Literal) : Type 0 where
+  pub decided : EachDecision (IsAssumed assumptions) s.trail
+  pub lines : s.log.lines ≡ old.log.lines
+  pub whole : s.whole ≡ true
+
 pub record IsSearch (old s : StateValue) (assumptions : List Literal) : Type 0 where
   pub after : IsAfter old s
   pub guided : EachDecision (IsGuided assumptions) s.trail
-  pub near : (EachDecision (IsAssumed assumptions) s.trail × (s.log.lines ≡ old.log.lines)) ⊎ HasNoNear old.log assumptions
+  pub near : IsQuiet old s assumptions ⊎ HasNoNear old.log assumptions
 
 module _ (P : List Literal → Literal → Type 0) where
   pub each_take : (n : ℕ) (trail : List Entry) → n ≤ length trail → EachDecision P trail → EachDecision P (take n trail)
@@ -113,15 +119,20 @@ weight_decided old new l decided bounded =
     let e : Entry = record { literal = l; level = decided.level; reason = None } in
     subst (λ (s : StateValue). fuel s < fuel old) (sym decided.after) (weight_push (places_of old) old.trail e (omega (arith, bounded)))
 
--- a clause of opposites of true literals is no hinted step where the trail is settled
-settled_refutes_nothing : (s : StateValue) → IsSettled s → {falses : List Literal} {hints : List Hint} → Refutes s.log.inputs s.log.lines greatest_u32 falses hints → ¬ All (λ l. Contains (literals_of s.trail) (opposite l)) falses
-settled_refutes_nothing s settled {falses} (conflict {hint = hint} {clause = clause} names all_false) on_trail =
-    (settled hint).0 (record {
+-- where no line is forgotten, each clause is heeded
+all_heeded : (whole : Bool) → whole ≡ true → (hint : Hint) → IsHeeded whole hint
+all_heeded whole is (Clause n) = tt
+all_heeded whole is (Line n) = is
+
+-- a clause of opposites of true literals is no hinted step where the trail is settled and no line is forgotten
+settled_refutes_nothing : (s : StateValue) → IsSettled s → s.whole ≡ true → {falses : List Literal} {hints : List Hint} → Refutes s.log.inputs s.log.lines greatest_u32 falses hints → ¬ All (λ l. Contains (literals_of s.trail) (opposite l)) falses
+settled_refutes_nothing s settled whole {falses} (conflict {hint = hint} {clause = clause} names all_false) on_trail =
+    (settled hint (all_heeded s.whole whole hint)).0 (record {
       clause = clause;
       is = names.is;
       all_false = λ k d below. All-contains (λ l. Contains (literals_of s.trail) (opposite l)) falses (get_or clause k d) on_trail (all_false k d below);
     })
-settled_refutes_nothing s settled {falses} (propagate {hint = hint} {clause = clause} {u = u} names unit rest) on_trail =
+settled_refutes_nothing s settled whole {falses} (propagate {hint = hint} {clause = clause} {u = u} names unit rest) on_trail =
     let T = literals_of s.trail in
     let reason : IsReason s.log.inputs s.log.lines T u hint = record {
       clause = clause;
@@ -132,23 +143,24 @@ settled_refutes_nothing s settled {falses} (propagate {hint = hint} {clause = cl
         | inr e ↦ inl e
       ];
     } in
-    let not_unset = (settled hint).1 u reason in
+    let here = settled hint (all_heeded s.whole whole hint) in
+    let not_unset = here.1 u reason in
     not_unset (record {
-      not_true = λ there. settled_refutes_nothing s settled rest (All-cons (λ l. Contains T (opposite l)) (opposite u) falses (subst (Contains T) (sym (opposite_opposite u)) there) on_trail);
-      not_false = λ there. (settled hint).0 (record {
+      not_true = λ there. settled_refutes_nothing s settled whole rest (All-cons (λ l. Contains T (opposite l)) (opposite u) falses (subst (Contains T) (sym (opposite_opposite u)) there) on_trail);
+      not_false = λ there. here.0 (record {
         clause = clause;
         is = names.is;
         all_false = λ k d below. elim (reason.others k d below) [ inl e ↦ subst (λ l. Contains T (opposite l)) (sym e) there | inr c ↦ c ];
       });
     })
 
-pub no_near : (old s : StateValue) (assumptions : List Literal) → IsAfter old s → IsSettled s → All (Contains (literals_of s.trail)) assumptions → HasNoNear old.log assumptions
-no_near old s assumptions after settled all_true clause hints negated step =
+pub no_near : (old s : StateValue) (assumptions : List Literal) → IsAfter old s → IsSettled s → s.whole ≡ true → All (Contains (literals_of s.trail)) assumptions → HasNoNear old.log assumptions
+no_near old s assumptions after settled whole all_true clause hints negated step =
     let more = refutes_more old.log.inputs [] old.log.lines after.log.more greatest_u32 step.refutes in
     let here : Refutes s.log.inputs s.log.lines greatest_u32 clause hints =
     subst (λ i. Refutes i s.log.lines greatest_u32 clause hints) (append-nil old.log.inputs ∙ sym after.log.inputs)
     (subst (λ ls. Refutes (old.log.inputs ++ []) ls greatest_u32 clause hints) (sym after.log.lines) more) in
-    settled_refutes_nothing s settled here (λ k d below. All-contains (Contains (literals_of s.trail)) assumptions (opposite (get_or clause k d)) all_true (negated k d below))
+    settled_refutes_nothing s settled whole here (λ k d below. All-contains (Contains (literals_of s.trail)) assumptions (opposite (get_or clause k d)) all_true (negated k d below))
 
 -- where each letter is set, a clause has a true literal or is false
 true_or_false : (true_ones clause : List Literal) → ((l : Literal) → Contains clause l → Contains true_ones l ⊎ Contains true_ones (opposite l)) → Any (Contains true_ones) clause ⊎ All (λ l. Contains true_ones (opposite l)) clause
@@ -220,7 +232,11 @@ search_propagated old s new assumptions search grown = record {
   after = after_same old s new search.after grown.letters grown.log;
   guided = rw grown.trail (each_append (IsGuided assumptions) s.trail grown.more search.guided grown.forced);
   near = elim search.near [
-    | inl quiet ↦ inl (rw grown.trail (each_append (IsAssumed assumptions) s.trail grown.more quiet.0 grown.forced), ap (λ (l : LogValue). l.lines) grown.log ∙ quiet.1)
+    | inl quiet ↦ inl (record {
+      decided = rw grown.trail (each_append (IsAssumed assumptions) s.trail grown.more quiet.decided grown.forced);
+      lines = ap (λ (l : LogValue). l.lines) grown.log ∙ quiet.lines;
+      whole = grown.whole ∙ quiet.whole;
+    })
     | inr none ↦ inr none
   ];
 }
@@ -246,7 +262,11 @@ search_assumed old s new l assumptions search there decided =
       after = after_trail old s _ new search.after decided.after;
       guided = rw t (each_push (IsGuided assumptions) s.trail e search.guided (λ _. inl there));
       near = elim search.near [
-        | inl quiet ↦ inl (rw t (each_push (IsAssumed assumptions) s.trail e quiet.0 (λ _. there)), ap (λ (x : StateValue). x.log.lines) decided.after ∙ quiet.1)
+        | inl quiet ↦ inl (record {
+          decided = rw t (each_push (IsAssumed assumptions) s.trail e quiet.decided (λ _. there));
+          lines = ap (λ (x : StateValue). x.log.lines) decided.after ∙ quiet.lines;
+          whole = ap (λ (x : StateValue). x.whole) decided.after ∙ quiet.whole;
+        })
         | inr none ↦ inr none
       ];
     }
@@ -258,7 +278,10 @@ search_free old s new l assumptions search settled all_true decided =
     record {
       after = after_trail old s _ new search.after decided.after;
       guided = rw t (each_push (IsGuided assumptions) s.trail e search.guided (λ _. inr all_true));
-      near = inr (no_near old s assumptions search.after settled all_true);
+      near = elim search.near [
+        | inl quiet ↦ inr (no_near old s assumptions search.after settled quiet.whole all_true)
+        | inr none ↦ inr none
+      ];
     }
 
 -- the last line by its number
@@ -274,7 +297,7 @@ inputs_true s settled set known k d below =
     let clause = get_or s.log.inputs k d in
     elim (true_or_false (literals_of s.trail) clause (λ l c. set l (All-contains (IsKnown s.letters) clause l (known k d below) c))) [
       | inl some ↦ some
-      | inr none ↦ absurd ((settled (Clause (suc k))).0 (record { clause = clause; is = slice_get-get_or s.log.inputs k d below; all_false = none }))
+      | inr none ↦ absurd ((settled (Clause (suc k)) tt).0 (record { clause = clause; is = slice_get-get_or s.log.inputs k d below; all_false = none }))
     ]
 
 pub clause_of_number : (lines : List (List Literal)) (n : ℕ) (clause : List Literal) → numbered lines n ≡ Some clause → (1 ≤ n) × (n ≤ length lines) × (clause_at lines n ≡ clause)

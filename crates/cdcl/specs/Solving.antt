@@ -1,12 +1,12 @@
 -- What a question leaves, and what its answer says of the state.
-use Rattle.std.specs.Prelude.{◌≡◌, ℕ, ◌≤◌, ◌++◌, Bool, true, List, length, All, Any, Contains}
+use Rattle.std.specs.Prelude.{◌≡◌, ℕ, ◌≤◌, ◌⊎◌, ◌++◌, Bool, true, false, List, length, All, Any, Contains}
 use Rattle.cnf_base.specs.declared.literal.Literal.{Literal}
 use Rattle.cnf_base.specs.declared.literal.Hint.{Hint}
 use Rattle.cnf_base.specs.Literal.{opposite}
 use Rattle.cnf_base.specs.Meaning.{literal_value, Satisfies}
 use Rattle.cnf_base.specs.Step.{clause_at}
 use Rattle.clause_log.specs.LogValue.{LogValue}
-use Rattle.cdcl_state.specs.StateValue.{StateValue}
+use Rattle.cdcl_state.specs.StateValue.{StateValue, with_whole, IsBack}
 use Rattle.cdcl_trail.specs.Trail.{literals_of}
 use Rattle.cdcl.specs.declared.solve.Answer.{Answer}
 use Rattle.cdcl.specs.declared.solve.Answer.TheVariants.{Sat, Unsat}
@@ -39,6 +39,12 @@ pub record IsLonger (old new : LogValue) : Type 0 where
 pub record IsAfter (old new : StateValue) : Type 0 where
   pub letters : new.letters ≡ old.letters
   pub log : IsLonger old.log new.log
+
+-- all decisions were taken back, and then perhaps some lines forgotten
+pub record IsRested (old new : StateValue) : Type 0 where
+  pub mid : StateValue
+  pub back : IsBack old mid 0
+  pub after : (new ≡ mid) ⊎ (new ≡ with_whole mid false)
 
 -- the answer is a line that has only literals of this clause
 abbrev pub IsLineOf : StateValue → List Literal → Answer → Type 0

@@ -3,6 +3,7 @@
 
 pub mod choice;
 pub mod known;
+pub mod recent;
 pub mod restart;
 pub mod solve;
 pub mod solver;

@@ -1,16 +1,19 @@
 // The search: propagate; explain a conflict, learn the clause and go back; decide where nothing is left to
 // propagate. While assumptions alone are decided, a conflict or a false assumption is explained by them, and
-// that is the answer. After Marques-Silva and Sakallah, GRASP (1999), and Een and Sorensson, MiniSat (2003).
-ghost use Rattle.std.specs.Prelude.{◌≡◌, ◌≤◌, ◌+◌, ◌⊎◌, List, length, All, IfOk};
+// that is the answer. A long search begins anew from time to time, and then forgets lines, which the next
+// question heeds again. After Marques-Silva and Sakallah, GRASP (1999), and Een and Sorensson, MiniSat (2003).
+ghost use Rattle.std.specs.Prelude.{◌≡◌, ◌≤◌, ◌+◌, ◌⊎◌, List, length, All, Contains, None, true, IfOk, OnOk, OnErr};
 ghost use Rattle.cnf_base.specs.declared.literal.Literal.{Literal};
 ghost use Rattle.cnf_base.specs.declared.literal.Hint.{Hint};
 ghost use Rattle.cnf_base.specs.Step.{IsHintedStep};
 ghost use Rattle.cnf_base.specs.Known.{IsKnown};
 ghost use Rattle.clause_log.specs.LogValue.{greatest_u32};
-ghost use Rattle.cdcl_state.specs.StateValue.{IsBack};
-ghost use Rattle.cdcl.specs.Solving.{IsAfter, IsFound, IsLineOf, IsNegated, IsConsistent};
+ghost use Rattle.cdcl_state.specs.StateValue.{with_whole};
+ghost use Rattle.cdcl_state.specs.Turns.{IsFront};
+ghost use Rattle.cdcl.specs.Solving.{IsAfter, IsRested, IsFound, IsLineOf, IsNegated, IsConsistent};
 
 use crate::choice::{Choice, choose, is_assumed};
+use crate::recent::Recent;
 use crate::restart::Pace;
 use cdcl_analyze::analyze::{Cut, Learnt};
 use cdcl_state::state::State;
@@ -44,14 +47,34 @@ fn finish(state: &mut State, alloc: Global, learnt: &Learnt) -> Result<Answer, A
     Ok(Answer::Unsat(line))
 }
 
-/// Begins anew where the pace says so.
-fn rest(state: &mut State, pace: &mut Pace)
+/// Heeds all lines, since one that was forgotten may be what answers this question, and takes back the first
+/// decision that is no assumption, with all that came after it.
+fn begin(state: &mut State, alloc: Global, assumptions: &[Literal]) -> Result<(), AllocError>
+    ensures front { OnOk result (IsFront (with_whole state.old true) state.new) }
+    ensures decided { OnOk result (All (λ e. e.reason ≡ None → Contains assumptions.now e.literal)
+        state.new.trail) }
+    ensures refused { OnErr result (state.new ≡ state.old) }
+{
+    state.restore(alloc)?;
+    state.retreat(assumptions);
+    Ok(())
+}
+
+/// Begins anew where the pace says so, and forgets then what is to be forgotten.
+fn rest(
+    state: &mut State,
+    alloc: Global,
+    pace: &mut Pace,
+    recent: &mut Recent,
+) -> Result<(), AllocError>
     ensures { ((state.new ≡ state.old) × (pace.new.left ≡ pace.old.left))
-        ⊎ (IsBack state.old state.new 0 × (pace.old.left ≡ pace.new.left + 1)) }
+        ⊎ (IsRested state.old state.new × (pace.old.left ≡ pace.new.left + 1)) }
 {
     if pace.count() {
         state.reset();
+        recent.lighten(state, alloc)?;
     }
+    Ok(())
 }
 
 /// Asks whether some assignment makes all inputs and assumptions true.
@@ -68,9 +91,9 @@ pub fn solve(
         → length state.new.log.lines ≤ length state.old.log.lines + 1 }
     ensures answer { IfOk result (IsFound state.new assumptions.now) }
 {
-    // What an earlier question left stays as far as only assumptions of this one were decided.
-    state.retreat(assumptions);
+    begin(state, alloc, assumptions)?;
     let mut pace = Pace::new();
+    let mut recent = Recent::new(&state.log().view());
     'search: loop {
         let found = state.propagate()?;
         state.bounded();
@@ -85,7 +108,7 @@ pub fn solve(
                     return finish(state, alloc, &learnt);
                 }
                 state.learn(&learnt)?;
-                rest(state, &mut pace);
+                rest(state, alloc, &mut pace, &mut recent)?;
             }
             None => match choose(state, assumptions) {
                 Choice::Assume(literal) => state.decide(literal)?,

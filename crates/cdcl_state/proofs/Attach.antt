@@ -1,5 +1,5 @@
 -- A clause more in the log, and among those that are watched or short.
-use Rattle.std.proofs.Common.{◌≡◌, ℕ, zero, suc, ◌<◌, ◌≤◌, ◌+◌, ◌*◌, ◌⊎◌, inl, inr, List, [], ◌∷◌, ◌++◌, Option, Some, None, IfSome, take, All, length, get_or, refl, sym, ap, ◌∙◌, subst, arith, length-set}
+use Rattle.std.proofs.Common.{◌≡◌, ℕ, zero, suc, ◌<◌, ◌≤◌, ◌+◌, ◌*◌, ◌⊎◌, inl, inr, Bool, List, [], ◌∷◌, ◌++◌, Option, Some, None, IfSome, take, All, length, get_or, refl, sym, ap, ◌∙◌, subst, arith, length-set}
 use Rattle.std.proofs.lemmas.Bool.{cases_lt}
 use Rattle.std.proofs.lemmas.List.{map-append, get_or_append_left, get_or_at, length_push}
 use Rattle.std.proofs.lemmas.List.Elements.{All-contains, All-push}
@@ -25,6 +25,19 @@ use Rattle.cdcl_propagate.proofs.Ready.{code_known}
 
 some_same : {X : Type 0} {x y : X} {o : Option X} → o ≡ Some x → o ≡ Some y → x ≡ y
 some_same a b = cc
+
+-- two literals that differ are not one
+not_one : (clause r : List Literal) → HaveSame clause r → 2 ≤ length r → AreApart r → ¬ IsOne clause
+not_one clause r same long apart one =
+    apart 0 1 blank (omega arith) (omega (arith, long))
+    (one (get_or r 0 blank) (get_or r 1 blank) (same.back 0 blank (omega (arith, long))) (same.back 1 blank (omega (arith, long))))
+
+-- a name more
+pub listed_more : (names : List Hint) (x h : Hint) → IsListed names h → IsListed (names ++ x ∷ []) h
+listed_more names x h at = (at.0, omega (arith, at.1, length_push names x), get_or_append_left names (x ∷ []) blank_hint at.0 at.1 ∙ at.2)
+
+pub listed_last : (names : List Hint) (x h : Hint) → h ≡ x → IsListed (names ++ x ∷ []) h
+listed_last names x h same = (length names, omega (arith, length_push names x), get_or_at names x [] blank_hint (length names) refl ∙ sym same)
 
 -- the new log has the clauses of the old one under their names, and one more
 pub record IsMore (old new : LogValue) (hint : Hint) (clause : List Literal) : Type 0 where
@@ -88,13 +101,7 @@ module _ (old new : LogValue) (hint : Hint) (clause : List Literal) (more : IsMo
   pub trail_more : (trail : List Entry) → IsTrail old.inputs old.lines trail → IsTrail new.inputs new.lines trail
   trail_more trail is_trail k d below = stands_more (take k trail) (get_or trail k d) (is_trail k d below)
 
-  listed_more : (names : List Hint) (x h : Hint) → IsListed names h → IsListed (names ++ x ∷ []) h
-  listed_more names x h at = (at.0, omega (arith, at.1, length_push names x), get_or_append_left names (x ∷ []) blank_hint at.0 at.1 ∙ at.2)
-
-  listed_last : (names : List Hint) (x h : Hint) → h ≡ x → IsListed (names ++ x ∷ []) h
-  listed_last names x h same = (length names, omega (arith, length_push names x), get_or_at names x [] blank_hint (length names) refl ∙ sym same)
-
-  stored_more : (clauses : List (List Literal)) (names : List Hint) (r : List Literal) → HaveSame clause r → IsStored old.inputs old.lines clauses names → IsStored new.inputs new.lines (clauses ++ r ∷ []) (names ++ hint ∷ [])
+  pub stored_more : (clauses : List (List Literal)) (names : List Hint) (r : List Literal) → HaveSame clause r → IsStored old.inputs old.lines clauses names → IsStored new.inputs new.lines (clauses ++ r ∷ []) (names ++ hint ∷ [])
   stored_more clauses names r same stored = record {
     paired = omega (arith, stored.paired, length_push clauses r, length_push names hint);
     from_log = λ c known. elim (cases_lt c (length clauses)) [
@@ -114,7 +121,7 @@ module _ (old new : LogValue) (hint : Hint) (clause : List Literal) (more : IsMo
     ];
   }
 
-  long_more : (clauses : List (List Literal)) (names : List Hint) (r : List Literal) → HaveSame clause r → 2 ≤ length r → AreApart r → IsStored old.inputs old.lines clauses names → AreLong old.inputs old.lines names → AreLong new.inputs new.lines (names ++ hint ∷ [])
+  pub long_more : (clauses : List (List Literal)) (names : List Hint) (r : List Literal) → HaveSame clause r → 2 ≤ length r → AreApart r → IsStored old.inputs old.lines clauses names → AreLong old.inputs old.lines names → AreLong new.inputs new.lines (names ++ hint ∷ [])
   long_more clauses names r same long apart stored old_long c other known is one = elim (cases_lt c (length names)) [
     | inl low ↦
         let from = stored.from_log c (omega (arith, low, stored.paired)) in
@@ -124,9 +131,7 @@ module _ (old new : LogValue) (hint : Hint) (clause : List Literal) (more : IsMo
     | inr high ↦
         let last : length names ≡ c = omega (arith, known, length_push names hint) in
         let is_other : clause ≡ other = some_same more.here (ap (named new.inputs new.lines) (sym (get_or_at names hint [] blank_hint c last)) ∙ is) in
-        let one_clause : IsOne clause = subst IsOne (sym is_other) one in
-        apart 0 1 blank (omega arith) (omega (arith, long))
-        (one_clause (get_or r 0 blank) (get_or r 1 blank) (same.back 0 blank (omega (arith, long))) (same.back 1 blank (omega (arith, long))))
+        not_one clause r same long apart (subst IsOne (sym is_other) one)
   ]
 
   short_more : (units : List Hint) → AreShort old.inputs old.lines units → AreShort new.inputs new.lines units
@@ -174,14 +179,14 @@ lists_added w r name =
     let n = length w.clauses in
     length-set (with_watch w.lists a n) (code b) (list_of (with_watch w.lists a n) b ++ n ∷ []) ∙ length-set w.lists (code a) (list_of w.lists a ++ n ∷ [])
 
-module _ (letters : ℕ) (a : AssignedValue) (w : WatchValue) (units : List Hint) (log next : LogValue) (head sure done firm marked : ℕ) (hint : Hint) (clause : List Literal)
-    (state : IsState letters a w units log head sure done firm marked) (more : IsMore log next hint clause) (known_inputs : AreKnown letters next.inputs) (known_lines : AreKnown letters next.lines) where
+module _ (letters : ℕ) (a : AssignedValue) (w : WatchValue) (units : List Hint) (log next : LogValue) (head sure done firm marked : ℕ) (whole : Bool) (hint : Hint) (clause : List Literal)
+    (state : IsState letters a w units log head sure done firm marked whole) (more : IsMore log next hint clause) (known_inputs : AreKnown letters next.inputs) (known_lines : AreKnown letters next.lines) where
   -- a clause of at least two literals more
-  pub state_long : (v : WatchValue) (r : List Literal) (h s : ℕ) → IsNamed w v r hint → HaveSame clause r → 2 ≤ length r → AreApart r → IsRewound a.trail r head sure h s → IsState letters a v units next h s done firm marked
+  pub state_long : (v : WatchValue) (r : List Literal) (h s : ℕ) → IsNamed w v r hint → HaveSame clause r → 2 ≤ length r → AreApart r → IsRewound a.trail r head sure h s → IsState letters a v units next h s done firm marked whole
   state_long v r h s is_named same long apart rewound =
       let u = with_clause w r is_named.name in
       let names_are : names_of u ≡ names_of w ++ hint ∷ [] = map-append hint_of w.names (is_named.name ∷ []) ∙ ap (λ x. names_of w ++ x ∷ []) is_named.says in
-      subst (λ x. IsState letters a x units next h s done firm marked) (sym is_named.is) (record {
+      subst (λ x. IsState letters a x units next h s done firm marked whole) (sym is_named.is) (record {
         ready = record {
           is_trail = trail_more log next hint clause more a.trail state.ready.is_trail;
           stored = subst (IsStored next.inputs next.lines u.clauses) (sym names_are) (stored_more log next hint clause more w.clauses (names_of w) r same state.ready.stored);
@@ -193,12 +198,18 @@ module _ (letters : ℕ) (a : AssignedValue) (w : WatchValue) (units : List Hint
         low = rewound.low;
         is_sure = sure_added w.clauses r a.trail s (λ c k x known watch below is. state.is_sure c k x known watch (omega (arith, below, rewound.sure_falls)) is)
             (λ k x watch below is. absurd (not_false_first a.trail r h k x rewound.free (omega (arith, below, rewound.low)) watch is));
-        all = subst (λ ns. AreAll next.inputs next.lines ns units) (sym names_are) (λ x c is. elim (more.only x c is) [
-          | inl old ↦ elim (state.all x c old) [ inl at ↦ inl (listed_more log next hint clause more (names_of w) hint x at) | inr at ↦ inr at ]
-          | inr e ↦ inl (listed_last log next hint clause more (names_of w) hint x e)
+        all = subst (λ ns. AreAll whole next.inputs next.lines ns units) (sym names_are) (λ x c heeded is. elim (more.only x c is) [
+          | inl old ↦ elim (state.all x c heeded old) [ inl at ↦ inl (listed_more (names_of w) hint x at) | inr at ↦ inr at ]
+          | inr e ↦ inl (listed_last (names_of w) hint x e)
         ]);
         long = subst (AreLong next.inputs next.lines) (sym names_are) (long_more log next hint clause more w.clauses (names_of w) r same long apart state.ready.stored state.long);
         short = short_more log next hint clause more units state.short;
+        ones = λ x c is one. elim (more.only x c is) [
+          | inl old ↦ state.ones x c old one
+          | inr e ↦
+              let same_clause : clause ≡ c = some_same more.here (ap (named next.inputs next.lines) (sym e) ∙ is) in
+              absurd (not_one clause r same long apart (subst IsOne (sym same_clause) one))
+        ];
         done_in = state.done_in;
         firm_in = state.firm_in;
         are_firm = firm_kept log next hint clause more units done _ state.done_in state.short state.are_firm;
@@ -211,7 +222,7 @@ module _ (letters : ℕ) (a : AssignedValue) (w : WatchValue) (units : List Hint
       })
 
   -- a short clause more
-  pub state_short : IsOne clause → IsState letters a w (units ++ hint ∷ []) next head sure done firm marked
+  pub state_short : IsOne clause → IsState letters a w (units ++ hint ∷ []) next head sure done firm marked whole
   state_short one = record {
     ready = record {
       is_trail = trail_more log next hint clause more a.trail state.ready.is_trail;
@@ -225,9 +236,9 @@ module _ (letters : ℕ) (a : AssignedValue) (w : WatchValue) (units : List Hint
     };
     low = state.low;
     is_sure = state.is_sure;
-    all = λ x c is. elim (more.only x c is) [
-      | inl old ↦ elim (state.all x c old) [ inl at ↦ inl at | inr at ↦ inr (listed_more log next hint clause more units hint x at) ]
-      | inr e ↦ inr (listed_last log next hint clause more units hint x e)
+    all = λ x c heeded is. elim (more.only x c is) [
+      | inl old ↦ elim (state.all x c heeded old) [ inl at ↦ inl at | inr at ↦ inr (listed_more units hint x at) ]
+      | inr e ↦ inr (listed_last units hint x e)
     ];
     long = λ c other known is.
         let from = state.ready.stored.from_log c (omega (arith, known, state.ready.stored.paired)) in
@@ -240,6 +251,10 @@ module _ (letters : ℕ) (a : AssignedValue) (w : WatchValue) (units : List Hint
       | inr high ↦
           let last : length units ≡ u = omega (arith, low, length_push units hint) in
           (clause, ap (named next.inputs next.lines) (get_or_at units hint [] blank_hint u last) ∙ more.here, one)
+    ];
+    ones = λ x c is is_one. elim (more.only x c is) [
+      | inl old ↦ listed_more units hint x (state.ones x c old is_one)
+      | inr e ↦ listed_last units hint x e
     ];
     done_in = omega (arith, state.done_in, length_push units hint);
     firm_in = state.firm_in;

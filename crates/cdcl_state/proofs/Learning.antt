@@ -41,15 +41,16 @@ decisions_asserting inputs lines trail places is_trail decisions falling some = 
 }
 
 -- the same parts with the head and the sure places put elsewhere
-pub state_raise : (letters : ℕ) (a : AssignedValue) (w : WatchValue) (units : List Hint) (log : LogValue) (head sure done firm marked m : ℕ) → IsState letters a w units log head sure done firm marked
-    → m ≤ length a.trail → IsSure w.clauses a.trail m → IsState letters a w units log m m done firm marked
-state_raise letters a w units log head sure done firm marked m state fits is_sure = record {
+pub state_raise : (letters : ℕ) (a : AssignedValue) (w : WatchValue) (units : List Hint) (log : LogValue) (head sure done firm marked : ℕ) (whole : Bool) (m : ℕ) → IsState letters a w units log head sure done firm marked whole
+    → m ≤ length a.trail → IsSure w.clauses a.trail m → IsState letters a w units log m m done firm marked whole
+state_raise letters a w units log head sure done firm marked whole m state fits is_sure = record {
   ready = record { is_trail = state.ready.is_trail; stored = state.ready.stored; guarded = guarded_sure w.clauses a.trail m is_sure; within = fits; sized = state.ready.sized };
   low = omega arith;
   is_sure = is_sure;
   all = state.all;
   long = state.long;
   short = state.short;
+  ones = state.ones;
   done_in = state.done_in;
   firm_in = state.firm_in;
   are_firm = state.are_firm;

@@ -11,3 +11,5 @@ mod Short
 mod States
 mod Back
 mod Jump
+mod Gathering
+mod Copying

@@ -14,10 +14,10 @@ use Rattle.cdcl_trail.specs.Assigned.{AssignedValue}
 use Rattle.cdcl_state.specs.State.{IsState}
 use Rattle.cdcl_trail.specs.declared.assigned.Entry.{Entry}
 
-pub state_widened : (letters : ℕ) (a b : AssignedValue) (w v : WatchValue) (units : List Hint) (log : LogValue) (head sure done firm marked wide : ℕ) → IsState letters a w units log head sure done firm marked
+pub state_widened : (letters : ℕ) (a b : AssignedValue) (w v : WatchValue) (units : List Hint) (log : LogValue) (head sure done firm marked : ℕ) (whole : Bool) (wide : ℕ) → IsState letters a w units log head sure done firm marked whole
     → b.trail ≡ a.trail → v.clauses ≡ w.clauses → v.names ≡ w.names → length v.lists ≡ 2 * length b.values → length a.values ≤ length b.values → length b.values ≤ 2 ^ 32 → length b.values ≤ wide
-    → IsState letters b v units log head sure done firm wide
-state_widened letters a b w v units log head sure done firm marked wide state trail clauses names sized more few marks =
+    → IsState letters b v units log head sure done firm wide whole
+state_widened letters a b w v units log head sure done firm marked whole wide state trail clauses names sized more few marks =
     rw (trail, clauses, names) (record {
       ready = record {
         is_trail = state.ready.is_trail;
@@ -31,6 +31,7 @@ state_widened letters a b w v units log head sure done firm marked wide state tr
       all = state.all;
       long = state.long;
       short = state.short;
+      ones = state.ones;
       done_in = state.done_in;
       firm_in = state.firm_in;
       are_firm = state.are_firm;
@@ -49,15 +50,16 @@ clauses_wider : (letters count : ℕ) → letters ≤ count → (clauses : List 
 clauses_wider letters count more clauses known i d below j e low = known_wider letters count more (get_or (get_or clauses i d) j e) (known i d below j e low)
 
 -- more letters are known
-pub state_lettered : (letters count : ℕ) (a : AssignedValue) (w : WatchValue) (units : List Hint) (log : LogValue) (head sure done firm marked : ℕ) → IsState letters a w units log head sure done firm marked → letters ≤ count → count < length a.values
-    → IsState count a w units log head sure done firm marked
-state_lettered letters count a w units log head sure done firm marked state more room = record {
+pub state_lettered : (letters count : ℕ) (a : AssignedValue) (w : WatchValue) (units : List Hint) (log : LogValue) (head sure done firm marked : ℕ) (whole : Bool) → IsState letters a w units log head sure done firm marked whole → letters ≤ count → count < length a.values
+    → IsState count a w units log head sure done firm marked whole
+state_lettered letters count a w units log head sure done firm marked whole state more room = record {
   ready = state.ready;
   low = state.low;
   is_sure = state.is_sure;
   all = state.all;
   long = state.long;
   short = state.short;
+  ones = state.ones;
   done_in = state.done_in;
   firm_in = state.firm_in;
   are_firm = state.are_firm;

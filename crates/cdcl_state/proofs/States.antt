@@ -1,12 +1,13 @@
 -- What propagation, a way back and a decision leave of a state.
-use Rattle.std.proofs.Common.{◌≡◌, ℕ, ◌<◌, ◌≤◌, ◌+◌, ◌*◌, ◌-◌, ◌⊎◌, inl, inr, Bool, true, false, if◌then◌else◌, List, [], ◌∷◌, ◌++◌, Option, Some, None, take, drop, map, Contains, length, get_or, refl, sym, ap, ap₂, ◌∙◌, subst, arith, length-take-le, length-append}
+use Rattle.std.proofs.Common.{◌≡◌, ℕ, zero, suc, ◌<◌, ◌≤◌, ◌+◌, ◌*◌, ◌-◌, ◌⊎◌, inl, inr, Bool, true, false, if◌then◌else◌, List, [], ◌∷◌, ◌++◌, Option, Some, None, take, drop, map, Contains, length, get_or, refl, sym, ap, ap₂, ◌∙◌, subst, arith, length-take-le, length-append}
 use Rattle.std.proofs.lemmas.Bool.{cases_lt}
 use Rattle.std.proofs.lemmas.List.{take-take, take-append-le, get_or-take, get_or_default, get_or_append_left, get_or-map, length-map, map-append, length_push, take-append-drop, take_all}
 use Rattle.std.proofs.lemmas.List.Elements.{All-contains, All-append, Contains-append_left, All-push}
 use Rattle.cnf_base.specs.declared.literal.Literal.{Literal}
 use Rattle.cnf_base.specs.declared.literal.Hint.{Hint}
+use Rattle.cnf_base.specs.declared.literal.Hint.TheVariants.{Clause, Line}
 use Rattle.cnf_base.specs.Literal.{opposite}
-use Rattle.cnf_base.specs.Step.{named}
+use Rattle.cnf_base.specs.Step.{named, numbered}
 use Rattle.cnf_base.specs.Known.{IsKnown, AreKnown}
 use Rattle.clause_log.specs.LogValue.{LogValue}
 use Rattle.cdcl_trail.specs.Trail.{literals_of, AreValues, IsTrail, IsConflict, IsReason, IsUnset, StandsAt, blank_entry, literal_at}
@@ -51,16 +52,16 @@ long_clause inputs lines clauses names stored long c known = elim (cases_lt (len
 ]
 
 -- where all lists were visited and all short clauses are true, the state is settled
-pub settled : (letters : ℕ) (a : AssignedValue) (w : WatchValue) (units : List Hint) (log : LogValue) (head sure done firm marked : ℕ) → IsState letters a w units log head sure done firm marked
-    → AreValues a.values a.trail → IsWatching w.clauses w.lists → head ≡ length a.trail → done ≡ length units → IsSettled (state_of letters a.trail log)
-settled letters a w units log head sure done firm marked state are watching all finished hint = (
-  (λ conflict. elim (state.all hint conflict.clause conflict.is) [
+pub settled : (letters : ℕ) (a : AssignedValue) (w : WatchValue) (units : List Hint) (log : LogValue) (head sure done firm marked : ℕ) (whole : Bool) → IsState letters a w units log head sure done firm marked whole
+    → AreValues a.values a.trail → IsWatching w.clauses w.lists → head ≡ length a.trail → done ≡ length units → IsSettled (state_of letters a.trail log whole)
+settled letters a w units log head sure done firm marked whole state are watching all finished hint heeded = (
+  (λ conflict. elim (state.all hint conflict.clause heeded conflict.is) [
     | inl at ↦ (watched at).0 conflict
     | inr at ↦
         let told = unit at conflict.clause conflict.is in
         not_both a.values a.trail are told.0 told.2 (All-contains (λ l. Contains (literals_of a.trail) (opposite l)) conflict.clause told.0 conflict.all_false told.1)
   ]),
-  (λ u reason unset. elim (state.all hint reason.clause reason.is) [
+  (λ u reason unset. elim (state.all hint reason.clause heeded reason.is) [
     | inl at ↦ (watched at).1 u reason unset
     | inr at ↦
         let told = unit at reason.clause reason.is in
@@ -99,15 +100,16 @@ settled letters a w units log head sure done firm marked state are watching all 
             )
 
 -- forced entries more on the trail
-pub state_grown : (letters : ℕ) (a b : AssignedValue) (w v : WatchValue) (units : List Hint) (log : LogValue) (head sure done firm next later marked : ℕ) → IsState letters a w units log head sure done firm marked
-    → IsGrown a.trail b.trail → length b.values ≡ length a.values → v.names ≡ w.names → later ≤ next → IsSure v.clauses b.trail later → IsReady log.inputs log.lines next b v → IsState letters b v units log next later done firm marked
-state_grown letters a b w v units log head sure done firm next later marked state grown same names_are low is_sure ready = record {
+pub state_grown : (letters : ℕ) (a b : AssignedValue) (w v : WatchValue) (units : List Hint) (log : LogValue) (head sure done firm next later marked : ℕ) (whole : Bool) → IsState letters a w units log head sure done firm marked whole
+    → IsGrown a.trail b.trail → length b.values ≡ length a.values → v.names ≡ w.names → later ≤ next → IsSure v.clauses b.trail later → IsReady log.inputs log.lines next b v → IsState letters b v units log next later done firm marked whole
+state_grown letters a b w v units log head sure done firm next later marked whole state grown same names_are low is_sure ready = record {
   ready = ready;
   low = low;
   is_sure = is_sure;
-  all = subst (λ ns. AreAll log.inputs log.lines (map hint_of ns) units) (sym names_are) state.all;
+  all = subst (λ ns. AreAll whole log.inputs log.lines (map hint_of ns) units) (sym names_are) state.all;
   long = subst (λ ns. AreLong log.inputs log.lines (map hint_of ns)) (sym names_are) state.long;
   short = state.short;
+  ones = state.ones;
   done_in = state.done_in;
   firm_in = omega (arith, state.firm_in, ap length grown.trail, length-append a.trail grown.more);
   are_firm = λ u clause below is.
@@ -124,12 +126,12 @@ state_grown letters a b w v units log head sure done firm next later marked stat
 }
 
 -- a front of the trail
-pub state_back : (letters : ℕ) (a b : AssignedValue) (w : WatchValue) (units : List Hint) (log : LogValue) (head sure done firm marked m n level still solid : ℕ) → IsState letters a w units log head sure done firm marked
-    → b.trail ≡ take n a.trail → length b.values ≡ length a.values → n ≤ length a.trail → IsBack (state_of letters a.trail log) (state_of letters b.trail log) level → m ≤ sure → m ≤ n
-    → ((firm ≤ n) × (still ≡ done) × (solid ≡ firm)) ⊎ ((still ≡ 0) × (solid ≡ 0)) → IsState letters b w units log m m still solid marked
-state_back letters a b w units log head sure done firm marked m n level still solid state trail_is values_is fits back m_sure m_n units_are =
+pub state_back : (letters : ℕ) (a b : AssignedValue) (w : WatchValue) (units : List Hint) (log : LogValue) (head sure done firm marked : ℕ) (whole : Bool) (m n level still solid : ℕ) → IsState letters a w units log head sure done firm marked whole
+    → b.trail ≡ take n a.trail → length b.values ≡ length a.values → n ≤ length a.trail → IsBack (state_of letters a.trail log whole) (state_of letters b.trail log whole) level → m ≤ sure → m ≤ n
+    → ((firm ≤ n) × (still ≡ done) × (solid ≡ firm)) ⊎ ((still ≡ 0) × (solid ≡ 0)) → IsState letters b w units log m m still solid marked whole
+state_back letters a b w units log head sure done firm marked whole m n level still solid state trail_is values_is fits back m_sure m_n units_are =
     let len : length b.trail ≡ n = ap length trail_is ∙ length-take-le n a.trail fits in
-    let new_sure = sure_back w.clauses (state_of letters a.trail log) (state_of letters b.trail log) level sure m state.ready.is_trail back state.is_sure m_sure (omega (arith, len)) in
+    let new_sure = sure_back w.clauses (state_of letters a.trail log whole) (state_of letters b.trail log whole) level sure m state.ready.is_trail back state.is_sure m_sure (omega (arith, len)) in
     record {
       ready = record {
         is_trail = subst (IsTrail log.inputs log.lines) (sym trail_is) (trail_take log.inputs log.lines a.trail n fits state.ready.is_trail);
@@ -143,6 +145,7 @@ state_back letters a b w units log head sure done firm marked m n level still so
       all = state.all;
       long = state.long;
       short = state.short;
+      ones = state.ones;
       done_in = elim units_are [ inl kept ↦ omega (arith, kept.1, state.done_in) | inr none ↦ omega (arith, none.0) ];
       firm_in = elim units_are [ inl kept ↦ omega (arith, kept.0, kept.2, len) | inr none ↦ omega (arith, none.1) ];
       are_firm = λ u clause below is. elim units_are [
@@ -162,12 +165,12 @@ state_back letters a b w units log head sure done firm marked m n level still so
     }
 
 -- the way back of the trail, from the entries beside its end
-pub back_of : (letters : ℕ) (a b : AssignedValue) (log : LogValue) (n level : ℕ) → IsTrail log.inputs log.lines a.trail → b.trail ≡ take n a.trail → n ≤ length a.trail
-    → (0 < n → level_at a.trail (n - 1) ≤ level) → (n < length a.trail → level < level_at a.trail n) → IsBack (state_of letters a.trail log) (state_of letters b.trail log) level
-back_of letters a b log n level is_trail trail_is fits low high =
+pub back_of : (letters : ℕ) (a b : AssignedValue) (log : LogValue) (whole : Bool) (n level : ℕ) → IsTrail log.inputs log.lines a.trail → b.trail ≡ take n a.trail → n ≤ length a.trail
+    → (0 < n → level_at a.trail (n - 1) ≤ level) → (n < length a.trail → level < level_at a.trail n) → IsBack (state_of letters a.trail log whole) (state_of letters b.trail log whole) level
+back_of letters a b log whole n level is_trail trail_is fits low high =
     let len : length b.trail ≡ n = ap length trail_is ∙ length-take-le n a.trail fits in
     record {
-      front = ap (λ t. state_of letters t log) (trail_is ∙ ap (λ m. take m a.trail) (sym len));
+      front = ap (λ t. state_of letters t log whole) (trail_is ∙ ap (λ m. take m a.trail) (sym len));
       short = omega (arith, len);
       low = λ k d below.
           let k_low : k < n = omega (arith, below, len) in
@@ -208,9 +211,9 @@ decision_stands inputs lines trail l level is_trail is = record {
 }
 
 -- an entry more behind the trail
-module _ (letters : ℕ) (a b : AssignedValue) (w : WatchValue) (units : List Hint) (log : LogValue) (head sure done firm marked : ℕ) (e : Entry) (state : IsState letters a w units log head sure done firm marked)
+module _ (letters : ℕ) (a b : AssignedValue) (w : WatchValue) (units : List Hint) (log : LogValue) (head sure done firm marked : ℕ) (whole : Bool) (e : Entry) (state : IsState letters a w units log head sure done firm marked whole)
     (values_is : length b.values ≡ length a.values) (stands : StandsAt log.inputs log.lines a.trail e) (known : e.reason ≡ None → IsKnown letters e.literal) where
-  pub state_pushed : b.trail ≡ a.trail ++ e ∷ [] → IsState letters b w units log head sure done firm marked
+  pub state_pushed : b.trail ≡ a.trail ++ e ∷ [] → IsState letters b w units log head sure done firm marked whole
   state_pushed is = record {
     ready = record {
       is_trail = subst (IsTrail log.inputs log.lines) (sym is) (trail_push log.inputs log.lines a.trail e state.ready.is_trail stands);
@@ -224,6 +227,7 @@ module _ (letters : ℕ) (a b : AssignedValue) (w : WatchValue) (units : List Hi
     all = state.all;
     long = state.long;
     short = state.short;
+    ones = state.ones;
     done_in = state.done_in;
     firm_in = omega (arith, state.firm_in, ap length is, length_push a.trail e);
     are_firm = λ u clause below named_is.
@@ -237,7 +241,7 @@ module _ (letters : ℕ) (a b : AssignedValue) (w : WatchValue) (units : List Hi
     size = omega (arith, values_is, state.size);
   }
 
-  pub state_same : b.trail ≡ a.trail → IsState letters b w units log head sure done firm marked
+  pub state_same : b.trail ≡ a.trail → IsState letters b w units log head sure done firm marked whole
   state_same is = record {
     ready = record {
       is_trail = subst (IsTrail log.inputs log.lines) (sym is) state.ready.is_trail;
@@ -251,6 +255,7 @@ module _ (letters : ℕ) (a b : AssignedValue) (w : WatchValue) (units : List Hi
     all = state.all;
     long = state.long;
     short = state.short;
+    ones = state.ones;
     done_in = state.done_in;
     firm_in = omega (arith, state.firm_in, ap length is);
     are_firm = λ u clause below named_is. subst (λ t. HasTrue (literals_of (take firm t)) clause) (sym is) (state.are_firm u clause below named_is);
@@ -262,7 +267,7 @@ module _ (letters : ℕ) (a b : AssignedValue) (w : WatchValue) (units : List Hi
     size = omega (arith, values_is, state.size);
   }
 
-  pub state_assigned : (ok : Bool) → b.trail ≡ (if ok then a.trail ++ e ∷ [] else a.trail) → IsState letters b w units log head sure done firm marked
+  pub state_assigned : (ok : Bool) → b.trail ≡ (if ok then a.trail ++ e ∷ [] else a.trail) → IsState letters b w units log head sure done firm marked whole
   state_assigned true is = state_pushed is
   state_assigned false is = state_same is
 
@@ -291,16 +296,17 @@ firm_now inputs lines units done firm trail fits are u clause below is =
     )
 
 -- all short clauses are true
-pub state_firm : (letters : ℕ) (a : AssignedValue) (w : WatchValue) (units : List Hint) (log : LogValue) (head sure done firm still solid marked : ℕ) → IsState letters a w units log head sure done firm marked
+pub state_firm : (letters : ℕ) (a : AssignedValue) (w : WatchValue) (units : List Hint) (log : LogValue) (head sure done firm still solid marked : ℕ) (whole : Bool) → IsState letters a w units log head sure done firm marked whole
     → AreFirm log.inputs log.lines units (length units) (literals_of a.trail) → ((length units ≤ done) × (still ≡ done) × (solid ≡ firm)) ⊎ ((still ≡ length units) × (solid ≡ length a.trail))
-    → IsState letters a w units log head sure still solid marked
-state_firm letters a w units log head sure done firm still solid marked state are cases = record {
+    → IsState letters a w units log head sure still solid marked whole
+state_firm letters a w units log head sure done firm still solid marked whole state are cases = record {
   ready = state.ready;
   low = state.low;
   is_sure = state.is_sure;
   all = state.all;
   long = state.long;
   short = state.short;
+  ones = state.ones;
   done_in = elim cases [ inl kept ↦ omega (arith, kept.1, state.done_in) | inr now ↦ omega (arith, now.0) ];
   firm_in = elim cases [ inl kept ↦ omega (arith, kept.2, state.firm_in) | inr now ↦ omega (arith, now.1) ];
   are_firm = λ u clause below is. elim cases [
@@ -319,13 +325,49 @@ pub finished : (count done still solid firm len : ℕ) → done ≤ count → ((
 finished count done still solid firm len fits cases = elim cases [ inl kept ↦ omega (arith, kept.0, kept.1, fits) | inr now ↦ now.0 ]
 
 -- the same, for what callers see
-pub propagated : (letters : ℕ) (log : LogValue) (old new : List Entry) → IsGrown old new → Propagated (state_of letters old log) (state_of letters new log)
-propagated letters log old new grown = record { letters = refl; log = refl; more = grown.more; trail = grown.trail; forced = grown.forced }
+pub propagated : (letters : ℕ) (log : LogValue) (whole : Bool) (old new : List Entry) → IsGrown old new → Propagated (state_of letters old log whole) (state_of letters new log whole)
+propagated letters log whole old new grown = record { letters = refl; log = refl; whole = refl; more = grown.more; trail = grown.trail; forced = grown.forced }
 
 -- the short clauses were visited
-pub state_visited : (letters : ℕ) (a b : AssignedValue) (w : WatchValue) (units : List Hint) (log : LogValue) (head sure done firm marked : ℕ) → IsState letters a w units log head sure done firm marked
-    → IsGrown a.trail b.trail → IsTrail log.inputs log.lines b.trail → length b.values ≡ length a.values → IsState letters b w units log head sure done firm marked
-state_visited letters a b w units log head sure done firm marked state grown is_trail same =
-    state_grown letters a b w w units log head sure done firm head sure marked state grown same refl state.low
+pub state_visited : (letters : ℕ) (a b : AssignedValue) (w : WatchValue) (units : List Hint) (log : LogValue) (head sure done firm marked : ℕ) (whole : Bool) → IsState letters a w units log head sure done firm marked whole
+    → IsGrown a.trail b.trail → IsTrail log.inputs log.lines b.trail → length b.values ≡ length a.values → IsState letters b w units log head sure done firm marked whole
+state_visited letters a b w units log head sure done firm marked whole state grown is_trail same =
+    state_grown letters a b w w units log head sure done firm head sure marked whole state grown same refl state.low
     (sure_grown w.clauses a.trail b.trail sure (omega (arith, state.low, state.ready.within)) grown state.is_sure)
     (ready_grown log.inputs log.lines head a b w state.ready grown is_trail same)
+
+-- the state that knows nothing
+pub state_new : (a : AssignedValue) (w : WatchValue) (units : List Hint) (log : LogValue) (marked : ℕ) → a ≡ record { values = []; trail = [] } → w ≡ record { clauses = []; lists = []; names = [] } → units ≡ [] → log ≡ record { inputs = []; lines = []; hints = [] }
+    → IsState 0 a w units log 0 0 0 0 marked true
+state_new a w units log marked a_is w_is units_is log_is = rw (a_is, w_is, units_is, log_is) (record {
+  ready = record {
+    is_trail = λ k d below. absurd (omega (arith, below));
+    stored = record { paired = refl; from_log = λ c known. absurd (omega (arith, known)) };
+    guarded = λ c k x known watch below is. absurd (omega (arith, below));
+    within = omega arith;
+    sized = refl;
+  };
+  low = omega arith;
+  is_sure = λ c k x known watch below is. absurd (omega (arith, below));
+  all = λ hint clause heeded is. absurd (none hint clause is);
+  long = λ c clause known. absurd (omega (arith, known));
+  short = λ u below. absurd (omega (arith, below));
+  ones = λ hint clause is one. absurd (none hint clause is);
+  done_in = omega arith;
+  firm_in = omega arith;
+  are_firm = λ u clause below is. absurd (omega (arith, below));
+  known_inputs = λ i d below. absurd (omega (arith, below));
+  known_lines = λ i d below. absurd (omega (arith, below));
+  decided = λ k d below. absurd (omega (arith, below));
+  room = λ x from_one within. absurd (omega (arith, from_one, within));
+  few = omega arith;
+  size = omega arith;
+})
+  where
+    none_numbered : (n : ℕ) (clause : List Literal) → ¬ (numbered [] n ≡ Some clause)
+    none_numbered zero clause is = cc
+    none_numbered (suc n) clause is = cc
+
+    none : (hint : Hint) (clause : List Literal) → ¬ (named [] [] hint ≡ Some clause)
+    none (Clause n) clause is = none_numbered n clause is
+    none (Line n) clause is = none_numbered n clause is

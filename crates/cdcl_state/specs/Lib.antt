@@ -1,3 +1,4 @@
 pub mod StateValue
 pub mod Turns
 pub mod State
+pub mod Gathered

@@ -1,5 +1,5 @@
--- What holds of a state: the log is watched, but for its clauses of one literal or none.
-use Rattle.std.specs.Prelude.{◌≡◌, ℕ, ◌^◌, ◌<◌, ◌≤◌, ◌⊎◌, List, length, take, Some, None, All, AllPairs, Contains, slice_index_or, ◌≢◌}
+-- What holds of a state: the log is watched, but for its clauses of one literal or none, and for forgotten lines.
+use Rattle.std.specs.Prelude.{◌≡◌, ℕ, ◌^◌, ◌<◌, ◌≤◌, ◌⊎◌, Bool, List, length, take, Some, None, All, AllPairs, Contains, slice_index_or, ◌≢◌}
 use Rattle.cnf_base.specs.declared.literal.Literal.{Literal}
 use Rattle.cnf_base.specs.declared.literal.Hint.{Hint}
 use Rattle.cnf_base.specs.Step.{named}
@@ -14,6 +14,7 @@ use Rattle.cdcl_propagate.specs.Visit.{IsReady, blank_hint, names_of}
 use Rattle.cdcl_trail.specs.declared.assigned.Entry.{Entry}
 use Rattle.cnf_base.specs.Literal.{opposite}
 use Rattle.cdcl_propagate.specs.Units.{IsOne, AreShort, AreFirm}
+use Rattle.cdcl_state.specs.StateValue.{IsHeeded}
 
 -- no letter stands in the clause twice
 abbrev pub HasLettersOnce : List Literal → Type 0
@@ -23,13 +24,17 @@ HasLettersOnce clause = AllPairs (λ a b. a.letter.0 ≢ b.letter.0) clause
 abbrev pub IsListed : List Hint → Hint → Type 0
 IsListed names hint = (c : ℕ) × (c < length names) × (slice_index_or names c blank_hint ≡ hint)
 
--- each clause of the log is a watched one or a short one
-abbrev pub AreAll : List (List Literal) → List (List Literal) → List Hint → List Hint → Type 0
-AreAll inputs lines names units = (hint : Hint) (clause : List Literal) → named inputs lines hint ≡ Some clause → IsListed names hint ⊎ IsListed units hint
+-- each clause of the log that is always heeded is a watched one or a short one
+abbrev pub AreAll : Bool → List (List Literal) → List (List Literal) → List Hint → List Hint → Type 0
+AreAll whole inputs lines names units = (hint : Hint) (clause : List Literal) → IsHeeded whole hint → named inputs lines hint ≡ Some clause → IsListed names hint ⊎ IsListed units hint
 
 -- no watched clause has one literal alone, or none
 abbrev pub AreLong : List (List Literal) → List (List Literal) → List Hint → Type 0
 AreLong inputs lines names = (c : ℕ) (clause : List Literal) → c < length names → named inputs lines (slice_index_or names c blank_hint) ≡ Some clause → ¬ IsOne clause
+
+-- each clause of one literal or none is a short one
+abbrev pub AreOnes : List (List Literal) → List (List Literal) → List Hint → Type 0
+AreOnes inputs lines units = (hint : Hint) (clause : List Literal) → named inputs lines hint ≡ Some clause → IsOne clause → IsListed units hint
 
 -- a decision's letter is known
 abbrev pub AreKnownDecisions : ℕ → List Entry → Type 0
@@ -58,13 +63,14 @@ pub record IsRewound (trail : List Entry) (clause : List Literal) (old_head old_
   pub low : sure ≤ head
   pub free : IsUnwatched trail clause head
 
-pub record IsState (letters : ℕ) (a : AssignedValue) (w : WatchValue) (units : List Hint) (log : LogValue) (head sure done firm marked : ℕ) : Type 0 where
+pub record IsState (letters : ℕ) (a : AssignedValue) (w : WatchValue) (units : List Hint) (log : LogValue) (head sure done firm marked : ℕ) (whole : Bool) : Type 0 where
   pub ready : IsReady log.inputs log.lines head a w
   pub low : sure ≤ head
   pub is_sure : IsSure w.clauses a.trail sure
-  pub all : AreAll log.inputs log.lines (names_of w) units
+  pub all : AreAll whole log.inputs log.lines (names_of w) units
   pub long : AreLong log.inputs log.lines (names_of w)
   pub short : AreShort log.inputs log.lines units
+  pub ones : AreOnes log.inputs log.lines units
   pub done_in : done ≤ length units
   pub firm_in : firm ≤ length a.trail
   pub are_firm : AreFirm log.inputs log.lines units done (literals_of (take firm a.trail))

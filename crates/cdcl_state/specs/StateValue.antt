@@ -1,35 +1,46 @@
 -- What a caller sees of a state, and how states before and after a call compare.
-use Rattle.std.specs.Prelude.{◌↔◌, ◌≡◌, ◌≢◌, ℕ, ◌+◌, ◌<◌, ◌≤◌, ◌⊎◌, Bool, true, false, List, length, take, ◌++◌, All, Contains, None, slice_index_or}
+use Rattle.std.specs.Prelude.{◌↔◌, ◌≡◌, ◌≢◌, ℕ, ◌+◌, ◌<◌, ◌≤◌, ◌⊎◌, ⊤, Bool, true, false, List, length, take, ◌++◌, All, Contains, None, slice_index_or}
 use Rattle.cnf_base.specs.declared.literal.Literal.{Literal}
 use Rattle.cnf_base.specs.declared.literal.Hint.{Hint}
+use Rattle.cnf_base.specs.declared.literal.Hint.TheVariants.{Clause, Line}
 use Rattle.cnf_base.specs.Literal.{opposite}
 use Rattle.cnf_base.specs.Known.{IsKnown}
 use Rattle.clause_log.specs.LogValue.{LogValue}
 use Rattle.cdcl_trail.specs.declared.assigned.Entry.{Entry}
 use Rattle.cdcl_trail.specs.Trail.{literals_of, IsReason, IsConflict, IsUnset, StandsAt}
 
--- the letters from 1 to `letters` are known; the trail's literals are true, in order; the log's clauses hold
+-- the letters from 1 to `letters` are known; the trail's literals are true, in order; the log's clauses hold; and
+-- whether each line is heeded, or some are forgotten
 pub record StateValue : Type 0 where
   pub letters : ℕ
   pub trail : List Entry
   pub log : LogValue
+  pub whole : Bool
 
 abbrev pub with_trail : StateValue → List Entry → StateValue
-with_trail s trail = record { letters = s.letters; trail = trail; log = s.log }
+with_trail s trail = record { letters = s.letters; trail = trail; log = s.log; whole = s.whole }
 
 abbrev pub with_letters : StateValue → ℕ → StateValue
-with_letters s letters = record { letters = letters; trail = s.trail; log = s.log }
+with_letters s letters = record { letters = letters; trail = s.trail; log = s.log; whole = s.whole }
 
 abbrev pub with_log : StateValue → LogValue → StateValue
-with_log s log = record { letters = s.letters; trail = s.trail; log = log }
+with_log s log = record { letters = s.letters; trail = s.trail; log = log; whole = s.whole }
+
+abbrev pub with_whole : StateValue → Bool → StateValue
+with_whole s whole = record { letters = s.letters; trail = s.trail; log = s.log; whole = whole }
 
 -- the state of these letters, trail and log
-abbrev pub state_of : ℕ → List Entry → LogValue → StateValue
-state_of letters trail log = record { letters = letters; trail = trail; log = log }
+abbrev pub state_of : ℕ → List Entry → LogValue → Bool → StateValue
+state_of letters trail log whole = record { letters = letters; trail = trail; log = log; whole = whole }
 
--- no clause is false, and none has one literal without a value while all its others are false
+-- the clause is one that is always heeded: an input, or a line where no line is forgotten
+abbrev pub IsHeeded : Bool → Hint → Type 0
+IsHeeded whole (Clause n) = ⊤
+IsHeeded whole (Line n) = whole ≡ true
+
+-- no clause that is always heeded is false, and none has one literal without a value while all its others are false
 abbrev pub IsSettled : StateValue → Type 0
-IsSettled s = (hint : Hint)
+IsSettled s = (hint : Hint) → IsHeeded s.whole hint
     → (¬ IsConflict s.log.inputs s.log.lines (literals_of s.trail) hint)
     × ((u : Literal) → IsReason s.log.inputs s.log.lines (literals_of s.trail) u hint → ¬ IsUnset (literals_of s.trail) u)
 
@@ -42,6 +53,7 @@ pub record MayStand (s : StateValue) (e : Entry) : Type 0 where
 pub record Propagated (old new : StateValue) : Type 0 where
   pub letters : new.letters ≡ old.letters
   pub log : new.log ≡ old.log
+  pub whole : new.whole ≡ old.whole
   pub more : List Entry
   pub trail : new.trail ≡ old.trail ++ more
   pub forced : All (λ e. e.reason ≢ None) more

@@ -2,7 +2,10 @@
 //! conflicts are learnt from and decisions are taken back.
 #![tactic(auto)]
 
+pub mod copy;
 pub mod decide;
+pub mod gather;
+pub mod kept;
 pub mod repeats;
 pub mod state;
 pub mod store;

@@ -1,5 +1,5 @@
 // The state of the solver: the trail, the log, and the log's clauses in the order in which they are watched.
-ghost use Rattle.std.specs.Prelude.{◌≡◌, ◌≢◌, ◌+◌, ◌<◌, ◌≤◌, [], ◌⊎◌, All, AllPairs, length, MatchOption, IfSome, IfOk, OnErr, OnOk};
+ghost use Rattle.std.specs.Prelude.{◌≡◌, ◌≢◌, ◌+◌, ◌<◌, ◌≤◌, [], ◌⊎◌, true, All, AllPairs, length, MatchOption, IfSome, IfOk, OnErr, OnOk};
 ghost use Rattle.cnf_base.specs.Known.{IsKnown, AreKnown};
 ghost use Rattle.cdcl_state.specs.StateValue.{IsSettled, Propagated, AreSet, IsModel, with_log, with_letters};
 ghost use Rattle.cdcl_trail.specs.Trail.{IsConflict, literals_of, IsUnset, HasValue};
@@ -26,6 +26,7 @@ use std::marker::Model;
 
 mod backjump;
 mod explain;
+mod forget;
 mod learn;
 
 /// The literals that are true, in order, and the log that they follow from.
@@ -35,7 +36,8 @@ pub struct State {
     letters: usize,
     assigned: Assigned,
     log: Log,
-    // The clauses of at least two literals. The name of each says which of the log's it is.
+    // The clauses of at least two literals, but for forgotten lines. The name of each says which of the log's
+    // it is.
     watches: Watches,
     /// The lists of what became false before this place of the trail were visited.
     head: usize,
@@ -49,6 +51,8 @@ pub struct State {
     // Analysis and decisions.
     marks: Marks,
     choices: Choices,
+    /// Whether each line is among the watched or the short ones. The inputs always are.
+    whole: bool,
 }
 
 impl Model for State {
@@ -58,10 +62,15 @@ impl Model for State {
 
     ghost Value = { StateValue };
 
-    ghost view = { λ a. record { letters = a.letters; trail = a.assigned.trail; log = a.log } };
+    ghost view = { λ a. record {
+      letters = a.letters;
+      trail = a.assigned.trail;
+      log = a.log;
+      whole = a.whole;
+    } };
 
     ghost invariant = { λ a. IsState a.letters a.assigned a.watches a.units.items a.log a.head a.sure
-        a.done a.firm (length a.marks.stamps) };
+        a.done a.firm (length a.marks.stamps) a.whole };
 }
 
 impl State {
@@ -71,6 +80,7 @@ impl State {
           letters = 0;
           trail = [];
           log = record { inputs = []; lines = []; hints = [] };
+          whole = true;
         } }
     {
         State {
@@ -85,6 +95,7 @@ impl State {
             firm: 0,
             marks: Marks::new(alloc),
             choices: Choices::new(alloc),
+            whole: true,
         }
     }
 

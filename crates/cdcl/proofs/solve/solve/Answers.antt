@@ -1,13 +1,13 @@
-use Rattle.std.proofs.Common.{◌≡◌, inl, length, arith, List, Option, None, Result, Ok, Err, MatchOption, IfOk, refl, sym, ap, ◌∙◌, subst}
-use mathlib.Core.Bool.{false≢true}
+use Rattle.std.proofs.Common.{◌≡◌, inl, length, arith, List, Bool, true, Option, None, Result, Ok, Err, MatchOption, IfOk, refl, sym, ap, ◌∙◌, subst}
+use mathlib.Core.Bool.{false, false≢true}
 use Rattle.std.specs.declared.alloc.AllocError.{AllocError}
 use Rattle.cnf_base.specs.declared.literal.Literal.{Literal}
 use Rattle.clause_log.specs.LogValue.{with_line}
 use Rattle.cdcl_state.specs.StateValue.{StateValue, with_log}
 use Rattle.cdcl.specs.declared.solve.Answer.{Answer}
-use Rattle.cdcl.specs.Solving.{IsFound, IsLineOf, IsNegated}
-use Rattle.cdcl.proofs.Search.{search_propagated, search_turned, search_assumed, search_free, assumed_negated, turn_falls, decision_falls, inputs_true}
-use Rattle.cdcl.proofs.Ending.{search_start, search_rested, rest_falls, all_assumed, not_decided, refuted_negated, none_near, line_found}
+use Rattle.cdcl.specs.Solving.{IsAfter, IsFound, IsLineOf, IsNegated}
+use Rattle.cdcl.proofs.Search.{after_none, search_propagated, search_assumed, search_free, assumed_negated, turn_falls, decision_falls, inputs_true}
+use Rattle.cdcl.proofs.Ending.{search_start, conflict_none, conflict_rested, rest_falls, all_assumed, not_decided, refuted_negated, line_found}
 use Rattle.cdcl.proofs.solve.solve.Goals as goal
 
 none_case : {X A : Type 0} (P : X → Type 0) (o : Option X) → o ≡ None → MatchOption o A P → A
@@ -17,8 +17,11 @@ found : (r : Result Answer AllocError) (s : StateValue) (assumptions clause : Li
 found (Ok answer) s assumptions clause negated is = line_found s assumptions clause answer negated is
 found (Err e) s assumptions clause negated is = tt
 
+not_true : {b : Bool} → b ≡ false → ¬ (b ≡ true)
+not_true is h = false≢true (sym is ∙ h)
+
 pub search-init : goal.search-init
-search-init c = search_start c.args.state.now c.retreat.new.self c.args.assumptions.now c.retreat.ensures.front c.retreat.ensures.decided
+search-init c = search_start c.args.state.now c.begin.new.state c.args.assumptions.now c.in_ok-begin.ensures.front c.in_ok-begin.ensures.decided
 
 pub returns-then-is_assumed-clause-answer : goal.returns-then-is_assumed-clause-answer
 returns-then-is_assumed-clause-answer c =
@@ -29,6 +32,14 @@ returns-then-is_assumed-clause-answer c =
     let each = all_assumed s.trail c.bounded.ensures.apart assumptions search.guided (c.is_assumed.ensures.yes c.if-is_assumed.true) in
     found c.finish.result c.finish.new.state assumptions learnt.clause.items
     (assumed_negated s.log s.trail learnt assumptions c.in_ok-learnt-in-Some.ensures.learnt (c.in_ok-learnt-in-Some.ensures.decided refl) each) c.finish.ensures.answer
+
+pub returns-in_err-begin-clause-kept : goal.returns-in_err-begin-clause-kept
+returns-in_err-begin-clause-kept c = subst (IsAfter c.args.state.now) (sym c.in_err-begin.ensures.refused) (after_none c.args.state.now)
+
+pub returns-in_err-learn-in-Some-clause-near : goal.returns-in_err-learn-in-Some-clause-near
+returns-in_err-learn-in-Some-clause-near c clause hints negated step =
+    let free = c.is_assumed.ensures.no (not_true c.if-is_assumed.false) in
+    absurd (conflict_none c.args.state.now c.search.state c.propagate.new.self c.args.assumptions.now c.search.invariant c.propagate.ensures.grown free clause hints negated step)
 
 pub search-smaller-in-Some : goal.search-smaller-in-Some
 search-smaller-in-Some c =
@@ -48,23 +59,27 @@ search-smaller-in-Some c =
 
 pub search-preserved-in-Some : goal.search-preserved-in-Some
 search-preserved-in-Some c =
-    let old = c.args.state.now in
-    let t = c.propagate.new.self in
-    let u = c.analyze.new.self in
-    let assumptions = c.args.assumptions.now in
     let learnt = c.in_ok-learnt-in-Some-2.learnt in
-    let clause = learnt.clause.items in
-    let hints = learnt.hints.items in
-    let same : u ≡ t = c.analyze.ensures.same in
-    let mid : StateValue = with_log u (with_line u.log clause hints) in
-    let derived : mid ≡ with_log t (with_line t.log clause hints) = ap (λ (x : StateValue). with_log x (with_line x.log clause hints)) same in
-    let search = search_propagated old c.search.state t assumptions c.search.invariant c.propagate.ensures.grown in
-    let none = none_near old t assumptions search (c.is_assumed.ensures.no (λ h. false≢true (sym c.if-is_assumed.false ∙ h))) in
-    search_rested old c.learn.new.self c.rest.new.state assumptions c.rest.new.pace.left c.search.pace.left
-    (search_turned old t mid c.learn.new.self clause hints assumptions search none derived c.in_ok-learn-in-Some.ensures.turned) c.rest.ensures
+    let free = c.is_assumed.ensures.no (not_true c.if-is_assumed.false) in
+    conflict_rested c.args.state.now c.search.state c.propagate.new.self c.args.assumptions.now c.search.invariant c.propagate.ensures.grown free c.analyze.new.self c.learn.new.self c.rest.new.state
+    learnt.clause.items learnt.hints.items c.rest.new.pace.left c.search.pace.left c.analyze.ensures.same c.in_ok-learn-in-Some.ensures.turned c.rest.ensures
 
-pub search-smaller-in-Continue-branch-5 : goal.search-smaller-in-Continue-branch-5
-search-smaller-in-Continue-branch-5 c =
+-- lines were to be forgotten, and there was no memory for it
+pub returns-in_err-rest-in-Some-clause-kept : goal.returns-in_err-rest-in-Some-clause-kept
+returns-in_err-rest-in-Some-clause-kept c =
+    let learnt = c.in_ok-learnt-in-Some-2.learnt in
+    let free = c.is_assumed.ensures.no (not_true c.if-is_assumed.false) in
+    let search = conflict_rested c.args.state.now c.search.state c.propagate.new.self c.args.assumptions.now c.search.invariant c.propagate.ensures.grown free c.analyze.new.self c.learn.new.self c.rest.new.state
+    learnt.clause.items learnt.hints.items c.rest.new.pace.left c.search.pace.left c.analyze.ensures.same c.in_ok-learn-in-Some.ensures.turned c.rest.ensures in
+    search.after
+
+pub returns-in_err-rest-in-Some-clause-near : goal.returns-in_err-rest-in-Some-clause-near
+returns-in_err-rest-in-Some-clause-near c clause hints negated step =
+    let free = c.is_assumed.ensures.no (not_true c.if-is_assumed.false) in
+    absurd (conflict_none c.args.state.now c.search.state c.propagate.new.self c.args.assumptions.now c.search.invariant c.propagate.ensures.grown free clause hints negated step)
+
+pub search-smaller-in-Continue-branch-7 : goal.search-smaller-in-Continue-branch-7
+search-smaller-in-Continue-branch-7 c =
     let t = c.propagate.new.self in
     let new = c.decide.new.self in
     let decided = c.in_ok-decide-in-Assume.ensures.decided in
@@ -72,8 +87,8 @@ search-smaller-in-Continue-branch-5 c =
     rest_falls c.search.state new new c.search.pace.left c.search.pace.left letters
     (decision_falls c.search.state t new c.in-Assume.literal c.propagate.ensures.grown c.bounded.ensures.short decided) (inl (refl, refl))
 
-pub search-preserved-in-Continue-branch-5 : goal.search-preserved-in-Continue-branch-5
-search-preserved-in-Continue-branch-5 c =
+pub search-preserved-in-Continue-branch-7 : goal.search-preserved-in-Continue-branch-7
+search-preserved-in-Continue-branch-7 c =
     let search = search_propagated c.args.state.now c.search.state c.propagate.new.self c.args.assumptions.now c.search.invariant c.propagate.ensures.grown in
     search_assumed c.args.state.now c.propagate.new.self c.decide.new.self c.in-Assume.literal c.args.assumptions.now search c.in-Assume.ensures.0 c.in_ok-decide-in-Assume.ensures.decided
 

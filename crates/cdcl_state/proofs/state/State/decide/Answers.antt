@@ -18,6 +18,6 @@ invariant_of-self c =
     let level = c.len-level.result + 1 in
     let e : Entry = record { literal = c.args.literal; level = level; reason = None } in
     let known : IsKnown c.self.inside.letters c.args.literal = subst (λ (s : StateValue). IsKnown s.letters c.args.literal) (sym c.self.view_is) c.requires.known in
-    state_assigned c.self.inside.letters a c.assign.new.self c.self.inside.watches c.self.inside.units.items log c.self.inside.head c.self.inside.sure c.self.inside.done c.self.inside.firm (length c.self.inside.marks.stamps) e
+    state_assigned c.self.inside.letters a c.assign.new.self c.self.inside.watches c.self.inside.units.items log c.self.inside.head c.self.inside.sure c.self.inside.done c.self.inside.firm (length c.self.inside.marks.stamps) c.self.inside.whole e
     c.self.invariant c.assign.ensures.letters (decision_stands log.inputs log.lines a.trail c.args.literal level c.self.invariant.ready.is_trail (ap (λ n. n + 1) c.len-level.ensures)) (λ _. known)
     (is_ok c.assign.result) c.assign.ensures.trail

@@ -18,22 +18,22 @@ visit_units-requires-clause-firm c =
 
 pub invariant_of-self : goal.invariant_of-self
 invariant_of-self c =
-    state_visited c.self.inside.letters c.self.inside.assigned c.visit_units.new.assigned c.self.inside.watches c.self.inside.units.items c.self.inside.log c.self.inside.head c.self.inside.sure c.self.inside.done c.self.inside.firm (length c.self.inside.marks.stamps)
+    state_visited c.self.inside.letters c.self.inside.assigned c.visit_units.new.assigned c.self.inside.watches c.self.inside.units.items c.self.inside.log c.self.inside.head c.self.inside.sure c.self.inside.done c.self.inside.firm (length c.self.inside.marks.stamps) c.self.inside.whole
     c.self.invariant c.in_err-hint.ensures.grown c.in_err-hint.ensures.is_trail c.in_err-hint.ensures.letters
 
 pub invariant_of-self-in-Some : goal.invariant_of-self-in-Some
 invariant_of-self-in-Some c =
-    state_visited c.self.inside.letters c.self.inside.assigned c.visit_units.new.assigned c.self.inside.watches c.self.inside.units.items c.self.inside.log c.self.inside.head c.self.inside.sure c.self.inside.done c.self.inside.firm (length c.self.inside.marks.stamps)
+    state_visited c.self.inside.letters c.self.inside.assigned c.visit_units.new.assigned c.self.inside.watches c.self.inside.units.items c.self.inside.log c.self.inside.head c.self.inside.sure c.self.inside.done c.self.inside.firm (length c.self.inside.marks.stamps) c.self.inside.whole
     c.self.invariant c.in_ok-hint.ensures.grown c.in_ok-hint.ensures.is_trail c.in_ok-hint.ensures.letters
 
 pub propagate-requires-clause-sure : goal.propagate-requires-clause-sure
 propagate-requires-clause-sure c =
-    (state_visited c.self.inside.letters c.self.inside.assigned c.visit_units.new.assigned c.self.inside.watches c.self.inside.units.items c.self.inside.log c.self.inside.head c.self.inside.sure c.self.inside.done c.self.inside.firm (length c.self.inside.marks.stamps)
+    (state_visited c.self.inside.letters c.self.inside.assigned c.visit_units.new.assigned c.self.inside.watches c.self.inside.units.items c.self.inside.log c.self.inside.head c.self.inside.sure c.self.inside.done c.self.inside.firm (length c.self.inside.marks.stamps) c.self.inside.whole
     c.self.invariant c.in_ok-hint.ensures.grown c.in_ok-hint.ensures.is_trail c.in_ok-hint.ensures.letters).is_sure
 
 pub propagate-requires-clause-ready : goal.propagate-requires-clause-ready
 propagate-requires-clause-ready c =
-    let state = state_visited c.self.inside.letters c.self.inside.assigned c.visit_units.new.assigned c.self.inside.watches c.self.inside.units.items c.self.inside.log c.self.inside.head c.self.inside.sure c.self.inside.done c.self.inside.firm (length c.self.inside.marks.stamps)
+    let state = state_visited c.self.inside.letters c.self.inside.assigned c.visit_units.new.assigned c.self.inside.watches c.self.inside.units.items c.self.inside.log c.self.inside.head c.self.inside.sure c.self.inside.done c.self.inside.firm (length c.self.inside.marks.stamps) c.self.inside.whole
     c.self.invariant c.in_ok-hint.ensures.grown c.in_ok-hint.ensures.is_trail c.in_ok-hint.ensures.letters in
     state.ready
 
@@ -50,16 +50,16 @@ invariant_of-self-in_err-found c =
     let done = c.self.inside.done in
     let solid = c.self.inside.firm in
     let marked = length c.self.inside.marks.stamps in
-    let state = state_visited letters c.self.inside.assigned b w units log c.self.inside.head c.self.inside.sure done solid marked
+    let state = state_visited letters c.self.inside.assigned b w units log c.self.inside.head c.self.inside.sure done solid marked c.self.inside.whole
     c.self.invariant c.in_ok-hint.ensures.grown c.in_ok-hint.ensures.is_trail c.in_ok-hint.ensures.letters in
     let true_units = subst (λ us. AreFirm log.inputs log.lines us (length us) (literals_of b.trail)) c.deref.ensures.value (none_case _ c.in_ok-hint.field-0 c.in-None.is c.in_ok-hint.ensures.found) in
     let count : c.len.result ≡ length units = omega arith in
     let cases : IsSettle (length units) done c.settle.new.done c.settle.new.firm solid (length b.trail) = rw (← count, ← c.len-2.ensures) c.settle.ensures.all in
-    let firm = state_firm letters b w units log c.self.inside.head c.self.inside.sure done solid c.settle.new.done c.settle.new.firm marked state true_units cases in
-    let whole = state_grown letters b c.propagate.new.assigned w c.propagate.new.watches units log c.self.inside.head c.self.inside.sure c.settle.new.done c.settle.new.firm c.propagate.new.head c.propagate.new.sure marked firm
+    let firm = state_firm letters b w units log c.self.inside.head c.self.inside.sure done solid c.settle.new.done c.settle.new.firm marked c.self.inside.whole state true_units cases in
+    let grown = state_grown letters b c.propagate.new.assigned w c.propagate.new.watches units log c.self.inside.head c.self.inside.sure c.settle.new.done c.settle.new.firm c.propagate.new.head c.propagate.new.sure marked c.self.inside.whole firm
     c.in_err-found.ensures.grown c.in_err-found.ensures.letters c.in_err-found.ensures.names c.in_err-found.ensures.low c.in_err-found.ensures.sure
     c.in_err-found.ensures.kept in
-    whole
+    grown
 
 pub returns-in_err-found-clause-grown : goal.returns-in_err-found-clause-grown
 returns-in_err-found-clause-grown c =
@@ -68,8 +68,8 @@ returns-in_err-found-clause-grown c =
     let a = c.self.inside.assigned in
     let b = c.visit_units.new.assigned in
     let d = c.propagate.new.assigned in
-    subst (λ s. Propagated s (state_of letters d.trail log)) c.self.view_is
-    (propagated letters log a.trail d.trail (grown_more a.trail b.trail d.trail c.in_ok-hint.ensures.grown c.in_err-found.ensures.grown))
+    subst (λ s. Propagated s (state_of letters d.trail log c.self.inside.whole)) c.self.view_is
+    (propagated letters log c.self.inside.whole a.trail d.trail (grown_more a.trail b.trail d.trail c.in_ok-hint.ensures.grown c.in_err-found.ensures.grown))
 
 pub invariant_of-self-2 : goal.invariant_of-self-2
 invariant_of-self-2 c =
@@ -81,16 +81,16 @@ invariant_of-self-2 c =
     let done = c.self.inside.done in
     let solid = c.self.inside.firm in
     let marked = length c.self.inside.marks.stamps in
-    let state = state_visited letters c.self.inside.assigned b w units log c.self.inside.head c.self.inside.sure done solid marked
+    let state = state_visited letters c.self.inside.assigned b w units log c.self.inside.head c.self.inside.sure done solid marked c.self.inside.whole
     c.self.invariant c.in_ok-hint.ensures.grown c.in_ok-hint.ensures.is_trail c.in_ok-hint.ensures.letters in
     let true_units = subst (λ us. AreFirm log.inputs log.lines us (length us) (literals_of b.trail)) c.deref.ensures.value (none_case _ c.in_ok-hint.field-0 c.in-None.is c.in_ok-hint.ensures.found) in
     let count : c.len.result ≡ length units = omega arith in
     let cases : IsSettle (length units) done c.settle.new.done c.settle.new.firm solid (length b.trail) = rw (← count, ← c.len-2.ensures) c.settle.ensures.all in
-    let firm = state_firm letters b w units log c.self.inside.head c.self.inside.sure done solid c.settle.new.done c.settle.new.firm marked state true_units cases in
-    let whole = state_grown letters b c.propagate.new.assigned w c.propagate.new.watches units log c.self.inside.head c.self.inside.sure c.settle.new.done c.settle.new.firm c.propagate.new.head c.propagate.new.sure marked firm
+    let firm = state_firm letters b w units log c.self.inside.head c.self.inside.sure done solid c.settle.new.done c.settle.new.firm marked c.self.inside.whole state true_units cases in
+    let grown = state_grown letters b c.propagate.new.assigned w c.propagate.new.watches units log c.self.inside.head c.self.inside.sure c.settle.new.done c.settle.new.firm c.propagate.new.head c.propagate.new.sure marked c.self.inside.whole firm
     c.in_ok-found.ensures.grown c.in_ok-found.ensures.letters c.in_ok-found.ensures.names c.in_ok-found.ensures.low c.in_ok-found.ensures.sure
     c.in_ok-found.ensures.kept in
-    whole
+    grown
 
 pub returns-clause-grown : goal.returns-clause-grown
 returns-clause-grown c =
@@ -99,8 +99,8 @@ returns-clause-grown c =
     let a = c.self.inside.assigned in
     let b = c.visit_units.new.assigned in
     let d = c.propagate.new.assigned in
-    subst (λ s. Propagated s (state_of letters d.trail log)) c.self.view_is
-    (propagated letters log a.trail d.trail (grown_more a.trail b.trail d.trail c.in_ok-hint.ensures.grown c.in_ok-found.ensures.grown))
+    subst (λ s. Propagated s (state_of letters d.trail log c.self.inside.whole)) c.self.view_is
+    (propagated letters log c.self.inside.whole a.trail d.trail (grown_more a.trail b.trail d.trail c.in_ok-hint.ensures.grown c.in_ok-found.ensures.grown))
 
 found_weaker : {X : Type 0} (A B : Type 0) (P : X → Type 0) (o : Option X) → (A → B) → MatchOption o A P → MatchOption o B P
 found_weaker A B P None f h = f h
@@ -116,17 +116,17 @@ returns-clause-found c =
     let done = c.self.inside.done in
     let solid = c.self.inside.firm in
     let marked = length c.self.inside.marks.stamps in
-    let state = state_visited letters c.self.inside.assigned b w units log c.self.inside.head c.self.inside.sure done solid marked
+    let state = state_visited letters c.self.inside.assigned b w units log c.self.inside.head c.self.inside.sure done solid marked c.self.inside.whole
     c.self.invariant c.in_ok-hint.ensures.grown c.in_ok-hint.ensures.is_trail c.in_ok-hint.ensures.letters in
     let true_units = subst (λ us. AreFirm log.inputs log.lines us (length us) (literals_of b.trail)) c.deref.ensures.value (none_case _ c.in_ok-hint.field-0 c.in-None.is c.in_ok-hint.ensures.found) in
     let count : c.len.result ≡ length units = omega arith in
     let cases : IsSettle (length units) done c.settle.new.done c.settle.new.firm solid (length b.trail) = rw (← count, ← c.len-2.ensures) c.settle.ensures.all in
-    let firm = state_firm letters b w units log c.self.inside.head c.self.inside.sure done solid c.settle.new.done c.settle.new.firm marked state true_units cases in
-    let whole = state_grown letters b c.propagate.new.assigned w c.propagate.new.watches units log c.self.inside.head c.self.inside.sure c.settle.new.done c.settle.new.firm c.propagate.new.head c.propagate.new.sure marked firm
+    let firm = state_firm letters b w units log c.self.inside.head c.self.inside.sure done solid c.settle.new.done c.settle.new.firm marked c.self.inside.whole state true_units cases in
+    let grown = state_grown letters b c.propagate.new.assigned w c.propagate.new.watches units log c.self.inside.head c.self.inside.sure c.settle.new.done c.settle.new.firm c.propagate.new.head c.propagate.new.sure marked c.self.inside.whole firm
     c.in_ok-found.ensures.grown c.in_ok-found.ensures.letters c.in_ok-found.ensures.names c.in_ok-found.ensures.low c.in_ok-found.ensures.sure
     c.in_ok-found.ensures.kept in
     let d = c.propagate.new.assigned in
     let finish = finished (length units) done c.settle.new.done c.settle.new.firm solid (length b.trail) c.self.invariant.done_in cases in
-    found_weaker (c.propagate.new.head ≡ length d.trail) (IsSettled (state_of letters d.trail log)) (IsConflict log.inputs log.lines (literals_of d.trail)) c.in_ok-found.found
-    (λ all. settled letters d c.propagate.new.watches units log c.propagate.new.head c.propagate.new.sure c.settle.new.done c.settle.new.firm marked whole c.told.ensures c.watching.ensures.watched all finish)
+    found_weaker (c.propagate.new.head ≡ length d.trail) (IsSettled (state_of letters d.trail log c.self.inside.whole)) (IsConflict log.inputs log.lines (literals_of d.trail)) c.in_ok-found.found
+    (λ all. settled letters d c.propagate.new.watches units log c.propagate.new.head c.propagate.new.sure c.settle.new.done c.settle.new.firm marked c.self.inside.whole grown c.told.ensures c.watching.ensures.watched all finish)
     c.in_ok-found.ensures.found

@@ -1,0 +1,56 @@
+// Forgetting: the inputs and some of the lines are watched, and the other lines rest in the log, where the
+// trail and the hints of later lines still name them. The lists of watchers grow with all that was ever
+// learnt, most of which is of no use any more, so a long search is faster without it. `restore` watches all
+// lines again. After Een and Sorensson, An extensible SAT-solver (2003).
+ghost use Rattle.std.specs.Prelude.{◌≡◌, OnErr, OnOk, true, false};
+ghost use Rattle.cdcl_state.specs.StateValue.{with_whole};
+ghost use Rattle.cdcl_state.specs.Gathered.{is_whole};
+
+use crate::gather::gather;
+use crate::kept::{Kept, is_every};
+use crate::state::State;
+use std::alloc::{AllocError, Global};
+
+impl State {
+    /// Watches the inputs, and of the lines that are watched now those alone that are marked. Lines are
+    /// numbered from 1: the first mark says nothing, and a line behind the last mark is forgotten.
+    pub fn forget(&mut self, alloc: Global, kept: &[bool]) -> Result<(), AllocError>
+        ensures forgot { OnOk result (self.new ≡ with_whole self.old false) }
+        ensures refused { OnErr result (self.new ≡ self.old) }
+    {
+        self.watch(alloc, Kept::Marked(kept))
+    }
+
+    /// Watches all lines again, if some were forgotten.
+    pub fn restore(&mut self, alloc: Global) -> Result<(), AllocError>
+        ensures whole { OnOk result (self.new ≡ with_whole self.old true) }
+        ensures refused { OnErr result (self.new ≡ self.old) }
+    {
+        if self.whole {
+            return Ok(());
+        }
+        self.watch(alloc, Kept::Every)
+    }
+
+    /// Watches the inputs and the lines that are kept. Each list has to be visited again, since the first two
+    /// literals of a clause may be false.
+    fn watch(&mut self, alloc: Global, kept: Kept<'_>) -> Result<(), AllocError>
+        ensures watched { OnOk result (self.new ≡ with_whole self.old (is_whole kept.entry)) }
+        ensures refused { OnErr result (self.new ≡ self.old) }
+    {
+        let letters = self.assigned.letters();
+        let watches = gather(
+            alloc,
+            &self.log.view(),
+            &self.watches,
+            letters,
+            kept,
+            &mut self.marks,
+        )?;
+        self.watches = watches;
+        self.head = 0;
+        self.sure = 0;
+        self.whole = is_every(kept);
+        Ok(())
+    }
+}
