@@ -3,8 +3,8 @@
 
 pub mod choice;
 pub mod known;
-pub mod recent;
 pub mod restart;
+pub mod retention;
 pub mod solve;
 pub mod solver;
 

@@ -13,8 +13,8 @@ ghost use Rattle.cdcl_state.specs.Turns.{IsFront};
 ghost use Rattle.cdcl.specs.Solving.{IsAfter, IsRested, IsFound, IsLineOf, IsNegated, IsConsistent};
 
 use crate::choice::{Choice, choose, is_assumed};
-use crate::recent::Recent;
 use crate::restart::Pace;
+use crate::retention::Retention;
 use cdcl_analyze::analyze::{Cut, Learnt};
 use cdcl_state::state::State;
 use cnf_base::{Hint, Literal};
@@ -49,13 +49,19 @@ fn finish(state: &mut State, alloc: Global, learnt: &Learnt) -> Result<Answer, A
 
 /// Heeds all lines, since one that was forgotten may be what answers this question, and takes back the first
 /// decision that is no assumption, with all that came after it.
-fn begin(state: &mut State, alloc: Global, assumptions: &[Literal]) -> Result<(), AllocError>
+fn begin(
+    state: &mut State,
+    alloc: Global,
+    assumptions: &[Literal],
+    retention: &mut Retention,
+) -> Result<(), AllocError>
     ensures front { OnOk result (IsFront (with_whole state.old true) state.new) }
     ensures decided { OnOk result (All (λ e. e.reason ≡ None → Contains assumptions.now e.literal)
         state.new.trail) }
     ensures refused { OnErr result (state.new ≡ state.old) }
 {
     state.restore(alloc)?;
+    retention.begin();
     state.retreat(assumptions);
     Ok(())
 }
@@ -65,14 +71,14 @@ fn rest(
     state: &mut State,
     alloc: Global,
     pace: &mut Pace,
-    recent: &mut Recent,
+    retention: &mut Retention,
 ) -> Result<(), AllocError>
     ensures { ((state.new ≡ state.old) × (pace.new.left ≡ pace.old.left))
         ⊎ (IsRested state.old state.new × (pace.old.left ≡ pace.new.left + 1)) }
 {
     if pace.count() {
         state.reset();
-        recent.lighten(state, alloc)?;
+        retention.lighten(state, alloc)?;
     }
     Ok(())
 }
@@ -82,6 +88,7 @@ pub fn solve(
     state: &mut State,
     alloc: Global,
     assumptions: &[Literal],
+    retention: &mut Retention,
 ) -> Result<Answer, AllocError>
     requires known { All (IsKnown state.old.letters) assumptions.now }
     requires consistent { IsConsistent assumptions.now }
@@ -91,9 +98,8 @@ pub fn solve(
         → length state.new.log.lines ≤ length state.old.log.lines + 1 }
     ensures answer { IfOk result (IsFound state.new assumptions.now) }
 {
-    begin(state, alloc, assumptions)?;
+    begin(state, alloc, assumptions, retention)?;
     let mut pace = Pace::new();
-    let mut recent = Recent::new(&state.log().view());
     'search: loop {
         let found = state.propagate()?;
         state.bounded();
@@ -107,8 +113,9 @@ pub fn solve(
                 if learnt.clause.len() == 0 {
                     return finish(state, alloc, &learnt);
                 }
+                retention.note(state, &learnt.places)?;
                 state.learn(&learnt)?;
-                rest(state, alloc, &mut pace, &mut recent)?;
+                rest(state, alloc, &mut pace, retention)?;
             }
             None => match choose(state, assumptions) {
                 Choice::Assume(literal) => state.decide(literal)?,

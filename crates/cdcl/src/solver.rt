@@ -10,6 +10,7 @@ ghost use Rattle.cdcl.specs.Solving.{IsLonger, IsNegated, IsConsistent, IsSatisf
 ghost use Rattle.cdcl.specs.SolverValue.{IsAnswer};
 ghost use Rattle.cdcl.specs.declared.solve.Answer.TheVariants.{Sat};
 
+use crate::retention::Retention;
 use crate::solve::{Answer, solve};
 use cdcl_state::state::State;
 use clause_log::Log;
@@ -23,6 +24,7 @@ pub struct Solver {
     alloc: Global,
     state: State,
     model: Vec<bool>,
+    retention: Retention,
 }
 
 impl Model for Solver {
@@ -46,6 +48,7 @@ impl Solver {
             alloc,
             state: State::new(alloc),
             model: Vec::new(alloc),
+            retention: Retention::new(alloc),
         }
     }
 
@@ -98,7 +101,12 @@ impl Solver {
             → length self.new.log.lines ≤ length self.old.log.lines + 1 }
     {
         self.model.truncate(0);
-        let answer = solve(&mut self.state, self.alloc, assumptions)?;
+        let answer = solve(
+            &mut self.state,
+            self.alloc,
+            assumptions,
+            &mut self.retention,
+        )?;
         self.state.bounded();
         match answer {
             Answer::Sat => {

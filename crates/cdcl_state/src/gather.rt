@@ -1,14 +1,14 @@
 // The clauses of a log that are to be watched, gathered anew: those that are watched now and are kept come
 // over as they are watched, and where every line is kept, those that were forgotten come from the log.
 // Clauses of one literal or none are left out, since nobody watches them.
-ghost use Rattle.std.specs.Prelude.{◌≡◌, ◌<◌, ◌*◌, List, true, false, length, All, IfOk, OnOk, slice_index_or};
+ghost use Rattle.std.specs.Prelude.{◌≡◌, ◌<◌, ◌*◌, List, true, false, length, All, IfOk, OnOk};
 ghost use Rattle.cdcl_watches.specs.Watching.{code, AreApart};
 ghost use Rattle.cdcl_propagate.specs.Visit.{IsStored, names_of};
 ghost use Rattle.cdcl_state.specs.State.{AreLong};
 ghost use Rattle.cdcl_state.specs.Gathered.{is_whole, HasRoom, IsEmpty, IsPut, IsMet, IsCarried, IsGathered};
 
 use crate::copy::copy;
-use crate::kept::{Kept, is_every};
+use crate::kept::{Kept, is_every, is_marked};
 use crate::repeats::repeats;
 use crate::store::{distinct, store};
 use cdcl_analyze::marks::Marks;
@@ -70,13 +70,6 @@ fn unmarked(alloc: Global, count: u64) -> Result<Vec<bool>, AllocError>
         there.push(false)?;
     }
     Ok(there)
-}
-
-/// Whether the line is marked.
-fn is_marked(there: &Vec<bool>, line: u64) -> bool
-    ensures { result ≡ slice_index_or there.now.items line false }
-{
-    (line as usize) < there.len() && there[line as usize]
 }
 
 /// Puts the lines that are not marked among the watched ones.

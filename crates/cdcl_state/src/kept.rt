@@ -1,5 +1,5 @@
 // Which lines are watched, where the watched clauses are gathered anew.
-ghost use Rattle.std.specs.Prelude.{◌≡◌, ℕ, true};
+ghost use Rattle.std.specs.Prelude.{◌≡◌, ℕ, true, false, slice_index_or};
 ghost use Rattle.cdcl_trail.specs.Entries.{hint_of};
 ghost use Rattle.cnf_base.specs.declared.literal.Hint.TheVariants.{Clause};
 ghost use Rattle.cdcl_state.specs.Gathered.{is_whole};
@@ -25,11 +25,19 @@ pub fn is_every(kept: Kept<'_>) -> bool
     }
 }
 
+/// Whether the line is marked. The marks stand under the lines' numbers, which begin at 1; behind the last mark
+/// no line is marked.
+pub fn is_marked(marks: &[bool], line: u64) -> bool
+    ensures { result ≡ slice_index_or marks.now line false }
+{
+    (line as usize) < marks.len() && marks[line as usize]
+}
+
 /// Whether the line is kept.
 fn is_kept(kept: Kept<'_>, line: u64) -> bool {
     match kept {
         Kept::Every => true,
-        Kept::Marked(marks) => (line as usize) < marks.len() && marks[line as usize],
+        Kept::Marked(marks) => is_marked(marks, line),
     }
 }
 

@@ -2,7 +2,7 @@
 ghost use Rattle.std.specs.Prelude.{◌≡◌, ◌≢◌, ◌+◌, ◌<◌, ◌≤◌, [], ◌⊎◌, true, All, AllPairs, length, MatchOption, IfSome, IfOk, OnErr, OnOk};
 ghost use Rattle.cnf_base.specs.Known.{IsKnown, AreKnown};
 ghost use Rattle.cdcl_state.specs.StateValue.{IsSettled, Propagated, AreSet, IsModel, with_log, with_letters};
-ghost use Rattle.cdcl_trail.specs.Trail.{IsConflict, literals_of, IsUnset, HasValue};
+ghost use Rattle.cdcl_trail.specs.Trail.{IsConflict, literals_of, IsUnset, HasValue, place_level};
 ghost use Rattle.cnf_base.specs.Step.{IsHintedStep};
 ghost use Rattle.clause_log.specs.LogValue.{IsLog, greatest_u32, with_line, with_input};
 ghost use Rattle.cdcl_watches.specs.Watching.{AreApart};
@@ -141,6 +141,13 @@ impl State {
             return Some(false);
         }
         None
+    }
+
+    /// The level of the entry at a place of the trail, which are numbered from 0; 0 where there is none.
+    pub fn level_at(&self, place: usize) -> usize
+        ensures { result ≡ place_level self.now.trail place }
+    {
+        self.assigned.level_at(place)
     }
 
     /// A literal of a known letter that has no value, if there is one: first of the letters that may be

@@ -6,7 +6,7 @@ use Rattle.clause_log.specs.LogValue.{with_line}
 use Rattle.cdcl_state.specs.StateValue.{StateValue, with_log}
 use Rattle.cdcl.specs.declared.solve.Answer.{Answer}
 use Rattle.cdcl.specs.Solving.{IsAfter, IsFound, IsLineOf, IsNegated}
-use Rattle.cdcl.proofs.Search.{after_none, search_propagated, search_assumed, search_free, assumed_negated, turn_falls, decision_falls, inputs_true}
+use Rattle.cdcl.proofs.Search.{after_none, after_unturned, search_propagated, search_assumed, search_free, assumed_negated, turn_falls, decision_falls, inputs_true}
 use Rattle.cdcl.proofs.Ending.{search_start, conflict_none, conflict_rested, rest_falls, all_assumed, not_decided, refuted_negated, line_found}
 use Rattle.cdcl.proofs.solve.solve.Goals as goal
 
@@ -64,6 +64,12 @@ search-preserved-in-Some c =
     conflict_rested c.args.state.now c.search.state c.propagate.new.self c.args.assumptions.now c.search.invariant c.propagate.ensures.grown free c.analyze.new.self c.learn.new.self c.rest.new.state
     learnt.clause.items learnt.hints.items c.rest.new.pace.left c.search.pace.left c.analyze.ensures.same c.in_ok-learn-in-Some.ensures.turned c.rest.ensures
 
+pub returns-in_err-learn-in-Some-clause-kept : goal.returns-in_err-learn-in-Some-clause-kept
+returns-in_err-learn-in-Some-clause-kept c =
+    let search = search_propagated c.args.state.now c.search.state c.propagate.new.self c.args.assumptions.now c.search.invariant c.propagate.ensures.grown in
+    after_unturned c.args.state.now c.analyze.new.self c.learn.new.self c.in_ok-learnt-in-Some-2.learnt
+    (subst (IsAfter c.args.state.now) (sym c.analyze.ensures.same) search.after) c.in_err-learn-in-Some.ensures.refused
+
 -- lines were to be forgotten, and there was no memory for it
 pub returns-in_err-rest-in-Some-clause-kept : goal.returns-in_err-rest-in-Some-clause-kept
 returns-in_err-rest-in-Some-clause-kept c =
@@ -78,8 +84,8 @@ returns-in_err-rest-in-Some-clause-near c clause hints negated step =
     let free = c.is_assumed.ensures.no (not_true c.if-is_assumed.false) in
     absurd (conflict_none c.args.state.now c.search.state c.propagate.new.self c.args.assumptions.now c.search.invariant c.propagate.ensures.grown free clause hints negated step)
 
-pub search-smaller-in-Continue-branch-7 : goal.search-smaller-in-Continue-branch-7
-search-smaller-in-Continue-branch-7 c =
+pub search-smaller-in-Continue-branch-8 : goal.search-smaller-in-Continue-branch-8
+search-smaller-in-Continue-branch-8 c =
     let t = c.propagate.new.self in
     let new = c.decide.new.self in
     let decided = c.in_ok-decide-in-Assume.ensures.decided in
@@ -87,8 +93,8 @@ search-smaller-in-Continue-branch-7 c =
     rest_falls c.search.state new new c.search.pace.left c.search.pace.left letters
     (decision_falls c.search.state t new c.in-Assume.literal c.propagate.ensures.grown c.bounded.ensures.short decided) (inl (refl, refl))
 
-pub search-preserved-in-Continue-branch-7 : goal.search-preserved-in-Continue-branch-7
-search-preserved-in-Continue-branch-7 c =
+pub search-preserved-in-Continue-branch-8 : goal.search-preserved-in-Continue-branch-8
+search-preserved-in-Continue-branch-8 c =
     let search = search_propagated c.args.state.now c.search.state c.propagate.new.self c.args.assumptions.now c.search.invariant c.propagate.ensures.grown in
     search_assumed c.args.state.now c.propagate.new.self c.decide.new.self c.in-Assume.literal c.args.assumptions.now search c.in-Assume.ensures.0 c.in_ok-decide-in-Assume.ensures.decided
 

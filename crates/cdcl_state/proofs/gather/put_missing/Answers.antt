@@ -1,4 +1,4 @@
-use Rattle.std.proofs.Common.{◌≡◌, ◌<◌, ◌≤◌, ◌+◌, Some, length, subst, sym, ap, ◌∙◌, arith}
+use Rattle.std.proofs.Common.{◌≡◌, ◌<◌, ◌≤◌, ◌+◌, true, false, slice_index_or, Some, length, subst, sym, ap, ◌∙◌, arith}
 use Rattle.cnf_base.specs.declared.literal.Hint.TheVariants.{Line}
 use Rattle.cnf_base.specs.Step.{named}
 use Rattle.cdcl_state.specs.Gathered.{IsMet, IsGathered}
@@ -36,7 +36,7 @@ loop-index-preserved c =
             size = ap (λ m. length m.stamps) w.marks-is ∙ c.loop-index.invariant.size;
             lists = ap (λ v. length v.lists) w.watches-is ∙ c.loop-index.invariant.lists;
             gathered = λ names begun. subst (IsGathered (IsMet names there (i + 1)) log) (sym w.watches-is)
-                (gathered_fewer log c.loop-index.watches (IsMet names there i) (IsMet names there (i + 1)) (c.loop-index.invariant.gathered names begun) (λ h x met is. met_marked names there i h (sym c.is_marked.ensures ∙ w.if-not-is_marked.false) met));
+                (gathered_fewer log c.loop-index.watches (IsMet names there i) (IsMet names there (i + 1)) (c.loop-index.invariant.gathered names begun) (λ h x met is. met_marked names there i h (subst (λ l. slice_index_or l (i + 1) false ≡ true) c.deref.ensures.value (sym c.is_marked.ensures ∙ w.if-not-is_marked.false)) met));
           }
     ]
 
