@@ -62,6 +62,7 @@ impl Scratch {
                 from: 0,
                 to: 0,
                 first_bad: None,
+                apart: [0; 16],
             })?;
         }
         Ok(Scratch { letters, areas })

@@ -21,6 +21,9 @@ pub struct Area {
     pub to: u64,
     /// The first line of the piece that is no hinted step, counted from 0.
     pub first_bad: Option<u64>,
+    /// Keeps areas that stand side by side out of one another's cache lines, since each worker writes into its
+    /// own with each literal.
+    pub apart: [u64; 16],
 }
 
 /// The lines that are live at a line.

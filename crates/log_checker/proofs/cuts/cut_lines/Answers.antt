@@ -12,7 +12,7 @@ areas-preserved c =
     let piece = c.areas.piece in
     let to = c.piece_end-to.result in
     let old = c.index_mut-area.result.now in
-    let new : Area = record { assignment = old.assignment; from = c.areas.from; to = to; first_bad = old.first_bad } in
+    let new : Area = record { assignment = old.assignment; from = c.areas.from; to = to; first_bad = old.first_bad; apart = old.apart } in
     let low : piece < length areas = omega (arith, size, c.areas-test.true, c.len-workers.ensures) in (
       length-set areas piece new ∙ size,
       c.piece_end-to.ensures.within,

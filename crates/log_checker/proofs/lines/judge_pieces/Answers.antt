@@ -7,7 +7,7 @@ use Rattle.log_checker.proofs.Cutting.{IsWithin, cuts_within}
 use Rattle.log_checker.proofs.lines.judge_pieces.Goals as goal
 
 pub for_each_mut-requires-clause-accepts : goal.for_each_mut-requires-clause-accepts
-for_each_mut-requires-clause-accepts g c κs within = λ i p low at κs' r r' name values ranges n fits κs''.
+for_each_mut-requires-clause-accepts g c κs within = λ i p low at κs' r r' name values ranges n fits apart κs''.
     let clauses = g.C.NamedClauses.clauses c.args.clauses.now in
     let lines = length (lines_of c.args.view.now.parts) in
     let same = c.as_mut_slice.ensures.value in
