@@ -14,7 +14,7 @@ use Rattle.cnf_base.specs.declared.literal.Hint.{Hint}
 use Rattle.cnf_base.specs.declared.literal.Hint.TheVariants as hints
 use Rattle.cert_text.specs.declared.item.Item.{Item}
 use Rattle.cert_text.specs.declared.item.Item.TheVariants as items
-use Rattle.cert_text.specs.Text.{Part, Line, Delete, Certificate, greatest_u64, IsLiteral, IsHint, IsNumber, IsPart, IsTextOf, sign_text, kind_text, literal_text, hint_text, target_text, part_text, header_text, close_text}
+use Rattle.cert_text.specs.Text.{Part, Line, Delete, Certificate, greatest_u64, IsLiteral, IsHint, IsNumber, IsPart, IsBegun, IsTextOf, sign_text, kind_text, literal_text, hint_text, target_text, part_text, header_text, close_text}
 use Rattle.cert_text.specs.Reading.{certificate_in}
 use Rattle.cert_text.specs.Items.{item_of, items_from, items_of, IsItem, item_line, item_text, items_behind, items_at, IsReading}
 use Rattle.cert_text.proofs.Slices.{in_text, digits_high}
@@ -125,13 +125,13 @@ version_few version is = elim is [
   | inr two ↦ omega (arith, two)
 ]
 
-pub header_other : (whole : List ℕ) (c : Certificate) → IsTextOf whole c → All Other (header_line c)
-header_other whole c is =
+pub header_other : (c : Certificate) → IsBegun c → All Other (header_line c)
+header_other c is =
     All-append Other (codes "ltlcert ") (decimal c.version ++ (codes " " ++ (kind_text c.kind ++ (codes " " ++ decimal c.depth)))) (other_by (codes "ltlcert ") refl)
-    (All-append Other (decimal c.version) (codes " " ++ (kind_text c.kind ++ (codes " " ++ decimal c.depth))) (digits_other c.version (version_few c.version is.lawful.begun.version))
+    (All-append Other (decimal c.version) (codes " " ++ (kind_text c.kind ++ (codes " " ++ decimal c.depth))) (digits_other c.version (version_few c.version is.version))
     (cons_other 32 (kind_text c.kind ++ (codes " " ++ decimal c.depth)) (λ e. omega (arith, e))
     (All-append Other (kind_text c.kind) (codes " " ++ decimal c.depth) (kind_other c.kind)
-    (cons_other 32 (decimal c.depth) (λ e. omega (arith, e)) (digits_other c.depth (let low = is.lawful.begun.depth in omega (arith, low)))))))
+    (cons_other 32 (decimal c.depth) (λ e. omega (arith, e)) (digits_other c.depth (let low = is.depth in omega (arith, low)))))))
 
 -- behind the text of some items are the others
 behind_none : (items : List Item) → items_behind 0 items ≡ items
@@ -161,7 +161,7 @@ pub reading_all : (whole : List ℕ) (c : Certificate) (end : ℕ) → IsTextOf 
 reading_all whole c end is found =
     let items : List ℕ = flat_map item_text (items_of c) in
     let spelled : whole ≡ header_line c ++ 10 ∷ items = whole_text whole c is ∙ ap (λ x. x ++ items) (header_split c) ∙ append_assoc (header_line c) (codes "\n") items in
-    let at = found [] (header_line c) items (header_other whole c is) spelled refl in
+    let at = found [] (header_line c) items (header_other c is.lawful.begun) spelled refl in
     let size = length-append (header_line c) (codes "\n") in record {
       certificate = c;
       is = is;
@@ -181,7 +181,7 @@ pub reading_new : (whole : List ℕ) (c : Certificate) (end : ℕ) → IsTextOf 
 reading_new whole c end is found =
     let items : List ℕ = flat_map item_text (items_of c) in
     let spelled : whole ≡ header_line c ++ 10 ∷ items = whole_text whole c is ∙ ap (λ x. x ++ items) (header_split c) ∙ append_assoc (header_line c) (codes "\n") items in
-    let at = found [] (header_line c) items (header_other whole c is) spelled refl in
+    let at = found [] (header_line c) items (header_other c is.lawful.begun) spelled refl in
     let size = length-append (header_line c) (codes "\n") in
     let none : (end + 1) - length (header_text (certificate_in whole)) ≡ 0 = omega (arith, at, size, ap length (header_split c), ap (λ d. length (header_text d)) (in_text whole c is)) in
     ap (λ n. items_behind n (items_of (certificate_in whole))) none ∙ behind_none (items_of (certificate_in whole))

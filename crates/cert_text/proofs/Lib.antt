@@ -26,3 +26,8 @@ pub mod Marking
 pub mod InOrder
 pub mod Between
 pub mod Noughts
+pub mod Grown
+pub mod Fronts
+pub mod Spotting
+pub mod Lookups
+pub mod Taking

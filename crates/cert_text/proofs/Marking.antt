@@ -12,7 +12,7 @@ use Rattle.std.proofs.lemmas.List.Folds.{list_any-append}
 use Rattle.cnf_base.specs.declared.literal.Literal.{Literal}
 use Rattle.cnf_base.specs.declared.literal.Hint.{Hint}
 use Rattle.cert_text.specs.declared.marks.Span.{Span}
-use Rattle.cert_text.specs.Text.{Part, Line, Delete, Certificate, greatest_u64, IsPart, IsTextOf, IsNumber, literal_text, hint_text, target_text, part_text, header_text, close_text}
+use Rattle.cert_text.specs.Text.{Part, Line, Delete, Certificate, greatest_u64, IsPart, IsTextOf, IsNumber, literal_text, target_text, part_text, header_text, close_text}
 use Rattle.cert_text.specs.Live.{lines_of, parts_before, parts_behind, deletes, is_deleted, lines_until, last_user}
 use Rattle.cert_text.specs.Reading.{certificate_in, numbers_in, line_start}
 use Rattle.cert_text.specs.Items.{item_of, items_of, line_text, item_line, item_text, IsItem}
@@ -21,7 +21,7 @@ use Rattle.cert_text.proofs.LiveLines.{lines_on, behind_on, behind_last, count_b
 use Rattle.cert_text.proofs.ItemTexts.{Other, part_item, part_fits, whole_text, header_line, header_split, header_other}
 use Rattle.cert_text.proofs.ItemLines.{line_low, delete_line}
 use Rattle.cert_text.proofs.Slices.{numbers_are}
-use Rattle.cert_text.proofs.Standing.{middle, targets_stand}
+use Rattle.cert_text.proofs.Standing.{middle}
 use Rattle.cert_text.proofs.Views.{count_fits}
 
 -- up to where a line may be used, with more parts behind
@@ -156,7 +156,7 @@ marking_start bytes end spans ends is found no_spans no_ends =
     let c = certificate_in bytes in
     let rest : List ℕ = flat_map item_text (items_of c) in
     let spelled : bytes ≡ header_line c ++ 10 ∷ rest = whole_text bytes c is ∙ ap (λ x. x ++ rest) (header_split c) ∙ append_assoc (header_line c) (codes "\n") rest in
-    let at = found [] (header_line c) rest (header_other bytes c is) spelled refl in
+    let at = found [] (header_line c) rest (header_other c is.lawful.begun) spelled refl in
     let size = length-append (header_line c) (codes "\n") in record {
       past = [];
       left = c.parts;
@@ -199,12 +199,27 @@ pub record PartFront (bytes : List ℕ) (at : ℕ) (past left : List Part) : Typ
   pub spelled : bytes ≡ before ++ (item_line (item_of part) ++ 10 ∷ more)
   pub place : length before ≡ at
 
-all_behind : (version : ℕ) (xs ys : List Part) → All (IsPart version) (xs ++ ys) → All (IsPart version) ys
+pub all_behind : (version : ℕ) (xs ys : List Part) → All (IsPart version) (xs ++ ys) → All (IsPart version) ys
 all_behind version [] ys all = all
 all_behind version (x ∷ xs) ys all = all_behind version xs ys (All-tail (IsPart version) x (xs ++ ys) all)
 
-first_at : (xs ys : List ℕ) (at : ℕ) → at ≡ length xs → get_or (xs ++ ys) at 0 ≡ get_or ys 0 0
+pub first_at : (xs ys : List ℕ) (at : ℕ) → at ≡ length xs → get_or (xs ++ ys) at 0 ≡ get_or ys 0 0
 first_at xs ys at e = ap (λ k. get_or (xs ++ ys) k 0) (e ∙ omega arith) ∙ get_or-append-add xs ys 0 0
+
+pub part_front : (version : ℕ) (bytes before close : List ℕ) (at : ℕ) (past : List Part) (part : Part) (others : List Part) → IsPart version part → at ≡ length before
+    → bytes ≡ before ++ (flat_map part_text (part ∷ others) ++ close) → PartFront bytes at past (part ∷ others)
+part_front version bytes before close at past part others is place text =
+    let tail : List ℕ = flat_map part_text others ++ close in record {
+      part = part;
+      others = others;
+      split = refl;
+      fits = part_fits version part is;
+      before = before;
+      more = tail;
+      spelled =
+          text ∙ ap (λ x. before ++ x) (append_assoc (part_text part) (flat_map part_text others) close ∙ ap (λ x. x ++ tail) (part_item part) ∙ append_assoc (item_line (item_of part)) (codes "\n") tail);
+      place = sym place;
+    }
 
 pub marking_front : (bytes : List ℕ) (at : ℕ) (spans : List Span) (ends : List ℕ) → IsTextOf bytes (certificate_in bytes) → (m : IsMarking bytes at spans ends) → (get_or bytes at 0 ≡ 99 → ⊥)
     → PartFront bytes at m.past m.left
@@ -214,19 +229,9 @@ marking_front bytes at spans ends is m other = go m.left m.split (marking_text b
         → bytes ≡ (header_text (certificate_in bytes) ++ flat_map part_text m.past) ++ (flat_map part_text left ++ close_text (certificate_in bytes).targets) → PartFront bytes at m.past left
     go [] split text = absurd (other (ap (λ x. get_or x at 0) text ∙ first_at (header_text (certificate_in bytes) ++ flat_map part_text m.past) (close_text (certificate_in bytes).targets) at m.place))
     go (part ∷ others) split text =
-        let close : List ℕ = close_text (certificate_in bytes).targets in
-        let h : List ℕ = header_text (certificate_in bytes) ++ flat_map part_text m.past in
-        let tail : List ℕ = flat_map part_text others ++ close in record {
-          part = part;
-          others = others;
-          split = refl;
-          fits = part_fits (certificate_in bytes).version part (All-head (IsPart (certificate_in bytes).version) part others (all_behind (certificate_in bytes).version m.past (part ∷ others) (subst (All (IsPart (certificate_in bytes).version)) split is.lawful.begun.parts)));
-          before = h;
-          more = tail;
-          spelled =
-              text ∙ ap (λ x. h ++ x) (append_assoc (part_text part) (flat_map part_text others) close ∙ ap (λ x. x ++ tail) (part_item part) ∙ append_assoc (item_line (item_of part)) (codes "\n") tail);
-          place = sym m.place;
-        }
+        part_front (certificate_in bytes).version bytes (header_text (certificate_in bytes) ++ flat_map part_text m.past) (close_text (certificate_in bytes).targets) at m.past part others
+        (All-head (IsPart (certificate_in bytes).version) part others (all_behind (certificate_in bytes).version m.past (part ∷ others) (subst (All (IsPart (certificate_in bytes).version)) split is.lawful.begun.parts)))
+        m.place text
 
 -- its line, up to the newline
 pub part_line : (bytes : List ℕ) (at end : ℕ) (past left : List Part) (f : PartFront bytes at past left) → end ≡ at + length (item_line (item_of f.part)) → slice_range bytes at end ≡ item_line (item_of f.part)
@@ -253,6 +258,17 @@ marking_next bytes at end spans new_spans ends new_ends is few m f stop marked =
       marks = part_marked c m.past f.others f.part at spans new_spans ends new_ends split m.place low m.marks marked;
     }
 
+-- a part does not begin as the close does
+pub part_begins : (version : ℕ) (part : Part) (rest : List ℕ) → IsPart version part → (0 < length (part_text part)) × (get_or (part_text part ++ rest) 0 0 ≡ 99 → ⊥)
+part_begins version (Delete ns) rest is = (omega arith, λ e. (let no : 100 ≡ 99 = e in omega (arith, no)))
+part_begins version (Line ls hs) rest is =
+    let low = line_low ls hs is.0 in
+    let text : part_text (Line ls hs) ≡ line_text ls hs ++ codes "\n" = part_item (Line ls hs) in
+    let some : 0 < length (line_text ls hs) = simp length-append (omega arith) in
+    let first : get_or (part_text (Line ls hs) ++ rest) 0 0 ≡ get_or (line_text ls hs) 0 0 =
+    ap (λ x. get_or (x ++ rest) 0 0) text ∙ ap (λ x. get_or x 0 0) (append_assoc (line_text ls hs) (codes "\n") rest) ∙ get_or_append_left (line_text ls hs) (codes "\n" ++ rest) 0 0 some in
+    (omega (arith, some, ap length text, length-append (line_text ls hs) (codes "\n")), λ e. omega (arith, e, first, low))
+
 -- at the close
 pub marking_end : (bytes : List ℕ) (at : ℕ) (spans : List Span) (ends : List ℕ) → IsTextOf bytes (certificate_in bytes) → IsMarking bytes at spans ends → get_or bytes at 0 ≡ 99
     → (at ≡ length (header_text (certificate_in bytes) ++ flat_map part_text (certificate_in bytes).parts)) × AreMarks (certificate_in bytes) (certificate_in bytes).parts spans ends
@@ -264,36 +280,37 @@ marking_end bytes at spans ends is m first = go m.left m.split (marking_text byt
     go [] split text =
         let whole : m.past ≡ (certificate_in bytes).parts = sym (split ∙ append-nil m.past) in
         (m.place ∙ ap (λ ps. length (header_text (certificate_in bytes) ++ flat_map part_text ps)) whole, subst (λ ps. AreMarks (certificate_in bytes) ps spans ends) whole m.marks)
-    go (Delete ns ∷ others) split text = absurd (
-        let e : 100 ≡ 99 = sym (ap (λ x. get_or x at 0) text ∙ first_at (header_text (certificate_in bytes) ++ flat_map part_text m.past) (flat_map part_text (Delete ns ∷ others) ++ close_text (certificate_in bytes).targets) at m.place) ∙ first in
-        omega (arith, e))
-    go (Line ls hs ∷ others) split text = absurd (
-        let close : List ℕ = close_text (certificate_in bytes).targets in
-        let all = All-head (IsPart (certificate_in bytes).version) (Line ls hs) others (all_behind (certificate_in bytes).version m.past (Line ls hs ∷ others) (subst (All (IsPart (certificate_in bytes).version)) split is.lawful.begun.parts)) in
-        let low = line_low ls hs all.0 in
-        let tail : List ℕ = flat_map part_text others ++ close in
-        let same : get_or bytes at 0 ≡ get_or (line_text ls hs) 0 0 =
-        ap (λ x. get_or x at 0) text
-        ∙ first_at (header_text (certificate_in bytes) ++ flat_map part_text m.past) (flat_map part_text (Line ls hs ∷ others) ++ close) at m.place
-        ∙ ap (λ x. get_or x 0 0) (append_assoc (part_text (Line ls hs)) (flat_map part_text others) close ∙ ap (λ x. x ++ tail) (part_item (Line ls hs)) ∙ append_assoc (line_text ls hs) (codes "\n") tail)
-        ∙ get_or_append_left (line_text ls hs) (10 ∷ tail) 0 0 (let size = length-append (flat_map literal_text ls) (codes "0 " ++ (flat_map hint_text hs ++ codes "0")) in omega (arith, size)) in
-        omega (arith, low, same, first))
+    go (part ∷ others) split text = absurd (
+        let version = (certificate_in bytes).version in
+        let tail : List ℕ = flat_map part_text others ++ close_text (certificate_in bytes).targets in
+        let h : List ℕ = header_text (certificate_in bytes) ++ flat_map part_text m.past in
+        let is_part = All-head (IsPart version) part others (all_behind version m.past (part ∷ others) (subst (All (IsPart version)) split is.lawful.begun.parts)) in
+        let whole : bytes ≡ h ++ (part_text part ++ tail) = text ∙ ap (λ x. h ++ x) (append_assoc (part_text part) (flat_map part_text others) (close_text (certificate_in bytes).targets)) in
+        (part_begins version part tail is_part).1 (sym (ap (λ x. get_or x at 0) whole ∙ first_at h (part_text part ++ tail) at m.place) ∙ first))
 
 -- the targets, in the close
-pub record CloseStands (bytes : List ℕ) (close : ℕ) : Type 0 where
-  pub fits : All IsNumber (certificate_in bytes).targets
+pub record CloseStands (bytes : List ℕ) (close : ℕ) (targets : List ℕ) : Type 0 where
   pub within : close + 6 ≤ length bytes
-  pub slice : slice_range bytes (close + 5) (length bytes - 1) ≡ flat_map target_text (certificate_in bytes).targets
+  pub fits : All IsNumber targets
+  pub slice : slice_range bytes (close + 5) (length bytes - 1) ≡ flat_map target_text targets
 
-pub close_stands : (bytes : List ℕ) (close : ℕ) → IsTextOf bytes (certificate_in bytes)
-    → close ≡ length (header_text (certificate_in bytes) ++ flat_map part_text (certificate_in bytes).parts) → CloseStands bytes close
-close_stands bytes close is place =
-    let c = certificate_in bytes in
-    let text : bytes ≡ (header_text c ++ flat_map part_text c.parts) ++ close_text c.targets = is.spelled ∙ sym (append_assoc (header_text c) (flat_map part_text c.parts) (close_text c.targets)) in
-    let one = length-append (header_text c ++ flat_map part_text c.parts) (close_text c.targets) in
-    let two = length-append (codes "close") (flat_map target_text c.targets ++ codes "\n") in
-    let three = length-append (flat_map target_text c.targets) (codes "\n") in record {
-      fits = is.lawful.targets;
-      within = omega (arith, place, one, two, three, ap length text);
-      slice = ap (λ n. slice_range bytes (n + 5) (length bytes - 1)) place ∙ targets_stand bytes c is;
+pub close_stands : (bytes before targets : List ℕ) (close : ℕ) → All IsNumber targets → bytes ≡ before ++ close_text targets → close ≡ length before → CloseStands bytes close targets
+close_stands bytes before targets close fits text here =
+    let t = flat_map target_text targets in
+    let whole : bytes ≡ (before ++ codes "close") ++ (t ++ codes "\n") = text ∙ sym (append_assoc before (codes "close") (t ++ codes "\n")) in
+    let one = length-append before (codes "close") in
+    let two = length-append (before ++ codes "close") (t ++ codes "\n") in
+    let three = length-append t (codes "\n") in record {
+      within = omega (arith, here, one, two, three, ap length whole);
+      fits = fits;
+      slice =
+          ap (λ y. slice_range y (close + 5) (length bytes - 1)) whole
+          ∙ middle (before ++ codes "close") t (codes "\n") (close + 5) (length bytes - 1) (omega (arith, here, one)) (omega (arith, here, one, two, three, ap length whole));
     }
+
+pub whole_close_stands : (bytes : List ℕ) (close : ℕ) → IsTextOf bytes (certificate_in bytes)
+    → close ≡ length (header_text (certificate_in bytes) ++ flat_map part_text (certificate_in bytes).parts) → CloseStands bytes close (certificate_in bytes).targets
+whole_close_stands bytes close is place =
+    let c = certificate_in bytes in
+    close_stands bytes (header_text c ++ flat_map part_text c.parts) c.targets close is.lawful.targets
+    (is.spelled ∙ sym (append_assoc (header_text c) (flat_map part_text c.parts) (close_text c.targets))) place

@@ -14,25 +14,25 @@ use Rattle.cert_text.specs.Text.{Part, Line, Delete, Certificate, IsLiteral, IsN
 use Rattle.cert_text.specs.Scan.{Role, OfDepth, OfLiteral, OfHint, OfTarget, OfDelete, Place, AtVersion, AtKind, AtNumber, InNumber, AtPart, AtLiteral, AtHint, AtEnd, Scan, start, greatest, literal, hint, with_part, with_target, header, end_number, first_digit, literal_step, number_step, place_step, step, run}
 use Rattle.cert_text.proofs.Places.{header_before, parts_before, role_before, before, IsStarted, IsRole, IsPlace, flat_more, first_text, digit_text, greatest_fits, header_is}
 
-some_same : (s t : Scan) → Some s ≡ Some t → s ≡ t
+pub some_same : (s t : Scan) → Some s ≡ Some t → s ≡ t
 some_same s t e = cc
 
 -- what holds of the answer, if there is one
-abbrev Gives : (Scan → Type 0) → Option Scan → Type 0
+abbrev pub Gives : (Scan → Type 0) → Option Scan → Type 0
 Gives P o = (t : Scan) → o ≡ Some t → P t
 
-gives_none : (P : Scan → Type 0) → Gives P None
+pub gives_none : (P : Scan → Type 0) → Gives P None
 gives_none P t e = cc
 
-gives_some : (P : Scan → Type 0) (s : Scan) → P s → Gives P (Some s)
+pub gives_some : (P : Scan → Type 0) (s : Scan) → P s → Gives P (Some s)
 gives_some P s h t e = subst P (some_same s t e) h
 
-gives_if : (P : Scan → Type 0) (b : Bool) (x y : Option Scan) → (b ≡ true → Gives P x) → (b ≡ false → Gives P y) → Gives P (cond b x y)
+pub gives_if : (P : Scan → Type 0) (b : Bool) (x y : Option Scan) → (b ≡ true → Gives P x) → (b ≡ false → Gives P y) → Gives P (cond b x y)
 gives_if P true x y on off = on refl
 gives_if P false x y on off = off refl
 
 -- at one byte, and at the others
-gives_at : (P : ℕ → Scan → Type 0) (b k : ℕ) (x y : Option Scan) → Gives (P k) x → Gives (P b) y → Gives (P b) (cond (b == k) x y)
+pub gives_at : (P : ℕ → Scan → Type 0) (b k : ℕ) (x y : Option Scan) → Gives (P k) x → Gives (P b) y → Gives (P b) (cond (b == k) x y)
 gives_at P b k x y on off = gives_if (P b) (b == k) x y (λ e. subst (λ i. Gives (P i) x) (sym (eqb-true b k e)) on) (λ e. off)
 
 -- the byte at the place leads to a place up to which the text is one byte longer, and what is true there

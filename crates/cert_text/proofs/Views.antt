@@ -92,13 +92,12 @@ count_fits bytes c is =
     omega (arith, low, one, two, ap length is.spelled)
 
 -- up to where a line may be used
-pub end_open : (bytes : List ℕ) (c : Certificate) (k : ℕ) → IsTextOf bytes c → length bytes < 18446744073709551616 → k < length (lines_of c.parts)
-    → end_of c.parts k ≡ greatest_u64 → is_deleted c.parts k ≡ false
-end_open bytes c k is few low at = go (is_deleted c.parts k) at
+pub end_open : (parts : List Part) (k : ℕ) → length (lines_of parts) < greatest_u64 → k < length (lines_of parts) → end_of parts k ≡ greatest_u64 → is_deleted parts k ≡ false
+end_open parts k few low at = go (is_deleted parts k) at
   where
-    go : (b : Bool) → cond b (last_user c.parts k) greatest_u64 ≡ greatest_u64 → b ≡ false
+    go : (b : Bool) → cond b (last_user parts k) greatest_u64 ≡ greatest_u64 → b ≡ false
     go false e = refl
-    go true e = absurd (let stand = last_users_stand c.parts k low in omega (arith, stand, e, few, count_fits bytes c is))
+    go true e = absurd (let stand = last_users_stand parts k low in omega (arith, stand, e, few))
 
 pub end_shut : (parts : List Part) (k : ℕ) → (end_of parts k ≡ greatest_u64 → ⊥) → is_deleted parts k ≡ true
 end_shut parts k other = go (is_deleted parts k) other

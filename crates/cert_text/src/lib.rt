@@ -4,12 +4,14 @@
 
 mod blocks;
 mod finding;
+mod front;
 pub mod glance;
 pub mod item;
 mod joining;
 pub mod laws;
 mod marks;
 mod passing;
+mod pieces;
 mod printing;
 pub mod reader;
 pub mod refused;
@@ -21,6 +23,7 @@ mod uses;
 pub mod view;
 pub mod writing;
 
+pub use front::Front;
 pub use glance::Form;
 pub use item::Item;
 pub use reader::Items;

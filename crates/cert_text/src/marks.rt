@@ -1,8 +1,8 @@
 // Where the lines of a text stand, and up to where each may be used.
-ghost use Rattle.std.specs.Prelude.{◌≡◌, ◌+◌, ◌<◌, ◌^◌, [], ◌∷◌, ◌++◌, length, IfOk, OnOk};
+ghost use Rattle.std.specs.Prelude.{◌≡◌, ◌+◌, ◌-◌, ◌<◌, ◌≤◌, ◌^◌, [], ◌∷◌, ◌++◌, length, slice_range, IfOk, OnOk};
 ghost use Rattle.std.specs.List.{flat_map};
 ghost use Rattle.cert_text.specs.Text.{Part, IsTextOf, part_text, header_text};
-ghost use Rattle.cert_text.specs.Reading.{certificate_in};
+ghost use Rattle.cert_text.specs.Reading.{certificate_in, AreNumbers, numbers_in};
 ghost use Rattle.cert_text.specs.Items.{item_of, item_line, IsItem};
 ghost use Rattle.cert_text.specs.View.{AreMarks, IsShut, IsMarked, IsPartLine};
 
@@ -31,7 +31,7 @@ fn shut(ends: &mut Vec<u64>, number: u64, count: u64)
 }
 
 /// Shuts the lines that a delete names, at this count of lines.
-fn shut_all(ends: &mut Vec<u64>, numbers: Targets<'_>, count: u64)
+pub(crate) fn shut_all(ends: &mut Vec<u64>, numbers: Targets<'_>, count: u64)
     ensures { IsShut numbers.entry count ends.old.items ends.new.items }
 {
     let mut numbers = numbers;
@@ -86,12 +86,12 @@ pub(crate) fn mark_parts(
     Ok(at)
 }
 
-/// The targets, where the close begins at `close`.
+/// The targets, where the close begins at `close` and ends the bytes.
 pub(crate) fn targets_at(alloc: Global, bytes: &[u8], close: usize) -> Result<Vec<u64>, AllocError>
-    requires text { IsTextOf bytes.now (certificate_in bytes.now) }
-    requires place { close ≡ length (header_text (certificate_in bytes.now)
-        ++ flat_map part_text (certificate_in bytes.now).parts) }
-    ensures { IfOk result (λ targets. targets.items ≡ (certificate_in bytes.now).targets) }
+    requires within { close + 6 ≤ length bytes.now }
+    requires numbers { AreNumbers (slice_range bytes.now (close + 5) (length bytes.now - 1)) }
+    ensures { IfOk result (λ targets. targets.items
+        ≡ numbers_in (slice_range bytes.now (close + 5) (length bytes.now - 1))) }
 {
     let targets = Targets::new(&bytes[close + 5..bytes.len() - 1]);
     targets.collect(alloc)

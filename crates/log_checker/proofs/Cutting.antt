@@ -1,7 +1,7 @@
 -- Consecutive pieces.
 use Rattle.std.proofs.Common.{◌≡◌, ℕ, zero, suc, ◌<◌, ◌≤◌, List, [], ◌∷◌, ◌++◌, length, get_or, set, All, refl, sym, ◌∙◌, ap, subst, arith}
 use Rattle.std.proofs.lemmas.List.Elements.{All-nil, All-cons}
-use Rattle.log_checker.specs.Pieces.{AreCuts}
+use Rattle.log_checker.specs.Pieces.{AreCuts, IsWithin}
 use Rattle.log_checker.specs.declared.pieces.Area.{Area}
 
 -- the last piece ends at or behind where the first begins
@@ -9,14 +9,12 @@ pub cuts_up : (from to : ℕ) (areas : List Area) → AreCuts from areas to → 
 cuts_up from to [] cut = omega (arith, cut)
 cuts_up from to (a ∷ areas) cut = omega (arith, cut.1, cuts_up a.to to areas cut.2)
 
--- each piece is within
-abbrev pub IsWithin : ℕ → Area → Type 0
-IsWithin to a = (a.from ≤ a.to) × (a.to ≤ to)
-
-pub cuts_within : (from to : ℕ) (areas : List Area) → AreCuts from areas to → All (IsWithin to) areas
-cuts_within from to [] cut = All-nil (IsWithin to)
-cuts_within from to (a ∷ areas) cut =
-    All-cons (IsWithin to) a areas (omega (arith, cut.0, cut.1), cuts_up a.to to areas cut.2) (cuts_within a.to to areas cut.2)
+-- each piece is within the lines, where its range is
+pub cuts_within : (from to count : ℕ) (areas : List Area) → to ≤ count → AreCuts from areas to → All (IsWithin count) areas
+cuts_within from to count [] high cut = All-nil (IsWithin count)
+cuts_within from to count (a ∷ areas) high cut =
+    let below = cuts_up a.to to areas cut.2 in
+    All-cons (IsWithin count) a areas (omega (arith, cut.0, cut.1), omega (arith, below, high)) (cuts_within a.to to count areas high cut.2)
 
 -- one more piece behind
 pub cuts_more : (from middle to : ℕ) (areas : List Area) (a : Area) → AreCuts from areas middle → a.from ≡ middle → middle ≤ to → a.to ≡ to → AreCuts from (areas ++ a ∷ []) to

@@ -1,4 +1,5 @@
 pub mod Ranges
+pub mod Standing
 pub mod Taken
 pub mod OneHint
 pub mod Setting

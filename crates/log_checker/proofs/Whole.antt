@@ -4,7 +4,7 @@ use Rattle.std.proofs.lemmas.List.Elements.{All-head, All-tail}
 use Rattle.cnf_base.specs.declared.literal.Literal.{Literal}
 use Rattle.cert_text.specs.Text.{Part}
 use Rattle.cert_text.specs.Live.{lines_of, IsGoodLine}
-use Rattle.log_checker.specs.Judging.{IsFirstBad, IsLinesAnswer}
+use Rattle.log_checker.specs.Judging.{IsFirstBad, IsLinesAnswer, IsRangeAnswer}
 use Rattle.log_checker.specs.Pieces.{AreCuts, IsFirstOf, IsJudged}
 use Rattle.log_checker.specs.declared.pieces.Area.{Area}
 use Rattle.log_checker.specs.declared.lines.Lines.{Lines}
@@ -46,12 +46,12 @@ bad_below : (Good : ℕ → Type 0) (from to limit : ℕ) (answer : Option ℕ) 
 bad_below Good from to limit None low is = tt
 bad_below Good from to limit (Some k) low is = omega (arith, low, is.1)
 
--- the number of a bad line fits where that of the lines does
-pub answers_fit : (clauses : List (List Literal)) (parts : List Part) (limit : ℕ) (old new : List Area) → length (lines_of parts) < limit → AreCuts 0 old (length (lines_of parts)) → length new ≡ length old
+-- the number of a bad line fits where that of the end does
+pub answers_fit : (clauses : List (List Literal)) (parts : List Part) (limit from to : ℕ) (old new : List Area) → to < limit → AreCuts from old to → length new ≡ length old
     → ((i : ℕ) (d : Area) → i < length old → IsJudged clauses parts (get_or old i d) (get_or new i d)) → All (λ (a : Area). IfSome a.first_bad (λ k. k + 1 < limit)) new
-answers_fit clauses parts limit old new low cut same judged = λ i d there.
+answers_fit clauses parts limit from to old new low cut same judged = λ i d there.
     let at : i < length old = omega (arith, there, same) in
-    let within = cuts_within 0 (length (lines_of parts)) old cut i d at in
+    let within = cuts_within from to to old (omega arith) cut i d at in
     bad_below (IsGoodLine clauses (length (get_or old i d).assignment - 1) parts) (get_or old i d).from (get_or old i d).to limit (get_or new i d).first_bad (omega (arith, within.1, low)) (judged i d at).first
 
 -- an element is read with any default
@@ -60,11 +60,11 @@ read_any [] i d e below = absurd (omega (arith, below))
 read_any (x ∷ xs) zero d e below = refl
 read_any (x ∷ xs) (suc i) d e below = read_any xs i d e (omega (arith, below))
 
--- the answer of the first piece that has one is that of all lines
-pub whole_answer : (clauses : List (List Literal)) (parts : List Part) (letters : ℕ) (old new : List Area) (r : Lines) → All (λ (a : Area). length a.assignment ≡ letters + 1) old
-    → AreCuts 0 old (length (lines_of parts)) → length new ≡ length old
-    → ((i : ℕ) (d : Area) → i < length old → IsJudged clauses parts (get_or old i d) (get_or new i d)) → IsFirstOf new r → IsLinesAnswer clauses letters parts r
-whole_answer clauses parts letters old new r sizes cut same judged first = go r first
+-- the answer of the first piece that has one is that of the range
+pub range_answer : (clauses : List (List Literal)) (parts : List Part) (letters from to : ℕ) (old new : List Area) (r : Lines) → All (λ (a : Area). length a.assignment ≡ letters + 1) old
+    → AreCuts from old to → length new ≡ length old
+    → ((i : ℕ) (d : Area) → i < length old → IsJudged clauses parts (get_or old i d) (get_or new i d)) → IsFirstOf new r → IsRangeAnswer clauses letters parts from to r
+range_answer clauses parts letters from to old new r sizes cut same judged first = go r first
   where
     Good : ℕ → Type 0
     Good = IsGoodLine clauses letters parts
@@ -78,9 +78,15 @@ whole_answer clauses parts letters old new r sizes cut same judged first = go r 
         let two = subst (λ n. IsFirstBad (IsGoodLine clauses letters parts) n (get_or old i d).to (get_or new i d).first_bad) (sym done.from) one in
         subst (λ n. IsFirstBad (IsGoodLine clauses letters parts) (get_or new i d).from n (get_or new i d).first_bad) (sym done.to) two
 
-    cuts : AreCuts 0 new (length (lines_of parts))
-    cuts = cuts_same 0 (length (lines_of parts)) old new same (λ i d low. ((judged i d low).from, (judged i d low).to)) cut
+    cuts : AreCuts from new to
+    cuts = cuts_same from to old new same (λ i d low. ((judged i d low).from, (judged i d low).to)) cut
 
-    go : (q : Lines) → IsFirstOf new q → IsLinesAnswer clauses letters parts q
-    go AllGood none = all_good (IsGoodLine clauses letters parts) (length (lines_of parts)) 0 new cuts each none
-    go (FirstBad n) (i, k, low, at, here, none) = (k, at, first_is (IsGoodLine clauses letters parts) (length (lines_of parts)) i k 0 new cuts each low here none)
+    go : (q : Lines) → IsFirstOf new q → IsRangeAnswer clauses letters parts from to q
+    go AllGood none = all_good (IsGoodLine clauses letters parts) to from new cuts each none
+    go (FirstBad n) (i, k, low, at, here, none) = (k, at, first_is (IsGoodLine clauses letters parts) to i k from new cuts each low here none)
+
+-- the range of all lines
+pub whole_answer : (clauses : List (List Literal)) (parts : List Part) (letters count : ℕ) (r : Lines) → count ≡ length (lines_of parts) → IsRangeAnswer clauses letters parts 0 count r
+    → IsLinesAnswer clauses letters parts r
+whole_answer clauses parts letters count AllGood all is = subst (λ n. IsFirstBad (IsGoodLine clauses letters parts) 0 n None) all is
+whole_answer clauses parts letters count (FirstBad m) all (k, at, is) = (k, at, subst (λ n. IsFirstBad (IsGoodLine clauses letters parts) 0 n (Some k)) all is)

@@ -14,6 +14,10 @@ abbrev pub AreCuts : ℕ → List Area → ℕ → Type 0
 AreCuts from [] to = from ≡ to
 AreCuts from (area ∷ areas) to = (area.from ≡ from) × (from ≤ area.to) × AreCuts area.to areas to
 
+-- a piece that ends behind its beginning or there, and within the first so many lines
+abbrev pub IsWithin : ℕ → Area → Type 0
+IsWithin count area = (area.from ≤ area.to) × (area.to ≤ count)
+
 -- a worker leaves the first bad line of its piece in its area, which keeps its piece and its size
 pub record IsJudged (clauses : List (List Literal)) (parts : List Part) (old new : Area) : Type 0 where
   pub first : IsFirstBad (IsGoodLine clauses (letters_in old.assignment) parts) old.from old.to new.first_bad

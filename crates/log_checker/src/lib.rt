@@ -8,14 +8,17 @@ mod kept;
 pub mod laws;
 pub mod lines;
 pub mod live;
+mod numbered;
 mod outcome;
 mod pieces;
 mod shared;
 pub mod stored;
 
 pub use assignment::Assignment;
+pub use cuts::share_end;
 pub use judge::{NamedClauses, with_literal};
-pub use lines::{Lines, Scratch, check_lines};
+pub use lines::{Lines, Scratch, check_lines, check_range};
 pub use live::LiveChecker;
+pub use numbered::NumberedLines;
 pub use outcome::Outcome;
 pub use stored::StoredClauses;

@@ -1,15 +1,17 @@
-// The lines of a certificate, judged by several workers. They are cut into consecutive pieces, each worker
-// judges one in an area of its own, and the answer of the first piece that has a bad line is that of all.
+// The lines of a certificate, or a range of them, judged by several workers. They are cut into consecutive
+// pieces, each worker judges one in an area of its own, and the answer of the first piece that has a bad line
+// is that of all.
 ghost use Rattle.std.specs.Prelude.{◌≡◌, ℕ, ◌+◌, ◌^◌, ◌<◌, ◌≤◌, length, All, IfOk, IfSome, slice_index_or};
 ghost use Rattle.cnf_base.specs.Known.{AreKnown};
 ghost use Rattle.cert_text.specs.Live.{lines_of};
 ghost use Rattle.log_checker.specs.Values.{letters_in};
-ghost use Rattle.log_checker.specs.Judging.{IsLinesAnswer};
-ghost use Rattle.log_checker.specs.Pieces.{AreCuts, IsFirstOf, IsJudged};
+ghost use Rattle.log_checker.specs.Judging.{IsLinesAnswer, IsRangeAnswer};
+ghost use Rattle.log_checker.specs.Pieces.{IsWithin, IsFirstOf, IsJudged};
 
 use crate::assignment::Assignment;
 use crate::cuts::cut_lines;
 use crate::judge::NamedClauses;
+use crate::numbered::NumberedLines;
 use crate::pieces::{Area, judge_piece};
 use cert_text::CertView;
 use ltl_io::Gate;
@@ -83,16 +85,34 @@ pub fn check_lines<R: Threads + Sync, C: NamedClauses + Sync, G: Gate + Sync>(
     ensures answer { IsLinesAnswer (C.clauses clauses.now) scratch.old.letters view.now.parts result }
     ensures same { scratch.new ≡ scratch.old }
 {
-    let _lines = view.lines();
-    cut_lines(view, &mut scratch.areas);
-    judge_pieces(rt, view, clauses, gate, &mut scratch.areas);
+    check_range(rt, view, 0, view.lines(), clauses, scratch, gate)
+}
+
+/// Judges the lines from one place up to another, which count from 0, over the clauses and the lines that are
+/// live at each. They are cut into as many consecutive pieces as the scratch has workers, numbered from 0, of
+/// nearly equally many bytes. Each piece, an empty one too, tells the gate that it begins.
+pub fn check_range<
+    R: Threads + Sync,
+    V: NumberedLines + Sync,
+    C: NamedClauses + Sync,
+    G: Gate + Sync,
+>(rt: &R, text: &V, from: u64, to: u64, clauses: &C, scratch: &mut Scratch, gate: &G) -> Lines
+    requires known { AreKnown scratch.old.letters (C.clauses clauses.now) }
+    requires order { from ≤ to }
+    requires within { to ≤ length (lines_of (V.parts text.now)) }
+    ensures answer { IsRangeAnswer (C.clauses clauses.now) scratch.old.letters (V.parts text.now) from to
+        result }
+    ensures same { scratch.new ≡ scratch.old }
+{
+    cut_lines(text, from, to, &mut scratch.areas);
+    judge_pieces(rt, text, clauses, gate, &mut scratch.areas);
     first_answer(&scratch.areas)
 }
 
 /// Judges as many pieces as there are areas, each in a thread of its own where one can be made.
-fn judge_pieces<R: Threads + Sync, C: NamedClauses + Sync, G: Gate + Sync>(
+fn judge_pieces<R: Threads + Sync, V: NumberedLines + Sync, C: NamedClauses + Sync, G: Gate + Sync>(
     rt: &R,
-    view: &CertView<'_>,
+    text: &V,
     clauses: &C,
     gate: &G,
     areas: &mut Vec<Area>,
@@ -101,10 +121,10 @@ fn judge_pieces<R: Threads + Sync, C: NamedClauses + Sync, G: Gate + Sync>(
     requires few { length areas.old.items ≤ 16 }
     requires known { All (λ area. AreKnown (letters_in area.assignment)
         (C.clauses clauses.now)) areas.old.items }
-    requires cut { AreCuts 0 areas.old.items (length (lines_of view.now.parts)) }
+    requires within { All (IsWithin (length (lines_of (V.parts text.now)))) areas.old.items }
     ensures count { length areas.new.items ≡ length areas.old.items }
     ensures judged { (i : ℕ) (d : _) → i < length areas.old.items →
-        IsJudged (C.clauses clauses.now) view.now.parts
+        IsJudged (C.clauses clauses.now) (V.parts text.now)
         (slice_index_or areas.old.items i d) (slice_index_or areas.new.items i d) }
 {
     let workers = areas.len();
@@ -112,7 +132,7 @@ fn judge_pieces<R: Threads + Sync, C: NamedClauses + Sync, G: Gate + Sync>(
         rt,
         areas.as_mut_slice(),
         workers,
-        &|piece, area| { judge_piece(view, clauses, gate, area, piece) },
+        &|piece, area| { judge_piece(text, clauses, gate, area, piece) },
     );
 }
 

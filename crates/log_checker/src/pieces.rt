@@ -9,7 +9,8 @@ ghost use Rattle.log_checker.specs.Pieces.{IsJudged};
 
 use crate::assignment::Assignment;
 use crate::judge::{NamedClauses, NamedLines, judge};
-use cert_text::{CertView, Literals};
+use crate::numbered::NumberedLines;
+use cert_text::Literals;
 use ltl_io::Gate;
 
 /// What one worker works in, and what it answers.
@@ -28,18 +29,18 @@ pub struct Area {
 
 /// The lines that are live at a line.
 #[derive(Drop)]
-struct LinesAt<'v, 't> {
-    view: &'v CertView<'t>,
+struct LinesAt<'v, V: NumberedLines> {
+    text: &'v V,
     line: u64,
     ghost from_one: { 1 ≤ line },
-    ghost within: { line ≤ length (lines_of view.now.parts) },
+    ghost within: { line ≤ length (lines_of (V.parts text.now)) },
 }
 
-impl<'v, 't> NamedLines for LinesAt<'v, 't> {
+impl<'v, V: NumberedLines> NamedLines for LinesAt<'v, V> {
     ghost use Rattle.std.specs.Prelude.{◌-◌};
     ghost use Rattle.cert_text.specs.Live.{live_at};
 
-    ghost lines = { λ at number. live_at at.view.now.parts (at.line - 1) number };
+    ghost lines = { λ at number. live_at (V.parts at.text.now) (at.line - 1) number };
 
     fn find(&self, number: u64) -> Option<Literals<'_>> {
         if number < 1 {
@@ -48,30 +49,30 @@ impl<'v, 't> NamedLines for LinesAt<'v, 't> {
         if number >= self.line {
             return None;
         }
-        if self.view.last_user(number) < self.line {
+        if self.text.last_user(number) < self.line {
             return None;
         }
-        Some(self.view.literals(number))
+        Some(self.text.literals(number))
     }
 }
 
 /// The first of these lines that is no hinted step. Lines are counted from 0 here.
-fn first_bad<C: NamedClauses>(
+fn first_bad<V: NumberedLines, C: NamedClauses>(
     assignment: &mut Assignment,
-    view: &CertView<'_>,
+    text: &V,
     clauses: &C,
     from: u64,
     to: u64,
 ) -> Option<u64>
     requires known { AreKnown (letters_in assignment.old) (C.clauses clauses.now) }
     requires order { from ≤ to }
-    requires within { to ≤ length (lines_of view.now.parts) }
+    requires within { to ≤ length (lines_of (V.parts text.now)) }
     ensures first { IsFirstBad (IsGoodLine (C.clauses clauses.now)
-        (letters_in assignment.old) view.now.parts) from to result }
+        (letters_in assignment.old) (V.parts text.now)) from to result }
     ensures size { length assignment.new ≡ length assignment.old }
 {
     'lines: for index in from..to {
-        if !is_good(assignment, view, clauses, index + 1) {
+        if !is_good(assignment, text, clauses, index + 1) {
             return Some(index);
         }
     }
@@ -79,32 +80,32 @@ fn first_bad<C: NamedClauses>(
 }
 
 /// Whether the line is a hinted step over the lines that are live at it.
-fn is_good<C: NamedClauses>(
+fn is_good<V: NumberedLines, C: NamedClauses>(
     assignment: &mut Assignment,
-    view: &CertView<'_>,
+    text: &V,
     clauses: &C,
     line: u64,
 ) -> bool
     requires known { AreKnown (letters_in assignment.old) (C.clauses clauses.now) }
     requires from_one { 1 ≤ line }
-    requires within { line ≤ length (lines_of view.now.parts) }
+    requires within { line ≤ length (lines_of (V.parts text.now)) }
     ensures good { IsTrue result ↔ IsGoodLine (C.clauses clauses.now)
-        (letters_in assignment.old) view.now.parts (line - 1) }
+        (letters_in assignment.old) (V.parts text.now) (line - 1) }
     ensures size { length assignment.new ≡ length assignment.old }
 {
-    let lines = LinesAt { view, line };
+    let lines = LinesAt { text, line };
     judge(
         assignment,
         clauses,
         &lines,
-        view.literals(line),
-        view.hints(line),
+        text.literals(line),
+        text.hints(line),
     )
 }
 
 /// Judges the lines of the area's piece, which has this number, and leaves the answer in the area.
-pub fn judge_piece<C: NamedClauses, G: Gate>(
-    view: &CertView<'_>,
+pub fn judge_piece<V: NumberedLines, C: NamedClauses, G: Gate>(
+    text: &V,
     clauses: &C,
     gate: &G,
     area: &mut Area,
@@ -112,10 +113,10 @@ pub fn judge_piece<C: NamedClauses, G: Gate>(
 )
     requires known { AreKnown (letters_in area.old.assignment) (C.clauses clauses.now) }
     requires order { area.old.from ≤ area.old.to }
-    requires within { area.old.to ≤ length (lines_of view.now.parts) }
+    requires within { area.old.to ≤ length (lines_of (V.parts text.now)) }
     requires few { piece < 16 }
-    ensures { IsJudged (C.clauses clauses.now) view.now.parts area.old area.new }
+    ensures { IsJudged (C.clauses clauses.now) (V.parts text.now) area.old area.new }
 {
     gate.begin(piece as u32);
-    area.first_bad = first_bad(&mut area.assignment, view, clauses, area.from, area.to);
+    area.first_bad = first_bad(&mut area.assignment, text, clauses, area.from, area.to);
 }

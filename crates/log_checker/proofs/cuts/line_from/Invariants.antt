@@ -1,11 +1,10 @@
 use Rattle.std.proofs.Common.{◌-◌, ◌<◌, ◌≤◌}
-use Rattle.cert_text.specs.Reading.{line_start}
 use Rattle.log_checker.proofs.cuts.line_from.Given as goal
 
 abbrev pub invariant-halves : goal.invariant-halves
-invariant-halves l = (l.from ≤ l.low) × (l.low ≤ l.high) × (l.high ≤ l.to)
-    × (l.from < l.low → line_start l.view (l.low - 1) < l.byte)
-    × (l.high < l.to → l.byte ≤ line_start l.view l.high)
+invariant-halves g l = (l.from ≤ l.low) × (l.low ≤ l.high) × (l.high ≤ l.to)
+    × (l.from < l.low → g.V.NumberedLines.starts l.text (l.low - 1) < l.byte)
+    × (l.high < l.to → l.byte ≤ g.V.NumberedLines.starts l.text l.high)
 
 abbrev pub decreases-halves : goal.decreases-halves
-decreases-halves l = l.high - l.low
+decreases-halves g l = l.high - l.low

@@ -1,19 +1,5 @@
-use Rattle.std.proofs.Common.{◌≡◌, ◌+◌, ◌<◌, All, List, length, ap, ◌∙◌, subst, arith}
-use Rattle.log_checker.specs.Judging.{ScratchValue, IsLinesAnswer}
-use Rattle.log_checker.specs.declared.assignment.Truth.{Truth}
-use Rattle.log_checker.specs.declared.pieces.Area.{Area}
-use Rattle.log_checker.proofs.Whole.{whole_answer, answers_fit}
+use Rattle.log_checker.proofs.Whole.{whole_answer}
 use Rattle.log_checker.proofs.lines.check_lines.Goals as goal
 
-pub first_answer-requires : goal.first_answer-requires
-first_answer-requires g c =
-    answers_fit (g.C.NamedClauses.clauses c.args.clauses.now) c.args.view.now.parts _ _ _ (omega (arith, c.lines-lines.ensures)) c.cut_lines.ensures.cut c.judge_pieces.ensures.count c.judge_pieces.ensures.judged
-
 pub returns-clause-answer : goal.returns-clause-answer
-returns-clause-answer g c =
-    let clauses = g.C.NamedClauses.clauses c.args.clauses.now in
-    let sizes : All (λ (a : Area). length a.assignment ≡ c.scratch.inside.letters + 1) c.cut_lines.new.areas.items = λ k d low.
-    let there : k < length c.scratch.inside.areas.items = omega (arith, low, c.cut_lines.ensures.count) in
-    ap (λ (xs : List Truth). length xs) (c.cut_lines.ensures.same k d there) ∙ c.scratch.invariant.sizes k d there in
-    subst (λ (s : ScratchValue). IsLinesAnswer clauses s.letters c.args.view.now.parts c.first_answer.result) c.scratch.view_is
-    (whole_answer clauses c.args.view.now.parts _ _ _ _ sizes c.cut_lines.ensures.cut c.judge_pieces.ensures.count c.judge_pieces.ensures.judged c.first_answer.ensures)
+returns-clause-answer g c = whole_answer (g.C.NamedClauses.clauses c.args.clauses.now) c.args.view.now.parts _ _ _ c.lines.ensures c.check_range.ensures.answer
