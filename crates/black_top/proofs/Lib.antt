@@ -7,6 +7,7 @@ pub mod Asking
 pub mod Promising
 pub mod Refusing
 pub mod Showing
+pub mod Coming
 pub mod Settling
 pub mod Certified
 pub mod Conflicting

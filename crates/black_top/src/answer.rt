@@ -1,5 +1,6 @@
 // The answer to words and a source. The source is read once, as far as the command goes, and not at all where
-// the words ask for no command, or for one that needs nothing of it.
+// the words ask for no command, or for one that needs nothing of it. Bytes are answered when all are there,
+// but for a certificate that several workers check.
 ghost use Rattle.std.specs.Prelude.{◌≡◌, map, string_bytes, IfOk, OnOk, IsErrOf};
 ghost use Rattle.ltl_io.specs.Count.{Rose, Counts};
 ghost use Rattle.ltl_io.specs.declared.source.ReadRefused.TheVariants as read_refused;
@@ -9,7 +10,8 @@ ghost use Rattle.black_top.specs.Inner.{Shows};
 ghost use Rattle.black_top.specs.Run.{IsGiven, NeedsNothing};
 ghost use Rattle.black_top.specs.Taking.{Takes, TakesAtMost};
 
-use crate::commands::{output, stop_after};
+use crate::commands::coming::check_source;
+use crate::commands::{by_several, output, stop_after};
 use crate::output::{Output, refusal};
 use command_words::asked_command;
 use ltl_io::{Gate, ReadRefused, Source, read_whole};
@@ -40,6 +42,9 @@ pub fn answer<R: Threads + Sync, S: Source, G: Gate + Sync>(
     let Some(asked) = asked_command(alloc, words)? else {
         return Ok(refusal(alloc, Fault::Usage)?);
     };
+    if let Some(options) = by_several(asked) {
+        return check_source(rt, alloc, options, source, gate);
+    }
     let Some(most) = stop_after(asked) else {
         return Ok(output(rt, alloc, asked, b"", gate)?);
     };

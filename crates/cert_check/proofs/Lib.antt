@@ -6,3 +6,4 @@ pub mod Closing
 mod Among
 mod Judging
 mod Walking
+mod Arriving

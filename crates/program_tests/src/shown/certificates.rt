@@ -1,5 +1,5 @@
 // `check` on certificates that were worked by hand, and on those that `solve --cert` prints.
-use super::{NINE, RECURRING, answer, list, shows};
+use super::{NINE, RECURRING, answer, list, repeated, shows};
 use crate::meeting::Meeting;
 use black_top::{Status, run};
 use ltl_io::{MemorySink, MemorySource};
@@ -204,6 +204,26 @@ const ON_LAST: &[Row] = &[
     ),
 ];
 
+/// What stands behind 600,000 good lines of a certificate of `false`, and what is shown.
+const LONG_ENDS: &[Row] = &[
+    (b"close 1 600000\n", VERIFIED, Status::Good),
+    (
+        b"-2 0 2 0\nclose 1 1\n",
+        b"REJECTED line 600001\n",
+        Status::Negative,
+    ),
+    (
+        b"close 1 600001\n",
+        b"REJECTED target 2\n",
+        Status::Negative,
+    ),
+    (
+        b"close 1 1",
+        b"certificate fault at byte 6600030\n",
+        Status::Text,
+    ),
+];
+
 /// A formula, a separator line and a second part.
 fn joined(alloc: Global, formula: &[u8], second: &[u8]) -> Result<Vec<u8>, AllocError> {
     let mut input = formula.to_vec(alloc)?;
@@ -239,6 +259,20 @@ fn worked_certificates(rt: HostRuntime) -> Result<(), Fail> {
     for words in &words {
         checks(&rt, alloc, words, b"false", ON_FALSE)?;
         checks(&rt, alloc, words, b"wX false", ON_LAST)?;
+    }
+    Ok(())
+}
+
+/// Inputs that are longer than what is read before lines are judged.
+#[test]
+fn judged_while_read(rt: HostRuntime) -> Result<(), Fail> {
+    let alloc = rt.alloc();
+    for (last, output, status) in LONG_ENDS {
+        let lines = repeated(alloc, b"-2 0 2 1 0\n", 600_000, last)?;
+        let mut text = b"ltlcert 1 infinite 0\n".to_vec(alloc)?;
+        text.extend_from_slice(&lines)?;
+        let input = joined(alloc, b"false", &text)?;
+        shows(&rt, alloc, "check --workers 2", &input, output, *status)?;
     }
     Ok(())
 }

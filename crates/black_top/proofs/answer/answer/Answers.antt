@@ -1,10 +1,14 @@
-use Rattle.std.proofs.Common.{◌∙◌, ◌≤◌, [], List, ℕ, length, map, string_bytes, sym, subst, arith}
+use Rattle.std.proofs.Common.{◌∙◌, ◌≤◌, [], List, ℕ, length, map, string_bytes, refl, sym, subst, arith}
 use Rattle.report.specs.declared.fault.Fault.TheVariants as faults
+use Rattle.command_words.specs.declared.asked.Asked.TheVariants as commands
 use Rattle.black_top.specs.Answer.{refused}
-use Rattle.black_top.specs.Run.{not_taken}
+use Rattle.black_top.specs.Run.{IsGiven, not_taken}
 use Rattle.command_words.specs.Asked.{IsAsked}
-use Rattle.black_top.specs.Inner.{Gives}
-use Rattle.black_top.proofs.Leaving.{some_left, given_left, given_unread, stops, takes, takes_none, reads}
+use Rattle.black_top.specs.Reading.{IsParted}
+use Rattle.black_top.specs.Check.{IsChecked}
+use Rattle.black_top.specs.Inner.{IsLeft, Gives}
+use Rattle.black_top.proofs.Leaving.{some_left, given_left, given_checked, given_unread, stops, takes, takes_none, reads}
+use Rattle.black_top.proofs.Showing.{shown_as}
 use Rattle.black_top.proofs.answer.answer.Goals as goal
 
 pub returns-in_default-clause-given : goal.returns-in_default-clause-given
@@ -15,6 +19,23 @@ returns-in_default-clause-given g c =
 
 pub returns-in_default-clause-left : goal.returns-in_default-clause-left
 returns-in_default-clause-left g c command asks = let none = rw c.in_default.is at c.in_ok-asked.ensures in absurd (none command asks)
+
+pub returns-in-Some-by_several-clause-given : goal.returns-in-Some-by_several-clause-given
+returns-in-Some-by_several-clause-given g c =
+    let words = map string_bytes c.args.words.now in
+    let rest = g.S.Source.rest c.args.source.now in
+    let options = c.in-Some-by_several.options in
+    let asked : IsAsked words c.in-Some.asked = rw c.in-Some.is at c.in_ok-asked.ensures in
+    let is : IsAsked words (commands.Check options) = subst (IsAsked words) c.in-Some-by_several.ensures.0 asked in
+    shown_as (IsLeft (IsParted (IsChecked options.kind)) rest) (IsGiven words rest) c.check_source.result (λ a h. given_checked words rest options a is h) c.check_source.ensures.given
+
+pub returns-in-Some-by_several-clause-unread : goal.returns-in-Some-by_several-clause-unread
+returns-in-Some-by_several-clause-unread g c nothing =
+    let words = map string_bytes c.args.words.now in
+    let options = c.in-Some-by_several.options in
+    let asked : IsAsked words c.in-Some.asked = rw c.in-Some.is at c.in_ok-asked.ensures in
+    let is : IsAsked words (commands.Check options) = subst (IsAsked words) c.in-Some-by_several.ensures.0 asked in
+    absurd (reads words (commands.Check options) 18446744073709551615 is refl nothing)
 
 pub returns-in_default-stop_after-clause-given : goal.returns-in_default-stop_after-clause-given
 returns-in_default-stop_after-clause-given g c =

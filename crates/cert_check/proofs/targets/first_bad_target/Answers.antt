@@ -1,9 +1,9 @@
 use Rattle.std.proofs.Common.{rules, IsTrue, ◌+◌, arith}
 use Rattle.cert_check.specs.Lawful.{IsGoodTarget}
 use Rattle.cert_check.proofs.Judging.{good_so_far, bad_here, none_bad}
-use Rattle.cert_check.proofs.together.first_bad_target.Goals as goal
+use Rattle.cert_check.proofs.targets.first_bad_target.Goals as goal
 
 pub targets-preserved : goal.targets-preserved
-targets-preserved c =
+targets-preserved g c =
     let yes : IsTrue c.is_good.result = search in
-    good_so_far (IsGoodTarget c.args.closure.now.formula c.args.view.now) c.targets.index c.targets.invariant (c.is_good.ensures.0 yes)
+    good_so_far (IsGoodTarget c.args.closure.now.formula (g.T.Closed.said c.args.text.now)) c.targets.index c.targets.invariant (c.is_good.ensures.0 yes)

@@ -1,0 +1,141 @@
+// A text that comes in pieces. The front has what has come in whole lines; what stands behind the last of them
+// is the beginning of a line whose end is still to come, and the next piece begins with it.
+ghost use Rattle.std.specs.Prelude.{◌≡◌, ◌<◌, ◌≤◌, ◌++◌, [], false, length, slice_index, vec_len, IfOk, IfSome, OnOk, MatchResult, IsErrOf};
+ghost use Rattle.ltl_io.specs.Count.{Rose, Counts};
+ghost use Rattle.ltl_io.specs.Outside.{IsReadOn};
+ghost use Rattle.ltl_io.specs.declared.source.ReadRefused.TheVariants as read_refused;
+ghost use Rattle.cert_text.specs.Front.{GoesOn};
+ghost use Rattle.cert_check.specs.Pieces.{bytes_in, IsEndedNow};
+
+use cert_text::Front;
+use ltl_io::{ReadRefused, Source, read_on};
+use std::alloc::{AllocError, Global};
+
+/// How many bytes a piece has, or a few more: four mebibytes.
+const PIECE: usize = 4_194_304;
+
+/// A source gives no more bytes at once.
+const READ: usize = 65_536;
+
+/// What has come of a text, and how far it is judged.
+#[derive(Drop)]
+pub struct Coming {
+    /// What has come in whole lines.
+    pub front: Front,
+    /// What has come behind them.
+    pub carry: Vec<u8>,
+    /// So many of the lines are judged good.
+    pub judged: u64,
+    /// Whether the source has come to its end.
+    pub ended: bool,
+}
+
+/// The text that begins with the bytes, of which no line is judged, where they begin one. Otherwise the bytes are
+/// given back.
+pub fn begun(alloc: Global, hand: Vec<u8>) -> Result<Result<Coming, Vec<u8>>, AllocError>
+    ensures { IfOk result (λ r. MatchResult r
+        (λ coming. (bytes_in coming ≡ hand.items) × (coming.judged ≡ 0) × (coming.ended ≡ false))
+        (λ bytes. bytes.items ≡ hand.items)) }
+{
+    let (piece, carry) = cut(alloc, hand, 0)?;
+    match Front::begin(alloc, piece)? {
+        Ok(front) => Ok(Ok(Coming {
+            front,
+            carry,
+            judged: 0,
+            ended: false,
+        })),
+        Err(piece) => Ok(Err(joined(piece, &carry)?)),
+    }
+}
+
+/// All bytes that have come.
+pub fn all_bytes(alloc: Global, coming: Coming) -> Result<Vec<u8>, AllocError>
+    ensures { IfOk result (λ bytes. bytes.items ≡ bytes_in coming) }
+{
+    joined(coming.front.into_bytes(alloc)?, &coming.carry)
+}
+
+/// The bytes, and others behind them.
+pub fn joined(mut bytes: Vec<u8>, behind: &Vec<u8>) -> Result<Vec<u8>, AllocError>
+    ensures { IfOk result (λ all. all.items ≡ bytes.items ++ behind.now.items) }
+{
+    bytes.extend_from_slice(behind)?;
+    Ok(bytes)
+}
+
+/// Where the last line ends that ends at this place or behind it.
+fn last_line_end(bytes: &Vec<u8>, from: usize) -> Option<usize>
+    ensures { IfSome result (λ end. end ≤ vec_len bytes.now) }
+{
+    let mut end = bytes.len();
+    'places: while end > from {
+        if bytes[end - 1] == b'\n' {
+            return Some(end);
+        }
+        end -= 1;
+    }
+    None
+}
+
+/// The bytes up to the end of the last line, and those behind it. No line ends before the place `from`.
+fn cut(alloc: Global, mut bytes: Vec<u8>, from: usize) -> Result<(Vec<u8>, Vec<u8>), AllocError>
+    ensures { IfOk result (λ parts. parts.0.items ++ parts.1.items ≡ bytes.items) }
+{
+    match last_line_end(&bytes, from) {
+        None => Ok((Vec::new(alloc), bytes)),
+        Some(end) => {
+            let carry = bytes.split_off(end)?;
+            Ok((bytes, carry))
+        }
+    }
+}
+
+/// Reads a piece more behind the bytes, unless the source has ended, and answers whether it has now.
+pub fn read_piece<S: Source>(
+    ended: bool,
+    source: &mut S,
+    bytes: &mut Vec<u8>,
+) -> Result<bool, ReadRefused>
+    ensures bytes { OnOk result (IsReadOn bytes.old.items bytes.new.items (S.rest source.old)
+        (S.rest source.new)) }
+    ensures ended { IfOk result (λ now. IsEndedNow ended now (S.rest source.old) (S.rest source.new)) }
+    ensures fault { IsErrOf result read_refused.Fault → Rose (S.faults source.old) (S.faults source.new) }
+    ensures no_memory { IsErrOf result read_refused.NoMemory → S.faults source.new ≡ S.faults source.old }
+    ensures count { OnOk result (S.faults source.new ≡ S.faults source.old) }
+    ensures counts { Counts (S.faults source.old) (S.faults source.new) }
+{
+    if ended {
+        return Ok(true);
+    }
+    bytes.reserve(PIECE + READ)?;
+    let stop_after = bytes.len().saturating_add(PIECE);
+    read_on(source, bytes, stop_after)
+}
+
+/// The front with the whole lines of the bytes, which begin with what had come behind it, and those that stand
+/// behind them. Where they do not go on as a certificate text does, all bytes are given back.
+pub fn with_piece(
+    alloc: Global,
+    front: Front,
+    bytes: Vec<u8>,
+    seen: usize,
+) -> Result<Result<(Front, Vec<u8>), Vec<u8>>, AllocError>
+    ensures { IfOk result (λ r. MatchResult r
+        (λ taken. (taken.0.bytes ++ taken.1.items ≡ front.bytes ++ bytes.items)
+        × GoesOn front.bytes taken.0.bytes)
+        (λ all. all.items ≡ front.bytes ++ bytes.items)) }
+{
+    let (piece, carry) = cut(alloc, bytes, seen)?;
+    if piece.is_empty() {
+        return Ok(Ok((front, carry)));
+    }
+    let (front, back) = front.take(alloc, piece)?;
+    match back {
+        None => Ok(Ok((front, carry))),
+        Some(piece) => {
+            let all = joined(front.into_bytes(alloc)?, &piece)?;
+            Ok(Err(joined(all, &carry)?))
+        }
+    }
+}
