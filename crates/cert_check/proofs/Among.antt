@@ -1,5 +1,5 @@
 -- Literals that have to be among two, one after another.
-use Rattle.std.proofs.Common.{◌≡◌, ℕ, ◌<◌, ◌↔◌, inl, inr, Bool, true, false, not, eqb, IsTrue, List, [], ◌∷◌, All, Contains, refl, sym, subst, ap, ap₂, ◌∙◌, arith}
+use Rattle.std.proofs.Common.{◌≡◌, ◌↔◌, inl, inr, Bool, true, false, not, eqb, IsTrue, List, [], ◌∷◌, All, Contains, refl, sym, subst, ap, ap₂, ◌∙◌, arith}
 use mathlib.Core.Bool.{false≢true, ◌&&◌, beq}
 use Rattle.std.proofs.lemmas.Bool.{eq-eqb}
 use Rattle.std.proofs.lemmas.List.Elements.{All-nil, All-cons, All-head, All-tail}

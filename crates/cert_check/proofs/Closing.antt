@@ -14,7 +14,6 @@ use Rattle.enc_layout.specs.Letters.{Here, Accepted, Unpruned, letters_through}
 use Rattle.enc_layout.specs.Clauses.{counts}
 use Rattle.log_trim.specs.Kept.{Marks, trimmed, new_number, new_numbers}
 use Rattle.log_trim.specs.Marking.{HasTargets, AreLines, AreTheNeeded, target}
-use Rattle.log_trim.specs.Trimmed.{IsTrimmed}
 use Rattle.log_trim.proofs.Keeping.{All-kept_from}
 use Rattle.log_trim.proofs.MarkedLines.{target_kept, trimmed_log}
 use Rattle.cert_text.specs.Text.{greatest_u64, text_of}

@@ -1,5 +1,5 @@
 -- From the lines and the targets of a certificate to the answer on its bytes.
-use Rattle.std.proofs.Common.{◌≡◌, ℕ, zero, suc, ◌+◌, ◌-◌, ◌<◌, ◌≤◌, ◌⊎◌, ◌↔◌, inl, inr, Bool, true, false, IsTrue, is_some, List, [], ◌∷◌, length, get_or, All, Contains, Option, Some, None, refl, sym, ap, subst, ◌∙◌, arith}
+use Rattle.std.proofs.Common.{◌≡◌, ℕ, suc, ◌+◌, ◌-◌, ◌<◌, ◌≤◌, ◌⊎◌, ◌↔◌, inl, inr, Bool, false, IsTrue, is_some, List, [], length, get_or, All, Contains, Option, Some, None, refl, sym, ap, subst, ◌∙◌, arith}
 use mathlib.Core.Bool.{false≢true}
 use Rattle.std.proofs.lemmas.Bool.{cases_lt}
 use Rattle.std.proofs.lemmas.Option.{get_or_from_slice_get}
@@ -7,12 +7,12 @@ use Rattle.ltl_syntax.specs.declared.node.Kind.{Kind}
 use Rattle.ltl_syntax.specs.Formula.{Formula}
 use Rattle.cnf_base.specs.declared.literal.Literal.{Literal as Signed}
 use Rattle.cnf_base.specs.Step.{numbered}
-use Rattle.cert_text.specs.Text.{Part, Certificate, IsTextOf}
+use Rattle.cert_text.specs.Text.{Certificate, IsTextOf}
 use Rattle.cert_text.specs.Live.{lines_of, live_line}
 use Rattle.cert_text.proofs.LiveLines.{live_stands}
 use Rattle.enc_layout.specs.Letters.{LayoutValue, Fits, letters_through}
 use Rattle.enc_layout.specs.Clauses.{counts, clause_list}
-use Rattle.log_checker.specs.Judging.{IsFirstBad, IsFirstBadLine}
+use Rattle.log_checker.specs.Judging.{IsFirstBadLine}
 use Rattle.enc_layout.specs.Limit.{layout, IsInForce}
 use Rattle.cert_check.specs.Lawful.{target_literals, IsGoodTarget}
 use Rattle.cert_check.specs.Answer.{Answer, FormFault, OtherKind, TooManyLetters, BadLine, BadTarget, Verified, HasFewLetters, IsAnswer, IsFirstTarget, IsJudged, targets_answer, AreGoodLines}

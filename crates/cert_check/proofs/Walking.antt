@@ -1,5 +1,5 @@
 -- The walk over the items of a text: which parts are taken, what the checker keeps of them, and that each line so far is good.
-use Rattle.std.proofs.Common.{◌≡◌, ℕ, zero, suc, ◌+◌, ◌<◌, ◌≤◌, ◌⊎◌, ◌↔◌, inl, inr, Bool, true, false, IsTrue, List, [], ◌∷◌, ◌++◌, length, drop, get_or, All, Contains, Option, Some, None, refl, sym, ap, subst, ◌∙◌, arith, append_assoc}
+use Rattle.std.proofs.Common.{◌≡◌, ℕ, zero, suc, ◌<◌, ◌≤◌, ◌↔◌, inl, inr, Bool, true, false, IsTrue, List, [], ◌∷◌, ◌++◌, length, drop, get_or, All, Contains, Some, None, refl, sym, ap, subst, ◌∙◌, arith, append_assoc}
 use Rattle.std.proofs.lemmas.Bool.{cases_lt}
 use Rattle.std.proofs.lemmas.List.{append-nil, length_push}
 use mathlib.Core.Bool.{false≢true}
@@ -9,7 +9,7 @@ use Rattle.cnf_base.specs.declared.literal.Literal.{Literal as Signed}
 use Rattle.cnf_base.specs.declared.literal.Hint.{Hint}
 use Rattle.cnf_base.specs.Among.{IsStepAmong}
 use Rattle.cnf_base.proofs.Among.{step_kept}
-use Rattle.cnf_base.specs.Known.{IsKnown, AreKnown}
+use Rattle.cnf_base.specs.Known.{AreKnown}
 use Rattle.enc_layout.specs.Letters.{letters_through}
 use Rattle.enc_layout.specs.Clauses.{counts, clause_list}
 use Rattle.enc_layout.proofs.Numbering.{list_range}
@@ -19,7 +19,7 @@ use Rattle.cert_text.specs.declared.item.Item.{Item}
 use Rattle.cert_text.specs.declared.item.Item.TheVariants as items
 use Rattle.cert_text.specs.Items.{items_from}
 use Rattle.cert_text.proofs.LiveLines.{lines_on}
-use Rattle.log_checker.specs.Judging.{Checker, fresh, LiveLine, found, with_item, with_part, IsGoodItem, IsFirstBadLine}
+use Rattle.log_checker.specs.Judging.{Checker, fresh, LiveLine, found, with_item, IsGoodItem, IsFirstBadLine}
 use Rattle.log_checker.proofs.Taken.{HasTaken, taken, taken_part}
 use Rattle.cert_check.specs.Lawful.{target_literals, IsGoodTarget}
 use Rattle.cert_check.specs.Walk.{IsGoodKept}

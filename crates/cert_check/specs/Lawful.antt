@@ -6,7 +6,7 @@ use Rattle.ltl_word.specs.declared.trace.Trace.{Trace}
 use Rattle.ltl_word.specs.Trace.{IsTrace, IsOfKind}
 use Rattle.ltl_word.specs.Holds.{Satisfies}
 use Rattle.cnf_base.specs.declared.literal.Literal.{Literal as Signed}
-use Rattle.cnf_base.specs.Known.{IsKnown, AreKnown}
+use Rattle.cnf_base.specs.Known.{AreKnown}
 use Rattle.clause_log.specs.LogValue.{LogValue, IsLog}
 use Rattle.enc_layout.specs.Letters.{Unpruned, Here, Accepted, letters_through}
 use Rattle.enc_layout.specs.Clauses.{counts, clause_list}

@@ -8,11 +8,16 @@ use Rattle.cert_text.specs.Live.{lines_of, IsGoodLine}
 use Rattle.cert_text.specs.Front.{said_in}
 use Rattle.log_checker.specs.Judging.{IsFirstBad}
 use Rattle.cert_check.specs.declared.pieces.Coming.{Coming}
+use Rattle.cert_check.specs.declared.pieces.Next.{Next}
 use Rattle.cert_check.specs.Answer.{IsAnswer, Verified}
 
 -- the bytes that have come: those of the front, and those behind its last line
 abbrev pub bytes_in : Coming → List ℕ
 bytes_in c = c.front.bytes ++ c.carry.items
+
+-- the bytes that come next: whole lines, and those behind them
+abbrev pub next_bytes : Next → List ℕ
+next_bytes n = n.piece ++ n.carry.items
 
 -- where the source has ended, nothing is left of a told rest
 abbrev pub IsEnded : Bool → Option (List ℕ) → Option (List ℕ) → Type 0

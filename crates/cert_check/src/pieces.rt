@@ -1,20 +1,21 @@
-// A text that comes in pieces. The front has what has come in whole lines; what stands behind the last of them
-// is the beginning of a line whose end is still to come, and the next piece begins with it.
-ghost use Rattle.std.specs.Prelude.{◌≡◌, ◌<◌, ◌≤◌, ◌++◌, [], false, length, slice_index, vec_len, IfOk, IfSome, OnOk, MatchResult, IsErrOf};
+// A text that comes in pieces. The front has what has come in whole lines; what stands behind the last of
+// them is the beginning of a line whose end is still to come, and the next piece begins with it.
+ghost use Rattle.std.specs.Prelude.{◌≡◌, ◌≤◌, ◌++◌, false, vec_len, IfOk, IfSome, OnOk, MatchResult, IsErrOf};
 ghost use Rattle.ltl_io.specs.Count.{Rose, Counts};
 ghost use Rattle.ltl_io.specs.Outside.{IsReadOn};
 ghost use Rattle.ltl_io.specs.declared.source.ReadRefused.TheVariants as read_refused;
 ghost use Rattle.cert_text.specs.Front.{GoesOn};
-ghost use Rattle.cert_check.specs.Pieces.{bytes_in, IsEndedNow};
+ghost use Rattle.cert_check.specs.Pieces.{bytes_in, next_bytes, IsEndedNow};
 
-use cert_text::Front;
+use cert_text::{Front, Passed};
 use ltl_io::{ReadRefused, Source, read_on};
 use std::alloc::{AllocError, Global};
+use std::mem;
 
 /// How many bytes a piece has, or a few more: four mebibytes.
 const PIECE: usize = 4_194_304;
 
-/// A source gives no more bytes at once.
+/// So many more may come by the read that completes it.
 const READ: usize = 65_536;
 
 /// What has come of a text, and how far it is judged.
@@ -30,8 +31,19 @@ pub struct Coming {
     pub ended: bool,
 }
 
-/// The text that begins with the bytes, of which no line is judged, where they begin one. Otherwise the bytes are
-/// given back.
+/// What comes next behind a front.
+#[derive(Drop)]
+pub struct Next {
+    /// Whole lines, gone over.
+    pub piece: Passed,
+    /// What stands behind them.
+    pub carry: Vec<u8>,
+    /// Whether the source has come to its end.
+    pub ended: bool,
+}
+
+/// The text that begins with the bytes, of which no line is judged, where they begin one. Otherwise the bytes
+/// are given back.
 pub fn begun(alloc: Global, hand: Vec<u8>) -> Result<Result<Coming, Vec<u8>>, AllocError>
     ensures { IfOk result (λ r. MatchResult r
         (λ coming. (bytes_in coming ≡ hand.items) × (coming.judged ≡ 0) × (coming.ended ≡ false))
@@ -113,29 +125,66 @@ pub fn read_piece<S: Source>(
     read_on(source, bytes, stop_after)
 }
 
-/// The front with the whole lines of the bytes, which begin with what had come behind it, and those that stand
-/// behind them. Where they do not go on as a certificate text does, all bytes are given back.
-pub fn with_piece(
+/// Reads a piece more behind the carry, unless the source has ended, and goes over its lines. Nothing is left
+/// in the carry.
+pub fn next_piece<S: Source>(
+    alloc: Global,
+    front: &Front,
+    ended: bool,
+    source: &mut S,
+    carry: &mut Vec<u8>,
+) -> Result<Next, ReadRefused>
+    ensures bytes { IfOk result (λ next. IsReadOn carry.old.items (next_bytes next) (S.rest source.old)
+        (S.rest source.new)) }
+    ensures ended { IfOk result (λ next. IsEndedNow ended next.ended (S.rest source.old)
+        (S.rest source.new)) }
+    ensures fault { IsErrOf result read_refused.Fault → Rose (S.faults source.old) (S.faults source.new) }
+    ensures no_memory { IsErrOf result read_refused.NoMemory → S.faults source.new ≡ S.faults source.old }
+    ensures count { OnOk result (S.faults source.new ≡ S.faults source.old) }
+    ensures counts { Counts (S.faults source.old) (S.faults source.new) }
+{
+    let seen = carry.len();
+    let ended = read_piece(ended, source, carry)?;
+    let bytes = mem::replace(carry, Vec::new(alloc));
+    let (piece, carry) = cut(alloc, bytes, seen)?;
+    Ok(Next {
+        piece: front.pass(piece),
+        carry,
+        ended,
+    })
+}
+
+/// All bytes that have come, with those that come next.
+pub fn all_with(
     alloc: Global,
     front: Front,
-    bytes: Vec<u8>,
-    seen: usize,
+    piece: Vec<u8>,
+    carry: &Vec<u8>,
+) -> Result<Vec<u8>, AllocError>
+    ensures { IfOk result (λ all. all.items ≡ front.bytes ++ (piece.items ++ carry.now.items)) }
+{
+    let bytes = joined(front.into_bytes(alloc)?, &piece)?;
+    joined(bytes, carry)
+}
+
+/// The front with the whole lines that come next, and the bytes behind these. Where the text does not go on
+/// with the lines, all bytes are given back.
+pub fn with_next(
+    alloc: Global,
+    front: Front,
+    next: Next,
 ) -> Result<Result<(Front, Vec<u8>), Vec<u8>>, AllocError>
     ensures { IfOk result (λ r. MatchResult r
-        (λ taken. (taken.0.bytes ++ taken.1.items ≡ front.bytes ++ bytes.items)
+        (λ taken. (taken.0.bytes ++ taken.1.items ≡ front.bytes ++ next_bytes next)
         × GoesOn front.bytes taken.0.bytes)
-        (λ all. all.items ≡ front.bytes ++ bytes.items)) }
+        (λ all. all.items ≡ front.bytes ++ next_bytes next)) }
 {
-    let (piece, carry) = cut(alloc, bytes, seen)?;
-    if piece.is_empty() {
-        return Ok(Ok((front, carry)));
+    if next.piece.is_empty() {
+        return Ok(Ok((front, next.carry)));
     }
-    let (front, back) = front.take(alloc, piece)?;
+    let (front, back) = front.take(alloc, next.piece)?;
     match back {
-        None => Ok(Ok((front, carry))),
-        Some(piece) => {
-            let all = joined(front.into_bytes(alloc)?, &piece)?;
-            Ok(Err(joined(all, &carry)?))
-        }
+        None => Ok(Ok((front, next.carry))),
+        Some(piece) => Ok(Err(all_with(alloc, front, piece, &next.carry)?)),
     }
 }

@@ -21,8 +21,8 @@ use ltl_io::{Gate, ReadRefused, Source};
 use std::alloc::Global;
 use std::thread::Threads;
 
-/// Judges a text of the right kind whose letters are few enough, and of which no line is judged. All is read, and
-/// it is verified, or the bytes that have come are given back.
+/// Judges a text of the right kind whose letters are few enough, and of which no line is judged: all is read,
+/// and it is verified, or the bytes that have come are given back.
 pub fn judge<R: Threads + Sync, S: Source, G: Gate + Sync>(
     rt: &R,
     alloc: Global,

@@ -11,7 +11,7 @@ ghost use Rattle.cert_text.specs.Pieces.{bytes_of, with_text, place_at, IsMarkin
 
 use crate::finding::find;
 use crate::marks::targets_at;
-use crate::passing::pass;
+use crate::passed::{Passed, come};
 use crate::pieces::{Pieces, Text, with_piece};
 use crate::scanning::{Head, Place};
 use crate::{Hints, Literals};
@@ -40,20 +40,6 @@ impl Model for Front {
 
     ghost invariant = { λ a. IsFront a.pieces.texts.items a.pieces.size a.head a.is_closed
         a.pieces.spots.items a.pieces.ends.items a.targets.items };
-}
-
-/// What stands before the place to which the pass over a piece comes, where a part may begin there or it is the
-/// end, and whether it is the end.
-fn come(piece: &[u8], first: &'static [u8], from: Place) -> Option<(Head, bool)>
-    requires { (before : List ℕ) × LeadsTo before first.now from
-        × (length before + length piece.now < 2 ^ 64) }
-    ensures { IfSome result (λ r. small_run first.now from piece.now ≡ Some ([], place_at r.1 r.0)) }
-{
-    match pass(piece, first, from) {
-        Some(Place::Part(head)) => Some((head, false)),
-        Some(Place::End(head)) => Some((head, true)),
-        _ => None,
-    }
 }
 
 /// The targets, where the close begins at `close` in the last piece; none where it has not come.
@@ -96,16 +82,28 @@ impl Front {
         Ok(Ok(front))
     }
 
-    /// Takes the piece that comes next, where what has come is still the front of a certificate text with it
-    /// and ends with a line. Otherwise the piece is given back, and all is as before.
-    pub fn take(self, alloc: Global, piece: Vec<u8>) -> Result<(Front, Option<Vec<u8>>), AllocError>
-        ensures { IfOk result (λ r. MatchOption r.1 (IsTaken self piece.items r.0)
-            (λ back. (r.0 ≡ self) × (back.items ≡ piece.items))) }
+    /// Goes over the piece that comes next, which changes nothing of what has come. To take it is cheap then.
+    pub fn pass(&self, piece: Vec<u8>) -> Passed
+        ensures { result ≡ piece.items }
     {
+        if self.is_closed || piece.len() > usize::MAX - self.pieces.size {
+            return Passed::not_over(self.head, piece);
+        }
+        Passed::behind(self.head, piece)
+    }
+
+    /// Takes a piece that was gone over behind what has come, where that is still the front of a certificate
+    /// text with it and ends with a line. Otherwise the piece is given back, and all is as before.
+    pub fn take(self, alloc: Global, passed: Passed) -> Result<(Front, Option<Vec<u8>>), AllocError>
+        ensures { IfOk result (λ r. MatchOption r.1 (IsTaken self passed r.0)
+            (λ back. (r.0 ≡ self) × (back.items ≡ passed))) }
+    {
+        let came = passed.came_behind(self.head);
+        let piece = passed.into_piece();
         if self.is_closed || piece.len() > usize::MAX - self.pieces.size {
             return Ok((self, Some(piece)));
         }
-        let Some((head, is_closed)) = come(piece.as_slice(), b"", Place::Part(self.head)) else {
+        let Some((head, is_closed)) = came else {
             return Ok((self, Some(piece)));
         };
         let front = Front::with_piece(alloc, self.pieces, piece, 0, head, is_closed)?;

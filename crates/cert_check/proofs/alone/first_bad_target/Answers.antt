@@ -1,4 +1,4 @@
-use Rattle.std.proofs.Common.{◌≡◌, rules, IsTrue, ◌+◌, add-one, suc, drop, get_or, refl, sym, subst, ◌∙◌, arith}
+use Rattle.std.proofs.Common.{IsTrue, ◌+◌, add-one, get_or, sym, subst, ◌∙◌, arith}
 use mathlib.Core.Bool.{false≢true}
 use Rattle.cert_check.specs.Walk.{IsGoodKept}
 use Rattle.cert_check.proofs.Judging.{good_so_far, bad_here, none_bad}

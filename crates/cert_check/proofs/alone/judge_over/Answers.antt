@@ -1,4 +1,4 @@
-use Rattle.std.proofs.Common.{◌≡◌, ℕ, ◌+◌, ◌<◌, IsTrue, List, ◌∷◌, length, get_or, Option, Some, None, refl, sym, ap, subst, ◌∙◌, arith}
+use Rattle.std.proofs.Common.{◌+◌, ◌∷◌, length, get_or, Some, None, sym, ap, subst, ◌∙◌, arith}
 use mathlib.Core.Bool.{false≢true}
 use Rattle.cnf_base.specs.Known.{AreKnown}
 use Rattle.enc_layout.specs.Letters.{LayoutValue, letters_through}
@@ -9,10 +9,10 @@ use Rattle.cert_text.specs.declared.glance.Form.{Form}
 use Rattle.cert_text.specs.Reading.{certificate_in}
 use Rattle.log_checker.specs.Judging.{Checker, fresh, IsGoodItem}
 use Rattle.cert_check.specs.Lawful.{IsGoodTarget}
-use Rattle.cert_check.specs.Answer.{IsFirstTarget, IsJudged, targets_answer}
+use Rattle.cert_check.specs.Answer.{IsFirstTarget, IsJudged}
 use Rattle.cert_check.specs.Walk.{IsGoodKept}
 use Rattle.cert_check.proofs.Judging.{first_same, first_line, judged_targets}
-use Rattle.cert_check.proofs.Walking.{IsWalked, walk_starts, walk_goes_on, line_counts, walk_line, walk_delete, walk_bad, walk_closes, kept_target, list_known}
+use Rattle.cert_check.proofs.Walking.{walk_starts, walk_goes_on, line_counts, walk_line, walk_delete, walk_bad, walk_closes, kept_target, list_known}
 use Rattle.cert_check.proofs.alone.judge_over.Goals as goal
 
 pub items-init : goal.items-init

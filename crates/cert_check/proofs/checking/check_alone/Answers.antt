@@ -1,8 +1,8 @@
-use Rattle.std.proofs.Common.{rules, ◌≡◌, refl, sym, ap, subst, ◌∙◌}
+use Rattle.std.proofs.Common.{rules, ◌≡◌, sym, ap, subst, ◌∙◌}
 use Rattle.ltl_syntax.specs.Table.{tree_at}
 use Rattle.enc_layout.specs.Letters.{Fits}
 use Rattle.enc_layout.specs.Clauses.{layout_of}
-use Rattle.cert_text.specs.Text.{Certificate, IsTextOf}
+use Rattle.cert_text.specs.Text.{IsTextOf}
 use Rattle.cert_text.specs.declared.glance.Form.{Form}
 use Rattle.cert_text.specs.Shape.{form_of}
 use Rattle.cert_text.specs.Reading.{certificate_in}

@@ -1,4 +1,4 @@
-use Rattle.std.proofs.Common.{rules, ◌≡◌, Err, refl, ap, subst, ◌∙◌}
+use Rattle.std.proofs.Common.{rules, ◌≡◌, Err, refl, ap, subst}
 use Rattle.ltl_syntax.specs.Table.{tree_at}
 use Rattle.enc_layout.specs.Letters.{Fits}
 use Rattle.enc_layout.specs.Clauses.{layout_of}

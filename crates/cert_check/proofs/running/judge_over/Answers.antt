@@ -1,6 +1,5 @@
-use Rattle.std.proofs.Common.{rules, ◌≡◌, IsTrue, refl, sym, ap, subst, ◌∙◌}
+use Rattle.std.proofs.Common.{rules, IsTrue, refl, sym, ap, subst, ◌∙◌}
 use mathlib.Core.Bool.{false≢true}
-use Rattle.ltl_io.specs.Outside.{IsReadOn}
 use Rattle.cnf_base.specs.Known.{AreKnown}
 use Rattle.enc_layout.specs.Letters.{LayoutValue, letters_through}
 use Rattle.enc_layout.specs.Clauses.{counts}

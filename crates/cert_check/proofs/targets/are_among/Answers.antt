@@ -1,4 +1,4 @@
-use Rattle.std.proofs.Common.{◌≡◌, sym, ◌∙◌}
+use Rattle.std.proofs.Common.{sym, ◌∙◌}
 use Rattle.cnf_base.proofs.SameLiteral.{same_literal}
 use Rattle.cert_check.proofs.Among.{differ, among_starts, is_first, is_second, among_on, among_ends, among_not}
 use Rattle.cert_check.proofs.targets.are_among.Goals as goal

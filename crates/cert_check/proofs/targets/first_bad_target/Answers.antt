@@ -1,6 +1,6 @@
-use Rattle.std.proofs.Common.{rules, IsTrue, ◌+◌, arith}
+use Rattle.std.proofs.Common.{IsTrue}
 use Rattle.cert_check.specs.Lawful.{IsGoodTarget}
-use Rattle.cert_check.proofs.Judging.{good_so_far, bad_here, none_bad}
+use Rattle.cert_check.proofs.Judging.{good_so_far}
 use Rattle.cert_check.proofs.targets.first_bad_target.Goals as goal
 
 pub targets-preserved : goal.targets-preserved

@@ -1,4 +1,4 @@
-use Rattle.std.proofs.Common.{rules, IsTrue, [], ◌∷◌, arith}
+use Rattle.std.proofs.Common.{IsTrue, [], ◌∷◌, arith}
 use Rattle.cert_check.proofs.Judging.{seen_target}
 use Rattle.cert_check.proofs.targets.is_good.Goals as goal
 

@@ -1,4 +1,4 @@
-use Rattle.std.proofs.Common.{◌≡◌, ℕ, List, Option, Some, None, refl, sym, ap, subst, ◌∙◌}
+use Rattle.std.proofs.Common.{List, Some, None, refl, sym, ap, subst, ◌∙◌}
 use Rattle.cnf_base.specs.declared.literal.Literal.{Literal}
 use Rattle.cnf_base.specs.Known.{AreKnown}
 use Rattle.enc_layout.specs.Letters.{LayoutValue, letters_through}
