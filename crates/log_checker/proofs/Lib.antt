@@ -10,6 +10,7 @@ pub mod Assuming
 pub mod Refuting
 pub mod Entries
 pub mod Cutting
+pub mod Marking
 pub mod AtLine
-pub mod Whole
+pub mod Together
 pub mod ShortForms

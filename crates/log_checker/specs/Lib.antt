@@ -1,6 +1,6 @@
 pub mod Values
 pub mod Judging
 pub mod Kept
-pub mod Pieces
+pub mod Shares
 pub mod Laws
 pub mod Shorts

@@ -3,6 +3,7 @@
 
 mod assignment;
 mod cuts;
+mod gather;
 mod judge;
 mod kept;
 pub mod laws;
@@ -10,12 +11,11 @@ pub mod lines;
 pub mod live;
 mod numbered;
 mod outcome;
-mod pieces;
 mod shared;
 pub mod stored;
+mod worker;
 
 pub use assignment::Assignment;
-pub use cuts::share_end;
 pub use judge::{NamedClauses, with_literal};
 pub use lines::{Lines, Scratch, check_lines, check_range};
 pub use live::LiveChecker;

@@ -1,22 +1,24 @@
 // The lines of a certificate, or a range of them, judged by several workers. They are cut into consecutive
-// pieces, each worker judges one in an area of its own, and the answer of the first piece that has a bad line
-// is that of all.
+// shares, many more than there are workers, which the workers take by turns, each in an area of its own; and
+// the least bad line that any of them has found is the answer.
 ghost use Rattle.std.specs.Prelude.{◌≡◌, ℕ, ◌+◌, ◌^◌, ◌<◌, ◌≤◌, length, All, IfOk, IfSome, slice_index_or};
 ghost use Rattle.cnf_base.specs.Known.{AreKnown};
 ghost use Rattle.cert_text.specs.Live.{lines_of};
 ghost use Rattle.log_checker.specs.Values.{letters_in};
 ghost use Rattle.log_checker.specs.Judging.{IsLinesAnswer, IsRangeAnswer};
-ghost use Rattle.log_checker.specs.Pieces.{IsWithin, IsFirstOf, IsJudged};
+ghost use Rattle.log_checker.specs.Shares.{AreShares, IsJudged, KeepSizes, answer_by};
 
 use crate::assignment::Assignment;
 use crate::cuts::cut_lines;
+use crate::gather::{judge_rest, least_bad};
 use crate::judge::NamedClauses;
 use crate::numbered::NumberedLines;
-use crate::pieces::{Area, judge_piece};
+use crate::worker::{Area, judge_by_turns};
 use cert_text::CertView;
 use ltl_io::Gate;
 use std::alloc::{AllocError, Global};
 use std::marker::Model;
+use std::sync::atomic::AtomicU64;
 use std::thread;
 use std::thread::Threads;
 
@@ -29,23 +31,29 @@ pub enum Lines {
     FirstBad(u64),
 }
 
-/// What the workers work in: an area for each, with a byte and four more for each letter.
+/// How many shares the lines are cut into: so many that the last one that a slow processor has taken is soon
+/// done, and so few that the turns cost nothing.
+const SHARES: usize = 256;
+
+/// What the workers work in: an area for each, with a byte and four more for each letter; and the lines at
+/// which the shares begin, and the last one ends.
 #[derive(Drop)]
 pub struct Scratch {
     letters: u32,
     areas: Vec<Area>,
+    cuts: Vec<u64>,
 }
 
 impl Model for Scratch {
     ghost use Rattle.std.specs.Prelude.{length};
     ghost use Rattle.log_checker.specs.Judging.{ScratchValue};
-    ghost use Rattle.log_checker.specs.Pieces.{IsScratch};
+    ghost use Rattle.log_checker.specs.Shares.{IsScratch};
 
     ghost Value = { ScratchValue };
 
     ghost view = { λ a. record { workers = length a.areas.items; letters = a.letters } };
 
-    ghost invariant = { λ a. IsScratch a.letters a.areas.items };
+    ghost invariant = { λ a. IsScratch a.letters a.areas.items a.cuts.items };
 }
 
 impl Scratch {
@@ -59,21 +67,26 @@ impl Scratch {
         let mut areas = Vec::new(alloc);
         'workers: for _worker in 0..workers {
             let assignment = Assignment::new(alloc, letters)?;
+            let marks = Vec::from_elem(alloc, false, SHARES)?;
             areas.push(Area {
                 assignment,
-                from: 0,
-                to: 0,
+                marks,
                 first_bad: None,
                 apart: [0; 16],
             })?;
         }
-        Ok(Scratch { letters, areas })
+        let cuts = Vec::from_elem(alloc, 0u64, SHARES + 1)?;
+        Ok(Scratch {
+            letters,
+            areas,
+            cuts,
+        })
     }
 }
 
-/// Judges each line over the clauses and the lines that are live at it. The lines are cut into as many
-/// consecutive pieces as the scratch has workers, numbered from 0, of nearly equally many bytes. Each piece,
-/// an empty one too, tells the gate that it begins.
+/// Judges each line over the clauses and the lines that are live at it. The lines are cut into consecutive
+/// shares of nearly equally many bytes, which as many workers as the scratch has, numbered from 0, take by
+/// turns. Each worker, one that finds no share left too, tells the gate that it begins.
 pub fn check_lines<R: Threads + Sync, C: NamedClauses + Sync, G: Gate + Sync>(
     rt: &R,
     view: &CertView<'_>,
@@ -89,8 +102,9 @@ pub fn check_lines<R: Threads + Sync, C: NamedClauses + Sync, G: Gate + Sync>(
 }
 
 /// Judges the lines from one place up to another, which count from 0, over the clauses and the lines that are
-/// live at each. They are cut into as many consecutive pieces as the scratch has workers, numbered from 0, of
-/// nearly equally many bytes. Each piece, an empty one too, tells the gate that it begins.
+/// live at each. They are cut into consecutive shares of nearly equally many bytes, which as many workers as
+/// the scratch has, numbered from 0, take by turns. Each worker, one that finds no share left too, tells the
+/// gate that it begins.
 pub fn check_range<
     R: Threads + Sync,
     V: NumberedLines + Sync,
@@ -104,47 +118,49 @@ pub fn check_range<
         result }
     ensures same { scratch.new ≡ scratch.old }
 {
-    cut_lines(text, from, to, &mut scratch.areas);
-    judge_pieces(rt, text, clauses, gate, &mut scratch.areas);
-    first_answer(&scratch.areas)
+    cut_lines(text, from, to, &mut scratch.cuts);
+    judge_shares(rt, text, clauses, gate, &mut scratch.areas, &scratch.cuts);
+    judge_rest(text, clauses, &mut scratch.areas, &scratch.cuts);
+    numbered(least_bad(&scratch.areas))
 }
 
-/// Judges as many pieces as there are areas, each in a thread of its own where one can be made.
-fn judge_pieces<R: Threads + Sync, V: NumberedLines + Sync, C: NamedClauses + Sync, G: Gate + Sync>(
+/// As many workers as there are areas judge shares by turns, each in a thread of its own where one can be
+/// made.
+fn judge_shares<R: Threads + Sync, V: NumberedLines + Sync, C: NamedClauses + Sync, G: Gate + Sync>(
     rt: &R,
     text: &V,
     clauses: &C,
     gate: &G,
     areas: &mut Vec<Area>,
+    cuts: &Vec<u64>,
 )
     requires some { 1 ≤ length areas.old.items }
     requires few { length areas.old.items ≤ 16 }
     requires known { All (λ area. AreKnown (letters_in area.assignment)
         (C.clauses clauses.now)) areas.old.items }
-    requires within { All (IsWithin (length (lines_of (V.parts text.now)))) areas.old.items }
-    ensures count { length areas.new.items ≡ length areas.old.items }
-    ensures judged { (i : ℕ) (d : _) → i < length areas.old.items →
-        IsJudged (C.clauses clauses.now) (V.parts text.now)
-        (slice_index_or areas.old.items i d) (slice_index_or areas.new.items i d) }
+    requires shares { All (λ area. AreShares (length area.marks.items) (length (lines_of (V.parts text.now)))
+        cuts.now.items) areas.old.items }
+    ensures judged { All (IsJudged (C.clauses clauses.now) (V.parts text.now)
+        cuts.now.items) areas.new.items }
+    ensures sizes { KeepSizes areas.old.items areas.new.items }
 {
+    let turn = AtomicU64::new(0);
     let workers = areas.len();
     thread::for_each_mut(
         rt,
         areas.as_mut_slice(),
         workers,
-        &|piece, area| { judge_piece(text, clauses, gate, area, piece) },
+        &|worker, area| { judge_by_turns(text, clauses, gate, area, worker, cuts, &turn) },
     );
 }
 
-/// The first answer that is a line.
-fn first_answer(areas: &Vec<Area>) -> Lines
-    requires { All (λ area. IfSome area.first_bad (λ k. k + 1 < 2 ^ 64)) areas.now.items }
-    ensures { IsFirstOf areas.now.items result }
+/// The answer by the first bad line, which counts from 0 here.
+fn numbered(first_bad: Option<u64>) -> Lines
+    requires { IfSome first_bad (λ line. line + 1 < 2 ^ 64) }
+    ensures { result ≡ answer_by first_bad }
 {
-    'areas: for index in 0..areas.len() {
-        if let Some(line) = areas[index].first_bad {
-            return Lines::FirstBad(line + 1);
-        }
+    match first_bad {
+        None => Lines::AllGood,
+        Some(line) => Lines::FirstBad(line + 1),
     }
-    Lines::AllGood
 }

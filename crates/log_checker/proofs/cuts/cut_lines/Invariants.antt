@@ -1,10 +1,6 @@
-use Rattle.std.proofs.Common.{◌≡◌, ℕ, ◌<◌, ◌≤◌, length, get_or, take}
-use Rattle.log_checker.specs.Pieces.{AreCuts}
-use Rattle.log_checker.specs.declared.pieces.Area.{Area}
+use Rattle.std.proofs.Common.{◌≡◌, ◌-◌, ◌≤◌, length}
+use Rattle.log_checker.proofs.Cutting.{AreBegun}
 use Rattle.log_checker.proofs.cuts.cut_lines.Given as goal
 
-abbrev pub invariant-areas : goal.invariant-areas
-invariant-areas g l = (length l.areas.items ≡ length l.fn.areas.items) × (l.from ≤ l.begin) × (l.begin ≤ l.to)
-    × AreCuts l.from (take l.piece l.areas.items) l.begin
-    × (1 ≤ l.piece → l.piece ≡ l.workers → l.begin ≡ l.to)
-    × ((i : ℕ) (d : Area) → i < length l.fn.areas.items → (get_or l.areas.items i d).assignment ≡ (get_or l.fn.areas.items i d).assignment)
+abbrev pub invariant-cuts : goal.invariant-cuts
+invariant-cuts g l = (length l.cuts.items ≡ length l.fn.cuts.items) × (1 ≤ l.share) × (l.share ≤ l.shares) × AreBegun (l.share - 1) l.from l.cuts.items l.to

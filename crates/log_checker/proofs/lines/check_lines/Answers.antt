@@ -1,4 +1,4 @@
-use Rattle.log_checker.proofs.Whole.{whole_answer}
+use Rattle.log_checker.proofs.Together.{whole_answer}
 use Rattle.log_checker.proofs.lines.check_lines.Goals as goal
 
 pub returns-clause-answer : goal.returns-clause-answer

@@ -1,6 +1,6 @@
 use Rattle.std.proofs.Common.{◌-◌, Some, sym, ap, ◌∙◌, arith}
 use Rattle.log_checker.proofs.AtLine.{at_zero, at_later, at_past, at_live}
-use Rattle.log_checker.proofs.pieces.LinesAtNamedLines.find.Goals as goal
+use Rattle.log_checker.proofs.worker.LinesAtNamedLines.find.Goals as goal
 
 pub returns-then-number-lt1 : goal.returns-then-number-lt1
 returns-then-number-lt1 g c = at_zero (g.V.NumberedLines.parts c.args.self.now.text.now) (c.args.self.now.line - 1) c.args.number c.if-number-lt1.true

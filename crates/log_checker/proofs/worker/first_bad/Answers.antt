@@ -2,7 +2,7 @@ use Rattle.std.proofs.Common.{◌↔◌, ◌+◌, ◌-◌, IsTrue, ◌∙◌, su
 use Rattle.cert_text.specs.Live.{IsGoodLine}
 use Rattle.log_checker.specs.Values.{letters_in}
 use Rattle.log_checker.proofs.AtLine.{good_more}
-use Rattle.log_checker.proofs.pieces.first_bad.Goals as goal
+use Rattle.log_checker.proofs.worker.first_bad.Goals as goal
 
 pub lines-preserved : goal.lines-preserved
 lines-preserved g c =

@@ -2,7 +2,7 @@ use Rattle.std.proofs.Common.{◌≡◌, None, length}
 use Rattle.cert_text.specs.Live.{IsGoodLine}
 use Rattle.log_checker.specs.Values.{letters_in}
 use Rattle.log_checker.specs.Judging.{IsFirstBad}
-use Rattle.log_checker.proofs.pieces.first_bad.Given as goal
+use Rattle.log_checker.proofs.worker.first_bad.Given as goal
 
 abbrev pub invariant-lines : goal.invariant-lines
 invariant-lines g l = (length l.assignment ≡ length l.fn.assignment)

@@ -2,7 +2,7 @@ use Rattle.std.proofs.Common.{◌↔◌, ◌-◌, [], get_or, IsTrue, subst}
 use Rattle.cnf_base.specs.Among.{IsStepAmong}
 use Rattle.cert_text.specs.Live.{lines_of, live_at}
 use Rattle.log_checker.specs.Values.{letters_in}
-use Rattle.log_checker.proofs.pieces.is_good.Goals as goal
+use Rattle.log_checker.proofs.worker.is_good.Goals as goal
 
 pub returns-clause-good : goal.returns-clause-good
 returns-clause-good g c =

@@ -1,10 +1,10 @@
-use Rattle.std.proofs.Common.{length, get_or, sym, ap, ◌∙◌, subst, arith}
+use Rattle.std.proofs.Common.{◌-◌, length, get_or, sym, ap, ◌∙◌, subst, arith}
 use Rattle.cnf_base.specs.Known.{AreKnown}
 use Rattle.cert_text.specs.Live.{lines_of}
 use Rattle.log_checker.specs.Values.{letters_in}
-use Rattle.log_checker.specs.Pieces.{IsWithin}
-use Rattle.log_checker.specs.declared.pieces.Area.{Area}
-use Rattle.log_checker.proofs.lines.judge_pieces.Goals as goal
+use Rattle.log_checker.specs.Shares.{AreShares}
+use Rattle.log_checker.specs.declared.worker.Area.{Area}
+use Rattle.log_checker.proofs.lines.judge_shares.Goals as goal
 
 pub for_each_mut-requires-clause-accepts : goal.for_each_mut-requires-clause-accepts
 for_each_mut-requires-clause-accepts g c κs within = λ i p low at κs' r r' name values ranges n fits apart κs''.
@@ -12,8 +12,10 @@ for_each_mut-requires-clause-accepts g c κs within = λ i p low at κs' r r' na
     let lines = length (lines_of (g.V.NumberedLines.parts c.args.text.now)) in
     let same = c.as_mut_slice.ensures.value in
     let count = ap length same in
-    let here = at ∙ ap (λ xs. get_or xs i p.now) same in
-    let cut = subst (IsWithin lines) (sym here) (c.requires.within i p.now (omega (arith, low, count))) in (
+    let here = at ∙ ap (λ xs. get_or xs i p.now) same in (
       subst (λ (a : Area). AreKnown (letters_in a.assignment) clauses) (sym here) (c.requires.known i p.now (omega (arith, low, count))),
-      (cut.0, (cut.1, omega (arith, c.requires.few, low, count))),
+      (
+        subst (λ (a : Area). AreShares (length a.marks.items) lines c.args.cuts.now.items) (sym here) (c.requires.shares i p.now (omega (arith, low, count))),
+        omega (arith, c.requires.few, low, count),
+      ),
     )
