@@ -1,5 +1,5 @@
 -- What a worker has found, share by share, and the sizes of areas.
-use Rattle.std.proofs.Common.{◌≡◌, ◌≢◌, ℕ, zero, suc, ◌+◌, ◌-◌, ◌<◌, ◌≤◌, inl, inr, Bool, true, false, IsTrue, IfSome, Option, Some, None, List, [], ◌∷◌, length, get_or, set, replicate, All, refl, sym, ap, ◌∙◌, subst, arith}
+use Rattle.std.proofs.Common.{◌≡◌, ℕ, zero, suc, ◌+◌, ◌-◌, ◌<◌, ◌≤◌, inl, inr, Bool, true, false, IfSome, Option, Some, None, List, [], ◌∷◌, length, get_or, set, replicate, All, refl, sym, ap, ◌∙◌, subst, arith}
 use mathlib.Core.Bool.{false≢true}
 use Rattle.std.proofs.lemmas.Bool.{cases_eq}
 use Rattle.std.proofs.lemmas.List.{length-set, get_or-set_same, get_or-set_other}
@@ -8,7 +8,7 @@ use Rattle.cnf_base.specs.Known.{AreKnown}
 use Rattle.cert_text.specs.Text.{Part}
 use Rattle.cert_text.specs.Live.{IsGoodLine}
 use Rattle.log_checker.specs.Judging.{IsFirstBad}
-use Rattle.log_checker.specs.Shares.{cut_at, IsInShare, IsMarked, IsBefore, IsFound, IsJudged, IsLesser, KeepsSize, KeepSizes, IsMarkedIn, AreCuts, AreShares, IsScratch}
+use Rattle.log_checker.specs.Shares.{cut_at, IsInShare, IsMarked, IsBefore, IsFound, IsLesser, KeepsSize, KeepSizes, IsMarkedIn, AreCuts, AreShares, IsScratch}
 use Rattle.log_checker.specs.declared.worker.Area.{Area}
 use Rattle.log_checker.proofs.Cutting.{cuts_shares}
 

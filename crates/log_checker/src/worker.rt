@@ -136,7 +136,13 @@ pub fn judge_share<V: NumberedLines, C: NamedClauses>(
     ensures marked { IsMarked share area.new.marks.items }
     ensures stay { (other : ℕ) → IsMarked other area.old.marks.items → IsMarked other area.new.marks.items }
 {
-    let bad = first_bad(&mut area.assignment, text, clauses, cuts[share], cuts[share + 1]);
+    let bad = first_bad(
+        &mut area.assignment,
+        text,
+        clauses,
+        cuts[share],
+        cuts[share + 1],
+    );
     area.first_bad = lesser(area.first_bad, bad);
     area.marks[share] = true;
 }

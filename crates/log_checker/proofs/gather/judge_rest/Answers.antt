@@ -1,11 +1,9 @@
-use Rattle.std.proofs.Common.{◌≡◌, ◌+◌, ◌-◌, ◌<◌, inl, inr, length, sym, ap, ◌∙◌, subst, arith}
+use Rattle.std.proofs.Common.{inl, inr, length, sym, ap, subst, arith}
 use Rattle.std.proofs.lemmas.Bool.{cases_eq}
-use Rattle.cnf_base.specs.Known.{AreKnown}
 use Rattle.cert_text.specs.Live.{lines_of}
-use Rattle.log_checker.specs.Values.{letters_in}
-use Rattle.log_checker.specs.Shares.{AreShares, IsMarkedIn}
+use Rattle.log_checker.specs.Shares.{IsMarkedIn}
 use Rattle.log_checker.specs.declared.worker.Area.{Area}
-use Rattle.log_checker.proofs.Marking.{known_still, shares_still, sizes_stay, sizes_again}
+use Rattle.log_checker.proofs.Marking.{known_still, shares_still, sizes_again}
 use Rattle.log_checker.proofs.gather.judge_rest.Goals as goal
 
 pub judge_unmarked-requires-clause-known : goal.judge_unmarked-requires-clause-known

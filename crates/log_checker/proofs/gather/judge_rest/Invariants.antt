@@ -1,5 +1,4 @@
 use Rattle.std.proofs.Common.{◌<◌, ℕ, All}
-use Rattle.cert_text.specs.Live.{lines_of}
 use Rattle.log_checker.specs.Shares.{IsJudged, IsMarkedIn, KeepSizes}
 use Rattle.log_checker.proofs.gather.judge_rest.Given as goal
 

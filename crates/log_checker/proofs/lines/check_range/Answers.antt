@@ -1,4 +1,4 @@
-use Rattle.std.proofs.Common.{◌≡◌, ◌+◌, ◌-◌, ◌<◌, All, List, length, sym, ap, ◌∙◌, subst, arith}
+use Rattle.std.proofs.Common.{◌≡◌, length, sym, ap, subst, arith}
 use Rattle.cnf_base.specs.Known.{AreKnown}
 use Rattle.cert_text.specs.Live.{lines_of, IsGoodLine}
 use Rattle.log_checker.specs.Judging.{ScratchValue, IsRangeAnswer}

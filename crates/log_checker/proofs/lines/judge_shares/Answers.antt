@@ -1,4 +1,4 @@
-use Rattle.std.proofs.Common.{◌-◌, length, get_or, sym, ap, ◌∙◌, subst, arith}
+use Rattle.std.proofs.Common.{length, get_or, sym, ap, ◌∙◌, subst, arith}
 use Rattle.cnf_base.specs.Known.{AreKnown}
 use Rattle.cert_text.specs.Live.{lines_of}
 use Rattle.log_checker.specs.Values.{letters_in}

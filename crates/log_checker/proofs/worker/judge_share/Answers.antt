@@ -1,7 +1,6 @@
 use Rattle.std.proofs.Common.{◌≡◌, ◌+◌, suc, true, length, get_or, set, sym, ap, ◌∙◌, arith}
 use Rattle.cert_text.specs.Live.{IsGoodLine}
 use Rattle.log_checker.specs.Values.{letters_in}
-use Rattle.log_checker.specs.Shares.{cut_at}
 use Rattle.log_checker.proofs.Marking.{found_at, found_over, read_any}
 use Rattle.log_checker.proofs.worker.judge_share.Goals as goal
 
