@@ -51,9 +51,11 @@ impl Retention {
         }
     }
 
-    /// A question begins, which heeds all lines.
-    pub fn begin(&mut self) {
+    /// A question begins, which heeds all lines. Answers whether lines were forgotten in the one before.
+    pub fn begin(&mut self) -> bool {
+        let forgot = !self.whole;
         self.whole = true;
+        forgot
     }
 
     /// Notes of how many levels the line is that is learnt next. The places of the trail are those of its

@@ -48,7 +48,9 @@ fn finish(state: &mut State, alloc: Global, learnt: &Learnt) -> Result<Answer, A
 }
 
 /// Heeds all lines, since one that was forgotten may be what answers this question, and takes back the first
-/// decision that is no assumption, with all that came after it.
+/// decision that is no assumption, with all that came after it. Where the last question forgot lines, it takes
+/// back all decisions: each list has to be visited again then, and what is visited on a level above its own
+/// would be visited again at each conflict.
 fn begin(
     state: &mut State,
     alloc: Global,
@@ -61,7 +63,10 @@ fn begin(
     ensures refused { OnErr result (state.new ≡ state.old) }
 {
     state.restore(alloc)?;
-    retention.begin();
+    if retention.begin() {
+        state.reset();
+        return Ok(());
+    }
     state.retreat(assumptions);
     Ok(())
 }
