@@ -1,5 +1,6 @@
 -- What is judged of a text while it comes is judged of the whole text.
-use Rattle.std.proofs.Common.{◌≡◌, ℕ, ◌+◌, ◌≤◌, inl, inr, Bool, true, false, List, [], ◌++◌, length, Option, Some, None, IfSome, Result, Ok, Err, IfOk, IsErrOf, refl, sym, ap, subst, ◌∙◌, arith, append_assoc, append-nil, length-append}
+use Rattle.std.proofs.Common.{◌≡◌, ℕ, ◌+◌, ◌≤◌, inl, inr, Bool, true, false, List, [], ◌++◌, length, Option, Some, None, IfSome, Result, Ok, Err, IfOk, IsErrOf, MatchResult, Vec, refl, sym, ap, ap₂, subst, ◌∙◌, arith, append_assoc, append-nil, length-append}
+use Rattle.std.specs.Global.{Global}
 use Rattle.ltl_io.specs.Outside.{Loses, IsReadOn, IsStopped}
 use Rattle.ltl_io.specs.declared.source.ReadRefused.{ReadRefused}
 use Rattle.ltl_syntax.specs.declared.node.Kind.{Kind}
@@ -13,7 +14,7 @@ use Rattle.log_checker.specs.Judging.{IsFirstBad, IsFirstBadLine}
 use Rattle.log_checker.proofs.Standing.{ranges_stay_good, good_ranges_join}
 use Rattle.cert_check.specs.declared.pieces.Coming.{Coming}
 use Rattle.cert_check.specs.Answer.{IsAnswer, FormFault, TooManyLetters, Verified, IsFirstTarget, answer_of}
-use Rattle.cert_check.specs.Pieces.{bytes_in, AreGood, IsEnded, IsEndedNow, IsSoFar, IsPieceOn, IsVerifiedWhole}
+use Rattle.cert_check.specs.Pieces.{bytes_in, AreGood, IsEnded, IsEndedNow, IsSoFar, IsJudged, IsPieceOn, IsVerifiedWhole}
 use Rattle.cert_check.specs.Coming.{IsSaidOf, IsSaidOfAll}
 use Rattle.cert_check.specs.declared.verdict.Verdict.{Verdict}
 use Rattle.cert_check.specs.declared.verdict.Verdict.TheVariants as verdicts
@@ -54,6 +55,9 @@ read_on a b c x y z one two = record {
 pub read_same : (a b c d : List ℕ) (x y : Option (List ℕ)) → a ≡ c → b ≡ d → IsReadOn a b x y → IsReadOn c d x y
 read_same a b c d x y old new is = subst (λ l. IsReadOn l d x y) old (subst (λ l. IsReadOn a l x y) new is)
 
+pub read_told : (a b c : List ℕ) (x y z : Option (List ℕ)) → b ≡ c → y ≡ z → IsReadOn a b x y → IsReadOn a c x z
+read_told a b c x y z new rest is = subst (λ o. IsReadOn a c x o) rest (subst (λ l. IsReadOn a l x y) new is)
+
 -- what is read behind the carry is read behind the front and it
 pub read_behind : (front old new : List ℕ) (x y : Option (List ℕ)) → IsReadOn old new x y → IsReadOn (front ++ old) (front ++ new) x y
 read_behind front old new x y is = record {
@@ -63,23 +67,15 @@ read_behind front old new x y is = record {
 }
 
 -- the end of a source, behind what was read of it
+pub ended_behind : (a b : List ℕ) (ended : Bool) (x y z : Option (List ℕ)) → IsReadOn a b x y → IsEnded ended y z → IsEnded ended x z
+ended_behind a b ended None y z read is = λ now. tt
+ended_behind a b ended (Some rest) y z read is = λ now. subst (λ o. IsEnded ended o z) read.lost.2 is now
+
 pub ended_on : (a b : List ℕ) (old new : Bool) (x y z : Option (List ℕ)) → IsReadOn a b x y → IsEnded old x y → IsEndedNow old new y z → IsEnded new x z
 ended_on a b old new x y z read before (inl (was, same)) = λ now. subst (λ o. IsEnded true x o) (sym same) (subst (λ e. IsEnded e x y) was before) refl
-ended_on a b old new None y z read before (inr is) = λ now. tt
-ended_on a b old new (Some rest) y z read before (inr is) = λ now. subst (λ o. IsEnded new o z) read.lost.2 is now
-
--- read_on tells whether the source has ended
-pub ended_by : (old ended : Bool) (stop : ℕ) (bytes : List ℕ) (x y : Option (List ℕ)) → IsStopped ended stop bytes x y → IsEndedNow old ended x y
-ended_by old true stop bytes x y is = inr (λ now. is)
-ended_by old false stop bytes x y is = inr (λ now. absurd (cc))
+ended_on a b old new x y z read before (inr is) = ended_behind a b new x y z read is
 
 -- ---- lines
-
--- all lines that have come are good now
-pub all_good_now : (clauses : List (List Signed)) (letters : ℕ) (bytes : List ℕ) (judged middle lines : ℕ) → AreGood clauses letters bytes 0 judged → AreGood clauses letters bytes judged middle → AreGood clauses letters bytes middle lines
-    → AreGood clauses letters bytes 0 lines
-all_good_now clauses letters bytes judged middle lines old first later =
-    good_ranges_join clauses letters (said_in bytes).parts 0 judged lines old (good_ranges_join clauses letters (said_in bytes).parts judged middle lines first later)
 
 -- and they stay so when a piece is taken behind them
 pub good_later : (clauses : List (List Signed)) (letters : ℕ) (old new : List ℕ) (from to : ℕ) → GoesOn old new → to ≤ length (lines_of (said_in old).parts) → AreGood clauses letters old from to → AreGood clauses letters new from to
@@ -94,16 +90,40 @@ lines_later old new n on within =
 pub goes_on_alone : (bytes : List ℕ) → GoesOn bytes bytes
 goes_on_alone bytes = record { kind = refl; depth = refl; more = []; parts = sym (append-nil (said_in bytes).parts) }
 
--- so after a step, in which they were judged in two shares, and a piece was taken
-pub so_far_on : (clauses : List (List Signed)) (letters : ℕ) (c d : Coming) (middle lines : ℕ) → lines ≡ length (lines_of (said_in c.front.bytes).parts) → d.judged ≡ lines → GoesOn c.front.bytes d.front.bytes → IsSoFar clauses letters c
-    → AreGood clauses letters c.front.bytes c.judged middle → AreGood clauses letters c.front.bytes middle lines → IsSoFar clauses letters d
-so_far_on clauses letters c d middle lines all judged on so_far first later =
+-- so after a step, in which they were judged, and a piece was taken
+pub so_far_on : (clauses : List (List Signed)) (letters : ℕ) (c d : Coming) (lines : ℕ) → lines ≡ length (lines_of (said_in c.front.bytes).parts) → d.judged ≡ lines → GoesOn c.front.bytes d.front.bytes → IsSoFar clauses letters c
+    → AreGood clauses letters c.front.bytes c.judged lines → IsSoFar clauses letters d
+so_far_on clauses letters c d lines all judged on so_far now =
     let within : lines ≤ length (lines_of (said_in c.front.bytes).parts) = omega (arith, all) in
-    let good = all_good_now clauses letters c.front.bytes c.judged middle lines so_far.good first later in
+    let good = good_ranges_join clauses letters (said_in c.front.bytes).parts 0 c.judged lines so_far.good now in
     record {
       within = subst (λ n. n ≤ length (lines_of (said_in d.front.bytes).parts)) (sym judged) (lines_later c.front.bytes d.front.bytes lines on within);
       good = subst (λ n. AreGood clauses letters d.front.bytes 0 n) (sym judged) (good_later clauses letters c.front.bytes d.front.bytes 0 lines on within good);
     }
+
+-- or in which they were judged alone
+pub judged_now : (clauses : List (List Signed)) (letters : ℕ) (c d : Coming) (lines : ℕ) → lines ≡ length (lines_of (said_in c.front.bytes).parts) → d.judged ≡ lines → d.front.bytes ≡ c.front.bytes → d.carry.items ≡ c.carry.items
+    → d.ended ≡ c.ended → IsSoFar clauses letters c → AreGood clauses letters c.front.bytes c.judged lines → IsJudged clauses letters c d
+judged_now clauses letters c d lines all judged bytes carry ended so_far now = record {
+  so_far = so_far_on clauses letters c d lines all judged (subst (GoesOn c.front.bytes) (sym bytes) (goes_on_alone c.front.bytes)) so_far now;
+  same_bytes = bytes;
+  same_carry = carry;
+  ended = ended;
+}
+
+-- a step in which nothing was read, since the source had ended
+pub judged_on : (clauses : List (List Signed)) (letters : ℕ) (c d : Coming) (x : Option (List ℕ)) → c.ended ≡ true → IsJudged clauses letters c d → IsPieceOn c d x x
+judged_on clauses letters c d x ended is = record {
+  read = subst (λ bytes. IsReadOn (bytes_in c) bytes x x) (sym (ap₂ (λ a b. a ++ b) is.same_bytes is.same_carry)) (read_none (bytes_in c) x);
+  ended = inl (ended, refl);
+  same_kind = ap (λ bytes. (said_in bytes).kind) is.same_bytes;
+  same_depth = ap (λ bytes. (said_in bytes).depth) is.same_bytes;
+}
+
+pub rest_judged : (clauses : List (List Signed)) (letters : ℕ) (c : Coming) (x : Option (List ℕ)) (r : Result Coming (Vec ℕ Global)) → c.ended ≡ true
+    → MatchResult r (IsJudged clauses letters c) (λ left. left.items ≡ bytes_in c) → MatchResult r (λ next. IsPieceOn c next x x) (λ left. IsReadOn (bytes_in c) left.items x x)
+rest_judged clauses letters c x (Ok next) ended is = judged_on clauses letters c next x ended is
+rest_judged clauses letters c x (Err left) ended is = subst (λ bytes. IsReadOn (bytes_in c) bytes x x) (sym is) (read_none (bytes_in c) x)
 
 pub piece_on : (c d : Coming) (bytes : List ℕ) (x y : Option (List ℕ)) → IsReadOn c.carry.items bytes x y → bytes_in d ≡ c.front.bytes ++ bytes → GoesOn c.front.bytes d.front.bytes → IsEndedNow c.ended d.ended x y → IsPieceOn c d x y
 piece_on c d bytes x y read same on ended = record {

@@ -36,6 +36,13 @@ pub record IsSoFar (clauses : List (List Signed)) (letters : ℕ) (c : Coming) :
   pub within : c.judged ≤ length (lines_of (said_in c.front.bytes).parts)
   pub good : AreGood clauses letters c.front.bytes 0 c.judged
 
+-- all lines that had come are judged good, and nothing came with it
+pub record IsJudged (clauses : List (List Signed)) (letters : ℕ) (old new : Coming) : Type 0 where
+  pub so_far : IsSoFar clauses letters new
+  pub same_bytes : new.front.bytes ≡ old.front.bytes
+  pub same_carry : new.carry.items ≡ old.carry.items
+  pub ended : new.ended ≡ old.ended
+
 -- a piece more: all that had come, under the same header, and what a told rest lost
 pub record IsPieceOn (old new : Coming) (before after : Option (List ℕ)) : Type 0 where
   pub read : IsReadOn (bytes_in old) (bytes_in new) before after

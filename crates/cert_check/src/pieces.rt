@@ -1,21 +1,23 @@
 // A text that comes in pieces. The front has what has come in whole lines; what stands behind the last of
-// them is the beginning of a line whose end is still to come, and the next piece begins with it.
-ghost use Rattle.std.specs.Prelude.{◌≡◌, ◌≤◌, ◌++◌, false, vec_len, IfOk, IfSome, OnOk, MatchResult, IsErrOf};
+// them is the beginning of a line whose end is still to come, and the next piece begins with it. A piece is
+// read and gone over bit by bit, for as long as others are busy with the lines before it.
+ghost use Rattle.std.specs.Prelude.{◌≡◌, ◌≤◌, ◌++◌, false, drop, vec_len, IfOk, IfSome, OnOk, MatchResult, IsErrOf};
 ghost use Rattle.ltl_io.specs.Count.{Rose, Counts};
 ghost use Rattle.ltl_io.specs.Outside.{IsReadOn};
 ghost use Rattle.ltl_io.specs.declared.source.ReadRefused.TheVariants as read_refused;
 ghost use Rattle.cert_text.specs.Front.{GoesOn};
-ghost use Rattle.cert_check.specs.Pieces.{bytes_in, next_bytes, IsEndedNow};
+ghost use Rattle.cert_check.specs.Pieces.{bytes_in, next_bytes, IsEnded};
 
 use cert_text::{Front, Passed};
 use ltl_io::{ReadRefused, Source, read_on};
 use std::alloc::{AllocError, Global};
 use std::mem;
+use std::sync::atomic::{AtomicBool, Ordering};
 
-/// How many bytes a piece has, or a few more: four mebibytes.
-const PIECE: usize = 4_194_304;
+/// So many bytes are read at once, or a few more, and gone over then: one mebibyte.
+const AT_ONCE: usize = 1_048_576;
 
-/// So many more may come by the read that completes it.
+/// So many more may come by the read that completes them.
 const READ: usize = 65_536;
 
 /// What has come of a text, and how far it is judged.
@@ -103,53 +105,92 @@ fn cut(alloc: Global, mut bytes: Vec<u8>, from: usize) -> Result<(Vec<u8>, Vec<u
     }
 }
 
-/// Reads a piece more behind the bytes, unless the source has ended, and answers whether it has now.
-pub fn read_piece<S: Source>(
-    ended: bool,
-    source: &mut S,
-    bytes: &mut Vec<u8>,
-) -> Result<bool, ReadRefused>
+/// Reads on behind the bytes, and answers whether the source has ended.
+fn read_some<S: Source>(source: &mut S, bytes: &mut Vec<u8>) -> Result<bool, ReadRefused>
     ensures bytes { OnOk result (IsReadOn bytes.old.items bytes.new.items (S.rest source.old)
         (S.rest source.new)) }
-    ensures ended { IfOk result (λ now. IsEndedNow ended now (S.rest source.old) (S.rest source.new)) }
+    ensures ended { IfOk result (λ ended. IsEnded ended (S.rest source.old) (S.rest source.new)) }
     ensures fault { IsErrOf result read_refused.Fault → Rose (S.faults source.old) (S.faults source.new) }
     ensures no_memory { IsErrOf result read_refused.NoMemory → S.faults source.new ≡ S.faults source.old }
     ensures count { OnOk result (S.faults source.new ≡ S.faults source.old) }
     ensures counts { Counts (S.faults source.old) (S.faults source.new) }
 {
-    if ended {
-        return Ok(true);
-    }
-    bytes.reserve(PIECE + READ)?;
-    let stop_after = bytes.len().saturating_add(PIECE);
+    bytes.reserve(AT_ONCE + READ)?;
+    let stop_after = bytes.len().saturating_add(AT_ONCE);
     read_on(source, bytes, stop_after)
 }
 
-/// Reads a piece more behind the carry, unless the source has ended, and goes over its lines. Nothing is left
-/// in the carry.
-pub fn next_piece<S: Source>(
-    alloc: Global,
-    front: &Front,
-    ended: bool,
+/// Takes the bytes up to this place away, and moves the others to the front, so that the memory serves again.
+fn take_away(bytes: &mut Vec<u8>, end: usize)
+    requires { end ≤ vec_len bytes.old }
+    ensures { bytes.new.items ≡ drop end bytes.old.items }
+{
+    let left = bytes.len() - end;
+    bytes.copy_within(end.., 0);
+    bytes.truncate(left);
+}
+
+/// Goes over the lines in the carry, and leaves there what stands behind the last of them. No line ends
+/// before the place `from`.
+fn go_over_lines(piece: &mut Passed, carry: &mut Vec<u8>, from: usize) -> Result<(), AllocError>
+    ensures { OnOk result (piece.new ++ carry.new.items ≡ piece.old ++ carry.old.items) }
+{
+    let Some(end) = last_line_end(carry, from) else {
+        return Ok(());
+    };
+    piece.go_over(&carry[..end])?;
+    take_away(carry, end);
+    Ok(())
+}
+
+/// Reads on behind the carry, goes over the lines in it, and answers whether the source has ended.
+fn read_lines<S: Source>(
     source: &mut S,
+    piece: &mut Passed,
     carry: &mut Vec<u8>,
-) -> Result<Next, ReadRefused>
-    ensures bytes { IfOk result (λ next. IsReadOn carry.old.items (next_bytes next) (S.rest source.old)
-        (S.rest source.new)) }
-    ensures ended { IfOk result (λ next. IsEndedNow ended next.ended (S.rest source.old)
-        (S.rest source.new)) }
+) -> Result<bool, ReadRefused>
+    ensures bytes { OnOk result (IsReadOn (piece.old ++ carry.old.items) (piece.new ++ carry.new.items)
+        (S.rest source.old) (S.rest source.new)) }
+    ensures ended { IfOk result (λ ended. IsEnded ended (S.rest source.old) (S.rest source.new)) }
     ensures fault { IsErrOf result read_refused.Fault → Rose (S.faults source.old) (S.faults source.new) }
     ensures no_memory { IsErrOf result read_refused.NoMemory → S.faults source.new ≡ S.faults source.old }
     ensures count { OnOk result (S.faults source.new ≡ S.faults source.old) }
     ensures counts { Counts (S.faults source.old) (S.faults source.new) }
 {
     let seen = carry.len();
-    let ended = read_piece(ended, source, carry)?;
-    let bytes = mem::replace(carry, Vec::new(alloc));
-    let (piece, carry) = cut(alloc, bytes, seen)?;
+    let ended = read_some(source, carry)?;
+    go_over_lines(piece, carry, seen)?;
+    Ok(ended)
+}
+
+/// Reads a piece behind the carry and goes over its lines, until the source has ended or `done` says that the
+/// judges are. At least one read is made, and nothing is left in the carry.
+pub fn next_piece<S: Source>(
+    alloc: Global,
+    front: &Front,
+    source: &mut S,
+    carry: &mut Vec<u8>,
+    done: &AtomicBool,
+) -> Result<Next, ReadRefused>
+    ensures bytes { IfOk result (λ next. IsReadOn carry.old.items (next_bytes next) (S.rest source.old)
+        (S.rest source.new)) }
+    ensures ended { IfOk result (λ next. IsEnded next.ended (S.rest source.old) (S.rest source.new)) }
+    ensures fault { IsErrOf result read_refused.Fault → Rose (S.faults source.old) (S.faults source.new) }
+    ensures no_memory { IsErrOf result read_refused.NoMemory → S.faults source.new ≡ S.faults source.old }
+    ensures count { OnOk result (S.faults source.new ≡ S.faults source.old) }
+    ensures counts { Counts (S.faults source.old) (S.faults source.new) }
+{
+    let mut piece = front.next(alloc);
+    let mut ended = false;
+    'reads: for _read in 0..u64::MAX {
+        ended = read_lines(source, &mut piece, carry)?;
+        if ended || done.load(Ordering::SeqCst) {
+            break 'reads;
+        }
+    }
     Ok(Next {
-        piece: front.pass(piece),
-        carry,
+        piece,
+        carry: mem::replace(carry, Vec::new(alloc)),
         ended,
     })
 }

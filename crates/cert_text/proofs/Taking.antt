@@ -1,5 +1,5 @@
 -- A piece is taken behind what has come.
-use Rattle.std.proofs.Common.{◌≡◌, ℕ, ◌+◌, ◌<◌, Bool, false, List, [], ◌∷◌, ◌++◌, length, take, get_or, All, Some, Vec, refl, sym, ap, ◌∙◌, subst, arith, add-one, length-append}
+use Rattle.std.proofs.Common.{◌≡◌, ℕ, ◌+◌, ◌<◌, ◌^◌, Bool, false, List, [], ◌∷◌, ◌++◌, length, take, get_or, All, Option, Some, None, IfSome, Vec, refl, sym, ap, ◌∙◌, subst, arith, add-one, length-append}
 use Rattle.std.specs.Prelude.{codes}
 use Rattle.std.specs.Global.{Global}
 use Rattle.std.proofs.Math.Seq.{take-suc}
@@ -11,9 +11,9 @@ use Rattle.cert_text.specs.declared.scanning.Head.{Head}
 use Rattle.cert_text.specs.declared.scanning.Place.TheVariants as places
 use Rattle.cert_text.specs.Passes.{small_run, LeadsTo}
 use Rattle.cert_text.specs.Front.{said_in, FrontValue, GoesOn, IsTaken}
-use Rattle.cert_text.specs.Pieces.{bytes_of, with_text, place_at, IsFrontText, IsMarkingIn, IsFront}
+use Rattle.cert_text.specs.Pieces.{bytes_of, with_text, place_at, IsFrontText, IsGoneOver, IsMarkingIn, IsFront}
 use Rattle.cert_text.proofs.ItemTexts.{Other}
-use Rattle.cert_text.proofs.Runs.{led_more}
+use Rattle.cert_text.proofs.Runs.{run_more, led_more}
 use Rattle.cert_text.proofs.Grown.{Grows}
 use Rattle.cert_text.proofs.Fronts.{FrontSaid, front_said, front_grows, grows_on, piece_text, front_few}
 use Rattle.cert_text.proofs.Spotting.{first_marking, later_marking}
@@ -98,6 +98,23 @@ is_taken v new texts piece size before head was closed spots ends targets bytes 
     let t = takes texts piece size before head was closed spots ends targets bytes f opened same run in record {
       bytes = grown ∙ ap (λ (x : FrontValue). x.bytes ++ piece.items) value;
       on = subst (λ (x : FrontValue). GoesOn x.bytes new.bytes) value (subst (GoesOn (bytes_of texts)) (sym grown) (grows_on (bytes_of texts) (bytes_of texts ++ piece.items) t.grows));
+    }
+
+-- more bytes of a piece that is gone over
+pub gone_on : (from : Head) (piece lines bytes : List ℕ) (size sum : ℕ) (closed : Bool) (head : Head) (came : Option (Head × Bool)) → IsGoneOver from piece size closed head → bytes ≡ piece ++ lines
+    → IfSome came (λ r. small_run [] (place_at closed head) lines ≡ Some ([], place_at r.1 r.0)) → IfSome came (λ r. size + length lines < 2 ^ 64) → (size + length lines < 2 ^ 64 → sum ≡ size + length lines)
+    → IfSome came (λ r. IsGoneOver from bytes sum r.1 r.0)
+gone_on from piece lines bytes size sum closed head None was grown run room count = tt
+gone_on from piece lines bytes size sum closed head (Some r) was grown run room count =
+    let all = length-append was.led.bytes lines in
+    record {
+      run = ap (small_run [] (places.Part from)) grown ∙ run_more piece lines [] [] (places.Part from) (place_at closed head) was.run ∙ run;
+      led = record {
+        bytes = was.led.bytes ++ lines;
+        count = omega (arith, count room, all, was.led.count);
+        room = omega (arith, count room, room);
+        led = led_more was.led.bytes lines [] [] (place_at closed head) (place_at r.1 r.0) was.led.led run;
+      };
     }
 
 -- the bytes of one piece more

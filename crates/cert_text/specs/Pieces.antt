@@ -1,5 +1,5 @@
 -- What the front of a certificate text keeps of the pieces that have come.
-use Rattle.std.specs.Prelude.{◌≡◌, ℕ, ◌+◌, ◌<◌, ◌^◌, Bool, true, false, List, [], ◌∷◌, ◌++◌, length, map, slice_index_or, All, Vec}
+use Rattle.std.specs.Prelude.{◌≡◌, ℕ, ◌+◌, ◌<◌, ◌^◌, Bool, true, false, List, [], ◌∷◌, ◌++◌, length, map, slice_index_or, All, Some, Vec}
 use Rattle.std.specs.Global.{Global}
 use Rattle.std.specs.List.{flat_map}
 use Rattle.cnf_base.specs.declared.literal.Literal.{Literal}
@@ -7,7 +7,7 @@ use Rattle.cnf_base.specs.declared.literal.Hint.{Hint}
 use Rattle.cert_text.specs.Text.{Part, Line, Delete, Certificate, greatest_u64, IsBegun, IsPart, literal_text, part_text, header_text, close_text}
 use Rattle.cert_text.specs.Live.{lines_of, hints_of}
 use Rattle.cert_text.specs.Items.{line_text}
-use Rattle.cert_text.specs.Passes.{LeadsTo}
+use Rattle.cert_text.specs.Passes.{small_run, LeadsTo}
 use Rattle.cert_text.specs.View.{AreMarks, IsShut}
 use Rattle.cert_text.specs.Front.{said_in}
 use Rattle.cert_text.specs.declared.marks.Span.{Span}
@@ -29,6 +29,18 @@ with_text texts piece from = texts ++ record { bytes = piece; from = from } ∷ 
 abbrev pub place_at : Bool → Head → Place
 place_at true head = places.End head
 place_at false head = places.Part head
+
+-- some bytes, so many, lead here
+pub record IsLed (size : ℕ) (is_closed : Bool) (head : Head) : Type 0 where
+  pub bytes : List ℕ
+  pub count : size ≡ length bytes
+  pub room : size < 2 ^ 64
+  pub led : LeadsTo bytes [] (place_at is_closed head)
+
+-- a piece is gone over behind this head, and leads here
+pub record IsGoneOver (from : Head) (piece : List ℕ) (size : ℕ) (is_closed : Bool) (head : Head) : Type 0 where
+  pub run : small_run [] (places.Part from) piece ≡ Some ([], place_at is_closed head)
+  pub led : IsLed size is_closed head
 
 -- the close, where there is one: it has targets
 abbrev pub close_of : List ℕ → List ℕ

@@ -82,14 +82,14 @@ impl Front {
         Ok(Ok(front))
     }
 
-    /// Goes over the piece that comes next, which changes nothing of what has come. To take it is cheap then.
-    pub fn pass(&self, piece: Vec<u8>) -> Passed
-        ensures { result ≡ piece.items }
+    /// A piece to be gone over behind what has come, of no bytes so far.
+    pub fn next(&self, alloc: Global) -> Passed
+        ensures { result ≡ [] }
     {
-        if self.is_closed || piece.len() > usize::MAX - self.pieces.size {
-            return Passed::not_over(self.head, piece);
+        if self.is_closed {
+            return Passed::nowhere(alloc, self.head);
         }
-        Passed::behind(self.head, piece)
+        Passed::behind(alloc, self.head, self.pieces.size)
     }
 
     /// Takes a piece that was gone over behind what has come, where that is still the front of a certificate

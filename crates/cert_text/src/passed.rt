@@ -1,12 +1,13 @@
-// A piece of a text, gone over before it is taken: where it leads is found while what has come is still lent to
-// others, and to take it is then to note its lines.
-ghost use Rattle.std.specs.Prelude.{◌≡◌, ◌↔◌, ℕ, ◌+◌, ◌<◌, ◌^◌, List, [], length, Some, IsTrue, IfSome};
+// A piece of a text, gone over before it is taken: where it leads is found while what has come is still lent
+// to others, and to take it is then to note its lines. It may be gone over bit by bit, as its bytes come.
+ghost use Rattle.std.specs.Prelude.{◌≡◌, ◌↔◌, ℕ, ◌+◌, ◌<◌, ◌^◌, false, List, [], ◌++◌, length, Some, IsTrue, IfSome, OnOk};
 ghost use Rattle.cert_text.specs.Passes.{small_run, LeadsTo};
-ghost use Rattle.cert_text.specs.Pieces.{place_at};
+ghost use Rattle.cert_text.specs.Pieces.{place_at, IsLed};
 ghost use Rattle.cert_text.specs.declared.scanning.Place.TheVariants as places;
 
 use crate::passing::pass;
 use crate::scanning::{Head, Place};
+use std::alloc::{AllocError, Global};
 use std::marker::Model;
 
 /// A piece that was gone over behind some front. What was found of it is the front's own matter.
@@ -17,20 +18,19 @@ pub struct Passed {
     from: Head,
     /// What stands before its end, and whether the close is in it, where the text goes on with it.
     came: Option<(Head, bool)>,
+    /// How many bytes these are then.
+    size: usize,
 }
 
 impl Model for Passed {
-    ghost use Rattle.std.specs.Prelude.{◌≡◌, List, ℕ, [], Some, IfSome};
-    ghost use Rattle.cert_text.specs.Passes.{small_run};
-    ghost use Rattle.cert_text.specs.Pieces.{place_at};
-    ghost use Rattle.cert_text.specs.declared.scanning.Place.TheVariants as places;
+    ghost use Rattle.std.specs.Prelude.{List, ℕ, IfSome};
+    ghost use Rattle.cert_text.specs.Pieces.{IsGoneOver};
 
     ghost Value = { List ℕ };
 
     ghost view = { λ a. a.piece.items };
 
-    ghost invariant = { λ a. IfSome a.came (λ r. small_run [] (places.Part a.from) a.piece.items
-        ≡ Some ([], place_at r.1 r.0)) };
+    ghost invariant = { λ a. IfSome a.came (λ r. IsGoneOver a.from a.piece.items a.size r.1 r.0) };
 }
 
 /// What stands before the place to which the pass over a piece comes, where a part may begin there or it is the
@@ -58,26 +58,61 @@ fn is_same(one: Head, two: Head) -> bool
         && one.targets == two.targets
 }
 
-impl Passed {
-    /// The piece, gone over behind this head.
-    pub(crate) fn behind(from: Head, piece: Vec<u8>) -> Passed
-        requires { (before : List ℕ) × LeadsTo before [] (places.Part from)
-            × (length before + length piece.items < 2 ^ 64) }
-        ensures { result ≡ piece.items }
-    {
-        let came = come(piece.as_slice(), b"", Place::Part(from));
-        Passed { piece, from, came }
+/// Where these bytes lead behind what stands before them, so many bytes, if that is found.
+fn come_on(head: Head, is_closed: bool, size: usize, lines: &[u8]) -> Option<(Head, bool)>
+    requires { IsLed size is_closed head }
+    ensures run { IfSome result (λ r. small_run [] (place_at is_closed head) lines.now
+        ≡ Some ([], place_at r.1 r.0)) }
+    ensures room { IfSome result (λ _. size + length lines.now < 2 ^ 64) }
+{
+    if lines.is_empty() {
+        return Some((head, is_closed));
     }
+    if is_closed || lines.len() > usize::MAX - size {
+        return None;
+    }
+    come(lines, b"", Place::Part(head))
+}
 
-    /// The piece, not gone over.
-    pub(crate) fn not_over(from: Head, piece: Vec<u8>) -> Passed
-        ensures { result ≡ piece.items }
+impl Passed {
+    /// A piece of no bytes behind this head, before which there are so many bytes.
+    pub(crate) fn behind(alloc: Global, from: Head, size: usize) -> Passed
+        requires { IsLed size false from }
+        ensures { result ≡ [] }
     {
         Passed {
-            piece,
+            piece: Vec::new(alloc),
+            from,
+            came: Some((from, false)),
+            size,
+        }
+    }
+
+    /// A piece of no bytes, with which the text does not go on.
+    pub(crate) fn nowhere(alloc: Global, from: Head) -> Passed
+        ensures { result ≡ [] }
+    {
+        Passed {
+            piece: Vec::new(alloc),
             from,
             came: None,
+            size: 0,
         }
+    }
+
+    /// Goes over more bytes of the piece, and keeps them.
+    pub fn go_over(&mut self, lines: &[u8]) -> Result<(), AllocError>
+        ensures { OnOk result (self.new ≡ self.old ++ lines.now) }
+    {
+        let Some((head, is_closed)) = self.came else {
+            return self.piece.extend_from_slice(lines);
+        };
+        self.came = None;
+        self.piece.extend_from_slice(lines)?;
+        let came = come_on(head, is_closed, self.size, lines);
+        self.size = self.size.saturating_add(lines.len());
+        self.came = came;
+        Ok(())
     }
 
     /// Where the piece leads behind this head, if that was found.

@@ -26,7 +26,7 @@ pieces-init g c =
       depth_is = refl;
       letters = letters;
       known = subst (λ n. AreKnown n clauses) (sym letters) (subst (AreKnown (letters_through kind (counts f) depth)) (sym c.requires.clauses) (list_known f kind depth));
-      same = ap (λ (s : ScratchValue). s.letters) c.in_ok-one.ensures ∙ sym (ap (λ (s : ScratchValue). s.letters) c.in_ok-many.ensures);
+      same = ap (λ (s : ScratchValue). s.letters) c.in_ok-all.ensures ∙ sym (ap (λ (s : ScratchValue). s.letters) c.in_ok-many.ensures);
       count = refl;
     }
 
@@ -57,7 +57,7 @@ pieces-preserved g c =
     let on = rw c.in-Ok.is at c.in_ok-next.ensures.on in
     let good = rw c.in-Ok.is at c.in_ok-next.ensures.so_far in
     let many = ap (λ (s : ScratchValue). s.letters) c.in_ok-next.ensures.same_many in
-    let one = ap (λ (s : ScratchValue). s.letters) c.in_ok-next.ensures.same_one in
+    let all = ap (λ (s : ScratchValue). s.letters) c.in_ok-next.ensures.same_all in
     record {
       read = read_on (bytes_in c.args.coming) (bytes_in c.pieces.coming) (bytes_in c.in-Ok.next) before now after loop.read on.read;
       ended = ended_on (bytes_in c.args.coming) (bytes_in c.pieces.coming) c.pieces.coming.ended c.in-Ok.next.ended before now after loop.read loop.ended on.ended;
@@ -66,6 +66,6 @@ pieces-preserved g c =
       depth_is = on.same_depth ∙ loop.depth_is;
       letters = many ∙ loop.letters;
       known = subst (λ n. AreKnown n clauses) (sym many) loop.known;
-      same = one ∙ (loop.same ∙ sym many);
+      same = all ∙ (loop.same ∙ sym many);
       count = c.in_ok-next.ensures.count ∙ loop.count;
     }

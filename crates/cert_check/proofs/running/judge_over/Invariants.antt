@@ -16,6 +16,6 @@ invariant-pieces g l = record {
   depth_is : (said_in l.coming.front.bytes).depth ≡ (said_in l.fn.coming.front.bytes).depth;
   letters : l.many.letters ≡ letters_through l.closure.kind (counts l.closure.formula) (said_in l.fn.coming.front.bytes).depth;
   known : AreKnown l.many.letters (g.C.NamedClauses.clauses l.clauses);
-  same : l.one.letters ≡ l.many.letters;
+  same : l.all.letters ≡ l.many.letters;
   count : g.S.Source.faults l.source ≡ g.S.Source.faults l.fn.source;
 }

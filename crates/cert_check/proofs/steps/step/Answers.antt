@@ -1,13 +1,8 @@
-use Rattle.std.proofs.Common.{rules, IsTrue, refl, subst}
-use Rattle.cert_check.specs.Pieces.{AreGood}
-use Rattle.cert_check.proofs.Arriving.{so_far_on}
+use Rattle.std.proofs.Common.{rules, ◌≡◌, true}
+use Rattle.cert_check.proofs.Arriving.{rest_judged}
 use Rattle.cert_check.proofs.steps.step.Goals as goal
 
-pub returns-in-Ok-clause-so_far : goal.returns-in-Ok-clause-so_far
-returns-in-Ok-clause-so_far g c =
-    let clauses = g.C.NamedClauses.clauses c.args.clauses.now in
-    let yes : IsTrue c.in_ok-next.good = search rules in
-    let taken = rw c.in-Ok.is at c.in_ok-front.ensures in
-    let first = subst (λ n. AreGood clauses n c.args.coming.front.bytes c.args.coming.judged c.share_end-middle.result) c.requires.letters (c.in_ok-next.ensures.first yes) in
-    so_far_on clauses c.args.many.now.letters c.args.coming (record { front = c.in-Ok.front; carry = c.in-Ok.carry; judged = c.lines-lines.result; ended = c.in_ok-next.next.ended }) c.share_end-middle.result c.lines-lines.result
-    c.lines-lines.ensures refl taken.1 c.requires.so_far first (c.in_ok-next.ensures.later yes)
+pub returns-clause-on : goal.returns-clause-on
+returns-clause-on g c =
+    let ended : c.args.coming.ended ≡ true = search rules in
+    rest_judged (g.C.NamedClauses.clauses c.args.clauses.now) c.args.all.now.letters c.args.coming (g.S.Source.rest c.args.source.now) c.in_ok-judged.judged ended c.in_ok-judged.ensures.judged
