@@ -1,7 +1,8 @@
 #!/usr/bin/env python3
 """Refuses each growth of memory of a run of `black` in turn, and looks at what the run answers.
 
-    refused_memory.py PROGRAM        status 1 where an answer is neither the full one nor want of memory with nothing written
+    refused_memory.py PROGRAM                  status 1 where an answer is neither the full one nor want of memory with nothing written
+    refused_memory.py PROGRAM WORDS INPUT      the same with these words and the bytes of this file alone
 
 Each run refuses one request for memory, the first, the second and so on, until a run comes in which none was refused. A small C
 library, which is built by `cc` and put before the C library by LD_PRELOAD, counts the requests from the program's first own one on.
@@ -99,7 +100,11 @@ def main():
         with open(source, "w") as file:
             file.write(COUNTER)
         subprocess.run(["cc", "-O1", "-shared", "-fPIC", "-o", counter, source, "-ldl"], check=True)
-        for words, text in INPUTS:
+        inputs = INPUTS
+        if len(sys.argv) == 4:
+            with open(sys.argv[3]) as file:
+                inputs = [(sys.argv[2], file.read())]
+        for words, text in inputs:
             if text is None:
                 text = CONFLICT + "\n---\n" + certificate
             status, printed, _ = run(program, words, text)
