@@ -1,12 +1,12 @@
--- A clause is put behind the others by a name with its two watchers; where memory is short, it is taken off.
-use Rattle.std.proofs.Common.{◌≡◌, ℕ, suc, ◌<◌, ◌≤◌, ◌-◌, List, [], ◌∷◌, ◌++◌, take, set, All, Contains, length, get_or, sym, ap, ap₂, ◌∙◌, subst, arith}
+-- A clause is put behind the others by a name with its two watchers.
+use Rattle.std.proofs.Common.{◌≡◌, ℕ, suc, ◌<◌, ◌≤◌, List, [], ◌∷◌, ◌++◌, set, All, Contains, length, get_or, sym, ap, ap₂, ◌∙◌, subst, arith}
 use Rattle.std.proofs.lemmas.List.{get_or_at, length_push}
-use Rattle.std.proofs.lemmas.List.Elements.{Contains-push}
+use Rattle.std.proofs.lemmas.List.Elements.{Contains-push, Contains-get_or}
 use Rattle.cnf_base.specs.declared.literal.Literal.{Literal}
 use Rattle.cdcl_watches.specs.declared.watcher.Watcher.{Watcher}
 use Rattle.cdcl_watches.specs.Watching.{code, AreApart, IsWatching, WatchValue, with_watch, with_clause, blank}
-use Rattle.cdcl_watches.specs.Watchers.{nobody, clause_number, numbers, blocker_of, IsBlocking, AreBlockers, AreWatchers}
-use Rattle.cdcl_watches.proofs.Added.{added_watching, take_pushed}
+use Rattle.cdcl_watches.specs.Watchers.{nobody, clause_number, numbers, blocker_of, IsBlocking, AreBlockers, AreWatchers, IsLinked}
+use Rattle.cdcl_watches.proofs.Added.{added_watching}
 use Rattle.cdcl_watches.proofs.Numbers.{numbers_push}
 use Rattle.cdcl_watches.specs.Heads.{ArenaValue, number_of}
 use Rattle.cdcl_watches.proofs.HeadNumbers.{number_last, head_apart}
@@ -73,21 +73,27 @@ module _ (heads : List ℕ) (h : ℕ) (none : clause_number (heads ++ h ∷ []) 
 -- the clause that was put there is the last
 module _ (a before : ArenaValue) (r : List Literal) (h name : ℕ) (paired : length before.heads ≡ length before.clauses) (apart : AreApart before.heads)
     (pushed : before ≡ record { clauses = a.clauses ++ r ∷ []; heads = a.heads ++ h ∷ []; names = a.names ++ name ∷ [] }) where
-  pub last_known : Contains before.heads h
-  last_known = subst (λ (v : ArenaValue). Contains v.heads h) (sym pushed) (Contains-push a.heads h)
-
   pub last_number : suc (number_of before.heads h) ≡ length before.clauses
   last_number =
       let at : number_of before.heads h ≡ length a.heads =
       ap (λ (v : ArenaValue). number_of v.heads h) pushed ∙ number_last a.heads h (head_apart a.heads h (subst (λ (v : ArenaValue). AreApart v.heads) pushed apart)) in
       omega (arith, at, ap (λ (v : ArenaValue). length v.heads) pushed, length_push a.heads h, paired)
 
-  -- the arena after it is taken off
-  pub popped_arena : (new : ArenaValue) → length before.names ≡ length before.clauses
-      → new ≡ record { clauses = take (length before.clauses - 1) before.clauses; heads = take (length before.clauses - 1) before.heads; names = take (length before.clauses - 1) before.names } → new ≡ a
-  popped_arena new named popped =
-      popped
-      ∙ ap₂ (λ m n. let v : ArenaValue = record { clauses = take (length before.clauses - 1) before.clauses; heads = take (m - 1) before.heads; names = take (n - 1) before.names } in v) (sym paired) (sym named)
-      ∙ ap (λ (b : ArenaValue). let v : ArenaValue = record { clauses = take (length b.clauses - 1) b.clauses; heads = take (length b.heads - 1) b.heads; names = take (length b.names - 1) b.names } in v) pushed
-      ∙ ap₂ (λ cs hs. let v : ArenaValue = record { clauses = cs; heads = hs; names = take (length (a.names ++ name ∷ []) - 1) (a.names ++ name ∷ []) } in v) (take_pushed a.clauses r) (take_pushed a.heads h)
-      ∙ ap (λ ns. let v : ArenaValue = record { clauses = a.clauses; heads = a.heads; names = ns } in v) (take_pushed a.names name)
+  -- and where its first two literals watch it
+  module _ (none : number_of before.heads 0 ≡ 0) (now : ArenaValue) (same : now ≡ before) (lists after : List (List Watcher)) (x y : Literal) (x_is : x ≡ get_or r 0 blank) (y_is : y ≡ get_or r 1 blank)
+      (linked : IsLinked lists after h x y) (are : AreWatchers a.heads a.clauses lists) where
+    own : IsLinked lists after h (get_or r 0 blank) (get_or r 1 blank)
+    own = subst (λ z. IsLinked lists after h z (get_or r 1 blank)) x_is (subst (IsLinked lists after h x) y_is linked)
+
+    pub linked_watchers : 2 ≤ length r → AreApart r → All (λ l. code l < length (numbers a.heads lists)) r → AreWatchers now.heads now.clauses after
+    linked_watchers long distinct fits =
+        subst (λ (v : ArenaValue). AreWatchers v.heads v.clauses after) (sym (same ∙ pushed))
+        (stored_watchers a.heads h (subst (λ (v : ArenaValue). number_of v.heads 0 ≡ 0) pushed none) (subst (λ (v : ArenaValue). AreApart v.heads) pushed apart) a.clauses lists own.half after r own.one own.two
+        (subst (λ (v : ArenaValue). length v.heads ≡ length v.clauses) pushed paired) own.one_head own.two_head own.first own.second are
+        (subst (Contains r) (sym own.one_blocker) (Contains-get_or r 1 blank (omega (arith, long)))) (subst (Contains r) (sym own.two_blocker) (Contains-get_or r 0 blank (omega (arith, long)))) long distinct fits)
+
+    pub linked_value : (let v : WatchValue = record { clauses = now.clauses; lists = numbers now.heads after; names = now.names } in v) ≡ with_clause (record { clauses = a.clauses; lists = numbers a.heads lists; names = a.names }) r name
+    linked_value =
+        ap (λ (v : ArenaValue). let u : WatchValue = record { clauses = v.clauses; lists = numbers v.heads after; names = v.names } in u) (same ∙ pushed)
+        ∙ stored_is a.heads h (subst (λ (v : ArenaValue). number_of v.heads 0 ≡ 0) pushed none) (subst (λ (v : ArenaValue). AreApart v.heads) pushed apart) a.clauses lists own.half after r own.one own.two
+        (subst (λ (v : ArenaValue). length v.heads ≡ length v.clauses) pushed paired) own.one_head own.two_head own.first own.second are a.names name

@@ -58,18 +58,18 @@ module _ (items heads : List ℕ) (are : AreHeads items heads) where
 
   -- a clause of the buffer, by its head
   module _ (c : ℕ) (known : c < length heads) where
-    row_at : get_or (row_pieces items (map (place_at items) heads)) c [] ≡ slice_range items (get_or heads c 0) (get_or heads c 0 + 2 + get_or items (get_or heads c 0) 0)
+    pub row_at : get_or (row_pieces items (map (place_at items) heads)) c [] ≡ slice_range items (get_or heads c 0) (get_or heads c 0 + 2 + get_or items (get_or heads c 0) 0)
     row_at =
         let p = place_at items (get_or heads c 0) in
         get_or-map (λ (s : Place). slice_range items s.from s.to) (map (place_at items) heads) c p [] (omega (arith, length-map heads (place_at items)))
         ∙ ap (λ (s : Place). slice_range items s.from s.to) (get_or-map (place_at items) heads c 0 p known)
 
-    row_length : length (get_or (row_pieces items (map (place_at items) heads)) c []) ≡ 2 + get_or items (get_or heads c 0) 0
+    pub row_length : length (get_or (row_pieces items (map (place_at items) heads)) c []) ≡ 2 + get_or items (get_or heads c 0) 0
     row_length =
         let h = get_or heads c 0 in
         ap length row_at ∙ length_range items h (h + 2 + get_or items h 0) (omega arith) (are.inside c known) ∙ omega (arith)
 
-    clause_row : clause_of (clauses_at items heads) c ≡ decoded (get_or (row_pieces items (map (place_at items) heads)) c [])
+    pub clause_row : clause_of (clauses_at items heads) c ≡ decoded (get_or (row_pieces items (map (place_at items) heads)) c [])
     clause_row = get_or-map decoded (row_pieces items (map (place_at items) heads)) c [] [] (omega (arith, known, length_rows))
       where
         length_rows : length (row_pieces items (map (place_at items) heads)) ≡ length heads

@@ -1,5 +1,6 @@
 -- Literals and their numbers.
-use Rattle.std.proofs.Common.{◌≡◌, ℕ, ◌+◌, ◌*◌, ◌/◌, ◌%◌, nat_eq, ◌<◌, Bool, true, false, if◌then◌else◌, List, [], ◌∷◌, map, Contains, length, get_or, refl, sym, ap, ap₂, ◌∙◌, subst, arith}
+use Rattle.std.proofs.Common.{◌≡◌, ℕ, ◌+◌, ◌*◌, ◌/◌, ◌%◌, nat_eq, ◌<◌, Bool, true, false, inl, inr, if◌then◌else◌, List, [], ◌∷◌, map, Contains, length, get_or, refl, sym, ap, ap₂, ◌∙◌, subst, arith}
+use Rattle.std.proofs.lemmas.Bool.{cases_eq}
 use Rattle.std.proofs.lemmas.List.Elements.{Contains-get_or}
 use Rattle.cnf_base.specs.declared.literal.Literal.{Literal}
 use Rattle.cdcl_watches.specs.Watching.{code, literal_of}
@@ -31,3 +32,16 @@ coded_in row i n d low is = subst (Contains row) (sym (ap literal_of is ∙ lite
 pub literals_code : (ls : List Literal) → map literal_of (map code ls) ≡ ls
 literals_code [] = refl
 literals_code (l ∷ ls) = ap₂ ◌∷◌ (literal_code l) (literals_code ls)
+
+-- and so do the literals of numbers
+code_literal : (n : ℕ) → code (literal_of n) ≡ n
+code_literal n = elim (cases_eq (n % 2) 1) [
+  | inl odd ↦ ap (λ m. 2 * (n / 2) + (if nat_eq m 1 then 1 else 0)) odd ∙ omega (arith, odd)
+  | inr off ↦
+      let even : n % 2 ≡ 0 = omega (arith, off) in
+      ap (λ m. 2 * (n / 2) + (if nat_eq m 1 then 1 else 0)) even ∙ omega (arith, even)
+]
+
+pub codes_literal : (ns : List ℕ) → map code (map literal_of ns) ≡ ns
+codes_literal [] = refl
+codes_literal (n ∷ ns) = ap₂ ◌∷◌ (code_literal n) (codes_literal ns)

@@ -19,3 +19,5 @@ pub mod Walks
 pub mod PoolBlocks
 pub mod PoolContents
 pub mod PoolCalls
+pub mod Emptied
+pub mod Copied

@@ -1,6 +1,6 @@
 -- Clauses in one buffer of numbers: each is its length, its name and the codes of its literals. The codes
 -- behind the first two stand from the last down.
-use Rattle.std.specs.Prelude.{◌≡◌, ℕ, zero, suc, ◌+◌, ◌<◌, ◌≤◌, ◌^◌, nat_eq, if◌then◌else◌, List, [], ◌∷◌, length, map, drop, slice_index_or}
+use Rattle.std.specs.Prelude.{◌≡◌, ℕ, zero, suc, ◌+◌, ◌-◌, ◌<◌, ◌≤◌, ◌^◌, nat_eq, if◌then◌else◌, List, [], ◌∷◌, length, map, take, drop, slice_index_or}
 use Rattle.cnf_base.specs.declared.literal.Literal.{Literal}
 use Rattle.cnf_base.specs.RowPieces.{Place, row_pieces}
 use Rattle.cdcl_watches.specs.Watching.{literal_of}
@@ -58,3 +58,11 @@ pub record ArenaValue : Type 0 where
   pub clauses : List (List Literal)
   pub heads : List ℕ
   pub names : List ℕ
+
+-- the clauses, their heads and their names without the last
+abbrev pub without_last : ArenaValue → ArenaValue
+without_last a = record {
+  clauses = take (length a.clauses - 1) a.clauses;
+  heads = take (length a.clauses - 1) a.heads;
+  names = take (length a.clauses - 1) a.names;
+}

@@ -1,9 +1,9 @@
 -- Watchers: where a clause stands, and a literal of it.
-use Rattle.std.specs.Prelude.{◌≡◌, ℕ, ◌<◌, ◌≤◌, List, [], length, map, All, Contains, slice_index_or, slice_set}
+use Rattle.std.specs.Prelude.{◌≡◌, ℕ, ◌<◌, ◌≤◌, List, [], ◌∷◌, ◌++◌, length, map, All, Contains, slice_index_or, slice_set}
 use Rattle.std.specs.List.{remove_range}
 use Rattle.cnf_base.specs.declared.literal.Literal.{Literal}
 use Rattle.cdcl_watches.specs.declared.watcher.Watcher.{Watcher}
-use Rattle.cdcl_watches.specs.Watching.{literal_of, clause_of, IsWatching, WatchValue}
+use Rattle.cdcl_watches.specs.Watching.{code, literal_of, clause_of, IsWatching, WatchValue}
 use Rattle.cdcl_watches.specs.Heads.{number_of, ArenaValue}
 
 -- what a read past the end would give
@@ -36,6 +36,18 @@ pub record AreWatchers (heads : List ℕ) (clauses : List (List Literal)) (lists
   pub none : clause_number heads nobody ≡ 0
   pub watching : IsWatching clauses (numbers heads lists)
   pub blockers : AreBlockers heads clauses lists
+
+-- watchers of the head were put behind the lists of two literals, each with the other literal for its blocker
+pub record IsLinked (before now : List (List Watcher)) (head : ℕ) (a b : Literal) : Type 0 where
+  pub one : Watcher
+  pub two : Watcher
+  pub one_head : one.head ≡ head
+  pub two_head : two.head ≡ head
+  pub one_blocker : blocker_of one ≡ b
+  pub two_blocker : blocker_of two ≡ a
+  pub half : List (List Watcher)
+  pub first : half ≡ slice_set before (code a) (slice_index_or before (code a) [] ++ one ∷ [])
+  pub second : now ≡ slice_set half (code b) (slice_index_or half (code b) [] ++ two ∷ [])
 
 -- the lists, one of them without its places from kept to next
 abbrev pub without : List (List Watcher) → ℕ → ℕ → ℕ → List (List Watcher)

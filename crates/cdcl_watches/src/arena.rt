@@ -53,6 +53,14 @@ impl Arena {
         }
     }
 
+    /// No clauses, and room beforehand for as many items as stand here.
+    pub fn emptied(&self, alloc: Global) -> Result<Arena, AllocError>
+        ensures { IfOk result (λ arena. arena ≡ record { clauses = []; heads = []; names = [] }) }
+    {
+        let items = Vec::with_capacity(alloc, self.items.len())?;
+        Ok(Arena { items })
+    }
+
     /// Each clause has one head, the first of them 0, and one name.
     pub fn told(&self)
         ensures paired { length self.now.heads ≡ length self.now.clauses }
@@ -130,6 +138,27 @@ impl Arena {
                 return Err(AllocError);
             }
         }
+    }
+
+    /// Puts the clause that has this head in another buffer behind the others, as it stands there and by its
+    /// name, and answers its head here. Want of room is told as want of memory.
+    pub fn push_from(&mut self, other: &Arena, head: u32) -> Result<u32, AllocError>
+        requires { Contains other.now.heads head }
+        ensures pushed { IfOk result (λ here. self.new ≡ record {
+          clauses = self.old.clauses ++ clause_of other.now.clauses (number_of other.now.heads head) ∷ [];
+          heads = self.old.heads ++ here ∷ [];
+          names = self.old.names ++ slice_index_or other.now.names (number_of other.now.heads head) 0 ∷ [];
+        }) }
+        ensures refused { OnErr result (self.new ≡ self.old) }
+    {
+        let from = head as usize;
+        let to = from + 2 + other.items[from] as usize;
+        let place = self.items.len();
+        if place + (to - from) > MAX_ITEMS {
+            return Err(AllocError);
+        }
+        self.items.extend_from_slice(&other.items[from..to])?;
+        Ok(place as u32)
     }
 
     /// Takes the last clause off, which is the one of this head.

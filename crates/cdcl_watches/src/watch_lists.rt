@@ -1,10 +1,11 @@
 // For each literal the list of the clauses that watch it. The lists stand in one pool, each in a block of its
 // own whose room is a power of two: so lists of a watcher or two cost little, and a list that grows moves
 // seldom. A block that a list has outgrown serves another list.
-ghost use Rattle.std.specs.Prelude.{◌≡◌, ◌+◌, ◌-◌, ◌<◌, ◌≤◌, ◌^◌, List, [], ◌∷◌, ◌++◌, length, take, if◌then◌else◌, is_ok, slice_index_or, slice_set};
+ghost use Rattle.std.specs.Prelude.{◌≡◌, ◌+◌, ◌-◌, ◌<◌, ◌≤◌, ◌^◌, List, [], ◌∷◌, ◌++◌, length, take, replicate, IfOk, if◌then◌else◌, is_ok, slice_index_or, slice_set};
 ghost use Rattle.cdcl_watches.specs.Watchers.{nobody, without};
+ghost use Rattle.cdcl_watches.specs.Pool.{without_watchers};
 
-use crate::pool::{put, widen};
+use crate::pool::{FILLER, put, widen};
 use crate::span::{Span, room};
 use crate::spare::Spare;
 use crate::watcher::Watcher;
@@ -46,6 +47,17 @@ impl WatchLists {
             pool: Vec::new(alloc),
             spare: Spare::new(alloc),
         }
+    }
+
+    /// As many lists as here, all empty. Each has its block beforehand, so that none has to move before it is
+    /// longer than here. What stands in the blocks counts for nothing.
+    pub fn emptied(&self, alloc: Global) -> Result<WatchLists, AllocError>
+        ensures { IfOk result (λ lists. lists ≡ replicate (length self.now) []) }
+    {
+        let spans = emptied_spans(&self.spans, alloc)?;
+        let pool = Vec::from_elem(alloc, FILLER, self.pool.len())?;
+        let spare = self.spare.copied(alloc)?;
+        Ok(WatchLists { spans, pool, spare })
     }
 
     /// Puts an empty list behind the others.
@@ -158,4 +170,20 @@ impl WatchLists {
             class: span.class,
         };
     }
+}
+
+/// The same blocks, each without a watcher.
+fn emptied_spans(spans: &[Span], alloc: Global) -> Result<Vec<Span>, AllocError>
+    ensures { IfOk result (λ emptied. emptied.items ≡ without_watchers spans.now) }
+{
+    let mut emptied = Vec::with_capacity(alloc, spans.len())?;
+    for list in 0..spans.len() {
+        let span = spans[list];
+        emptied.push(Span {
+            from: span.from,
+            len: 0,
+            class: span.class,
+        })?;
+    }
+    Ok(emptied)
 }

@@ -2,7 +2,9 @@
 // keeps it so. As long as neither is false, nothing else of the clause matters. After Moskewicz, Madigan,
 // Zhao, Zhang and Malik, Chaff (2001). Each place of a list also gives a literal of its clause; contracts
 // promise no more of which one it is.
-ghost use Rattle.std.specs.Prelude.{◌≡◌, ℕ, ◌+◌, ◌-◌, ◌<◌, ◌≤◌, List, [], ◌∷◌, ◌++◌, length, All, Contains, if◌then◌else◌, is_ok, slice_index_or, slice_set};
+ghost use Rattle.std.specs.Prelude.{◌≡◌, ℕ, suc, ◌+◌, ◌-◌, ◌<◌, ◌≤◌, List, [], ◌∷◌, ◌++◌, length, replicate, All, Contains, IfOk, OnOk, OnErr, if◌then◌else◌, is_ok, slice_index_or, slice_set};
+ghost use Rattle.cdcl_watches.specs.Heads.{number_of, without_last};
+ghost use Rattle.cdcl_watches.specs.Watchers.{IsLinked};
 ghost use Rattle.cdcl_watches.specs.Watching.{code, list_of, clause_of, IsWatching, AreApart, IsWidened, WatchValue, with_clause, with_lists};
 
 use crate::arena::Arena;
@@ -62,25 +64,29 @@ impl Watches {
         self.lists.few();
         let head = self.arena.push(name, clause)?;
         self.arena.told();
-        let first_watcher = watch(head, second);
-        let second_watcher = watch(head, first);
-        match self.lists.push(number(first), first_watcher) {
-            Ok(()) => {}
-            Err(_) => {
-                self.arena.pop(head);
-                return Err(AllocError);
-            }
-        }
-        match self.lists.push(number(second), second_watcher) {
-            Ok(()) => {
-                return Ok(());
-            }
-            Err(_) => {
-                self.lists.pop(number(first));
-                self.arena.pop(head);
-                return Err(AllocError);
-            }
-        }
+        link(&mut self.arena, &mut self.lists, head, first, second)?;
+        Ok(())
+    }
+
+    /// Puts the clause that has this head in another buffer behind the others, as it stands there and by its
+    /// name, and watches its first two literals.
+    pub fn add_from(&mut self, other: &Arena, head: u32) -> Result<(), AllocError>
+        requires head { Contains other.now.heads head }
+        requires long { 2 ≤ length (clause_of other.now.clauses (number_of other.now.heads head)) }
+        requires apart { AreApart (clause_of other.now.clauses (number_of other.now.heads head)) }
+        requires fits { All (λ l. code l < length self.old.lists)
+            (clause_of other.now.clauses (number_of other.now.heads head)) }
+        ensures { self.new ≡ (if is_ok result then with_clause self.old
+            (clause_of other.now.clauses (number_of other.now.heads head))
+            (slice_index_or other.now.names (number_of other.now.heads head) 0) else self.old) }
+    {
+        let clause = other.clause(head);
+        let first = clause.get(0);
+        let second = clause.get(1);
+        let here = self.arena.push_from(other, head)?;
+        self.arena.told();
+        link(&mut self.arena, &mut self.lists, here, first, second)?;
+        Ok(())
     }
 
     /// Makes one more letter known: two literals that nothing watches.
@@ -109,6 +115,19 @@ impl Watches {
         self.lists.shrink();
     }
 
+    /// No clauses, and as many lists as here, all empty. There is room beforehand for what stands here.
+    pub fn emptied(&self, alloc: Global) -> Result<Watches, AllocError>
+        ensures { IfOk result (λ w. w ≡ record {
+          clauses = [];
+          lists = replicate (length self.now.lists) [];
+          names = [];
+        }) }
+    {
+        let arena = self.arena.emptied(alloc)?;
+        let lists = self.lists.emptied(alloc)?;
+        Ok(Watches { arena, lists })
+    }
+
     /// No clauses, and no lists.
     pub fn new(alloc: Global) -> Self
         ensures { result ≡ record { clauses = []; lists = []; names = [] } }
@@ -116,6 +135,46 @@ impl Watches {
         Watches {
             arena: Arena::new(alloc),
             lists: WatchLists::new(alloc),
+        }
+    }
+}
+
+/// Lets the clause of this head, which is the last one, be watched by its first two literals. Where there is
+/// no memory for that the clause is taken off.
+fn link(
+    arena: &mut Arena,
+    lists: &mut WatchLists,
+    head: u32,
+    first: Literal,
+    second: Literal,
+) -> Result<(), AllocError>
+    requires known { Contains arena.old.heads head }
+    requires last { suc (number_of arena.old.heads head) ≡ length arena.old.clauses }
+    requires first { code first < length lists.old }
+    requires second { code second < length lists.old }
+    ensures arena { OnOk result (arena.new ≡ arena.old) }
+    ensures linked { OnOk result (IsLinked lists.old lists.new head first second) }
+    ensures popped { OnErr result (arena.new ≡ without_last arena.old) }
+    ensures refused { OnErr result (lists.new ≡ lists.old) }
+{
+    lists.few();
+    let first_watcher = watch(head, second);
+    let second_watcher = watch(head, first);
+    match lists.push(number(first), first_watcher) {
+        Ok(()) => {}
+        Err(_) => {
+            arena.pop(head);
+            return Err(AllocError);
+        }
+    }
+    match lists.push(number(second), second_watcher) {
+        Ok(()) => {
+            return Ok(());
+        }
+        Err(_) => {
+            lists.pop(number(first));
+            arena.pop(head);
+            return Err(AllocError);
         }
     }
 }
