@@ -1,8 +1,8 @@
 -- The watched clauses that come over as they are.
-use Rattle.std.proofs.Common.{◌≡◌, ℕ, suc, ◌<◌, ◌⊎◌, inl, inr, Bool, true, false, List, [], ◌∷◌, ◌++◌, Option, Some, None, MatchOption, IfSome, All, Contains, map, length, get_or, sym, ap, ◌∙◌, subst, arith}
+use Rattle.std.proofs.Common.{◌≡◌, ℕ, suc, ◌<◌, ◌⊎◌, inl, inr, Bool, true, false, List, [], ◌∷◌, ◌++◌, Option, Some, None, MatchOption, IfSome, All, Contains, map, length, replicate, get_or, sym, ap, ◌∙◌, subst, arith}
 use Rattle.std.proofs.Math.ListN.{get_or-map, get_or-eq_default}
 use Rattle.std.proofs.lemmas.Bool.{cases_lt}
-use Rattle.std.proofs.lemmas.List.{map-append, length-map, get_or_append_left, get_or_at, get_or_default, length_push}
+use Rattle.std.proofs.lemmas.List.{map-append, length-map, length-replicate, get_or_append_left, get_or_at, get_or_default, length_push}
 use mathlib.Core.Bool.{false≢true}
 use Rattle.cnf_base.specs.declared.literal.Literal.{Literal}
 use Rattle.cnf_base.specs.declared.literal.Hint.{Hint}
@@ -12,7 +12,7 @@ use Rattle.clause_log.specs.LogValue.{LogValue}
 use Rattle.cdcl_trail.specs.Entries.{hint_of}
 use Rattle.cdcl_watches.specs.Watching.{WatchValue, IsWatching, AreApart, clause_of, code, with_clause}
 use Rattle.cdcl_watches.specs.Heads.{ArenaValue, number_of}
-use Rattle.cdcl_watches.proofs.HeadNumbers.{number_at}
+use Rattle.cdcl_watches.proofs.HeadNumbers.{number_at, number_low}
 use Rattle.cdcl_propagate.specs.Visit.{HaveSame, IsStored, names_of, blank_hint}
 use Rattle.cdcl_propagate.specs.Units.{IsOne}
 use Rattle.cdcl_state.specs.State.{IsListed, AreLong}
@@ -24,6 +24,10 @@ use Rattle.cdcl_state.proofs.Gathering.{numbered_within}
 -- a name as a hint
 name_at : (names : List ℕ) (c : ℕ) → get_or (map hint_of names) c blank_hint ≡ hint_of (get_or names c 0)
 name_at names c = get_or-map hint_of names c 0
+
+-- the clause of a head may come where all may
+pub come_at : (lists : ℕ) (old : ArenaValue) (head : ℕ) → Contains old.heads head → length old.heads ≡ length old.clauses → All (MayCome lists) old.clauses → MayCome lists (clause_of old.clauses (number_of old.heads head))
+come_at lists old head there paired come = let low = number_low old.heads head there in come (number_of old.heads head) [] (omega (arith, low.0, paired))
 
 -- no clause yet, and no mark
 pub copied_none : (old : ArenaValue) (there : List Bool) (w : WatchValue) → w.clauses ≡ [] → w.names ≡ [] → All (λ mark. mark ≡ false) there → IsCopied old 0 there w
@@ -86,6 +90,10 @@ module _ (old : ArenaValue) (c name : ℕ) (there : List Bool) (w : WatchValue) 
           | inr e ↦ listed_last (names_of w) (hint_of name) (Line n) (sym e)
         ]);
       })
+
+-- the lists, each emptied, are as many
+pub emptied_lists : (old w : WatchValue) → w ≡ record { clauses = []; lists = replicate (length old.lists) []; names = [] } → length w.lists ≡ length old.lists
+emptied_lists old w is = ap (λ (w : WatchValue). length w.lists) is ∙ length-replicate (length old.lists) []
 
 -- how many clauses stand before the one of the head, or in all, where no head is left
 abbrev pub count_at : List ℕ → Option ℕ → ℕ

@@ -1,5 +1,5 @@
 -- The clauses of a log that are gathered anew: which are put among the watched ones, and which were met.
-use Rattle.std.specs.Prelude.{◌≡◌, ℕ, ◌<◌, ◌≤◌, ◌⊎◌, Bool, true, false, List, [], length, map, All, Some, slice_index_or}
+use Rattle.std.specs.Prelude.{◌≡◌, ℕ, ◌<◌, ◌≤◌, ◌⊎◌, Bool, true, false, List, length, map, All, Some, slice_index_or}
 use Rattle.cnf_base.specs.declared.literal.Literal.{Literal}
 use Rattle.cnf_base.specs.declared.literal.Hint.{Hint}
 use Rattle.cnf_base.specs.declared.literal.Hint.TheVariants.{Clause, Line}
@@ -23,12 +23,6 @@ is_whole (Marked marks) = false
 pub record HasRoom (marked lists : ℕ) (l : Literal) : Type 0 where
   pub mark : l.letter.0 < marked
   pub list : code l < lists
-
--- so many lists, and no clause
-pub record IsEmpty (lists : ℕ) (w : WatchValue) : Type 0 where
-  pub clauses : w.clauses ≡ []
-  pub names : w.names ≡ []
-  pub sized : length w.lists ≡ lists
 
 -- the clause, each of its literals once, came behind the watched ones, or it has fewer than two and nothing changed
 pub record IsPut (old new : WatchValue) (clause : List Literal) (hint : Hint) : Type 0 where

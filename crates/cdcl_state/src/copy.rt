@@ -1,6 +1,6 @@
-// The watched clauses come over as they are: each with its literals in the order in which it is watched. A
-// search that went on for long has moved the watches to literals that serve, and the log's order would throw
-// that away.
+// The watched clauses come over as they are: each is copied as one block, with its literals in the order in
+// which it is watched. A search that went on for long has moved the watches to literals that serve, and the
+// log's order would throw that away.
 ghost use Rattle.std.specs.Prelude.{◌≡◌, ℕ, suc, ◌⊎◌, true, false, [], length, All, Contains, OnOk, slice_index_or};
 ghost use Rattle.cnf_base.specs.declared.literal.Hint.TheVariants.{Line};
 ghost use Rattle.cdcl_trail.specs.Entries.{hint_of};
@@ -10,10 +10,9 @@ ghost use Rattle.cdcl_state.specs.Gathered.{MayCome, IsCopied};
 use crate::kept::{Kept, stays};
 use cdcl_trail::hints::lengthen;
 use cdcl_watches::arena::Arena;
-use cdcl_watches::clause::Clause;
 use cdcl_watches::watches::Watches;
-use cnf_base::{Hint, Literal};
-use std::alloc::{AllocError, Global};
+use cnf_base::Hint;
+use std::alloc::AllocError;
 
 /// Marks the line of this name as one that is there. An input has no mark.
 fn mark(name: u32, there: &mut Vec<bool>)
@@ -30,23 +29,11 @@ fn mark(name: u32, there: &mut Vec<bool>)
     }
 }
 
-/// The clause's literals in their order, in place of what was in the row.
-fn fill(clause: &Clause<'_>, row: &mut Vec<Literal>) -> Result<(), AllocError>
-    ensures { OnOk result (row.new.items ≡ clause.now) }
-{
-    row.clear();
-    for place in 0..clause.len() {
-        row.push(clause.get(place))?;
-    }
-    Ok(())
-}
-
-/// Puts the clause of the head among the watched ones, if it is kept. The row is for its literals.
+/// Puts the clause of the head among the watched ones, if it is kept.
 fn copy_clause(
     old: &Arena,
     head: u32,
     kept: Kept<'_>,
-    row: &mut Vec<Literal>,
     there: &mut Vec<bool>,
     watches: &mut Watches,
 ) -> Result<(), AllocError>
@@ -62,15 +49,13 @@ fn copy_clause(
     if !stays(kept, name) {
         return Ok(());
     }
-    fill(&old.clause(head), row)?;
-    watches.add(name, row)?;
+    watches.add_from(old, head)?;
     mark(name, there);
     Ok(())
 }
 
 /// Puts the clauses that are kept among the watched ones, which are none yet, and marks the lines among them.
 pub fn copy(
-    alloc: Global,
     old: &Arena,
     kept: Kept<'_>,
     there: &mut Vec<bool>,
@@ -84,10 +69,9 @@ pub fn copy(
     ensures copied { OnOk result (IsCopied old.now (length old.now.clauses) there.new.items watches.new) }
 {
     old.told();
-    let mut row: Vec<Literal> = Vec::new(alloc);
     let mut next = old.first();
     'heads: while let Some(head) = next {
-        copy_clause(old, head, kept, &mut row, there, watches)?;
+        copy_clause(old, head, kept, there, watches)?;
         next = old.after(head);
     }
     Ok(())

@@ -1,11 +1,11 @@
 // The clauses of a log that are to be watched, gathered anew: those that are watched now and are kept come
-// over as they are watched, and where every line is kept, those that were forgotten come from the log.
-// Clauses of one literal or none are left out, since nobody watches them.
-ghost use Rattle.std.specs.Prelude.{◌≡◌, ◌<◌, ◌*◌, List, true, false, length, All, IfOk, OnOk};
+// over as they are watched, each copied as one block, and where every line is kept, those that were forgotten
+// come from the log. Clauses of one literal or none are left out, since nobody watches them.
+ghost use Rattle.std.specs.Prelude.{◌≡◌, ◌<◌, List, true, false, length, All, IfOk, OnOk};
 ghost use Rattle.cdcl_watches.specs.Watching.{code, AreApart};
 ghost use Rattle.cdcl_propagate.specs.Visit.{IsStored, names_of};
 ghost use Rattle.cdcl_state.specs.State.{AreLong};
-ghost use Rattle.cdcl_state.specs.Gathered.{is_whole, HasRoom, IsEmpty, IsPut, IsMet, IsCarried, IsGathered};
+ghost use Rattle.cdcl_state.specs.Gathered.{is_whole, HasRoom, IsPut, IsMet, IsCarried, IsGathered};
 
 use crate::copy::copy;
 use crate::kept::{Kept, is_every, is_marked};
@@ -16,17 +16,6 @@ use cdcl_watches::watches::Watches;
 use clause_log::LogView;
 use cnf_base::{Hint, Literal};
 use std::alloc::{AllocError, Global};
-
-/// Lists for so many letters, and no clause.
-fn empty(alloc: Global, letters: usize) -> Result<Watches, AllocError>
-    ensures { IfOk result (IsEmpty (2 * letters)) }
-{
-    let mut watches = Watches::new(alloc);
-    for _ in 0..letters {
-        watches.letter()?;
-    }
-    Ok(watches)
-}
 
 /// Puts a clause whose literals stand there once among the watched ones, if it has two.
 fn put_apart(clause: &[Literal], hint: Hint, watches: &mut Watches) -> Result<(), AllocError>
@@ -101,22 +90,20 @@ pub fn gather(
     alloc: Global,
     log: &LogView<'_>,
     old: &Watches,
-    letters: usize,
     kept: Kept<'_>,
     marks: &mut Marks,
 ) -> Result<Watches, AllocError>
     requires stored { IsStored log.now.inputs log.now.lines old.now.clauses (names_of old.now) }
     requires long { AreLong log.now.inputs log.now.lines (names_of old.now) }
-    requires lists { length old.now.lists ≡ 2 * letters }
-    requires lines { All (All (HasRoom (length marks.old.stamps) (2 * letters))) log.now.lines }
+    requires lines { All (All (HasRoom (length marks.old.stamps) (length old.now.lists))) log.now.lines }
     ensures size { length marks.new.stamps ≡ length marks.old.stamps }
-    ensures lists { IfOk result (λ watches. length watches.lists ≡ 2 * letters) }
+    ensures lists { IfOk result (λ watches. length watches.lists ≡ length old.now.lists) }
     ensures gathered { IfOk result (IsGathered (IsCarried (is_whole kept.entry) (names_of old.now)) log.now) }
 {
     old.watching();
-    let mut watches = empty(alloc, letters)?;
+    let mut watches = old.emptied(alloc)?;
     let mut there = unmarked(alloc, log.lines())?;
-    copy(alloc, &old.arena, kept, &mut there, &mut watches)?;
+    copy(&old.arena, kept, &mut there, &mut watches)?;
     if !is_every(kept) {
         return Ok(watches);
     }

@@ -38,12 +38,10 @@ impl State {
         ensures watched { OnOk result (self.new ≡ with_whole self.old (is_whole kept.entry)) }
         ensures refused { OnErr result (self.new ≡ self.old) }
     {
-        let letters = self.assigned.letters();
         let watches = gather(
             alloc,
             &self.log.view(),
             &self.watches,
-            letters,
             kept,
             &mut self.marks,
         )?;

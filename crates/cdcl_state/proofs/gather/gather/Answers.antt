@@ -1,17 +1,32 @@
-use Rattle.std.proofs.Common.{◌∙◌, All, length, subst, sym, true, false}
+use Rattle.std.proofs.Common.{◌∙◌, All, length, subst, sym, ap, true, false}
 use Rattle.cdcl_watches.specs.Heads.{ArenaValue}
 use Rattle.cdcl_watches.specs.Watching.{WatchValue}
 use Rattle.cdcl_propagate.specs.Visit.{names_of}
 use Rattle.cdcl_state.specs.Gathered.{MayCome, IsCopied, IsMet, IsCarried, IsGathered}
 use Rattle.cdcl_state.proofs.Gathering.{gathered_fewer, carried_inputs, carried_all}
-use Rattle.cdcl_state.proofs.Copying.{may_come, gathered_copied}
+use Rattle.cdcl_state.proofs.Copying.{emptied_lists, may_come, gathered_copied}
 use Rattle.cdcl_state.proofs.gather.gather.Goals as goal
 
 pub copy-requires-clause-come : goal.copy-requires-clause-come
 copy-requires-clause-come c =
     let lists = length c.in_ok-watches.watches.lists in
     subst (λ (w : WatchValue). All (MayCome lists) w.clauses) (sym c.old.view_is)
-    (may_come lists c.args.log.now c.args.old.now c.watching.ensures.watched (c.requires.lists ∙ sym c.in_ok-watches.ensures.sized) c.requires.stored c.requires.long)
+    (may_come lists c.args.log.now c.args.old.now c.watching.ensures.watched (sym (emptied_lists c.args.old.now c.in_ok-watches.watches c.in_ok-watches.ensures)) c.requires.stored c.requires.long)
+
+pub copy-requires-clause-clauses : goal.copy-requires-clause-clauses
+copy-requires-clause-clauses c = ap (λ (w : WatchValue). w.clauses) c.in_ok-watches.ensures
+
+pub copy-requires-clause-names : goal.copy-requires-clause-names
+copy-requires-clause-names c = ap (λ (w : WatchValue). w.names) c.in_ok-watches.ensures
+
+pub put_missing-requires : goal.put_missing-requires
+put_missing-requires c = rw (c.in_ok-copy.ensures.lists, emptied_lists c.args.old.now c.in_ok-watches.watches c.in_ok-watches.ensures) c.requires.lines
+
+pub returns-then-not-is_every-clause-lists : goal.returns-then-not-is_every-clause-lists
+returns-then-not-is_every-clause-lists c = c.in_ok-copy.ensures.lists ∙ emptied_lists c.args.old.now c.in_ok-watches.watches c.in_ok-watches.ensures
+
+pub returns-clause-lists : goal.returns-clause-lists
+returns-clause-lists c = c.in_ok-put_missing.ensures.lists ∙ c.in_ok-copy.ensures.lists ∙ emptied_lists c.args.old.now c.in_ok-watches.watches c.in_ok-watches.ensures
 
 pub returns-then-not-is_every-clause-gathered : goal.returns-then-not-is_every-clause-gathered
 returns-then-not-is_every-clause-gathered c =

@@ -1,4 +1,4 @@
-use Rattle.std.proofs.Common.{◌*◌, ◌∙◌, length, subst, ap}
+use Rattle.std.proofs.Common.{◌∙◌, length, subst}
 use Rattle.clause_log.specs.LogValue.{LogValue}
 use Rattle.cdcl_propagate.specs.Visit.{names_of}
 use Rattle.cdcl_state.specs.Gathered.{is_whole, IsCarried, IsGathered}
@@ -11,12 +11,9 @@ gather-requires-clause-stored c = rw c.view.ensures.same c.self.invariant.ready.
 pub gather-requires-clause-long : goal.gather-requires-clause-long
 gather-requires-clause-long c = rw c.view.ensures.same c.self.invariant.long
 
-pub gather-requires-clause-lists : goal.gather-requires-clause-lists
-gather-requires-clause-lists c = rw c.letters-letters.ensures c.self.invariant.ready.sized
-
 pub gather-requires-clause-lines : goal.gather-requires-clause-lines
 gather-requires-clause-lines c =
-    rw (c.view.ensures.same, c.letters-letters.ensures)
+    rw (c.view.ensures.same, c.self.invariant.ready.sized)
     (room_known c.self.inside.letters (length c.self.inside.assigned.values) (length c.self.inside.marks.stamps) c.self.inside.log.lines c.self.invariant.room c.self.invariant.size c.self.invariant.known_lines)
 
 pub invariant_of-self : goal.invariant_of-self
@@ -29,4 +26,4 @@ invariant_of-self-2 c =
     let gathered = subst (λ (l : LogValue). IsGathered (IsCarried every (names_of c.self.inside.watches)) l v) c.view.ensures.same c.in_ok-watches.ensures.gathered in
     rw c.is_every-self-inside.ensures
     (state_gathered c.self.inside.letters c.self.inside.assigned c.self.inside.watches v c.self.inside.units.items c.self.inside.log c.self.inside.head c.self.inside.sure c.self.inside.done c.self.inside.firm (length c.self.inside.marks.stamps) c.self.inside.whole
-    (length c.gather.new.marks.stamps) every c.self.invariant gathered (c.in_ok-watches.ensures.lists ∙ ap (λ n. 2 * n) c.letters-letters.ensures) c.in_ok-watches.ensures.size)
+    (length c.gather.new.marks.stamps) every c.self.invariant gathered (c.in_ok-watches.ensures.lists ∙ c.self.invariant.ready.sized) c.in_ok-watches.ensures.size)
