@@ -179,7 +179,25 @@ impl Assigned {
         self.values.clear(literal);
     }
 
-    /// How many entries stand before the first of those at the end that are above the level.
+    /// How many of the first entries are left where the decision of the last one's level is passed over with all
+    /// that came after it, as long as its entry is above the level; else where one entry is.
+    fn passed(&self, count: usize, last: usize, level: usize) -> usize
+        requires some { 0 < count }
+        requires within { count ≤ length self.now.trail }
+        requires last { last ≡ place_level self.now.trail (count - 1) }
+        requires above { level < last }
+        ensures fewer { result < count }
+        ensures high { level < place_level self.now.trail result }
+    {
+        let decision = last - 1;
+        if decision < count && level < self.trail.level(decision) {
+            return decision;
+        }
+        count - 1
+    }
+
+    /// How many entries stand before the first of those at the end that are above the level. It goes down from
+    /// decision to decision.
     pub fn front(&self, level: usize) -> usize
         ensures within { result ≤ length self.now.trail }
         ensures low { 0 < result → (slice_index_or self.now.trail (result - 1) blank_entry).level ≤ level }
@@ -188,10 +206,11 @@ impl Assigned {
     {
         let mut count = self.trail.len();
         'down: while count > 0 {
-            if self.trail.get(count - 1).level <= level {
+            let last = self.trail.level(count - 1);
+            if last <= level {
                 return count;
             }
-            count -= 1;
+            count = self.passed(count, last, level);
         }
         0
     }
