@@ -40,6 +40,25 @@ pub enum Cut {
     FirstUnique(usize),
 }
 
+/// Most clauses have fewer literals, and fewer hints: so much room is there beforehand, for a list that grows
+/// from nothing moves again and again.
+const LITERALS: usize = 64;
+
+const HINTS: usize = 512;
+
+/// No literals, no places and no hints.
+fn blank(alloc: Global) -> Result<Learnt, AllocError>
+    ensures clause { IfOk result (λ learnt. learnt.clause.items ≡ []) }
+    ensures places { IfOk result (λ learnt. learnt.places.items ≡ []) }
+    ensures hints { IfOk result (λ learnt. learnt.hints.items ≡ []) }
+{
+    Ok(Learnt {
+        clause: Vec::with_capacity(alloc, LITERALS)?,
+        hints: Vec::with_capacity(alloc, HINTS)?,
+        places: Vec::with_capacity(alloc, LITERALS)?,
+    })
+}
+
 /// Counts a letter that is marked anew, if its level is that of the cut.
 fn count(cut: Cut, reached: usize, open: &mut usize) {
     match cut {
@@ -238,11 +257,7 @@ pub fn explain(
     let view = log.view();
     marks.begin();
     let mut open: usize = 0;
-    let mut learnt = Learnt {
-        clause: Vec::new(alloc),
-        hints: Vec::new(alloc),
-        places: Vec::new(alloc),
-    };
+    let mut learnt = blank(alloc)?;
     cite(&mut learnt, conflict)?;
     mark(
         assigned,
@@ -294,11 +309,7 @@ pub fn explain_forced(
     let view = log.view();
     marks.begin();
     let mut open: usize = 0;
-    let mut learnt = Learnt {
-        clause: Vec::new(alloc),
-        hints: Vec::new(alloc),
-        places: Vec::new(alloc),
-    };
+    let mut learnt = blank(alloc)?;
     keep(&mut learnt, assigned.entry(place).literal, place)?;
     cite(&mut learnt, hint)?;
     mark(

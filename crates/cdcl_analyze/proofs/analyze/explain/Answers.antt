@@ -29,7 +29,7 @@ returns-clause-learnt c =
     let start = walk_start log.inputs log.lines trail letters (IsMarked c.mark.new.marks) c.args.conflict clause is known c.requires.few
     (subst (All (λ l. Contains (literals_of trail) (opposite l))) (some_same given.is is) given.all_false) c.in_ok-mark.ensures.all in
     let begun : IsWalk log.inputs log.lines trail c.len.result (IsMarked c.mark.new.marks) c.cite.new.learnt.clause.items c.cite.new.learnt.hints.items c.cite.new.learnt.places.items =
-    rw (c.len.ensures, c.in_ok-cite.ensures.clause, c.in_ok-cite.ensures.hints, c.in_ok-cite.ensures.places, c.new.ensures.items, c.new-2.ensures.items, c.new-3.ensures.items) start in
+    rw (c.len.ensures, c.in_ok-cite.ensures.clause, c.in_ok-cite.ensures.hints, c.in_ok-cite.ensures.places, c.in_ok-learnt.ensures.clause, c.in_ok-learnt.ensures.hints, c.in_ok-learnt.ensures.places) start in
     let walked = c.in_ok-walk.ensures.walked trail (subst (IsLike log.inputs log.lines trail trail) (sym c.len.ensures) like) begun in
     record {
       step = rw c.reverse.ensures.items (walk_end values log.inputs log.lines trail _ _ _ _ c.told.ensures c.requires.few c.requires.from_one walked);
@@ -45,7 +45,7 @@ returns-clause-decided c = λ is_cut.
     let values = c.args.assigned.now.values in
     let like : IsLike log.inputs log.lines trail trail (length trail) = record { same = λ k low. refl; long = omega arith; is_trail = c.requires.is_trail; values = values; told = c.told.ensures; few = c.requires.few } in
     c.in_ok-walk.ensures.decided trail (subst (IsLike log.inputs log.lines trail trail) (sym c.len.ensures) like) is_cut
-    (rw (c.in_ok-cite.ensures.places, c.new-3.ensures.items) (All-nil (IsDecision trail)))
+    (rw (c.in_ok-cite.ensures.places, c.in_ok-learnt.ensures.places) (All-nil (IsDecision trail)))
 
 -- no letter was marked before the clause's letters were
 pub walk-requires-clause-waiting : goal.walk-requires-clause-waiting

@@ -51,7 +51,7 @@ returns-clause-learnt c =
     ap (λ (e : Entry). e.literal) (c.entry.ensures ∙ get_or_default trail p _ blank_entry c.requires.place) ∙ sym (opposite_opposite (literal_at trail p))
     ∙ ap (λ (e : Entry). opposite e.literal) (sym (refuted_last log.inputs log.lines values trail p c.requires.is_trail c.told.ensures c.requires.place)) in
     let begun : IsWalk log.inputs log.lines t p (IsMarked c.mark.new.marks) c.cite.new.learnt.clause.items c.cite.new.learnt.hints.items c.cite.new.learnt.places.items =
-    rw (c.in_ok-cite.ensures.clause, c.in_ok-cite.ensures.hints, c.in_ok-cite.ensures.places, c.in_ok-keep.ensures.clause, c.in_ok-keep.ensures.hints, c.in_ok-keep.ensures.places, c.new.ensures.items, c.new-2.ensures.items, c.new-3.ensures.items, literal) kept in
+    rw (c.in_ok-cite.ensures.clause, c.in_ok-cite.ensures.hints, c.in_ok-cite.ensures.places, c.in_ok-keep.ensures.clause, c.in_ok-keep.ensures.hints, c.in_ok-keep.ensures.places, c.in_ok-learnt.ensures.clause, c.in_ok-learnt.ensures.hints, c.in_ok-learnt.ensures.places, literal) kept in
     let walked = c.in_ok-walk.ensures.walked t like begun in
     record {
       step = rw c.reverse.ensures.items (walk_end like.values log.inputs log.lines t _ _ _ _ like.told like.few (refuted_from_one log.inputs log.lines values trail p c.requires.is_trail c.told.ensures c.requires.place c.requires.from_one) walked);
@@ -71,7 +71,7 @@ returns-clause-decided c =
     let len = refuted_length log.inputs log.lines values trail p c.requires.is_trail c.told.ensures c.requires.place in
     let last = refuted_last log.inputs log.lines values trail p c.requires.is_trail c.told.ensures c.requires.place in
     c.in_ok-walk.ensures.decided t like refl
-    (rw (c.in_ok-cite.ensures.places, c.in_ok-keep.ensures.places, c.new-3.ensures.items)
+    (rw (c.in_ok-cite.ensures.places, c.in_ok-keep.ensures.places, c.in_ok-learnt.ensures.places)
     (All-cons (IsDecision t) p [] (record { within = omega (arith, len); free = ap (λ (e : Entry). e.reason) last }) (All-nil (IsDecision t))))
 
 -- no letter was marked before the clause's letters were
