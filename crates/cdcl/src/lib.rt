@@ -1,13 +1,14 @@
 //! Whether clauses and assumptions can be true together, with an assignment or a refuting line of the log.
 #![tactic(auto)]
 
-pub mod choice;
-pub mod known;
-pub mod restart;
-pub mod retention;
-pub mod solve;
-pub mod solver;
+mod choice;
+mod known;
+mod restart;
+mod retention;
+mod solve;
+mod solver;
 
+pub use choice::has;
 pub use known::{are_consistent, are_known};
 pub use solve::Answer;
 pub use solver::Solver;

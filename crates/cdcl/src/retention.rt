@@ -92,7 +92,7 @@ impl Retention {
         for place in 0..log.lines() {
             let line = place + 1;
             if self.rank(line, log.literals(line).len(), &named) > last {
-                unmark(&mut self.kept, line);
+                set_mark(&mut self.kept, line, false);
             }
         }
         Ok(())
@@ -169,17 +169,10 @@ fn middle(counts: &[u64]) -> usize {
     counts.len()
 }
 
-/// Marks the line, where there is a mark for it.
-fn mark(marks: &mut [bool], line: u64) {
+/// Sets the line's mark, where there is one for it.
+fn set_mark(marks: &mut [bool], line: u64, value: bool) {
     if (line as usize) < marks.len() {
-        marks[line as usize] = true;
-    }
-}
-
-/// Takes the mark of the line away.
-fn unmark(marks: &mut [bool], line: u64) {
-    if (line as usize) < marks.len() {
-        marks[line as usize] = false;
+        marks[line as usize] = value;
     }
 }
 
@@ -188,7 +181,7 @@ fn mark_hints(marks: &mut [bool], hints: &[Hint]) {
     for hint in hints {
         match *hint {
             Hint::Clause(_) => {}
-            Hint::Line(line) => mark(marks, line),
+            Hint::Line(line) => set_mark(marks, line, true),
         }
     }
 }

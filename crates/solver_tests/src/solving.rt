@@ -1,8 +1,7 @@
 // Talks with the solver that were worked by hand, and a log that is followed line by line.
 ghost use Rattle.std.specs.Prelude.{◌≡◌, ◌≤◌, ◌+◌, length};
 
-use cdcl::choice::has;
-use cdcl::{Answer, Solver, are_consistent, are_known};
+use cdcl::{Answer, Solver, are_consistent, are_known, has};
 use clause_log::LogView;
 use cnf_base::{Hint, Letter, Literal};
 use std::alloc::{AllocError, Global};
