@@ -4,7 +4,7 @@ ghost use Rattle.std.specs.Prelude.{◌≡◌, ◌+◌, ◌-◌, ◌≤◌, ◌<
 ghost use Rattle.ltl_syntax.specs.Print.{text_of};
 ghost use Rattle.enc_layout.specs.Letters.{below};
 ghost use Rattle.black_top.specs.Demo.{ring, place, apart};
-ghost use Rattle.black_top.specs.Ring.{part_text, move_text, return_text, apart_text, later_text};
+ghost use Rattle.black_top.specs.Ring.{part_text, move_text, return_text, later_text};
 
 use itoa::Buffer;
 use std::alloc::{AllocError, Global};

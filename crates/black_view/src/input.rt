@@ -1,5 +1,5 @@
 // Where the trace stands in what `black` prints.
-ghost use Rattle.std.specs.Prelude.{◌≡◌, ◌<◌, ◌↔◌, length, IsTrue, MatchOption};
+ghost use Rattle.std.specs.Prelude.{◌<◌, ◌↔◌, length, IsTrue, MatchOption};
 ghost use Rattle.black_view.specs.Input.{Opens, HasNoTrace, IsTraceAt};
 
 /// The first byte of the trace, which stands at the beginning of a line: the first opening brace there.

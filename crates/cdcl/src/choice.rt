@@ -1,7 +1,7 @@
 // What to decide next: the assumptions in their order, and then whatever the state offers. An assumption that
 // is true already opens no level. After Een and Sorensson, Temporal induction by incremental SAT solving
 // (2003).
-ghost use Rattle.std.specs.Prelude.{◌≡◌, ◌≢◌, ◌↔◌, ◌⊎◌, IsTrue, All, Contains, None};
+ghost use Rattle.std.specs.Prelude.{◌↔◌, IsTrue, All, Contains, None};
 ghost use Rattle.cnf_base.specs.Known.{IsKnown};
 ghost use Rattle.cdcl.specs.Choice.{IsChoice, IsAssumedTop, IsFreeTop};
 

@@ -3,7 +3,7 @@
 // reasons that were resolved, in the order of the trail, and then the conflict are the clause's hints. After
 // Marques-Silva and Sakallah, GRASP (1999), and, for the hints, Goldberg and Novikov, Verification of proofs
 // of unsatisfiability for CNF formulas (2003).
-ghost use Rattle.std.specs.Prelude.{◌≡◌, ℕ, ◌^◌, ◌<◌, ◌≤◌, List, [], ◌∷◌, ◌++◌, length, All, IsSome, Some, OnOk, IfOk, true, false, slice_index_or};
+ghost use Rattle.std.specs.Prelude.{◌≡◌, ℕ, ◌^◌, ◌<◌, ◌≤◌, List, [], ◌∷◌, ◌++◌, length, All, Some, OnOk, IfOk, true, false, slice_index_or};
 ghost use Rattle.cnf_base.specs.Step.{named};
 ghost use Rattle.cdcl_trail.specs.Trail.{IsTrail, IsConflict, literals_of, blank_entry, IsDecision};
 ghost use Rattle.cdcl_analyze.specs.Learnt.{IsLearnt};

@@ -3,7 +3,7 @@
 // clauses are true already, and a true blocker spares loading them. `sure` marks the places whose visits a
 // way back need not repeat. After Moskewicz, Madigan, Zhao, Zhang and Malik, Chaff (2001), and Sorensson and
 // Een, MiniSat 2.1 (2008).
-ghost use Rattle.std.specs.Prelude.{◌≡◌, ◌≢◌, ℕ, ◌+◌, ◌-◌, ◌*◌, ◌<◌, ◌≤◌, List, length, Option, Some, None, MatchOption, IfOk};
+ghost use Rattle.std.specs.Prelude.{◌≡◌, ℕ, ◌+◌, ◌-◌, ◌*◌, ◌<◌, ◌≤◌, length, Option, Some, None, MatchOption, IfOk};
 ghost use Rattle.cdcl_trail.specs.Trail.{literals_of, IsConflict};
 ghost use Rattle.cdcl_propagate.specs.Sure.{IsSure};
 ghost use Rattle.cdcl_watches.specs.Watching.{code};

@@ -1,6 +1,6 @@
 // Clauses of one literal or none have nobody to watch them: they are visited in order, each once,
 // as long as the entries that make them true stay on the trail.
-ghost use Rattle.std.specs.Prelude.{◌≡◌, ℕ, ◌-◌, List, ◌<◌, ◌≤◌, ◌⊎◌, length, Some, MatchOption, IfOk};
+ghost use Rattle.std.specs.Prelude.{◌≡◌, ◌-◌, List, ◌<◌, ◌⊎◌, length, Some, MatchOption, IfOk};
 ghost use Rattle.cnf_base.specs.Step.{named};
 ghost use Rattle.cnf_base.specs.declared.literal.Literal.{Literal};
 ghost use Rattle.cdcl_trail.specs.Trail.{place_level, IsTrail, IsConflict, literals_of};

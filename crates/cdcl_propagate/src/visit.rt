@@ -2,7 +2,7 @@
 // is true, or another literal is watched in its place, or the other is forced, or the clause is false.
 // Wherever it stays in the list, its other watched literal becomes the blocker. After Moskewicz, Madigan,
 // Zhao, Zhang and Malik, Chaff (2001).
-ghost use Rattle.std.specs.Prelude.{◌≡◌, ℕ, ◌+◌, ◌<◌, ◌≤◌, List, [], All, Contains, length, Option, Some, None, MatchOption, IfOk, slice_index_or};
+ghost use Rattle.std.specs.Prelude.{◌≡◌, ℕ, ◌<◌, ◌≤◌, List, [], All, Contains, length, Option, Some, None, MatchOption, IfOk, slice_index_or};
 ghost use Rattle.cdcl_trail.specs.Trail.{literals_of, IsConflict};
 ghost use Rattle.cdcl_watches.specs.Watching.{code, clause_of, IsWatch};
 ghost use Rattle.cdcl_watches.specs.Watchers.{nobody, IsWalked, walked};

@@ -1,7 +1,7 @@
 // The clauses of a log that are to be watched, gathered anew: those that are watched now and are kept come
 // over as they are watched, each copied as one block, and where every line is kept, those that were forgotten
 // come from the log. Clauses of one literal or none are left out, since nobody watches them.
-ghost use Rattle.std.specs.Prelude.{◌≡◌, ◌<◌, List, true, false, length, All, IfOk, OnOk};
+ghost use Rattle.std.specs.Prelude.{◌≡◌, ◌<◌, List, false, length, All, IfOk, OnOk};
 ghost use Rattle.cdcl_watches.specs.Watching.{code, AreApart};
 ghost use Rattle.cdcl_propagate.specs.Visit.{IsStored, names_of};
 ghost use Rattle.cdcl_state.specs.State.{AreLong};

@@ -1,5 +1,5 @@
 // The state of the solver: the trail, the log, and the log's clauses in the order in which they are watched.
-ghost use Rattle.std.specs.Prelude.{◌≡◌, ◌≢◌, ◌+◌, ◌<◌, ◌≤◌, [], ◌⊎◌, true, All, AllPairs, length, MatchOption, IfSome, IfOk, OnErr, OnOk};
+ghost use Rattle.std.specs.Prelude.{◌≡◌, ◌≢◌, ◌+◌, ◌<◌, ◌≤◌, [], true, All, AllPairs, length, MatchOption, IfSome, IfOk, OnErr, OnOk};
 ghost use Rattle.cnf_base.specs.Known.{IsKnown, AreKnown};
 ghost use Rattle.cdcl_state.specs.StateValue.{IsSettled, Propagated, AreSet, IsModel, with_log, with_letters};
 ghost use Rattle.cdcl_trail.specs.Trail.{IsConflict, literals_of, IsUnset, HasValue, place_level};

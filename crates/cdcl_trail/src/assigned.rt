@@ -1,6 +1,6 @@
 // The trail: the literals that are true, in the order in which they became so, each with its level and its
 // reason, and the letters' values that it tells. After Marques-Silva and Sakallah, GRASP (1999).
-ghost use Rattle.std.specs.Prelude.{◌≡◌, ◌≢◌, ℕ, ◌+◌, ◌-◌, ◌^◌, ◌<◌, ◌≤◌, List, [], ◌∷◌, ◌++◌, ◌⊎◌, All, length, take, Option, Some, None, MatchOption, OnOk, not, if◌then◌else◌, is_ok, slice_index_or, slice_set, Contains, ◌↔◌, IsTrue};
+ghost use Rattle.std.specs.Prelude.{◌≡◌, ℕ, ◌+◌, ◌-◌, ◌<◌, ◌≤◌, [], ◌∷◌, ◌++◌, length, take, Option, Some, None, OnOk, not, if◌then◌else◌, is_ok, slice_index_or, Contains, ◌↔◌, IsTrue};
 ghost use Rattle.cdcl_trail.specs.Trail.{IsUnset, literals_of, AreValues, blank_entry, literal_at, place_level, place_reason};
 ghost use Rattle.cdcl_trail.specs.Entries.{Fits};
 

@@ -6,7 +6,7 @@
 // The codes behind the first two stand from the last down. Propagation looks at the first two literals and
 // then from the end of the clause on: so what it looks at first stands beside the head, and a long clause
 // costs one read of memory far away in place of two. Callers see each clause in its own order.
-ghost use Rattle.std.specs.Prelude.{◌≡◌, ℕ, suc, ◌+◌, ◌-◌, ◌<◌, ◌≤◌, ◌^◌, List, [], ◌∷◌, ◌++◌, length, map, take, All, Contains, IfOk, OnOk, OnErr, MatchOption, slice_index_or, slice_set};
+ghost use Rattle.std.specs.Prelude.{◌≡◌, suc, ◌+◌, ◌-◌, ◌<◌, ◌^◌, [], ◌∷◌, ◌++◌, length, map, take, All, Contains, IfOk, OnOk, OnErr, MatchOption, slice_index_or, slice_set};
 ghost use Rattle.std.specs.List.{swap};
 ghost use Rattle.cdcl_watches.specs.Watching.{code, clause_of, AreApart};
 ghost use Rattle.cdcl_watches.specs.Turned.{turned};

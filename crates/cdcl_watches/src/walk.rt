@@ -4,7 +4,7 @@
 ghost use Rattle.std.specs.Prelude.{◌≡◌, ◌+◌, ◌<◌, ◌≤◌, [], ◌∷◌, ◌++◌, length, if◌then◌else◌, is_ok, slice_index_or, slice_set};
 ghost use Rattle.std.specs.List.{remove, swap};
 ghost use Rattle.cdcl_watches.specs.Watching.{code, list_of, clause_of};
-ghost use Rattle.cdcl_watches.specs.Watchers.{nobody, without, IsWalked, walked};
+ghost use Rattle.cdcl_watches.specs.Watchers.{nobody, IsWalked, walked};
 ghost use Rattle.cdcl_watches.specs.Heads.{number_of};
 
 use crate::arena::Arena;

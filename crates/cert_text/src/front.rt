@@ -1,11 +1,11 @@
 // A certificate text that comes in pieces: what has come is the header and whole lines behind it, and in the
 // end the close. Its lines can be looked up by number while later ones are still to come, since no part says
 // anything of the lines behind it.
-ghost use Rattle.std.specs.Prelude.{◌≡◌, ℕ, ◌-◌, ◌+◌, ◌<◌, ◌≤◌, ◌^◌, ◌↔◌, List, [], ◌++◌, length, slice_index_or, is_some, true, false, Some, IsTrue, IfOk, IfSome, MatchOption, MatchResult};
+ghost use Rattle.std.specs.Prelude.{◌≡◌, ◌-◌, ◌+◌, ◌<◌, ◌≤◌, ◌↔◌, [], ◌++◌, length, slice_index_or, is_some, true, false, Some, IsTrue, IfOk, MatchOption, MatchResult};
 ghost use Rattle.cert_text.specs.Text.{IsBegun, IsCertificate, IsTextOf};
 ghost use Rattle.cert_text.specs.Live.{lines_of, hints_of, live_line, last_user};
 ghost use Rattle.cert_text.specs.Reading.{line_start};
-ghost use Rattle.cert_text.specs.Passes.{small_run, LeadsTo};
+ghost use Rattle.cert_text.specs.Passes.{LeadsTo};
 ghost use Rattle.cert_text.specs.Front.{said_in, IsTaken};
 ghost use Rattle.cert_text.specs.Pieces.{bytes_of, with_text, place_at, IsMarkingIn, IsClosedIn};
 

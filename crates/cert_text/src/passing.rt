@@ -1,7 +1,7 @@
 // The pass over a piece of a text. Behind the header each line of the text begins at the same place of the
 // pass but for the count of the lines before it. So a piece may be gone over before the pieces in front of
 // it are.
-ghost use Rattle.std.specs.Prelude.{◌≡◌, ℕ, ◌+◌, ◌<◌, ◌≤◌, ◌^◌, List, [], Some, length, take, codes, IfSome};
+ghost use Rattle.std.specs.Prelude.{◌≡◌, ℕ, ◌+◌, ◌<◌, ◌≤◌, ◌^◌, List, [], Some, length, take, IfSome};
 ghost use Rattle.cert_text.specs.Passes.{small_run, LeadsTo, IsPassed};
 ghost use Rattle.cert_text.specs.declared.scanning.Place.TheVariants as places;
 

@@ -1,7 +1,7 @@
 // One pass over the bytes of a certificate, without memory: a byte is either wanted, or it decides how the
 // text goes on. Each step is inlined, so that the place stays in registers. Short numbers are gone over at
 // once.
-ghost use Rattle.std.specs.Prelude.{◌≡◌, ℕ, ◌+◌, ◌<◌, ◌≤◌, ◌^◌, length, [], Some, None, MatchOption, MatchResult, codes};
+ghost use Rattle.std.specs.Prelude.{◌≡◌, ◌+◌, ◌<◌, ◌≤◌, ◌^◌, [], Some, None, MatchOption, MatchResult};
 ghost use Rattle.cert_text.specs.Text.{Certificate, IsTextOf, IsFormFault};
 ghost use Rattle.cert_text.specs.Shape.{small_step, small_advance, number_in, literal_in, first_in, end_in, greatest_in, with_target, IsFew, IsInRange, lines_at, form_of};
 ghost use Rattle.cert_text.specs.declared.scanning.Role.TheVariants as roles;

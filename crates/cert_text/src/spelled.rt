@@ -1,6 +1,6 @@
 // Slices of a certificate text as literals, hints and numbers of lines. They take no memory. What reads a
 // literal or a hint is inlined, since a checker does little else.
-ghost use Rattle.std.specs.Prelude.{◌≡◌, ℕ, Bool, ◌<◌, ◌≤◌, [], ◌∷◌, ◌++◌, List, length, decimal};
+ghost use Rattle.std.specs.Prelude.{◌≡◌, ℕ, Bool, ◌<◌, ◌≤◌, ◌∷◌, ◌++◌, List, length, decimal};
 ghost use Rattle.cert_text.specs.Text.{greatest_u64};
 ghost use Rattle.cert_text.specs.Reading.{EndsNumber, IsSigned, signed_text, AreLiterals, literals_in, AreHints, hints_in, AreNumbers, numbers_in};
 

@@ -1,6 +1,5 @@
 // Up to where each line is used.
-ghost use Rattle.std.specs.Prelude.{◌≡◌, ◌≤◌, ◌∷◌, [], length, IfOk};
-ghost use Rattle.clause_log.specs.LogValue.{IsLog};
+ghost use Rattle.std.specs.Prelude.{◌≡◌, ◌∷◌, [], length, IfOk};
 ghost use Rattle.cert_text.specs.Writing.{IsNoted, AreLast};
 
 use clause_log::LogView;

@@ -1,6 +1,6 @@
 // The core of a refuted formula: each occurrence is replaced by a fresh letter that the formula can do
 // without, so that what is left shows which parts conflict.
-ghost use Rattle.std.specs.Prelude.{◌≡◌, ◌<◌, ◌≤◌, length, IfOk};
+ghost use Rattle.std.specs.Prelude.{◌<◌, ◌≤◌, length, IfOk};
 ghost use Rattle.ltl_syntax.specs.Table.{tree_at};
 ghost use Rattle.ltl_run.specs.Laws.{HasNoTrace};
 ghost use Rattle.core_extract.specs.Core.{IsRefuted, IsCore, tableau};

@@ -3,7 +3,7 @@
 //
 // No test is asked again whose answer stands: behind the last occurrence that a pass has replaced, all were
 // tested against the formula as it is then, so the next pass ends there where it has replaced none before.
-ghost use Rattle.std.specs.Prelude.{◌≡◌, ℕ, ◌<◌, ◌≤◌, length, IfOk, IfSome, OnOk};
+ghost use Rattle.std.specs.Prelude.{◌≡◌, ◌<◌, ◌≤◌, length, IfOk, IfSome, OnOk};
 ghost use Rattle.ltl_syntax.specs.Replacement.{IsClear};
 ghost use Rattle.core_extract.specs.Core.{IsReached};
 ghost use Rattle.core_extract.specs.Testing.{IsTask, AreMarks, AreNext, IsStep, IsSettled, IsPassed, formula_of, test_of, marked};

@@ -1,8 +1,8 @@
 // The present formula: the one whose core is sought, with the marked occurrences replaced.
-ghost use Rattle.std.specs.Prelude.{◌≡◌, ℕ, ◌+◌, ◌<◌, ◌≤◌, length, All, IfOk};
+ghost use Rattle.std.specs.Prelude.{◌≡◌, ◌+◌, ◌<◌, length, All, IfOk};
 ghost use Rattle.ltl_syntax.specs.Table.{tree_at};
 ghost use Rattle.ltl_syntax.specs.Flat.{places_of};
-ghost use Rattle.ltl_syntax.specs.Replacement.{AreSame, added, size_at, rep};
+ghost use Rattle.ltl_syntax.specs.Replacement.{AreSame, added, rep};
 ghost use Rattle.core_extract.specs.Testing.{IsTask, AreMarks, formula_of, marked};
 
 use crate::task::Task;

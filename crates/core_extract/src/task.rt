@@ -2,7 +2,6 @@
 ghost use Rattle.std.specs.Prelude.{◌≡◌, ℕ, ◌<◌, ◌≤◌, length, slice_index_or, All, IfOk};
 ghost use Rattle.ltl_syntax.specs.Formula.{nodes_in};
 ghost use Rattle.ltl_syntax.specs.Table.{tree_at};
-ghost use Rattle.ltl_syntax.specs.Flat.{order_at};
 ghost use Rattle.core_extract.specs.Testing.{IsTask};
 
 use ltl_syntax::{FormulaTable, Kind, Node, nodes_under};

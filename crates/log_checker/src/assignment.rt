@@ -1,10 +1,10 @@
 // The values of letters while one line is judged: a byte for each, and the letters that were set, so that
 // what undoing costs is what was set. Both are as long as they may grow when they are made, and judging
 // takes no memory.
-ghost use Rattle.std.specs.Prelude.{◌≡◌, ◌+◌, ◌-◌, ◌<◌, ◌≤◌, ◌↔◌, IsTrue, List, length, All, Contains};
-ghost use Rattle.std.specs.Prelude.{take, replicate, slice_index_or, slice_set, IfOk, suc};
+ghost use Rattle.std.specs.Prelude.{◌≡◌, ◌+◌, ◌-◌, ◌<◌, ◌↔◌, IsTrue, List, length};
+ghost use Rattle.std.specs.Prelude.{replicate, slice_index_or, slice_set, IfOk};
 ghost use Rattle.cnf_base.specs.Known.{IsKnown};
-ghost use Rattle.log_checker.specs.Values.{letters_in, value_of, false_of, falses_in, AreSet};
+ghost use Rattle.log_checker.specs.Values.{letters_in, value_of, false_of, AreSet};
 ghost use Rattle.log_checker.specs.declared.assignment.Truth.TheVariants.{Unset};
 
 use cnf_base::Literal;

@@ -1,7 +1,7 @@
 // How lines are cut: into consecutive shares of nearly equally many bytes. Later lines are longer, so of
 // equally many lines the last share would have the most to do. The answer is right however they are cut, so
 // a caller is told only that the shares follow one another from the first line to the last.
-ghost use Rattle.std.specs.Prelude.{◌≡◌, ◌+◌, ◌-◌, ◌<◌, ◌≤◌, length};
+ghost use Rattle.std.specs.Prelude.{◌+◌, ◌-◌, ◌<◌, ◌≤◌, length};
 ghost use Rattle.cert_text.specs.Live.{lines_of};
 ghost use Rattle.log_checker.specs.Shares.{AreCuts};
 

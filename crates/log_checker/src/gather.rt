@@ -1,6 +1,6 @@
 // What all workers have found is put together. A share that no worker has taken is judged now: there is none
 // where each turn was handed out once, but no answer rests on that.
-ghost use Rattle.std.specs.Prelude.{◌≡◌, ℕ, ◌+◌, ◌<◌, ◌≤◌, IsTrue, length, All, false};
+ghost use Rattle.std.specs.Prelude.{ℕ, ◌+◌, ◌<◌, ◌≤◌, IsTrue, length, All, false};
 ghost use Rattle.cnf_base.specs.Known.{AreKnown};
 ghost use Rattle.cert_text.specs.Live.{lines_of};
 ghost use Rattle.log_checker.specs.Values.{letters_in};

@@ -1,10 +1,9 @@
 // Whether one line is a hinted step. Its literals are made false; then each hint but the last has to name a
 // clause with one literal that is not false and has no value, which is made true, and the last one a clause
 // that is false.
-ghost use Rattle.std.specs.Prelude.{◌≡◌, ℕ, ◌<◌, ◌≤◌, ◌↔◌, IsTrue, List, [], ◌∷◌, ◌++◌, length, All};
-ghost use Rattle.std.specs.Prelude.{Contains, replicate, take};
+ghost use Rattle.std.specs.Prelude.{◌≡◌, ℕ, ◌<◌, ◌≤◌, ◌↔◌, IsTrue, List, [], ◌∷◌, ◌++◌, length};
 ghost use Rattle.cnf_base.specs.declared.literal.Literal.{Literal};
-ghost use Rattle.cnf_base.specs.Known.{IsKnown, AreKnown};
+ghost use Rattle.cnf_base.specs.Known.{AreKnown};
 ghost use Rattle.cnf_base.specs.Step.{clause_at};
 ghost use Rattle.cnf_base.specs.Among.{RefutesAmong, IsStepAmong};
 ghost use Rattle.log_checker.specs.Values.{letters_in, falses_in};

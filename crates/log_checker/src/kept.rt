@@ -1,9 +1,9 @@
 // The live lines, ascending by number. What is deleted is only marked, and goes once half of all is marked:
 // so a delete costs a binary search for each number at most, and room is kept for no more than twice the
 // lines that are live.
-ghost use Rattle.std.specs.Prelude.{◌≡◌, ℕ, suc, ◌<◌, ◌≤◌, ◌==◌, not, [], ◌∷◌, ◌++◌, length, filter};
-ghost use Rattle.std.specs.Prelude.{slice_index_or, IfOk, OnOk, OnErr, MatchOption, Some, None};
-ghost use Rattle.log_checker.specs.Judging.{found, is_named, line_number, line_literals, no_line};
+ghost use Rattle.std.specs.Prelude.{◌≡◌, ℕ, ◌<◌, ◌≤◌, ◌==◌, not, [], ◌∷◌, length, filter};
+ghost use Rattle.std.specs.Prelude.{slice_index_or, OnOk, OnErr, MatchOption, Some, None};
+ghost use Rattle.log_checker.specs.Judging.{found, line_number, line_literals, no_line};
 ghost use Rattle.log_checker.specs.Kept.{KeptValue, with_line, without, Ascends, number_at, live_of};
 ghost use Rattle.log_checker.specs.Kept.{line_of, blank, AreOthers, IsAt};
 

@@ -1,7 +1,7 @@
 // The checker that goes through a text once. It keeps the lines that are live, and judges each line when it
 // comes.
-ghost use Rattle.std.specs.Prelude.{◌≡◌, ◌<◌, ◌≤◌, ◌↔◌, IsTrue, length, IfOk, OnOk, OnErr, MatchOption};
-ghost use Rattle.std.specs.Prelude.{Some, None, slice_get};
+ghost use Rattle.std.specs.Prelude.{◌≡◌, ◌<◌, length, IfOk, OnOk, OnErr, MatchOption};
+ghost use Rattle.std.specs.Prelude.{Some, None};
 ghost use Rattle.cnf_base.specs.Known.{AreKnown};
 ghost use Rattle.log_checker.specs.Judging.{fresh, found, with_item, IsGoodItem, line_number, line_literals};
 

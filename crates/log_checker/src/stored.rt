@@ -1,6 +1,6 @@
 // Clauses that are stored for judging. Most have two or three literals. These stand as one number each beside
 // one another, so that a hint costs one look into memory; the others are looked up in the list.
-ghost use Rattle.std.specs.Prelude.{◌≡◌, ◌/◌, ◌<◌, ◌≤◌, List, [], ◌∷◌, ◌++◌, length, IfOk, IfSome};
+ghost use Rattle.std.specs.Prelude.{◌≡◌, ◌/◌, ◌<◌, List, [], ◌∷◌, ◌++◌, length, IfOk, IfSome};
 ghost use Rattle.cnf_base.specs.declared.literal.Literal.{Literal};
 ghost use Rattle.log_checker.specs.Values.{falses_in};
 ghost use Rattle.log_checker.specs.Judging.{IsOutcome};

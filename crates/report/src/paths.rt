@@ -1,5 +1,5 @@
 // The texts of the answers on a system: about all of its paths, or one of them.
-ghost use Rattle.std.specs.Prelude.{◌≡◌, ◌++◌, IfOk, Some, None};
+ghost use Rattle.std.specs.Prelude.{◌≡◌, IfOk, Some, None};
 ghost use Rattle.report.specs.Texts.{numbered, no_path_text, paths_hold_text, path_fails_text};
 
 use crate::line::{line, numbered};

@@ -1,9 +1,9 @@
 // The tree under a root, copied behind the nodes of another table, children before parents.
-ghost use Rattle.std.specs.Prelude.{◌≡◌, ℕ, suc, ◌+◌, ◌<◌, ◌≤◌, length, IfOk, OnOk};
-ghost use Rattle.ltl_syntax.specs.Table.{tree_at, MayFollow, IsFine, Pushes};
-ghost use Rattle.ltl_syntax.specs.Size.{sizes, node_size, formula_size, HasOrder};
+ghost use Rattle.std.specs.Prelude.{◌≡◌, ◌+◌, ◌<◌, ◌≤◌, length, IfOk, OnOk};
+ghost use Rattle.ltl_syntax.specs.Table.{MayFollow, IsFine, Pushes};
+ghost use Rattle.ltl_syntax.specs.Size.{sizes, node_size, HasOrder};
 ghost use Rattle.system_check.specs.Under.{IsPart};
-ghost use Rattle.system_check.specs.Copy.{numbers_in, moved, IsMoved, IsCopyOfNode, StandsOnRoots, IsCopyOf, HasGrown};
+ghost use Rattle.system_check.specs.Copy.{numbers_in, IsMoved, IsCopyOfNode, StandsOnRoots, IsCopyOf, HasGrown};
 
 use crate::parts::Part;
 use ltl_syntax::{FormulaTable, Node};

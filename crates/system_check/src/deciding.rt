@@ -2,7 +2,7 @@
 //
 // The whole formula is asked first: where it has a trace, this is a path, so the system formula need not be
 // asked.
-ghost use Rattle.std.specs.Prelude.{◌≡◌, ◌<◌, ◌≤◌, length, IfOk};
+ghost use Rattle.std.specs.Prelude.{◌<◌, ◌≤◌, length, IfOk};
 ghost use Rattle.ltl_syntax.specs.declared.node.Kind.TheVariants as Kinds;
 ghost use Rattle.ltl_syntax.specs.Formula.{Formula};
 ghost use Rattle.ltl_syntax.specs.Table.{tree_at};

@@ -1,7 +1,7 @@
 // A start, a step and a goal, joined into one table with the system's formula and the formula that refutes
 // the goal.
-ghost use Rattle.std.specs.Prelude.{◌≡◌, ◌≢◌, ◌+◌, ◌<◌, ◌≤◌, [], length, IfOk};
-ghost use Rattle.ltl_syntax.specs.Table.{tree_at, IsRoot};
+ghost use Rattle.std.specs.Prelude.{◌≡◌, ◌+◌, ◌<◌, ◌≤◌, length, IfOk};
+ghost use Rattle.ltl_syntax.specs.Table.{tree_at};
 ghost use Rattle.ltl_syntax.specs.Size.{sizes};
 ghost use Rattle.system_check.specs.declared.joining.JoinRefused.TheVariants.{NoMemory};
 ghost use Rattle.system_check.specs.Joining.{IsJoining};

@@ -1,4 +1,4 @@
-ghost use Rattle.std.specs.Prelude.{◌≡◌, [], true, length};
+ghost use Rattle.std.specs.Prelude.{◌≡◌, [], true};
 ghost use Rattle.ltl_syntax.specs.Formula.{Const};
 ghost use Rattle.ltl_run.specs.TraceOf.{IsRuleOf};
 

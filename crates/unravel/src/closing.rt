@@ -1,7 +1,7 @@
 // The lines that close a tableau. The questions of the depths were asked under the states of several steps,
 // so their lines may name these as well. Once each is known to be refused, each is asked under its own two
 // letters: what is learnt refutes it, mostly by propagation.
-ghost use Rattle.std.specs.Prelude.{◌≡◌, ◌≤◌, IfOk};
+ghost use Rattle.std.specs.Prelude.{◌≤◌, IfOk};
 ghost use Rattle.ltl_closure.specs.Run.{HasAccepted, HasUnpruned};
 ghost use Rattle.cdcl.specs.Solving.{IsLonger};
 ghost use Rattle.enc_layout.specs.Letters.{Fits};

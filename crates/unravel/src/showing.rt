@@ -1,6 +1,6 @@
 // The trace of the accepted run that the solver's values give: the states are the values of the letters that
 // stand for entries, and the run closes to the first state whose letter says so, or by its end.
-ghost use Rattle.std.specs.Prelude.{◌≡◌, ◌+◌, ◌<◌, ◌≤◌, All, IfOk, length};
+ghost use Rattle.std.specs.Prelude.{◌≡◌, ◌+◌, ◌<◌, ◌≤◌, All, IfOk};
 ghost use Rattle.ltl_syntax.specs.declared.node.Kind.TheVariants as Kinds;
 ghost use Rattle.ltl_closure.specs.Entries.{numbers_of, IsNumber};
 ghost use Rattle.ltl_run.specs.States.{letters};

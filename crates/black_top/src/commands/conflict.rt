@@ -1,5 +1,5 @@
 // `solve --core`: which parts of a formula conflict, where no trace of the kind satisfies it.
-ghost use Rattle.std.specs.Prelude.{◌≤◌, ◌<◌, length, option_map, vec_items, IfOk};
+ghost use Rattle.std.specs.Prelude.{◌≤◌, ◌<◌, option_map, vec_items, IfOk};
 ghost use Rattle.command_words.specs.Asked.{AreWorkers};
 ghost use Rattle.core_extract.specs.Core.{IsRefuted};
 ghost use Rattle.black_top.specs.Conflict.{ShowsCore};
