@@ -1,30 +1,44 @@
 -- No clauses, and as many lists as before, all empty.
-use Rattle.std.proofs.Common.{◌≡◌, ℕ, zero, suc, List, [], ◌∷◌, replicate, length, get_or, All, Contains, refl, sym, ap, ap₂, ◌∙◌, subst, arith}
-use Rattle.std.proofs.lemmas.List.{get_or_default, length-map}
+use Rattle.std.proofs.Common.{◌≡◌, ℕ, zero, suc, ◌≤◌, ◌^◌, inl, List, [], ◌∷◌, replicate, length, get_or, All, Contains, refl, sym, ap, ap₂, ◌∙◌, subst, arith}
+use Rattle.std.proofs.lemmas.List.{get_or_default, length-map, length-replicate}
 use Rattle.std.proofs.lemmas.List.Elements.{All-nil}
 use Rattle.cdcl_watches.specs.declared.watcher.Watcher.{Watcher}
 use Rattle.cdcl_watches.specs.declared.span.Span.{Span}
 use Rattle.cdcl_watches.specs.Watching.{code, AreApart, IsWatching, WatchValue}
 use Rattle.cdcl_watches.specs.Watchers.{numbers, IsBlocking, AreWatchers}
 use Rattle.cdcl_watches.specs.Heads.{ArenaValue}
-use Rattle.cdcl_watches.specs.Pool.{counted, content, contents, without_watchers, AreBlocks, IsPool}
-use Rattle.cdcl_watches.proofs.PoolBlocks.{emptied_blocks}
+use Rattle.cdcl_watches.specs.Pool.{nowhere, content, contents, room_of, span_at, AreClear, IsSpan, AreBlocks, IsPool}
 
--- the lists of spans without watchers
-emptied_lists : (pool : List Watcher) (spans : List Span) → contents pool (without_watchers spans) ≡ replicate (length spans) []
-emptied_lists pool [] = refl
-emptied_lists pool (s ∷ spans) = ap (λ ls. [] ∷ ls) (emptied_lists pool spans)
+-- a list that has no block is empty
+nowhere_lists : (pool : List Watcher) (n : ℕ) → contents pool (replicate n nowhere) ≡ replicate n []
+nowhere_lists pool zero = refl
+nowhere_lists pool (suc n) = ap (λ ls. [] ∷ ls) (nowhere_lists pool n)
 
-module _ (pool new : List Watcher) (spans : List Span) where
-  pub emptied_call : contents new (without_watchers spans) ≡ replicate (length (contents pool spans)) []
-  emptied_call = emptied_lists new spans ∙ ap (λ n. replicate n []) (sym (length-map spans (content pool)))
+nowhere_at : (n k : ℕ) → span_at (replicate n nowhere) k ≡ nowhere
+nowhere_at zero k = refl
+nowhere_at (suc n) zero = refl
+nowhere_at (suc n) (suc k) = nowhere_at n k
 
-  pub emptied_pool : (spare : List (List ℕ)) → IsPool pool spans spare → length new ≡ length pool → IsPool new (without_watchers spans) spare
-  emptied_pool spare is count = record {
-    blocks = subst (λ n. AreBlocks n (without_watchers spans) spare) (sym count) (emptied_blocks (length pool) spans spare is.blocks);
-    few = omega (arith, count, is.few);
-    few_lists = omega (arith, length-map spans (λ s. counted s 0), is.few_lists);
-  }
+pub emptied_call : (pool new : List Watcher) (spans : List Span) → contents new (replicate (length spans) nowhere) ≡ replicate (length (contents pool spans)) []
+emptied_call pool new spans = nowhere_lists new (length spans) ∙ ap (λ n. replicate n []) (sym (length-map spans (content pool)))
+
+-- lists without blocks keep clear of one another
+nowhere_blocks : (n : ℕ) → AreBlocks 0 (replicate n nowhere) []
+nowhere_blocks n = record {
+  each = λ k low. subst (IsSpan 0) (sym (nowhere_at n k)) (record { inside = omega arith; fits = omega arith; classed = omega arith });
+  apart = λ j k low low_k off. subst (λ (p : Span). AreClear p.from (room_of p.class) (span_at (replicate n nowhere) k).from (room_of (span_at (replicate n nowhere) k).class)) (sym (nowhere_at n j))
+      (subst (λ (q : Span). AreClear 0 0 q.from (room_of q.class)) (sym (nowhere_at n k)) (inl (omega arith)));
+  inside = λ c i low. absurd (omega (arith, low));
+  between = λ k c i low low_i. absurd (omega (arith, low_i));
+  spares = λ c i d j low low_j off. absurd (omega (arith, low));
+}
+
+pub emptied_pool : (n : ℕ) → n ≤ 2 ^ 32 → IsPool [] (replicate n nowhere) []
+emptied_pool n few = record {
+  blocks = nowhere_blocks n;
+  few = omega arith;
+  few_lists = omega (arith, length-replicate n nowhere, few);
+}
 
 -- what is read of empty lists
 empty_at : {X : Type 0} (n k : ℕ) → get_or (replicate n (let none : List X = [] in none)) k [] ≡ []

@@ -1,9 +1,9 @@
 -- Blocks of a pool stay apart: one is made, taken, given back, or a list moves to it.
 use Rattle.std.proofs.Common.{◌≡◌, ◌≢◌, ℕ, ◌+◌, ◌-◌, ◌<◌, ◌≤◌, ◌⊎◌, inl, inr, List, [], ◌∷◌, ◌++◌, take, set, length, get_or, sym, ap, ◌∙◌, subst, arith, length-set, length-take-le, get_or-set_same, get_or-set_other}
 use Rattle.std.proofs.lemmas.Bool.{cases_eq}
-use Rattle.std.proofs.lemmas.List.{get_or-take, get_or-map, get_or_append_left, get_or_at, length-map, length_push}
+use Rattle.std.proofs.lemmas.List.{get_or-take, get_or_append_left, get_or_at, length_push}
 use Rattle.cdcl_watches.specs.declared.span.Span.{Span}
-use Rattle.cdcl_watches.specs.Pool.{nowhere, counted, without_watchers, room_of, span_at, row_at, spare_at, AreClear, IsSpan, IsFree, AreBlocks}
+use Rattle.cdcl_watches.specs.Pool.{nowhere, counted, room_of, span_at, row_at, spare_at, AreClear, IsSpan, IsFree, AreBlocks}
 
 clear_swap : (a m b n : ℕ) → AreClear a m b n → AreClear b n a m
 clear_swap a m b n (inl h) = inr h
@@ -247,23 +247,5 @@ shrunk_blocks size spans spare n within are =
           (subst (λ (q : Span). AreClear (span_at spans j).from (room_of (span_at spans j).class) q.from (room_of q.class)) (sym (at k low_k)) (are.apart j k (was j low) (was k low_k) off));
       inside = are.inside;
       between = λ k c i low low_i. subst (λ (p : Span). AreClear p.from (room_of p.class) (spare_at spare c i) (room_of c)) (sym (at k low)) (are.between k c i (was k low) low_i);
-      spares = are.spares;
-    }
-
--- no list has a watcher, and each keeps its block
-pub emptied_blocks : (size : ℕ) (spans : List Span) (spare : List (List ℕ)) → AreBlocks size spans spare → AreBlocks size (without_watchers spans) spare
-emptied_blocks size spans spare are =
-    let none = without_watchers spans in
-    let at : (k : ℕ) → k < length spans → span_at none k ≡ counted (span_at spans k) 0 = λ k low. get_or-map (λ s. counted s 0) spans k nowhere nowhere low in
-    let was : (k : ℕ) → k < length none → k < length spans = λ k low. omega (arith, low, length-map spans (λ s. counted s 0)) in
-    record {
-      each = λ k low.
-          let is = are.each k (was k low) in
-          subst (IsSpan size) (sym (at k (was k low))) (record { inside = is.inside; fits = omega arith; classed = is.classed });
-      apart = λ j k low low_k off.
-          subst (λ (p : Span). AreClear p.from (room_of p.class) (span_at none k).from (room_of (span_at none k).class)) (sym (at j (was j low)))
-          (subst (λ (q : Span). AreClear (span_at spans j).from (room_of (span_at spans j).class) q.from (room_of q.class)) (sym (at k (was k low_k))) (are.apart j k (was j low) (was k low_k) off));
-      inside = are.inside;
-      between = λ k c i low low_i. subst (λ (p : Span). AreClear p.from (room_of p.class) (spare_at spare c i) (room_of c)) (sym (at k (was k low))) (are.between k c i (was k low) low_i);
       spares = are.spares;
     }

@@ -11,10 +11,6 @@ nowhere = record { from = 0; len = 0; class = 0 }
 abbrev pub counted : Span → ℕ → Span
 counted s len = record { from = s.from; len = len; class = s.class }
 
--- the spans, each with its block and with no watcher
-abbrev pub without_watchers : List Span → List Span
-without_watchers spans = map (λ s. counted s 0) spans
-
 -- so many watchers have room in a block of this class
 abbrev pub room_of : ℕ → ℕ
 room_of class = if nat_eq class 0 then 0 else 2 ^ class

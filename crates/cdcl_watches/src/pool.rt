@@ -18,12 +18,6 @@ const MAX_WATCHERS: usize = 4294967295;
 /// As many classes as there are: a block of the greatest has room for 2 ^ 31 watchers.
 const CLASSES: u32 = 32;
 
-/// What stands in a block where no watcher does.
-pub const FILLER: Watcher = Watcher {
-    head: 0,
-    blocker: Code(0),
-};
-
 /// Lengthens the pool by a block of the class, and answers where it begins.
 fn lengthen(pool: &mut Vec<Watcher>, class: u32) -> Result<u32, AllocError>
     requires class { class < 32 }
@@ -39,7 +33,11 @@ fn lengthen(pool: &mut Vec<Watcher>, class: u32) -> Result<u32, AllocError>
     if count > MAX_WATCHERS {
         return Err(AllocError);
     }
-    match pool.resize(count, FILLER) {
+    let filler = Watcher {
+        head: 0,
+        blocker: Code(0),
+    };
+    match pool.resize(count, filler) {
         Ok(()) => return Ok(from as u32),
         Err(_) => return Err(AllocError),
     }

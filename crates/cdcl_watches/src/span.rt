@@ -11,6 +11,13 @@ pub struct Span {
     pub class: u32,
 }
 
+/// A list without a block.
+pub const NOWHERE: Span = Span {
+    from: 0,
+    len: 0,
+    class: 0,
+};
+
 /// So many watchers have room in a block of the class.
 pub fn room(class: u32) -> u32
     requires { class < 32 }

@@ -1,6 +1,6 @@
 // The blocks of the pool that no list has, by their class: a row for each class has the places where its
 // blocks begin. The block that was given back last is taken first.
-ghost use Rattle.std.specs.Prelude.{◌≡◌, ◌≢◌, ℕ, ◌+◌, ◌-◌, ◌<◌, ◌≤◌, [], ◌∷◌, ◌++◌, map, take, length, IfSome, IfOk, OnOk, OnErr};
+ghost use Rattle.std.specs.Prelude.{◌≡◌, ◌≢◌, ℕ, ◌+◌, ◌-◌, ◌<◌, ◌≤◌, [], ◌∷◌, ◌++◌, map, take, length, IfSome, OnOk, OnErr};
 ghost use Rattle.cdcl_watches.specs.Pool.{row_at, spare_at};
 
 use std::alloc::{AllocError, Global};
@@ -28,14 +28,6 @@ impl Spare {
         Spare {
             rows: Vec::new(alloc),
         }
-    }
-
-    /// The same blocks, noted once more.
-    pub fn copied(&self, alloc: Global) -> Result<Spare, AllocError>
-        ensures { IfOk result (λ spare. spare ≡ self.now) }
-    {
-        let rows = copied_rows(&self.rows, alloc)?;
-        Ok(Spare { rows })
     }
 
     /// Takes the last block of a class, if there is one.
@@ -78,17 +70,4 @@ fn lengthen(rows: &mut Vec<Vec<u32>>, count: usize) -> Result<(), AllocError>
         rows.push(Vec::new(alloc))?;
     }
     Ok(())
-}
-
-/// A copy of each row.
-fn copied_rows(rows: &[Vec<u32>], alloc: Global) -> Result<Vec<Vec<u32>>, AllocError>
-    ensures { IfOk result (λ copied. map (λ v. v.items) copied.items
-        ≡ map (λ v. v.items) rows.now) }
-{
-    let mut copied = Vec::with_capacity(alloc, rows.len())?;
-    for place in 0..rows.len() {
-        let row = Vec::from_slice(alloc, &rows[place])?;
-        copied.push(row)?;
-    }
-    Ok(copied)
 }

@@ -3,10 +3,9 @@
 // seldom. A block that a list has outgrown serves another list.
 ghost use Rattle.std.specs.Prelude.{◌≡◌, ◌+◌, ◌-◌, ◌<◌, ◌≤◌, ◌^◌, List, [], ◌∷◌, ◌++◌, length, take, replicate, IfOk, if◌then◌else◌, is_ok, slice_index_or, slice_set};
 ghost use Rattle.cdcl_watches.specs.Watchers.{nobody, without};
-ghost use Rattle.cdcl_watches.specs.Pool.{without_watchers};
 
-use crate::pool::{FILLER, put, widen};
-use crate::span::{Span, room};
+use crate::pool::{put, widen};
+use crate::span::{NOWHERE, Span, room};
 use crate::spare::Spare;
 use crate::watcher::Watcher;
 use std::alloc::{AllocError, Global};
@@ -49,15 +48,17 @@ impl WatchLists {
         }
     }
 
-    /// As many lists as here, all empty. Each has its block beforehand, so that none has to move before it is
-    /// longer than here. What stands in the blocks counts for nothing.
+    /// As many lists as here, all empty, and room beforehand for as many watchers as have a place here.
     pub fn emptied(&self, alloc: Global) -> Result<WatchLists, AllocError>
         ensures { IfOk result (λ lists. lists ≡ replicate (length self.now) []) }
     {
-        let spans = emptied_spans(&self.spans, alloc)?;
-        let pool = Vec::from_elem(alloc, FILLER, self.pool.len())?;
-        let spare = self.spare.copied(alloc)?;
-        Ok(WatchLists { spans, pool, spare })
+        let spans = Vec::from_elem(alloc, NOWHERE, self.spans.len())?;
+        let pool = Vec::with_capacity(alloc, self.pool.len())?;
+        Ok(WatchLists {
+            spans,
+            pool,
+            spare: Spare::new(alloc),
+        })
     }
 
     /// Puts an empty list behind the others.
@@ -67,12 +68,7 @@ impl WatchLists {
         if self.spans.len() >= MAX_LISTS {
             return Err(AllocError);
         }
-        let nowhere = Span {
-            from: 0,
-            len: 0,
-            class: 0,
-        };
-        match self.spans.push(nowhere) {
+        match self.spans.push(NOWHERE) {
             Ok(()) => return Ok(()),
             Err(_) => return Err(AllocError),
         }
@@ -170,20 +166,4 @@ impl WatchLists {
             class: span.class,
         };
     }
-}
-
-/// The same blocks, each without a watcher.
-fn emptied_spans(spans: &[Span], alloc: Global) -> Result<Vec<Span>, AllocError>
-    ensures { IfOk result (λ emptied. emptied.items ≡ without_watchers spans.now) }
-{
-    let mut emptied = Vec::with_capacity(alloc, spans.len())?;
-    for list in 0..spans.len() {
-        let span = spans[list];
-        emptied.push(Span {
-            from: span.from,
-            len: 0,
-            class: span.class,
-        })?;
-    }
-    Ok(emptied)
 }
