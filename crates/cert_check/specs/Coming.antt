@@ -1,6 +1,9 @@
 -- The judgement of a text that is partly at hand, and of which a source has the rest.
-use Rattle.std.specs.Prelude.{◌≡◌, ℕ, List, [], ◌++◌, Option, Some, IfSome, Result, Ok, Err}
+use Rattle.std.specs.Prelude.{◌≡◌, ℕ, List, [], ◌++◌, Option, Some, IfSome, Result, Ok, Err, OnOk, IsErrOf}
+use Rattle.ltl_io.specs.Count.{Rose, Counts}
 use Rattle.ltl_io.specs.Outside.{Loses}
+use Rattle.ltl_io.specs.declared.source.ReadRefused.{ReadRefused}
+use Rattle.ltl_io.specs.declared.source.ReadRefused.TheVariants as read_refused
 use Rattle.ltl_syntax.specs.declared.node.Kind.{Kind}
 use Rattle.ltl_syntax.specs.Formula.{Formula}
 use Rattle.cert_check.specs.declared.verdict.Verdict.{Verdict}
@@ -21,3 +24,10 @@ pub record IsSaidOfAll (f : Formula) (kind : Kind) (front : List ℕ) (before af
   pub lost : Loses more before after
   pub ended : IfSome before (λ rest. after ≡ Some [])
   pub is : IsSaidOf f kind (front ++ more) said
+
+-- what a call that reads a source says of the source's faults: they rise where it fails, and there alone
+pub record IsReading {T : Type 0} (r : Result T ReadRefused) (before after : ℕ) : Type 0 where
+  pub fault : IsErrOf r read_refused.Fault → Rose before after
+  pub no_memory : IsErrOf r read_refused.NoMemory → after ≡ before
+  pub count : OnOk r (after ≡ before)
+  pub counts : Counts before after

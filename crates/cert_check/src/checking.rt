@@ -1,5 +1,5 @@
 // A certificate against a formula: its form, its kind, its letters, its lines and then its targets.
-ghost use Rattle.std.specs.Prelude.{ℕ, ◌≡◌, ◌<◌, ◌≤◌, length, IfOk, IsErrOf, MatchOption};
+ghost use Rattle.std.specs.Prelude.{ℕ, ◌<◌, ◌≤◌, length, IfOk, IsErrOf, MatchOption};
 ghost use Rattle.ltl_syntax.specs.Table.{tree_at};
 ghost use Rattle.enc_layout.specs.Letters.{Fits};
 ghost use Rattle.enc_layout.specs.Clauses.{layout_of};

@@ -4,7 +4,7 @@ ghost use Rattle.ltl_io.specs.Count.{Rose, Counts};
 ghost use Rattle.ltl_io.specs.declared.source.ReadRefused.TheVariants as read_refused;
 ghost use Rattle.ltl_syntax.specs.Table.{tree_at};
 ghost use Rattle.ltl_io.specs.Outside.{IsReadOn};
-ghost use Rattle.cert_check.specs.Coming.{IsSaidOfAll};
+ghost use Rattle.cert_check.specs.Coming.{IsReading, IsSaidOfAll};
 ghost use Rattle.cert_check.specs.Pieces.{IsVerifiedWhole};
 
 use crate::checking::{check, limit_below};
@@ -67,10 +67,7 @@ fn by_pieces<R: Threads + Sync, S: Source, G: Gate + Sync>(
         (λ _. IsVerifiedWhole (tree_at table.now root) kind hand.items (S.rest source.old)
         (S.rest source.new))
         (λ left. IsReadOn hand.items left.items (S.rest source.old) (S.rest source.new))) }
-    ensures fault { IsErrOf result read_refused.Fault → Rose (S.faults source.old) (S.faults source.new) }
-    ensures no_memory { IsErrOf result read_refused.NoMemory → S.faults source.new ≡ S.faults source.old }
-    ensures count { OnOk result (S.faults source.new ≡ S.faults source.old) }
-    ensures counts { Counts (S.faults source.old) (S.faults source.new) }
+    ensures faults { IsReading result (S.faults source.old) (S.faults source.new) }
 {
     let bytes = hand.len();
     let coming = match begun(alloc, hand)? {
@@ -105,11 +102,7 @@ fn whole<R: Threads + Sync, S: Source, G: Gate + Sync>(
     requires few { workers ≤ 16 }
     ensures answer { IfOk result (IsSaidOfAll (tree_at table.now root) kind bytes.items
         (S.rest source.old) (S.rest source.new)) }
-    ensures fault { IsErrOf result read_refused.Fault → Rose (S.faults source.old) (S.faults source.new) }
-    ensures no_memory { IsErrOf result read_refused.NoMemory
-        → S.faults source.new ≡ S.faults source.old }
-    ensures count { OnOk result (S.faults source.new ≡ S.faults source.old) }
-    ensures counts { Counts (S.faults source.old) (S.faults source.new) }
+    ensures faults { IsReading result (S.faults source.old) (S.faults source.new) }
 {
     let _ended = read_on(source, &mut bytes, usize::MAX)?;
     Ok(check(rt, alloc, table, root, kind, &bytes, workers, gate))

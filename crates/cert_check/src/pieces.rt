@@ -1,11 +1,10 @@
 // A text that comes in pieces. The front has what has come in whole lines; what stands behind the last of
 // them is the beginning of a line whose end is still to come, and the next piece begins with it. A piece is
 // read and gone over bit by bit, for as long as others are busy with the lines before it.
-ghost use Rattle.std.specs.Prelude.{◌≡◌, ◌≤◌, ◌++◌, false, drop, vec_len, IfOk, IfSome, OnOk, MatchResult, IsErrOf};
-ghost use Rattle.ltl_io.specs.Count.{Rose, Counts};
+ghost use Rattle.std.specs.Prelude.{◌≡◌, ◌≤◌, ◌++◌, false, drop, vec_len, IfOk, IfSome, OnOk, MatchResult};
 ghost use Rattle.ltl_io.specs.Outside.{IsReadOn};
-ghost use Rattle.ltl_io.specs.declared.source.ReadRefused.TheVariants as read_refused;
 ghost use Rattle.cert_text.specs.Front.{GoesOn};
+ghost use Rattle.cert_check.specs.Coming.{IsReading};
 ghost use Rattle.cert_check.specs.Pieces.{bytes_in, next_bytes, IsEnded};
 
 use cert_text::{Front, Passed};
@@ -110,10 +109,7 @@ fn read_some<S: Source>(source: &mut S, bytes: &mut Vec<u8>) -> Result<bool, Rea
     ensures bytes { OnOk result (IsReadOn bytes.old.items bytes.new.items (S.rest source.old)
         (S.rest source.new)) }
     ensures ended { IfOk result (λ ended. IsEnded ended (S.rest source.old) (S.rest source.new)) }
-    ensures fault { IsErrOf result read_refused.Fault → Rose (S.faults source.old) (S.faults source.new) }
-    ensures no_memory { IsErrOf result read_refused.NoMemory → S.faults source.new ≡ S.faults source.old }
-    ensures count { OnOk result (S.faults source.new ≡ S.faults source.old) }
-    ensures counts { Counts (S.faults source.old) (S.faults source.new) }
+    ensures faults { IsReading result (S.faults source.old) (S.faults source.new) }
 {
     bytes.reserve(AT_ONCE + READ)?;
     let stop_after = bytes.len().saturating_add(AT_ONCE);
@@ -152,10 +148,7 @@ fn read_lines<S: Source>(
     ensures bytes { OnOk result (IsReadOn (piece.old ++ carry.old.items) (piece.new ++ carry.new.items)
         (S.rest source.old) (S.rest source.new)) }
     ensures ended { IfOk result (λ ended. IsEnded ended (S.rest source.old) (S.rest source.new)) }
-    ensures fault { IsErrOf result read_refused.Fault → Rose (S.faults source.old) (S.faults source.new) }
-    ensures no_memory { IsErrOf result read_refused.NoMemory → S.faults source.new ≡ S.faults source.old }
-    ensures count { OnOk result (S.faults source.new ≡ S.faults source.old) }
-    ensures counts { Counts (S.faults source.old) (S.faults source.new) }
+    ensures faults { IsReading result (S.faults source.old) (S.faults source.new) }
 {
     let seen = carry.len();
     let ended = read_some(source, carry)?;
@@ -175,10 +168,7 @@ pub fn next_piece<S: Source>(
     ensures bytes { IfOk result (λ next. IsReadOn carry.old.items (next_bytes next) (S.rest source.old)
         (S.rest source.new)) }
     ensures ended { IfOk result (λ next. IsEnded next.ended (S.rest source.old) (S.rest source.new)) }
-    ensures fault { IsErrOf result read_refused.Fault → Rose (S.faults source.old) (S.faults source.new) }
-    ensures no_memory { IsErrOf result read_refused.NoMemory → S.faults source.new ≡ S.faults source.old }
-    ensures count { OnOk result (S.faults source.new ≡ S.faults source.old) }
-    ensures counts { Counts (S.faults source.old) (S.faults source.new) }
+    ensures faults { IsReading result (S.faults source.old) (S.faults source.new) }
 {
     let mut piece = front.next(alloc);
     let mut ended = false;

@@ -1,11 +1,10 @@
 // The way of a long text through its steps, from the first piece to the close.
-ghost use Rattle.std.specs.Prelude.{◌≡◌, ◌≤◌, false, IfOk, OnOk, IsErrOf, MatchResult};
-ghost use Rattle.ltl_io.specs.Count.{Rose, Counts};
+ghost use Rattle.std.specs.Prelude.{◌≡◌, ◌≤◌, false, IfOk, MatchResult};
 ghost use Rattle.ltl_io.specs.Outside.{IsReadOn};
-ghost use Rattle.ltl_io.specs.declared.source.ReadRefused.TheVariants as read_refused;
 ghost use Rattle.enc_layout.specs.Letters.{Fits};
 ghost use Rattle.enc_layout.specs.Clauses.{layout_of, clause_list};
 ghost use Rattle.cert_text.specs.Front.{said_in};
+ghost use Rattle.cert_check.specs.Coming.{IsReading};
 ghost use Rattle.cert_check.specs.Pieces.{bytes_in, IsVerifiedWhole};
 
 use crate::ending::is_whole;
@@ -43,10 +42,7 @@ pub fn judge<R: Threads + Sync, S: Source, G: Gate + Sync>(
         (λ _. IsVerifiedWhole closure.now.formula closure.now.kind (bytes_in coming) (S.rest source.old)
         (S.rest source.new))
         (λ left. IsReadOn (bytes_in coming) left.items (S.rest source.old) (S.rest source.new))) }
-    ensures fault { IsErrOf result read_refused.Fault → Rose (S.faults source.old) (S.faults source.new) }
-    ensures no_memory { IsErrOf result read_refused.NoMemory → S.faults source.new ≡ S.faults source.old }
-    ensures count { OnOk result (S.faults source.new ≡ S.faults source.old) }
-    ensures counts { Counts (S.faults source.old) (S.faults source.new) }
+    ensures faults { IsReading result (S.faults source.old) (S.faults source.new) }
 {
     coming.front.is_front();
     let clauses = Indexed::of(closure, coming.front.depth());
@@ -82,10 +78,7 @@ fn judge_over<R: Threads + Sync, C: NamedClauses + Sync, S: Source, G: Gate + Sy
         (λ _. IsVerifiedWhole closure.now.formula closure.now.kind (bytes_in coming) (S.rest source.old)
         (S.rest source.new))
         (λ left. IsReadOn (bytes_in coming) left.items (S.rest source.old) (S.rest source.new))) }
-    ensures fault { IsErrOf result read_refused.Fault → Rose (S.faults source.old) (S.faults source.new) }
-    ensures no_memory { IsErrOf result read_refused.NoMemory → S.faults source.new ≡ S.faults source.old }
-    ensures count { OnOk result (S.faults source.new ≡ S.faults source.old) }
-    ensures counts { Counts (S.faults source.old) (S.faults source.new) }
+    ensures faults { IsReading result (S.faults source.old) (S.faults source.new) }
 {
     coming.front.is_front();
     let letters = Layout::of(closure).letters_through(coming.front.depth()) as u32;

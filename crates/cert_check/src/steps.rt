@@ -1,13 +1,12 @@
 // A long text, judged by steps: in each step the lines that have come are judged while the next piece is
 // read. To read is the cheaper work, so the thread that reads goes on for as long as the judges are busy, and
 // each step has more to judge than the one before. A step costs the making of threads, and so there are few.
-ghost use Rattle.std.specs.Prelude.{◌≡◌, ◌≤◌, length, IsTrue, IfOk, OnOk, IsErrOf, MatchResult};
-ghost use Rattle.ltl_io.specs.Count.{Rose, Counts};
+ghost use Rattle.std.specs.Prelude.{◌≡◌, ◌≤◌, length, IsTrue, IfOk, MatchResult};
 ghost use Rattle.ltl_io.specs.Outside.{IsReadOn};
-ghost use Rattle.ltl_io.specs.declared.source.ReadRefused.TheVariants as read_refused;
 ghost use Rattle.cnf_base.specs.Known.{AreKnown};
 ghost use Rattle.cert_text.specs.Live.{lines_of};
 ghost use Rattle.cert_text.specs.Front.{said_in};
+ghost use Rattle.cert_check.specs.Coming.{IsReading};
 ghost use Rattle.cert_check.specs.Pieces.{bytes_in, next_bytes, AreGood, IsSoFar, IsEnded, IsJudged, IsPieceOn};
 
 use crate::pieces::{Coming, Next, all_bytes, all_with, next_piece, with_next};
@@ -65,10 +64,7 @@ fn at_once<R: Threads + Sync, C: NamedClauses + Sync, S: Source, G: Gate + Sync>
     ensures bytes { IfOk result (λ r. IsReadOn carry.old.items (next_bytes r.0) (S.rest source.old)
         (S.rest source.new)) }
     ensures ended { IfOk result (λ r. IsEnded r.0.ended (S.rest source.old) (S.rest source.new)) }
-    ensures fault { IsErrOf result read_refused.Fault → Rose (S.faults source.old) (S.faults source.new) }
-    ensures no_memory { IsErrOf result read_refused.NoMemory → S.faults source.new ≡ S.faults source.old }
-    ensures count { OnOk result (S.faults source.new ≡ S.faults source.old) }
-    ensures counts { Counts (S.faults source.old) (S.faults source.new) }
+    ensures faults { IsReading result (S.faults source.old) (S.faults source.new) }
 {
     let done = AtomicBool::new(false);
     let mut judging = || -> bool
@@ -87,12 +83,7 @@ fn at_once<R: Threads + Sync, C: NamedClauses + Sync, S: Source, G: Gate + Sync>
             (S.rest source.entry.now) (S.rest source.exit.now)) }
         ensures ended { IfOk result (λ next. IsEnded next.ended (S.rest source.entry.now)
             (S.rest source.exit.now)) }
-        ensures fault { IsErrOf result read_refused.Fault
-            → Rose (S.faults source.entry.now) (S.faults source.exit.now) }
-        ensures no_memory { IsErrOf result read_refused.NoMemory
-            → S.faults source.exit.now ≡ S.faults source.entry.now }
-        ensures count { OnOk result (S.faults source.exit.now ≡ S.faults source.entry.now) }
-        ensures counts { Counts (S.faults source.entry.now) (S.faults source.exit.now) }
+        ensures faults { IsReading result (S.faults source.entry.now) (S.faults source.exit.now) }
     { next_piece(alloc, front, source, carry, &done) };
     let (good, next) = thread::join_mut(rt, &mut judging, &mut reading);
     Ok((next?, good))
@@ -142,10 +133,7 @@ fn judge_and_read<R: Threads + Sync, C: NamedClauses + Sync, S: Source, G: Gate 
         (λ next. IsPieceOn coming next (S.rest source.old) (S.rest source.new))
         (λ left. IsReadOn (bytes_in coming) left.items (S.rest source.old) (S.rest source.new))) }
     ensures same { many.new ≡ many.old }
-    ensures fault { IsErrOf result read_refused.Fault → Rose (S.faults source.old) (S.faults source.new) }
-    ensures no_memory { IsErrOf result read_refused.NoMemory → S.faults source.new ≡ S.faults source.old }
-    ensures count { OnOk result (S.faults source.new ≡ S.faults source.old) }
-    ensures counts { Counts (S.faults source.old) (S.faults source.new) }
+    ensures faults { IsReading result (S.faults source.old) (S.faults source.new) }
 {
     let Coming {
         front,
@@ -195,10 +183,7 @@ pub fn step<R: Threads + Sync, C: NamedClauses + Sync, S: Source, G: Gate + Sync
         (λ left. IsReadOn (bytes_in coming) left.items (S.rest source.old) (S.rest source.new))) }
     ensures same_many { many.new ≡ many.old }
     ensures same_all { all.new ≡ all.old }
-    ensures fault { IsErrOf result read_refused.Fault → Rose (S.faults source.old) (S.faults source.new) }
-    ensures no_memory { IsErrOf result read_refused.NoMemory → S.faults source.new ≡ S.faults source.old }
-    ensures count { OnOk result (S.faults source.new ≡ S.faults source.old) }
-    ensures counts { Counts (S.faults source.old) (S.faults source.new) }
+    ensures faults { IsReading result (S.faults source.old) (S.faults source.new) }
 {
     if !coming.ended {
         return judge_and_read(rt, alloc, clauses, gate, coming, many, source);

@@ -26,7 +26,7 @@ reads-preserved g c =
     record {
       read = read_on old was new before now after loop.read c.in_ok-ended.ensures.bytes;
       ended = ended_behind old was c.in_ok-ended.ended before now after loop.read c.in_ok-ended.ensures.ended;
-      count = c.in_ok-ended.ensures.count ∙ loop.count;
+      count = c.in_ok-ended.ensures.faults.count ∙ loop.count;
     }
 
 pub returns-clause-bytes : goal.returns-clause-bytes

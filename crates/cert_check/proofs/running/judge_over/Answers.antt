@@ -67,5 +67,5 @@ pieces-preserved g c =
       letters = many ∙ loop.letters;
       known = subst (λ n. AreKnown n clauses) (sym many) loop.known;
       same = all ∙ (loop.same ∙ sym many);
-      count = c.in_ok-next.ensures.count ∙ loop.count;
+      count = c.in_ok-next.ensures.faults.count ∙ loop.count;
     }
