@@ -6,7 +6,7 @@ ghost use Rattle.ltl_syntax.specs.declared.node.Kind.TheVariants as Kinds;
 ghost use Rattle.ltl_closure.specs.Closure.{eventualities};
 ghost use Rattle.ltl_closure.specs.Entries.{IsNumber};
 ghost use Rattle.enc_layout.specs.Letters.{Equal, Differs, Fits, below};
-ghost use Rattle.enc_layout.specs.Clauses.{Plus, layout_of, literal_in, carried, place_clauses, equal_clause, fulfilled_clauses, loop_clause, closing_clauses, pair_clauses, part_d};
+ghost use Rattle.enc_layout.specs.Clauses.{Plus, layout_of, literal_in, carried, place_clauses, fulfilled_clauses, loop_clause, closing_clauses, pair_clauses, part_d};
 ghost use Rattle.clause_index.specs.Literals.{literals};
 ghost use Rattle.clause_index.specs.Rows.{row_at, comparison_rows, same_rows, either_rows};
 ghost use Rattle.clause_index.specs.Counts.{sizes_of, fulfilled_size};

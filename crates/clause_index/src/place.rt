@@ -1,6 +1,6 @@
 // Where a clause stands, from its index in the whole list: the step, the section of the step, and the index
 // in the section.
-ghost use Rattle.std.specs.Prelude.{◌≡◌, ◌+◌, ◌<◌, ◌≤◌, ◌^◌};
+ghost use Rattle.std.specs.Prelude.{◌≡◌, ◌+◌, ◌<◌, ◌≤◌};
 ghost use Rattle.clause_index.specs.Counts.{step_size, before_step};
 ghost use Rattle.clause_index.specs.Sections.{section_size, before_section};
 

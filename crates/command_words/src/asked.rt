@@ -1,5 +1,5 @@
 // The words of the command line. The command and its number are read here, its options by `options`.
-ghost use Rattle.std.specs.Prelude.{ℕ, map, string_bytes, MatchOption, IfOk};
+ghost use Rattle.std.specs.Prelude.{map, string_bytes, MatchOption, IfOk};
 ghost use Rattle.command_words.specs.Table.{demo_command};
 ghost use Rattle.command_words.specs.Words.{Command, Asks, SayNumber};
 ghost use Rattle.command_words.specs.Asked.{IsAsked};

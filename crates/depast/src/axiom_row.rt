@@ -1,5 +1,5 @@
 // The axioms of the new names of one operator, each joined to what stands before it.
-ghost use Rattle.std.specs.Prelude.{◌≡◌, ℕ, ◌+◌, ◌<◌, ◌≤◌, ◌^◌, ◌∷◌, List, OnOk};
+ghost use Rattle.std.specs.Prelude.{◌+◌, ◌<◌, ◌^◌, ◌∷◌, List, OnOk};
 ghost use Rattle.ltl_syntax.specs.declared.node.UnaryOp.TheVariants as one;
 ghost use Rattle.ltl_syntax.specs.declared.node.BinaryOp.TheVariants as two;
 ghost use Rattle.ltl_syntax.specs.Formula.{Formula, Unary, Binary};

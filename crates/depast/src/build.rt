@@ -1,6 +1,6 @@
 // The table of the formula that a row of symbols reads as, by a stack of the roots that wait for
 // their operator.
-ghost use Rattle.std.specs.Prelude.{◌≡◌, ℕ, ◌<◌, ◌≤◌, [], ◌∷◌, List, length, IfOk, OnOk};
+ghost use Rattle.std.specs.Prelude.{◌≡◌, ◌<◌, ◌≤◌, [], ◌∷◌, List, length, IfOk, OnOk};
 ghost use Rattle.ltl_syntax.specs.Formula.{Formula, Letter, Name};
 ghost use Rattle.ltl_syntax.specs.Table.{MayFollow, IsPlain, IsRoot, Pushes, tree_at};
 ghost use Rattle.depast.specs.Symbols.{Reads};

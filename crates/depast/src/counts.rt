@@ -4,7 +4,7 @@
 // A residue is at most twice as large as its formula, and stands at most three times in the axioms
 // of the operator over it. So the sum passes no 32 bits, though it grows with the square of the
 // formula where operators from 0 steps back on are nested.
-ghost use Rattle.std.specs.Prelude.{◌≡◌, ℕ, ◌+◌, ◌*◌, ◌<◌, ◌≤◌, length, slice_index_or, Some, slice_get};
+ghost use Rattle.std.specs.Prelude.{◌≡◌, ◌+◌, ◌*◌, ◌<◌, ◌≤◌, length};
 ghost use Rattle.std.specs.Prelude.{IfOk, OnOk};
 ghost use Rattle.ltl_syntax.specs.Size.{formula_size};
 ghost use Rattle.ltl_syntax.specs.Table.{tree_at, trees_of, made, IsFine};

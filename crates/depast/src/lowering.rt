@@ -1,5 +1,5 @@
 // A trace without the new names.
-ghost use Rattle.std.specs.Prelude.{◌≡◌, ◌↔◌, ℕ, List, Contains, IfOk};
+ghost use Rattle.std.specs.Prelude.{◌↔◌, ℕ, List, Contains, IfOk};
 ghost use Rattle.ltl_syntax.specs.Formula.{Formula};
 ghost use Rattle.depast.specs.Lifting.{IsLowered};
 ghost use Rattle.depast.specs.Removal.{IsRemoved};

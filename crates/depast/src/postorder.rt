@@ -3,7 +3,6 @@
 // A walk with a stack meets each node before its operands and the right one before the left. What
 // it has met lies on a second stack, from whose top on the nodes then come the other way round.
 ghost use Rattle.std.specs.Prelude.{◌≡◌, ◌+◌, ◌<◌, ◌++◌, [], length, IfOk, OnOk};
-ghost use Rattle.ltl_syntax.specs.Table.{tree_at};
 ghost use Rattle.depast.specs.Postorder.{Ends, operands};
 
 use crate::stack::Stack;

@@ -1,5 +1,5 @@
 // The row of the residue of an operator, in place of the rows of its operands at the end of a row.
-ghost use Rattle.std.specs.Prelude.{◌≡◌, ℕ, suc, ◌+◌, ◌-◌, ◌<◌, ◌≤◌, ◌^◌, [], ◌∷◌, ◌++◌, Bool, List};
+ghost use Rattle.std.specs.Prelude.{◌≡◌, suc, ◌+◌, ◌-◌, ◌<◌, ◌≤◌, ◌^◌, [], ◌∷◌, ◌++◌, Bool, List};
 ghost use Rattle.std.specs.Prelude.{length, OnOk};
 ghost use Rattle.ltl_syntax.specs.Size.{IsInOrder};
 ghost use Rattle.ltl_syntax.specs.Formula.{Formula};

@@ -1,5 +1,5 @@
 // How deep past operators are nested, and how many positions that takes.
-ghost use Rattle.std.specs.Prelude.{◌≡◌, ◌+◌, ◌*◌, ◌^◌, ◌<◌, ◌≤◌, ℕ, length, max, IfOk};
+ghost use Rattle.std.specs.Prelude.{◌≡◌, ◌+◌, ◌*◌, ◌^◌, ◌<◌, ◌≤◌, length, max, IfOk};
 ghost use Rattle.ltl_syntax.specs.Formula.{Formula, Unary, Binary};
 ghost use Rattle.ltl_syntax.specs.Table.{tree_at};
 ghost use Rattle.ltl_word.specs.Depth.{past_depth};

@@ -1,5 +1,5 @@
 // The evaluation of a formula on a trace, row by row.
-ghost use Rattle.std.specs.Prelude.{◌≡◌, ◌+◌, ◌<◌, ◌≤◌, ◌↔◌, ℕ, List, [], length, IfOk, OnOk, IsTrue, Err, slice_index_or, false};
+ghost use Rattle.std.specs.Prelude.{◌≡◌, ◌+◌, ◌<◌, ◌≤◌, ◌↔◌, ℕ, [], length, IfOk, OnOk, IsTrue, Err, slice_index_or, false};
 ghost use Rattle.ltl_syntax.specs.Table.{tree_at};
 ghost use Rattle.ltl_word.specs.Trace.{IsTrace};
 ghost use Rattle.ltl_word.specs.Holds.{Satisfies};

@@ -1,9 +1,8 @@
 // The row of a node, from the rows of its children.
 ghost use Rattle.std.specs.Prelude.{◌≡◌, ◌<◌, ◌≤◌, ℕ, length, IfOk, IsTrue, slice_get, Some};
 ghost use Rattle.ltl_syntax.specs.declared.node.Node.{Node as NodeSpec};
-ghost use Rattle.ltl_syntax.specs.Formula.{Formula, Unary, Binary};
+ghost use Rattle.ltl_syntax.specs.Formula.{Unary, Binary};
 ghost use Rattle.ltl_syntax.specs.Table.{tree_at, has_child};
-ghost use Rattle.ltl_word.specs.declared.trace.Trace.{Trace as TraceSpec};
 ghost use Rattle.ltl_word.specs.Depth.{past_depth};
 ghost use Rattle.lasso_eval.specs.Cells.{max_cells};
 ghost use Rattle.lasso_eval.specs.Rows.{Tells, row_at};

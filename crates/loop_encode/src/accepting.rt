@@ -1,6 +1,6 @@
 // When a run is accepted. On infinite traces its last state asks for nothing more, or the run loops back to
 // an earlier state; on finite traces no strong next request is true at its last state.
-ghost use Rattle.std.specs.Prelude.{◌≡◌, ◌<◌, ◌≤◌, [], ◌∷◌, ◌++◌, map, OnOk, OnErr};
+ghost use Rattle.std.specs.Prelude.{◌≡◌, ◌<◌, [], ◌∷◌, ◌++◌, map, OnOk, OnErr};
 ghost use Rattle.ltl_syntax.specs.declared.node.Kind.TheVariants as Kinds;
 ghost use Rattle.ltl_closure.specs.Closure.{nexts};
 ghost use Rattle.ltl_closure.specs.Entries.{IsNumber};

@@ -1,5 +1,5 @@
 // The entry number of each node's normal form and of its negation's, so that each is walked once.
-ghost use Rattle.std.specs.Prelude.{◌≡◌, ℕ, ◌<◌, ◌⊎◌, Bool, length, IfOk};
+ghost use Rattle.std.specs.Prelude.{◌≡◌, ℕ, ◌<◌, ◌⊎◌, Bool, IfOk};
 ghost use Rattle.ltl_closure.specs.Plan.{memo_at, HasRoom, IsWithin};
 
 use std::alloc::{AllocError, Global};

@@ -1,7 +1,7 @@
 // The walk over nodes and signs. It keeps a stack of what is still to be done and a stack of the numbers of
 // what is done, so it never builds the tree of the normal form, which grows exponentially with the depth of
 // `<->`.
-ghost use Rattle.std.specs.Prelude.{◌≡◌, ℕ, ◌<◌, ◌≤◌, List, [], ◌∷◌, length, reverse, IfOk, OnOk};
+ghost use Rattle.std.specs.Prelude.{◌≡◌, ℕ, ◌<◌, ◌≤◌, List, ◌∷◌, length, reverse, IfOk, OnOk};
 ghost use Rattle.ltl_syntax.specs.Table.{tree_at};
 ghost use Rattle.ltl_closure.specs.Norm.{pos_of};
 ghost use Rattle.ltl_closure.specs.Closure.{closure};

@@ -1,8 +1,8 @@
 // A cursor goes over a text token by token: it passes the white space, takes the longest token that begins
 // behind it, and stops for good at a byte that begins none. All tokens of a text are what it gives from the
 // first byte on.
-ghost use Rattle.std.specs.Prelude.{◌≡◌, ◌↔◌, ◌≤◌, length, [], Some, None, IfOk, IfErr, IfSome, IsNone};
-ghost use Rattle.ltl_lexer.specs.Tokens.{Remaining, Advances, AreWhite, IsNext, IsLexFault, AreTokens, IsLexRefusal};
+ghost use Rattle.std.specs.Prelude.{◌≡◌, ◌↔◌, ◌≤◌, length, Some, None, IfOk, IfErr, IsNone};
+ghost use Rattle.ltl_lexer.specs.Tokens.{Remaining, Advances, AreWhite, AreTokens, IsLexRefusal};
 ghost use Rattle.ltl_lexer.specs.declared.cursor.LexRefused.TheVariants.{NoMemory};
 
 use crate::scan::{front_token, white_len};

@@ -1,5 +1,5 @@
 // What a token says to the grammar, apart from the bytes of a name.
-ghost use Rattle.std.specs.Prelude.{◌≡◌, ◌↔◌, ℕ, List, IsTrue};
+ghost use Rattle.std.specs.Prelude.{◌≡◌, ℕ, List};
 ghost use Rattle.ltl_lexer.specs.declared.token.TokenKind.TheVariants as kinds;
 ghost use Rattle.ltl_parser.specs.Text.{symbol, unary_op, binary_op};
 ghost use Rattle.ltl_parser.specs.Standing.{symbol_meant};

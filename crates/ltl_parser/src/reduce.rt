@@ -1,7 +1,7 @@
 // Applying what waits on the stack: each operator before the operand, and each left operand with its
 // operator, as long as they bind at least as strongly as the next operator asks. What is applied becomes a
 // node of the table.
-ghost use Rattle.std.specs.Prelude.{◌≡◌, ◌≢◌, ◌+◌, ◌≤◌, length, IfOk, Err};
+ghost use Rattle.std.specs.Prelude.{◌≡◌, ◌≢◌, ◌+◌, ◌≤◌, IfOk, Err};
 ghost use Rattle.ltl_syntax.specs.declared.table.PushRefused.TheVariants as refused;
 ghost use Rattle.ltl_syntax.specs.Size.{sizes};
 ghost use Rattle.ltl_parser.specs.Standing.{applied, ArePending, Becomes, IsStopped, frames, to_weigh};

@@ -1,5 +1,5 @@
 // The stack of what waits for its operand. Clauses see it as a list with the top first.
-ghost use Rattle.std.specs.Prelude.{◌≡◌, ◌∷◌, [], List, OnOk, OnErr, Some, None, MatchOption};
+ghost use Rattle.std.specs.Prelude.{◌≡◌, ◌∷◌, [], List, OnOk, MatchOption};
 ghost use Rattle.ltl_parser.specs.declared.stack.Waiting.{Waiting};
 
 use ltl_syntax::{BinaryOp, UnaryOp};

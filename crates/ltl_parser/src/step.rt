@@ -1,12 +1,12 @@
 // What one token does to the stack and the table, by whether an operand stands on the stack.
-ghost use Rattle.std.specs.Prelude.{◌≡◌, ◌≢◌, ◌+◌, ◌<◌, ◌≤◌, ℕ, length, IfOk, Err, None, Some, slice_range};
+ghost use Rattle.std.specs.Prelude.{◌≢◌, ◌+◌, ◌<◌, ◌≤◌, length, IfOk, Err, None, Some};
 ghost use Rattle.ltl_lexer.specs.Tokens.{IsWord, IsPartOf};
 ghost use Rattle.ltl_syntax.specs.declared.table.PushRefused.TheVariants as refused;
 ghost use Rattle.ltl_syntax.specs.Formula.{Const, Name, Letter};
 ghost use Rattle.ltl_syntax.specs.Size.{sizes};
 ghost use Rattle.ltl_parser.specs.Text.{symbol_of};
 ghost use Rattle.ltl_parser.specs.Grammar.{Operand, Operator, weight};
-ghost use Rattle.ltl_parser.specs.Standing.{ArePending, AddsLeaf, AreReady, IsTaken, Steps, frames, parens, to_weigh, wanted};
+ghost use Rattle.ltl_parser.specs.Standing.{ArePending, AddsLeaf, AreReady, IsTaken, Steps, frames, parens, to_weigh};
 
 use crate::meaning::{Meaning, meant};
 use crate::reduce::reduce;

@@ -1,6 +1,6 @@
 // The trace of an accepted run: each state shows the names of its true letters, and the rule by which the run
 // is accepted says which states repeat.
-ghost use Rattle.std.specs.Prelude.{◌≡◌, ◌+◌, ◌-◌, ◌<◌, ◌≤◌, All, length, IfOk};
+ghost use Rattle.std.specs.Prelude.{◌≡◌, ◌+◌, ◌-◌, ◌<◌, All, length, IfOk};
 ghost use Rattle.ltl_word.specs.Trace.{IsTrace, IsOfKind};
 ghost use Rattle.ltl_word.specs.Holds.{Satisfies};
 ghost use Rattle.ltl_closure.specs.Run.{IsRun};

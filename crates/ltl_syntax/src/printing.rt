@@ -2,7 +2,7 @@
 //
 // What is still to be printed lies on a stack, the next piece on top, so that the depth of a formula costs
 // memory and no recursion.
-ghost use Rattle.std.specs.Prelude.{◌≡◌, ◌+◌, ◌<◌, ◌≤◌, [], ◌∷◌, ◌++◌, length, IfOk, OnOk};
+ghost use Rattle.std.specs.Prelude.{◌≡◌, ◌+◌, ◌<◌, ◌++◌, length, IfOk, OnOk};
 ghost use Rattle.ltl_syntax.specs.Table.{tree_at};
 ghost use Rattle.ltl_syntax.specs.Print.{text_of, unary_text, times_text, range_text, binary_text};
 ghost use Rattle.ltl_syntax.specs.Stack.{work_text, works_text, work_size, works_size, IsWork, AreWorks};

@@ -2,11 +2,11 @@
 //
 // Node numbers stay: the copy has a fresh letter in the place of each replaced node, and what was under it
 // is left there as a tree that nothing uses.
-ghost use Rattle.std.specs.Prelude.{◌≡◌, ℕ, ◌+◌, ◌<◌, ◌≤◌, [], ◌∷◌, ◌++◌, All, length, IfOk, OnOk};
+ghost use Rattle.std.specs.Prelude.{◌≡◌, ◌+◌, ◌<◌, ◌≤◌, [], ◌∷◌, ◌++◌, All, length, IfOk, OnOk};
 ghost use Rattle.ltl_syntax.specs.Table.{IsTable, MayFollow, tree_at};
 ghost use Rattle.ltl_syntax.specs.Size.{sizes, node_size};
 ghost use Rattle.ltl_syntax.specs.Replacement.{AreApart, rep};
-ghost use Rattle.ltl_syntax.specs.Flat.{order_at, places_of};
+ghost use Rattle.ltl_syntax.specs.Flat.{places_of};
 ghost use Rattle.ltl_syntax.specs.Cutting.{AreMarked, AreDistinct, AreFreshOrSame, AreCut, marked_places};
 
 use crate::preorder::nodes_under;

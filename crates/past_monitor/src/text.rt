@@ -1,5 +1,5 @@
 // The answers to a text: a state on each line, and lines of white space alone, which are passed over.
-ghost use Rattle.std.specs.Prelude.{◌≡◌, ℕ, ◌+◌, ◌^◌, ◌<◌, ◌≤◌, ◌∷◌, length, IfOk, IfErr, Ok, Err};
+ghost use Rattle.std.specs.Prelude.{◌≡◌, ℕ, ◌+◌, ◌<◌, ◌≤◌, ◌∷◌, length, IfOk, IfErr, Ok, Err};
 ghost use Rattle.std.specs.Option.{option_copied};
 ghost use Rattle.ltl_syntax.specs.Table.{tree_at};
 ghost use Rattle.past_monitor.specs.declared.refused.WatchRefused.TheVariants as refusals;

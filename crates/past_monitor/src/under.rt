@@ -3,12 +3,11 @@
 // Children stand before their parents, so one walk from the root backwards marks each node after its parent,
 // with no stack, and one walk forwards makes a part of each marked node, with the places of its children
 // among the parts.
-ghost use Rattle.std.specs.Prelude.{◌≡◌, ◌+◌, ◌-◌, ◌<◌, ◌≤◌, ◌||◌, ℕ, Bool, true, false, [], length, slice_index_or, IfOk, Ok, Err};
+ghost use Rattle.std.specs.Prelude.{◌≡◌, ◌+◌, ◌-◌, ◌<◌, ◌||◌, ℕ, true, false, length, IfOk, Ok, Err};
 ghost use Rattle.ltl_syntax.specs.Table.{tree_at, has_child};
 ghost use Rattle.ltl_syntax.specs.Roots.{HasChildrenBelow};
 ghost use Rattle.past_monitor.specs.declared.refused.MonitorRefused.TheVariants.{Future};
 ghost use Rattle.past_monitor.specs.Past.{IsPast};
-ghost use Rattle.past_monitor.specs.Monitor.{formula_at};
 ghost use Rattle.past_monitor.specs.Part.{AreParts, AreMarked, AreFresh, last_of, value_at, moved};
 
 use crate::MonitorRefused;

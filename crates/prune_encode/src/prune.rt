@@ -1,7 +1,7 @@
 // Which pairs prune. On infinite traces a carry that comes a third time must bring something new: an
 // eventuality that is pending, and that is fulfilled since the second time and was not seen then. On finite
 // traces a carry that comes a second time is enough.
-ghost use Rattle.std.specs.Prelude.{◌≡◌, ◌<◌, ◌≤◌, [], ◌∷◌, ◌++◌, length, All, OnOk, OnErr};
+ghost use Rattle.std.specs.Prelude.{◌≡◌, ◌<◌, [], ◌∷◌, ◌++◌, length, All, OnOk, OnErr};
 ghost use Rattle.ltl_syntax.specs.declared.node.Kind.TheVariants as Kinds;
 ghost use Rattle.ltl_closure.specs.Entries.{IsNumber};
 ghost use Rattle.enc_layout.specs.Clauses.{layout_of};

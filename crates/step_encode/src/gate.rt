@@ -3,7 +3,7 @@
 ghost use Rattle.std.specs.Prelude.{◌≡◌, ◌≤◌, ◌++◌, length, All, OnOk, OnErr};
 ghost use Rattle.ltl_closure.specs.Entries.{IsNumber};
 ghost use Rattle.enc_layout.specs.Letters.{EntryAt};
-ghost use Rattle.enc_layout.specs.Clauses.{Plus, literal_in, strong_gate, weak_gate};
+ghost use Rattle.enc_layout.specs.Clauses.{strong_gate, weak_gate};
 ghost use Rattle.enc_layout.specs.Steps.{clauses_at};
 ghost use Rattle.enc_layout.specs.Numbered.{IsInside, Extends};
 ghost use Rattle.step_encode.specs.Gates.{negation_rows, and_rows, or_rows, strong_rows, weak_rows};

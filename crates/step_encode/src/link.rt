@@ -1,7 +1,7 @@
 // The links between neighbouring states: a next request has the value that its argument has one state later,
 // a yesterday request the value that its argument had one state before. Before the first state a yesterday
 // request is false, and a weak one true.
-ghost use Rattle.std.specs.Prelude.{◌≡◌, ◌<◌, ◌≤◌, ◌++◌, All, OnOk, OnErr};
+ghost use Rattle.std.specs.Prelude.{◌≡◌, ◌<◌, ◌++◌, All, OnOk, OnErr};
 ghost use Rattle.ltl_closure.specs.Entries.{IsNumber};
 ghost use Rattle.enc_layout.specs.Clauses.{layout_of};
 ghost use Rattle.enc_layout.specs.Steps.{clauses_at};

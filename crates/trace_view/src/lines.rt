@@ -1,7 +1,7 @@
 // The grid as text.
 ghost use Rattle.std.specs.Prelude.{◌≡◌, ◌<◌, ◌≤◌, ◌++◌, replicate, IfOk, OnOk};
 ghost use Rattle.std.specs.List.{flat_map};
-ghost use Rattle.trace_view.specs.Text.{below, spaces, measured, before, column, number, mark, cell, under};
+ghost use Rattle.trace_view.specs.Text.{below, spaces, measured, column, number, mark, under};
 ghost use Rattle.trace_view.specs.Text.{line, label, row_line, loop_line, block, block_at, text};
 
 use crate::names::{columns_of, shown, widest};
