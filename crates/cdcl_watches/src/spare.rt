@@ -1,6 +1,6 @@
 // The blocks of the pool that no list has, by their class: a row for each class has the places where its
 // blocks begin. The block that was given back last is taken first.
-ghost use Rattle.std.specs.Prelude.{◌≡◌, ◌≢◌, ℕ, ◌+◌, ◌-◌, ◌<◌, ◌≤◌, [], ◌∷◌, ◌++◌, map, take, length, IfSome, OnOk, OnErr};
+ghost use Rattle.std.specs.Prelude.{◌≡◌, ◌≢◌, ℕ, ◌+◌, ◌-◌, ◌<◌, ◌≤◌, [], ◌∷◌, ◌++◌, map, take, length, IfSome, IsSome, OnOk, OnErr};
 ghost use Rattle.cdcl_watches.specs.Pool.{row_at, spare_at};
 
 use std::alloc::{AllocError, Global};
@@ -38,6 +38,7 @@ impl Spare {
         ensures some { IfSome result (λ from. 0 < length (row_at self.old class)) }
         ensures from { IfSome result (λ from. from ≡ spare_at self.old class
             (length (row_at self.old class) - 1)) }
+        ensures none { 0 < length (row_at self.old class) → IsSome result }
     {
         if class as usize >= self.rows.len() {
             return None;
