@@ -17,7 +17,7 @@ bytes_in c = c.front.bytes ++ c.carry.items
 
 -- the bytes that come next: whole lines, and those behind them
 abbrev pub next_bytes : Next → List ℕ
-next_bytes n = n.piece ++ n.carry.items
+next_bytes n = n.piece.bytes ++ n.carry.items
 
 -- where the source has ended, nothing is left of a told rest
 abbrev pub IsEnded : Bool → Option (List ℕ) → Option (List ℕ) → Type 0

@@ -129,7 +129,7 @@ fn take_away(bytes: &mut Vec<u8>, end: usize)
 /// Goes over the lines in the carry, and leaves there what stands behind the last of them. No line ends
 /// before the place `from`.
 fn go_over_lines(piece: &mut Passed, carry: &mut Vec<u8>, from: usize) -> Result<(), AllocError>
-    ensures { OnOk result (piece.new ++ carry.new.items ≡ piece.old ++ carry.old.items) }
+    ensures { OnOk result (piece.new.bytes ++ carry.new.items ≡ piece.old.bytes ++ carry.old.items) }
 {
     let Some(end) = last_line_end(carry, from) else {
         return Ok(());
@@ -145,8 +145,8 @@ fn read_lines<S: Source>(
     piece: &mut Passed,
     carry: &mut Vec<u8>,
 ) -> Result<bool, ReadRefused>
-    ensures bytes { OnOk result (IsReadOn (piece.old ++ carry.old.items) (piece.new ++ carry.new.items)
-        (S.rest source.old) (S.rest source.new)) }
+    ensures bytes { OnOk result (IsReadOn (piece.old.bytes ++ carry.old.items)
+        (piece.new.bytes ++ carry.new.items) (S.rest source.old) (S.rest source.new)) }
     ensures ended { IfOk result (λ ended. IsEnded ended (S.rest source.old) (S.rest source.new)) }
     ensures faults { IsReading result (S.faults source.old) (S.faults source.new) }
 {

@@ -18,7 +18,7 @@ pub run_on : (xs ys : List ℕ) (s t : Scan) → run s xs ≡ Some t → run s (
 run_on [] ys s t e = let same : s ≡ t = cc in ap (λ u. run u ys) same
 run_on (x ∷ xs) ys s t e = option_and_then_some (λ u. run u xs) (step s x) t e (λ u is again. run_step s u x (xs ++ ys) is ∙ run_on xs ys u t again)
 
-run_front : (xs ys : List ℕ) (s t : Scan) → run s (xs ++ ys) ≡ Some t → (u : Scan) × (run s xs ≡ Some u)
+pub run_front : (xs ys : List ℕ) (s t : Scan) → run s (xs ++ ys) ≡ Some t → (u : Scan) × (run s xs ≡ Some u)
 run_front [] ys s t e = (s, refl)
 run_front (x ∷ xs) ys s t e =
     option_and_then_some (λ u. run u (xs ++ ys)) (step s x) t e (λ u is again. let found = run_front xs ys u t again in (found.0, run_step s u x xs is ∙ found.1))
@@ -53,7 +53,7 @@ texts_say_one bytes c d a b =
     certificate_of d (Some (left, p)) = d
 
 -- the beginning of a beginning
-begins_front : (xs ys : List ℕ) → BeginsText (xs ++ ys) → BeginsText xs
+pub begins_front : (xs ys : List ℕ) → BeginsText (xs ++ ys) → BeginsText xs
 begins_front xs ys begins = record {
   rest = ys ++ begins.rest;
   whole = begins.whole;

@@ -17,7 +17,7 @@ use Rattle.cert_text.proofs.Skips.{goes_on}
 use Rattle.cert_text.proofs.Forming.{IsAt, step_shape, first_of, second_of, at_range, at_lines}
 
 -- it goes as the scan does
-run_shaped : (bs : List ℕ) (s : Scan) → shaped (run s bs) ≡ small_run s.0 (place_of s.1) bs
+pub run_shaped : (bs : List ℕ) (s : Scan) → shaped (run s bs) ≡ small_run s.0 (place_of s.1) bs
 run_shaped [] s = refl
 run_shaped (b ∷ bs) s = go (step s b) (step_shape s b) (λ t. run_shaped bs t)
   where

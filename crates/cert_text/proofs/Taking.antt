@@ -50,7 +50,7 @@ begin_marking texts spots ends piece first bytes closed head end no_texts no_spo
     (begin_first piece bytes closed head end said two room found)))
 
 -- a later one
-more_led : (texts : List Text) (piece : Vec ℕ Global) (size : ℕ) (before head : Head) (was closed : Bool) (spots : List Spot) (ends targets bytes : List ℕ) → IsFront texts size before was spots ends targets
+pub more_led : (texts : List Text) (piece : Vec ℕ Global) (size : ℕ) (before head : Head) (was closed : Bool) (spots : List Spot) (ends targets bytes : List ℕ) → IsFront texts size before was spots ends targets
     → was ≡ false → bytes ≡ piece.items → small_run [] (places.Part before) bytes ≡ Some ([], place_at closed head) → LeadsTo (bytes_of texts ++ piece.items) [] (place_at closed head)
 more_led texts piece size before head was closed spots ends targets bytes f opened same run =
     led_more (bytes_of texts) piece.items [] [] (places.Part before) (place_at closed head) (subst (λ b. LeadsTo (bytes_of texts) [] (place_at b before)) opened f.led)

@@ -30,6 +30,10 @@ abbrev pub place_at : Bool → Head → Place
 place_at true head = places.End head
 place_at false head = places.Part head
 
+-- the bytes lead neither to a part nor to the end
+abbrev pub LeadsToNoLine : List ℕ → Place → List ℕ → Type 0
+LeadsToNoLine left from bytes = (is_closed : Bool) (head : Head) → ¬ (small_run left from bytes ≡ Some ([], place_at is_closed head))
+
 -- some bytes, so many, lead here
 pub record IsLed (size : ℕ) (is_closed : Bool) (head : Head) : Type 0 where
   pub bytes : List ℕ

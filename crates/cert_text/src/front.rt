@@ -6,7 +6,7 @@ ghost use Rattle.cert_text.specs.Text.{IsBegun, IsCertificate, IsTextOf};
 ghost use Rattle.cert_text.specs.Live.{lines_of, hints_of, live_line, last_user};
 ghost use Rattle.cert_text.specs.Reading.{line_start};
 ghost use Rattle.cert_text.specs.Passes.{LeadsTo};
-ghost use Rattle.cert_text.specs.Front.{said_in, IsTaken};
+ghost use Rattle.cert_text.specs.Front.{said_in, AreFirstLines, MayTake, IsBehind, IsTaken};
 ghost use Rattle.cert_text.specs.Pieces.{bytes_of, with_text, place_at, IsMarkingIn, IsClosedIn};
 
 use crate::finding::find;
@@ -62,11 +62,12 @@ fn targets_in(
 }
 
 impl Front {
-    /// The front that begins with the piece, where it has the header, ends with a line, and is the front of a
-    /// certificate text. Otherwise the piece is given back.
+    /// The front that begins with the piece, where this is the header and whole lines behind it. Exactly
+    /// where it is not, the piece is given back.
     pub fn begin(alloc: Global, piece: Vec<u8>) -> Result<Result<Front, Vec<u8>>, AllocError>
-        ensures { IfOk result (λ r. MatchResult r (λ front. front.bytes ≡ piece.items)
-            (λ back. back.items ≡ piece.items)) }
+        ensures { IfOk result (λ r. MatchResult r
+            (λ front. (front.bytes ≡ piece.items) × AreFirstLines piece.items)
+            (λ back. (back.items ≡ piece.items) × ¬ AreFirstLines piece.items)) }
     {
         let Some((head, is_closed)) = come(piece.as_slice(), b"ltlcert ", Place::Version) else {
             return Ok(Err(piece));
@@ -84,7 +85,8 @@ impl Front {
 
     /// A piece to be gone over behind what has come, of no bytes so far.
     pub fn next(&self, alloc: Global) -> Passed
-        ensures { result ≡ [] }
+        ensures bytes { result.bytes ≡ [] }
+        ensures behind { IsBehind self.now result }
     {
         if self.is_closed {
             return Passed::nowhere(alloc, self.head);
@@ -92,11 +94,14 @@ impl Front {
         Passed::behind(alloc, self.head, self.pieces.size)
     }
 
-    /// Takes a piece that was gone over behind what has come, where that is still the front of a certificate
-    /// text with it and ends with a line. Otherwise the piece is given back, and all is as before.
+    /// Takes a piece that was gone over line by line behind what has come, where that is still the front of a
+    /// certificate text with it and ends with a line. Exactly where it is not, or would be too long to be
+    /// numbered, the piece is given back, and all is as before.
     pub fn take(self, alloc: Global, passed: Passed) -> Result<(Front, Option<Vec<u8>>), AllocError>
-        ensures { IfOk result (λ r. MatchOption r.1 (IsTaken self passed r.0)
-            (λ back. (r.0 ≡ self) × (back.items ≡ passed))) }
+        ensures { IfOk result (λ r. MatchOption r.1
+            (IsTaken self passed.bytes r.0 × MayTake self passed.bytes)
+            (λ back. (r.0 ≡ self) × (back.items ≡ passed.bytes)
+            × (IsBehind self passed → ¬ MayTake self passed.bytes))) }
     {
         let came = passed.came_behind(self.head);
         let piece = passed.into_piece();
@@ -138,6 +143,7 @@ impl Front {
 
     /// It does nothing: its clauses say what every front keeps to.
     pub fn is_front(&self)
+        ensures lines { AreFirstLines self.now.bytes }
         ensures begun { IsBegun (said_in self.now.bytes) }
         ensures whole { self.now.is_closed ≡ true → IsTextOf self.now.bytes (said_in self.now.bytes) }
     {

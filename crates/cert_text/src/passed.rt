@@ -1,8 +1,9 @@
 // A piece of a text, gone over before it is taken: where it leads is found while what has come is still lent
 // to others, and to take it is then to note its lines. It may be gone over bit by bit, as its bytes come.
-ghost use Rattle.std.specs.Prelude.{◌≡◌, ◌↔◌, ℕ, ◌+◌, ◌<◌, ◌^◌, false, List, [], ◌++◌, length, Some, IsTrue, IfSome, OnOk};
+ghost use Rattle.std.specs.Prelude.{◌≡◌, ◌↔◌, ℕ, ◌+◌, ◌<◌, ◌^◌, true, false, List, [], ◌++◌, length, Some, None, IsTrue, IfSome, MatchOption, OnOk};
 ghost use Rattle.cert_text.specs.Passes.{small_run, LeadsTo};
-ghost use Rattle.cert_text.specs.Pieces.{place_at, IsLed};
+ghost use Rattle.cert_text.specs.Front.{FrontValue, AreLines, IsBehind, nothing_of};
+ghost use Rattle.cert_text.specs.Pieces.{place_at, LeadsToNoLine, IsLed};
 ghost use Rattle.cert_text.specs.declared.scanning.Place.TheVariants as places;
 
 use crate::passing::pass;
@@ -23,12 +24,18 @@ pub struct Passed {
 }
 
 impl Model for Passed {
-    ghost use Rattle.std.specs.Prelude.{List, ℕ, IfSome};
+    ghost use Rattle.std.specs.Prelude.{IfSome, is_some};
+    ghost use Rattle.cert_text.specs.Front.{PassedValue};
     ghost use Rattle.cert_text.specs.Pieces.{IsGoneOver};
 
-    ghost Value = { List ℕ };
+    ghost Value = { PassedValue };
 
-    ghost view = { λ a. a.piece.items };
+    ghost view = { λ a. record {
+      bytes = a.piece.items;
+      from = a.from;
+      size = a.size;
+      is_found = is_some a.came;
+    } };
 
     ghost invariant = { λ a. IfSome a.came (λ r. IsGoneOver a.from a.piece.items a.size r.1 r.0) };
 }
@@ -38,7 +45,8 @@ impl Model for Passed {
 pub(crate) fn come(piece: &[u8], first: &'static [u8], from: Place) -> Option<(Head, bool)>
     requires { (before : List ℕ) × LeadsTo before first.now from
         × (length before + length piece.now < 2 ^ 64) }
-    ensures { IfSome result (λ r. small_run first.now from piece.now ≡ Some ([], place_at r.1 r.0)) }
+    ensures { MatchOption result (LeadsToNoLine first.now from piece.now)
+        (λ r. small_run first.now from piece.now ≡ Some ([], place_at r.1 r.0)) }
 {
     match pass(piece, first, from) {
         Some(Place::Part(head)) => Some((head, false)),
@@ -49,7 +57,7 @@ pub(crate) fn come(piece: &[u8], first: &'static [u8], from: Place) -> Option<(H
 
 /// Whether the two say the same.
 fn is_same(one: Head, two: Head) -> bool
-    ensures { IsTrue result → one ≡ two }
+    ensures { IsTrue result ↔ one ≡ two }
 {
     one.version == two.version
         && one.kind == two.kind
@@ -64,6 +72,8 @@ fn come_on(head: Head, is_closed: bool, size: usize, lines: &[u8]) -> Option<(He
     ensures run { IfSome result (λ r. small_run [] (place_at is_closed head) lines.now
         ≡ Some ([], place_at r.1 r.0)) }
     ensures room { IfSome result (λ _. size + length lines.now < 2 ^ 64) }
+    ensures none { result ≡ None → size + length lines.now < 2 ^ 64
+        → LeadsToNoLine [] (place_at is_closed head) lines.now }
 {
     if lines.is_empty() {
         return Some((head, is_closed));
@@ -78,7 +88,7 @@ impl Passed {
     /// A piece of no bytes behind this head, before which there are so many bytes.
     pub(crate) fn behind(alloc: Global, from: Head, size: usize) -> Passed
         requires { IsLed size false from }
-        ensures { result ≡ [] }
+        ensures { result ≡ nothing_of from size true }
     {
         Passed {
             piece: Vec::new(alloc),
@@ -90,7 +100,7 @@ impl Passed {
 
     /// A piece of no bytes, with which the text does not go on.
     pub(crate) fn nowhere(alloc: Global, from: Head) -> Passed
-        ensures { result ≡ [] }
+        ensures { result ≡ nothing_of from 0 false }
     {
         Passed {
             piece: Vec::new(alloc),
@@ -100,9 +110,12 @@ impl Passed {
         }
     }
 
-    /// Goes over more bytes of the piece, and keeps them.
+    /// Goes over more bytes of the piece, and keeps them. Where they end within a line, nothing is found of
+    /// the piece from then on.
     pub fn go_over(&mut self, lines: &[u8]) -> Result<(), AllocError>
-        ensures { OnOk result (self.new ≡ self.old ++ lines.now) }
+        ensures bytes { OnOk result (self.new.bytes ≡ self.old.bytes ++ lines.now) }
+        ensures behind { OnOk result ((front : FrontValue) → IsBehind front self.old → AreLines lines.now
+            → IsBehind front self.new) }
     {
         let Some((head, is_closed)) = self.came else {
             return self.piece.extend_from_slice(lines);
@@ -117,7 +130,8 @@ impl Passed {
 
     /// Where the piece leads behind this head, if that was found.
     pub(crate) fn came_behind(&self, head: Head) -> Option<(Head, bool)>
-        ensures { IfSome result (λ r. small_run [] (places.Part head) self.now ≡ Some ([], place_at r.1 r.0)) }
+        ensures { MatchOption result (self.now.from ≡ head → self.now.is_found ≡ false)
+            (λ r. small_run [] (places.Part head) self.now.bytes ≡ Some ([], place_at r.1 r.0)) }
     {
         if !is_same(self.from, head) {
             return None;
@@ -127,14 +141,14 @@ impl Passed {
 
     /// Whether it is a piece of no bytes.
     pub fn is_empty(&self) -> bool
-        ensures { IsTrue result ↔ self.now ≡ [] }
+        ensures { IsTrue result ↔ self.now.bytes ≡ [] }
     {
         self.piece.is_empty()
     }
 
     /// The piece.
     pub fn into_piece(self) -> Vec<u8>
-        ensures { result.items ≡ self }
+        ensures { result.items ≡ self.bytes }
     {
         self.piece
     }

@@ -9,7 +9,7 @@ reads-init g c =
     let carry = c.args.carry.now.items in
     let rest = g.S.Source.rest c.args.source.now in
     record {
-      read = subst (λ piece. IsReadOn carry (piece ++ carry) rest rest) (sym c.next-piece.ensures) (read_none carry rest);
+      read = subst (λ piece. IsReadOn carry (piece ++ carry) rest rest) (sym c.next-piece.ensures.bytes) (read_none carry rest);
       ended = λ now. absurd (false≢true now);
       count = refl;
     }
@@ -18,8 +18,8 @@ pub reads-preserved : goal.reads-preserved
 reads-preserved g c =
     let loop = c.reads.invariant in
     let old = c.args.carry.now.items in
-    let was = c.reads.piece ++ c.reads.carry.items in
-    let new = c.read_lines.new.piece ++ c.read_lines.new.carry.items in
+    let was = c.reads.piece.bytes ++ c.reads.carry.items in
+    let new = c.read_lines.new.piece.bytes ++ c.read_lines.new.carry.items in
     let before = g.S.Source.rest c.args.source.now in
     let now = g.S.Source.rest c.reads.source in
     let after = g.S.Source.rest c.read_lines.new.source in
@@ -33,13 +33,13 @@ pub returns-clause-bytes : goal.returns-clause-bytes
 returns-clause-bytes g c =
     let loop = c.reads.invariant in
     let old = c.args.carry.now.items in
-    let was = c.reads.piece ++ c.reads.carry.items in
+    let was = c.reads.piece.bytes ++ c.reads.carry.items in
     let before = g.S.Source.rest c.args.source.now in
     let now = g.S.Source.rest c.reads.source in
     let last = g.S.Source.rest c.reads-test.source in
-    let read : IsReadOn old (c.reads-test.piece ++ c.reads-test.carry.items) before last = elim c.reads-test.branch [
-      | goal.else-reads-test w ↦ read_told old was (c.reads-test.piece ++ c.reads-test.carry.items) before now last (search (rules, w)) (search (rules, w)) loop.read
-      | goal.then-reads-test+in_ok-ended+then-ended w ↦ read_told old (w.read_lines.new.piece ++ w.read_lines.new.carry.items) (c.reads-test.piece ++ c.reads-test.carry.items) before (g.S.Source.rest w.read_lines.new.source) last (search (rules, w)) (search (rules, w))
-          (read_on old was (w.read_lines.new.piece ++ w.read_lines.new.carry.items) before now (g.S.Source.rest w.read_lines.new.source) loop.read w.in_ok-ended.ensures.bytes)
+    let read : IsReadOn old (c.reads-test.piece.bytes ++ c.reads-test.carry.items) before last = elim c.reads-test.branch [
+      | goal.else-reads-test w ↦ read_told old was (c.reads-test.piece.bytes ++ c.reads-test.carry.items) before now last (search (rules, w)) (search (rules, w)) loop.read
+      | goal.then-reads-test+in_ok-ended+then-ended w ↦ read_told old (w.read_lines.new.piece.bytes ++ w.read_lines.new.carry.items) (c.reads-test.piece.bytes ++ c.reads-test.carry.items) before (g.S.Source.rest w.read_lines.new.source) last (search (rules, w)) (search (rules, w))
+          (read_on old was (w.read_lines.new.piece.bytes ++ w.read_lines.new.carry.items) before now (g.S.Source.rest w.read_lines.new.source) loop.read w.in_ok-ended.ensures.bytes)
     ] in
-    subst (λ items. IsReadOn old (c.reads-test.piece ++ items) before last) (search rules) read
+    subst (λ items. IsReadOn old (c.reads-test.piece.bytes ++ items) before last) (search rules) read

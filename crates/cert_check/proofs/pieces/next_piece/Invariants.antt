@@ -5,7 +5,7 @@ use Rattle.cert_check.proofs.pieces.next_piece.Given as goal
 
 abbrev pub invariant-reads : goal.invariant-reads
 invariant-reads g l = record {
-  read : IsReadOn l.fn.carry.items (l.piece ++ l.carry.items) (g.S.Source.rest l.fn.source) (g.S.Source.rest l.source);
+  read : IsReadOn l.fn.carry.items (l.piece.bytes ++ l.carry.items) (g.S.Source.rest l.fn.source) (g.S.Source.rest l.source);
   ended : IsEnded l.ended (g.S.Source.rest l.fn.source) (g.S.Source.rest l.source);
   count : g.S.Source.faults l.source ≡ g.S.Source.faults l.fn.source;
 }
