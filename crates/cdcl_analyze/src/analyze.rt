@@ -40,10 +40,11 @@ pub enum Cut {
     FirstUnique(usize),
 }
 
-/// Most clauses have fewer literals, and fewer hints: so much room is there beforehand, for a list that grows
-/// from nothing moves again and again.
+/// Most clauses have fewer literals: so much room is there beforehand, for a list that grows from nothing
+/// moves again and again.
 const LITERALS: usize = 64;
 
+/// The same for hints.
 const HINTS: usize = 512;
 
 /// No literals, no places and no hints.
@@ -72,6 +73,7 @@ fn count(cut: Cut, reached: usize, open: &mut usize) {
 }
 
 /// Marks the letter, lets its place wait, and makes it more active, if it had no mark.
+#[inline(always)]
 fn mark_letter(
     assigned: &Assigned,
     cut: Cut,

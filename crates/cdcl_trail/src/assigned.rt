@@ -74,6 +74,7 @@ impl Assigned {
     }
 
     /// Whether the literal is true.
+    #[inline(always)]
     pub fn holds(&self, literal: Literal) -> bool
         requires { literal.letter.0 < length self.now.values }
         ensures { IsTrue result ↔ Contains (literals_of self.now.trail) literal }

@@ -24,6 +24,7 @@ struct Packed {
 }
 
 /// Twice the letter, and one more where the literal is negated, if it fits into 32 bits.
+#[inline(always)]
 fn shorten_literal(literal: Literal) -> Option<u32>
     ensures { MatchOption result (2147483647 < literal.letter.0)
         (λ number. (literal_of number ≡ literal) × (literal.letter.0 ≤ 2147483647)) }
@@ -45,6 +46,7 @@ fn lengthen_literal(number: u32) -> Literal
 }
 
 /// The number of a reason, if it fits into 32 bits.
+#[inline(always)]
 fn shorten_reason(reason: Option<Hint>) -> Option<u32>
     ensures { MatchOption result (¬ HasNumber reason)
         (λ number. (reason_of number ≡ reason) × HasNumber reason) }
@@ -139,6 +141,7 @@ impl Entries {
     }
 
     /// Puts the entry behind the others. One that does not fit is refused, as is any for want of memory.
+    #[inline(always)]
     pub fn push(&mut self, entry: Entry) -> Result<(), AllocError>
         ensures items { self.new ≡ (if is_ok result then self.old ++ entry ∷ [] else self.old) }
         ensures fits { OnOk result (Fits entry) }

@@ -8,6 +8,7 @@ use cnf_base::Hint;
 const MAX_NUMBER: u64 = 2147483646;
 
 /// The number of a hint, if it fits.
+#[inline(always)]
 pub fn shorten(hint: Hint) -> Option<u32>
     ensures { MatchOption result (¬ IsShort hint)
         (λ number. (hint_of number ≡ hint) × (number < 4294967295) × IsShort hint) }

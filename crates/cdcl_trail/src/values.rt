@@ -1,6 +1,7 @@
 // The values of letters, a byte for each of a letter's two literals: propagation reads values more often than
 // anything else, so what matters is that many of them fit into a cache, and that whether a literal is true is
-// one read. After Een and Sorensson, An extensible SAT-solver (2003).
+// one read. It is inlined before all else, so that the place of a literal that was made from its number is
+// that number again. After Een and Sorensson, An extensible SAT-solver (2003).
 ghost use Rattle.std.specs.Prelude.{◌≡◌, ◌<◌, ◌↔◌, IsTrue, [], ◌∷◌, ◌++◌, length, Some, None, not, if◌then◌else◌, is_ok, slice_set};
 ghost use Rattle.cdcl_trail.specs.Values.{value_at, truth_place};
 
@@ -9,6 +10,7 @@ use std::alloc::{AllocError, Global};
 use std::marker::Model;
 
 /// Where it stands whether the literal is true.
+#[inline(always)]
 fn place(literal: Literal) -> usize
     ensures { result ≡ truth_place literal }
 {
@@ -51,6 +53,7 @@ impl Values {
     }
 
     /// Whether the literal is true.
+    #[inline(always)]
     pub fn holds(&self, literal: Literal) -> bool
         requires { literal.letter.0 < length self.now }
         ensures { IsTrue result ↔ (value_at self.now literal.letter.0 ≡ Some (not literal.negated)) }

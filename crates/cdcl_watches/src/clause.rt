@@ -42,6 +42,7 @@ impl<'a> Clause<'a> {
     }
 
     /// The literal at a place.
+    #[inline(always)]
     pub fn get(&self, place: usize) -> Literal
         requires { place < length self.now }
         ensures { result ≡ slice_index_or self.now place blank }

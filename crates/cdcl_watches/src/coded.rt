@@ -19,6 +19,7 @@ pub fn encode(literal: Literal) -> Code
 }
 
 /// The literal of a number.
+#[inline(always)]
 pub fn decode(number: Code) -> Literal
     ensures { result ≡ literal_of number.0 }
 {
