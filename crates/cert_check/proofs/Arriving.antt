@@ -14,7 +14,7 @@ use Rattle.log_checker.specs.Judging.{IsFirstBad, IsFirstBadLine}
 use Rattle.log_checker.proofs.Standing.{ranges_stay_good, good_ranges_join}
 use Rattle.cert_check.specs.declared.pieces.Coming.{Coming}
 use Rattle.cert_check.specs.Answer.{IsAnswer, FormFault, TooManyLetters, Verified, IsFirstTarget, answer_of}
-use Rattle.cert_check.specs.Pieces.{bytes_in, AreGood, IsEnded, IsEndedNow, IsSoFar, IsJudged, IsPieceOn, IsVerifiedWhole}
+use Rattle.cert_check.specs.Pieces.{bytes_in, AreGood, GetsOn, IsEnded, IsEndedNow, IsSoFar, IsJudged, IsPieceOn, IsVerifiedWhole}
 use Rattle.cert_check.specs.Coming.{IsSaidOf, IsSaidOfAll}
 use Rattle.cert_check.specs.declared.verdict.Verdict.{Verdict}
 use Rattle.cert_check.specs.declared.verdict.Verdict.TheVariants as verdicts
@@ -55,9 +55,6 @@ read_on a b c x y z one two = record {
 pub read_same : (a b c d : List ℕ) (x y : Option (List ℕ)) → a ≡ c → b ≡ d → IsReadOn a b x y → IsReadOn c d x y
 read_same a b c d x y old new is = subst (λ l. IsReadOn l d x y) old (subst (λ l. IsReadOn a l x y) new is)
 
-pub read_told : (a b c : List ℕ) (x y z : Option (List ℕ)) → b ≡ c → y ≡ z → IsReadOn a b x y → IsReadOn a c x z
-read_told a b c x y z new rest is = subst (λ o. IsReadOn a c x o) rest (subst (λ l. IsReadOn a l x y) new is)
-
 -- what is read behind the carry is read behind the front and it
 pub read_behind : (front old new : List ℕ) (x y : Option (List ℕ)) → IsReadOn old new x y → IsReadOn (front ++ old) (front ++ new) x y
 read_behind front old new x y is = record {
@@ -74,6 +71,11 @@ ended_behind a b ended (Some rest) y z read is = λ now. subst (λ o. IsEnded en
 pub ended_on : (a b : List ℕ) (old new : Bool) (x y z : Option (List ℕ)) → IsReadOn a b x y → IsEnded old x y → IsEndedNow old new y z → IsEnded new x z
 ended_on a b old new x y z read before (inl (was, same)) = λ now. subst (λ o. IsEnded true x o) (sym same) (subst (λ e. IsEnded e x y) was before) refl
 ended_on a b old new x y z read before (inr is) = ended_behind a b new x y z read is
+
+-- what got on after a read did so from before it
+pub got_on_after : (ended : Bool) (a b c : List ℕ) (x y : Option (List ℕ)) → IsReadOn a b x y → GetsOn ended b c → GetsOn ended a c
+got_on_after ended a b c x y read (inl now) = inl now
+got_on_after ended a b c x y read (inr less) = inr (omega (arith, less, ap length read.bytes, length-append a read.taken))
 
 -- ---- lines
 

@@ -1,5 +1,5 @@
 -- A text that comes in pieces, and how far it is judged.
-use Rattle.std.specs.Prelude.{◌≡◌, ℕ, ◌≤◌, ◌⊎◌, Bool, true, List, [], ◌++◌, length, Option, Some, None, IfSome}
+use Rattle.std.specs.Prelude.{◌≡◌, ℕ, ◌<◌, ◌≤◌, ◌⊎◌, Bool, true, false, List, [], ◌++◌, length, Option, Some, None, IfSome}
 use Rattle.ltl_io.specs.Outside.{IsReadOn}
 use Rattle.ltl_syntax.specs.declared.node.Kind.{Kind}
 use Rattle.ltl_syntax.specs.Formula.{Formula}
@@ -22,6 +22,10 @@ next_bytes n = n.piece.bytes ++ n.carry.items
 -- where the source has ended, nothing is left of a told rest
 abbrev pub IsEnded : Bool → Option (List ℕ) → Option (List ℕ) → Type 0
 IsEnded ended before after = ended ≡ true → IfSome before (λ rest. after ≡ Some [])
+
+-- reading gets on: the source has ended, or more bytes have come
+abbrev pub GetsOn : Bool → List ℕ → List ℕ → Type 0
+GetsOn ended old new = (ended ≡ true) ⊎ (length old < length new)
 
 -- whether it has ended now: of a source that had ended, nothing is asked any more
 abbrev pub IsEndedNow : Bool → Bool → Option (List ℕ) → Option (List ℕ) → Type 0
@@ -49,6 +53,11 @@ pub record IsPieceOn (old new : Coming) (before after : Option (List ℕ)) : Typ
   pub ended : IsEndedNow old.ended new.ended before after
   pub same_kind : (said_in new.front.bytes).kind ≡ (said_in old.front.bytes).kind
   pub same_depth : (said_in new.front.bytes).depth ≡ (said_in old.front.bytes).depth
+
+-- a step gets on: more has come, as long as the source had not ended, and else all lines that have come are judged
+pub record IsStepOn (old new : Coming) : Type 0 where
+  pub more : old.ended ≡ false → GetsOn new.ended (bytes_in old) (bytes_in new)
+  pub rest : old.ended ≡ true → (new.ended ≡ true) × (new.judged ≡ length (lines_of (said_in new.front.bytes).parts))
 
 -- a told rest was taken whole, and with it what was at hand is verified
 pub record IsVerifiedWhole (f : Formula) (kind : Kind) (hand : List ℕ) (before after : Option (List ℕ)) : Type 0 where

@@ -5,7 +5,7 @@ ghost use Rattle.std.specs.Prelude.{◌≡◌, ◌≤◌, ◌++◌, false, drop,
 ghost use Rattle.ltl_io.specs.Outside.{IsReadOn};
 ghost use Rattle.cert_text.specs.Front.{GoesOn};
 ghost use Rattle.cert_check.specs.Coming.{IsReading};
-ghost use Rattle.cert_check.specs.Pieces.{bytes_in, next_bytes, IsEnded};
+ghost use Rattle.cert_check.specs.Pieces.{bytes_in, next_bytes, GetsOn, IsEnded};
 
 use cert_text::{Front, Passed};
 use ltl_io::{ReadRefused, Source, read_on};
@@ -108,6 +108,7 @@ fn cut(alloc: Global, mut bytes: Vec<u8>, from: usize) -> Result<(Vec<u8>, Vec<u
 fn read_some<S: Source>(source: &mut S, bytes: &mut Vec<u8>) -> Result<bool, ReadRefused>
     ensures bytes { OnOk result (IsReadOn bytes.old.items bytes.new.items (S.rest source.old)
         (S.rest source.new)) }
+    ensures more { IfOk result (λ ended. GetsOn ended bytes.old.items bytes.new.items) }
     ensures ended { IfOk result (λ ended. IsEnded ended (S.rest source.old) (S.rest source.new)) }
     ensures faults { IsReading result (S.faults source.old) (S.faults source.new) }
 {
@@ -147,6 +148,8 @@ fn read_lines<S: Source>(
 ) -> Result<bool, ReadRefused>
     ensures bytes { OnOk result (IsReadOn (piece.old.bytes ++ carry.old.items)
         (piece.new.bytes ++ carry.new.items) (S.rest source.old) (S.rest source.new)) }
+    ensures more { IfOk result (λ ended. GetsOn ended (piece.old.bytes ++ carry.old.items)
+        (piece.new.bytes ++ carry.new.items)) }
     ensures ended { IfOk result (λ ended. IsEnded ended (S.rest source.old) (S.rest source.new)) }
     ensures faults { IsReading result (S.faults source.old) (S.faults source.new) }
 {
@@ -167,16 +170,17 @@ pub fn next_piece<S: Source>(
 ) -> Result<Next, ReadRefused>
     ensures bytes { IfOk result (λ next. IsReadOn carry.old.items (next_bytes next) (S.rest source.old)
         (S.rest source.new)) }
+    ensures more { IfOk result (λ next. GetsOn next.ended carry.old.items (next_bytes next)) }
     ensures ended { IfOk result (λ next. IsEnded next.ended (S.rest source.old) (S.rest source.new)) }
     ensures faults { IsReading result (S.faults source.old) (S.faults source.new) }
 {
     let mut piece = front.next(alloc);
-    let mut ended = false;
+    let mut ended = read_lines(source, &mut piece, carry)?;
     'reads: for _read in 0..u64::MAX {
-        ended = read_lines(source, &mut piece, carry)?;
         if ended || done.load(Ordering::SeqCst) {
             break 'reads;
         }
+        ended = read_lines(source, &mut piece, carry)?;
     }
     Ok(Next {
         piece,

@@ -7,7 +7,7 @@ ghost use Rattle.cnf_base.specs.Known.{AreKnown};
 ghost use Rattle.cert_text.specs.Live.{lines_of};
 ghost use Rattle.cert_text.specs.Front.{said_in};
 ghost use Rattle.cert_check.specs.Coming.{IsReading};
-ghost use Rattle.cert_check.specs.Pieces.{bytes_in, next_bytes, AreGood, IsSoFar, IsEnded, IsJudged, IsPieceOn};
+ghost use Rattle.cert_check.specs.Pieces.{bytes_in, next_bytes, AreGood, GetsOn, IsSoFar, IsEnded, IsJudged, IsPieceOn, IsStepOn};
 
 use crate::pieces::{Coming, Next, all_bytes, all_with, next_piece, with_next};
 use cert_text::Front;
@@ -63,6 +63,7 @@ fn at_once<R: Threads + Sync, C: NamedClauses + Sync, S: Source, G: Gate + Sync>
     ensures same { many.new ≡ many.old }
     ensures bytes { IfOk result (λ r. IsReadOn carry.old.items (next_bytes r.0) (S.rest source.old)
         (S.rest source.new)) }
+    ensures more { IfOk result (λ r. GetsOn r.0.ended carry.old.items (next_bytes r.0)) }
     ensures ended { IfOk result (λ r. IsEnded r.0.ended (S.rest source.old) (S.rest source.new)) }
     ensures faults { IsReading result (S.faults source.old) (S.faults source.new) }
 {
@@ -81,6 +82,7 @@ fn at_once<R: Threads + Sync, C: NamedClauses + Sync, S: Source, G: Gate + Sync>
     let mut reading = || -> Result<Next, ReadRefused>
         ensures bytes { IfOk result (λ next. IsReadOn carry.entry.now.items (next_bytes next)
             (S.rest source.entry.now) (S.rest source.exit.now)) }
+        ensures more { IfOk result (λ next. GetsOn next.ended carry.entry.now.items (next_bytes next)) }
         ensures ended { IfOk result (λ next. IsEnded next.ended (S.rest source.entry.now)
             (S.rest source.exit.now)) }
         ensures faults { IsReading result (S.faults source.entry.now) (S.faults source.exit.now) }
@@ -104,6 +106,8 @@ fn judge_rest<R: Threads + Sync, C: NamedClauses + Sync, G: Gate + Sync>(
     ensures judged { IfOk result (λ r. MatchResult r
         (IsJudged (C.clauses clauses.now) all.old.letters coming)
         (λ left. left.items ≡ bytes_in coming)) }
+    ensures all_lines { IfOk result (λ r. IfOk r (λ next. next.judged
+        ≡ length (lines_of (said_in next.front.bytes).parts))) }
     ensures same { all.new ≡ all.old }
 {
     let lines = coming.front.lines();
@@ -132,6 +136,7 @@ fn judge_and_read<R: Threads + Sync, C: NamedClauses + Sync, S: Source, G: Gate 
     ensures on { IfOk result (λ r. MatchResult r
         (λ next. IsPieceOn coming next (S.rest source.old) (S.rest source.new))
         (λ left. IsReadOn (bytes_in coming) left.items (S.rest source.old) (S.rest source.new))) }
+    ensures more { IfOk result (λ r. IfOk r (λ next. GetsOn next.ended (bytes_in coming) (bytes_in next))) }
     ensures same { many.new ≡ many.old }
     ensures faults { IsReading result (S.faults source.old) (S.faults source.new) }
 {
@@ -181,6 +186,7 @@ pub fn step<R: Threads + Sync, C: NamedClauses + Sync, S: Source, G: Gate + Sync
     ensures on { IfOk result (λ r. MatchResult r
         (λ next. IsPieceOn coming next (S.rest source.old) (S.rest source.new))
         (λ left. IsReadOn (bytes_in coming) left.items (S.rest source.old) (S.rest source.new))) }
+    ensures step { IfOk result (λ r. IfOk r (IsStepOn coming)) }
     ensures same_many { many.new ≡ many.old }
     ensures same_all { all.new ≡ all.old }
     ensures faults { IsReading result (S.faults source.old) (S.faults source.new) }

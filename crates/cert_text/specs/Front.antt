@@ -63,6 +63,10 @@ pub record PassedValue : Type 0 where
 abbrev pub nothing_of : Head → ℕ → Bool → PassedValue
 nothing_of from size is_found = record { bytes = []; from = from; size = size; is_found = is_found }
 
+-- nothing is found of it any longer
+abbrev pub lost_of : PassedValue → PassedValue
+lost_of passed = record { bytes = passed.bytes; from = passed.from; size = passed.size; is_found = false }
+
 -- it was gone over behind this front, line by line: what was found is whether it is to be taken
 pub record IsBehind (front : FrontValue) (passed : PassedValue) : Type 0 where
   pub from : front.is_closed ≡ false → LeadsTo front.bytes [] (places.Part passed.from)

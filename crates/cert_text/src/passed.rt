@@ -1,8 +1,8 @@
 // A piece of a text, gone over before it is taken: where it leads is found while what has come is still lent
 // to others, and to take it is then to note its lines. It may be gone over bit by bit, as its bytes come.
-ghost use Rattle.std.specs.Prelude.{◌≡◌, ◌↔◌, ℕ, ◌+◌, ◌<◌, ◌^◌, true, false, List, [], ◌++◌, length, Some, None, IsTrue, IfSome, MatchOption, OnOk};
+ghost use Rattle.std.specs.Prelude.{◌≡◌, ◌↔◌, ℕ, ◌+◌, ◌<◌, ◌^◌, true, false, List, [], ◌++◌, length, Some, None, IsTrue, IfSome, MatchOption, OnOk, OnErr};
 ghost use Rattle.cert_text.specs.Passes.{small_run, LeadsTo};
-ghost use Rattle.cert_text.specs.Front.{FrontValue, AreLines, IsBehind, nothing_of};
+ghost use Rattle.cert_text.specs.Front.{FrontValue, AreLines, IsBehind, nothing_of, lost_of};
 ghost use Rattle.cert_text.specs.Pieces.{place_at, LeadsToNoLine, IsLed};
 ghost use Rattle.cert_text.specs.declared.scanning.Place.TheVariants as places;
 
@@ -111,11 +111,12 @@ impl Passed {
     }
 
     /// Goes over more bytes of the piece, and keeps them. Where they end within a line, nothing is found of
-    /// the piece from then on.
+    /// the piece from then on; and so after want of memory, which leaves the bytes as they were.
     pub fn go_over(&mut self, lines: &[u8]) -> Result<(), AllocError>
         ensures bytes { OnOk result (self.new.bytes ≡ self.old.bytes ++ lines.now) }
         ensures behind { OnOk result ((front : FrontValue) → IsBehind front self.old → AreLines lines.now
             → IsBehind front self.new) }
+        ensures refused { OnErr result (self.new ≡ lost_of self.old) }
     {
         let Some((head, is_closed)) = self.came else {
             return self.piece.extend_from_slice(lines);
