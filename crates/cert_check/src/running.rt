@@ -82,8 +82,7 @@ fn judge_over<R: Threads + Sync, C: NamedClauses + Sync, S: Source, G: Gate + Sy
 {
     coming.front.is_front();
     let letters = Layout::of(closure).letters_through(coming.front.depth()) as u32;
-    let mut many = Scratch::new(alloc, workers - 1, letters)?;
-    let mut all = Scratch::new(alloc, workers, letters)?;
+    let mut scratch = Scratch::new(alloc, workers, letters)?;
     let mut coming = coming;
     'pieces: for _piece in 0..u64::MAX {
         if coming.ended && coming.judged == coming.front.lines() {
@@ -92,9 +91,7 @@ fn judge_over<R: Threads + Sync, C: NamedClauses + Sync, S: Source, G: Gate + Sy
             }
             break 'pieces;
         }
-        match step(
-            rt, alloc, clauses, gate, coming, &mut many, &mut all, source,
-        )? {
+        match step(rt, alloc, clauses, gate, coming, &mut scratch, source)? {
             Ok(next) => coming = next,
             Err(left) => return Ok(Err(left)),
         }

@@ -1,6 +1,7 @@
 // A long text, judged by steps: in each step the lines that have come are judged while the next piece is
 // read. To read is the cheaper work, so the thread that reads goes on for as long as the judges are busy, and
 // each step has more to judge than the one before. A step costs the making of threads, and so there are few.
+// All workers judge, and the thread that reads is one more: so no processor is left idle when it is done.
 ghost use Rattle.std.specs.Prelude.{◌≡◌, ◌≤◌, length, IsTrue, IfOk, MatchResult};
 ghost use Rattle.ltl_io.specs.Outside.{IsReadOn};
 ghost use Rattle.cnf_base.specs.Known.{AreKnown};
@@ -51,16 +52,16 @@ fn at_once<R: Threads + Sync, C: NamedClauses + Sync, S: Source, G: Gate + Sync>
     to: u64,
     clauses: &C,
     gate: &G,
-    many: &mut Scratch,
+    scratch: &mut Scratch,
     source: &mut S,
     carry: &mut Vec<u8>,
 ) -> Result<(Next, bool), ReadRefused>
-    requires known { AreKnown many.old.letters (C.clauses clauses.now) }
+    requires known { AreKnown scratch.old.letters (C.clauses clauses.now) }
     requires order { from ≤ to }
     requires within { to ≤ length (lines_of (said_in front.now.bytes).parts) }
     ensures good { IfOk result (λ r. IsTrue r.1
-        → AreGood (C.clauses clauses.now) many.old.letters front.now.bytes from to) }
-    ensures same { many.new ≡ many.old }
+        → AreGood (C.clauses clauses.now) scratch.old.letters front.now.bytes from to) }
+    ensures same { scratch.new ≡ scratch.old }
     ensures bytes { IfOk result (λ r. IsReadOn carry.old.items (next_bytes r.0) (S.rest source.old)
         (S.rest source.new)) }
     ensures more { IfOk result (λ r. GetsOn r.0.ended carry.old.items (next_bytes r.0)) }
@@ -69,13 +70,13 @@ fn at_once<R: Threads + Sync, C: NamedClauses + Sync, S: Source, G: Gate + Sync>
 {
     let done = AtomicBool::new(false);
     let mut judging = || -> bool
-        requires { AreKnown many.now.letters (C.clauses clauses.now) × (from ≤ to)
+        requires { AreKnown scratch.now.letters (C.clauses clauses.now) × (from ≤ to)
             × (to ≤ length (lines_of (said_in front.now.bytes).parts)) }
-        ensures good { IsTrue result → AreGood (C.clauses clauses.entry.now) many.entry.now.letters
+        ensures good { IsTrue result → AreGood (C.clauses clauses.entry.now) scratch.entry.now.letters
             front.entry.now.bytes from to }
-        ensures same { many.exit.now ≡ many.entry.now }
+        ensures same { scratch.exit.now ≡ scratch.entry.now }
     {
-        let good = are_good(rt, front, from, to, clauses, gate, many);
+        let good = are_good(rt, front, from, to, clauses, gate, scratch);
         done.store(true, Ordering::SeqCst);
         good
     };
@@ -99,19 +100,27 @@ fn judge_rest<R: Threads + Sync, C: NamedClauses + Sync, G: Gate + Sync>(
     clauses: &C,
     gate: &G,
     coming: Coming,
-    all: &mut Scratch,
+    scratch: &mut Scratch,
 ) -> Result<Result<Coming, Vec<u8>>, AllocError>
-    requires known { AreKnown all.old.letters (C.clauses clauses.now) }
-    requires so_far { IsSoFar (C.clauses clauses.now) all.old.letters coming }
+    requires known { AreKnown scratch.old.letters (C.clauses clauses.now) }
+    requires so_far { IsSoFar (C.clauses clauses.now) scratch.old.letters coming }
     ensures judged { IfOk result (λ r. MatchResult r
-        (IsJudged (C.clauses clauses.now) all.old.letters coming)
+        (IsJudged (C.clauses clauses.now) scratch.old.letters coming)
         (λ left. left.items ≡ bytes_in coming)) }
     ensures all_lines { IfOk result (λ r. IfOk r (λ next. next.judged
         ≡ length (lines_of (said_in next.front.bytes).parts))) }
-    ensures same { all.new ≡ all.old }
+    ensures same { scratch.new ≡ scratch.old }
 {
     let lines = coming.front.lines();
-    if !are_good(rt, &coming.front, coming.judged, lines, clauses, gate, all) {
+    if !are_good(
+        rt,
+        &coming.front,
+        coming.judged,
+        lines,
+        clauses,
+        gate,
+        scratch,
+    ) {
         return Ok(Err(all_bytes(alloc, coming)?));
     }
     let mut coming = coming;
@@ -127,17 +136,17 @@ fn judge_and_read<R: Threads + Sync, C: NamedClauses + Sync, S: Source, G: Gate 
     clauses: &C,
     gate: &G,
     coming: Coming,
-    many: &mut Scratch,
+    scratch: &mut Scratch,
     source: &mut S,
 ) -> Result<Result<Coming, Vec<u8>>, ReadRefused>
-    requires known { AreKnown many.old.letters (C.clauses clauses.now) }
-    requires so_far { IsSoFar (C.clauses clauses.now) many.old.letters coming }
-    ensures so_far { IfOk result (λ r. IfOk r (IsSoFar (C.clauses clauses.now) many.old.letters)) }
+    requires known { AreKnown scratch.old.letters (C.clauses clauses.now) }
+    requires so_far { IsSoFar (C.clauses clauses.now) scratch.old.letters coming }
+    ensures so_far { IfOk result (λ r. IfOk r (IsSoFar (C.clauses clauses.now) scratch.old.letters)) }
     ensures on { IfOk result (λ r. MatchResult r
         (λ next. IsPieceOn coming next (S.rest source.old) (S.rest source.new))
         (λ left. IsReadOn (bytes_in coming) left.items (S.rest source.old) (S.rest source.new))) }
     ensures more { IfOk result (λ r. IfOk r (λ next. GetsOn next.ended (bytes_in coming) (bytes_in next))) }
-    ensures same { many.new ≡ many.old }
+    ensures same { scratch.new ≡ scratch.old }
     ensures faults { IsReading result (S.faults source.old) (S.faults source.new) }
 {
     let Coming {
@@ -149,7 +158,7 @@ fn judge_and_read<R: Threads + Sync, C: NamedClauses + Sync, S: Source, G: Gate 
     let lines = front.lines();
     let mut carry = carry;
     let (next, good) = at_once(
-        rt, alloc, &front, judged, lines, clauses, gate, many, source, &mut carry,
+        rt, alloc, &front, judged, lines, clauses, gate, scratch, source, &mut carry,
     )?;
     if !good {
         let piece = next.piece.into_piece();
@@ -167,33 +176,30 @@ fn judge_and_read<R: Threads + Sync, C: NamedClauses + Sync, S: Source, G: Gate 
     }
 }
 
-/// One step: over `many`, which leaves one worker to read, or over `all`, when the source has ended. Where a
-/// line is bad, or the text does not go on, the bytes that have come are given back.
+/// One step: the workers judge the lines that have come, while the next piece is read, or alone when the
+/// source has ended. Where a line is bad, or the text does not go on, the bytes that have come are given back.
 pub fn step<R: Threads + Sync, C: NamedClauses + Sync, S: Source, G: Gate + Sync>(
     rt: &R,
     alloc: Global,
     clauses: &C,
     gate: &G,
     coming: Coming,
-    many: &mut Scratch,
-    all: &mut Scratch,
+    scratch: &mut Scratch,
     source: &mut S,
 ) -> Result<Result<Coming, Vec<u8>>, ReadRefused>
-    requires known { AreKnown many.old.letters (C.clauses clauses.now) }
-    requires letters { all.old.letters ≡ many.old.letters }
-    requires so_far { IsSoFar (C.clauses clauses.now) many.old.letters coming }
-    ensures so_far { IfOk result (λ r. IfOk r (IsSoFar (C.clauses clauses.now) many.old.letters)) }
+    requires known { AreKnown scratch.old.letters (C.clauses clauses.now) }
+    requires so_far { IsSoFar (C.clauses clauses.now) scratch.old.letters coming }
+    ensures so_far { IfOk result (λ r. IfOk r (IsSoFar (C.clauses clauses.now) scratch.old.letters)) }
     ensures on { IfOk result (λ r. MatchResult r
         (λ next. IsPieceOn coming next (S.rest source.old) (S.rest source.new))
         (λ left. IsReadOn (bytes_in coming) left.items (S.rest source.old) (S.rest source.new))) }
     ensures step { IfOk result (λ r. IfOk r (IsStepOn coming)) }
-    ensures same_many { many.new ≡ many.old }
-    ensures same_all { all.new ≡ all.old }
+    ensures same { scratch.new ≡ scratch.old }
     ensures faults { IsReading result (S.faults source.old) (S.faults source.new) }
 {
     if !coming.ended {
-        return judge_and_read(rt, alloc, clauses, gate, coming, many, source);
+        return judge_and_read(rt, alloc, clauses, gate, coming, scratch, source);
     }
-    let judged = judge_rest(rt, alloc, clauses, gate, coming, all)?;
+    let judged = judge_rest(rt, alloc, clauses, gate, coming, scratch)?;
     Ok(judged)
 }

@@ -21,8 +21,9 @@ use ltl_syntax::FormulaTable;
 use std::alloc::{AllocError, Global};
 use std::thread::Threads;
 
-/// How many bytes are read before the formula is looked for. One that stands behind them is too long.
-const FIRST: usize = 4_194_304;
+/// How many bytes are read before the formula is looked for. One that stands behind them is too long. Behind
+/// a formula of any length there are enough to pay for every list of clauses that may be stored.
+const FIRST: usize = 18_874_368;
 
 /// The formula of an input, and the first bytes of the certificate behind it.
 #[derive(Drop)]

@@ -206,20 +206,20 @@ const ON_LAST: &[Row] = &[
 
 /// What stands behind 600,000 good lines of a certificate of `false`, and what is shown.
 const LONG_ENDS: &[Row] = &[
-    (b"close 1 600000\n", VERIFIED, Status::Good),
+    (b"close 1 1800000\n", VERIFIED, Status::Good),
     (
         b"-2 0 2 0\nclose 1 1\n",
-        b"REJECTED line 600001\n",
+        b"REJECTED line 1800001\n",
         Status::Negative,
     ),
     (
-        b"close 1 600001\n",
+        b"close 1 1800001\n",
         b"REJECTED target 2\n",
         Status::Negative,
     ),
     (
         b"close 1 1",
-        b"certificate fault at byte 6600030\n",
+        b"certificate fault at byte 19800030\n",
         Status::Text,
     ),
 ];
@@ -268,7 +268,7 @@ fn worked_certificates(rt: HostRuntime) -> Result<(), Fail> {
 fn judged_while_read(rt: HostRuntime) -> Result<(), Fail> {
     let alloc = rt.alloc();
     for (last, output, status) in LONG_ENDS {
-        let lines = repeated(alloc, b"-2 0 2 1 0\n", 600_000, last)?;
+        let lines = repeated(alloc, b"-2 0 2 1 0\n", 1_800_000, last)?;
         let mut text = b"ltlcert 1 infinite 0\n".to_vec(alloc)?;
         text.extend_from_slice(&lines)?;
         let input = joined(alloc, b"false", &text)?;

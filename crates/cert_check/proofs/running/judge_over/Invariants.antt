@@ -11,11 +11,10 @@ abbrev pub invariant-pieces : goal.invariant-pieces
 invariant-pieces g l = record {
   read : IsReadOn (bytes_in l.fn.coming) (bytes_in l.coming) (g.S.Source.rest l.fn.source) (g.S.Source.rest l.source);
   ended : IsEnded l.coming.ended (g.S.Source.rest l.fn.source) (g.S.Source.rest l.source);
-  so_far : IsSoFar (g.C.NamedClauses.clauses l.clauses) l.many.letters l.coming;
+  so_far : IsSoFar (g.C.NamedClauses.clauses l.clauses) l.scratch.letters l.coming;
   kind_is : (said_in l.coming.front.bytes).kind ≡ l.closure.kind;
   depth_is : (said_in l.coming.front.bytes).depth ≡ (said_in l.fn.coming.front.bytes).depth;
-  letters : l.many.letters ≡ letters_through l.closure.kind (counts l.closure.formula) (said_in l.fn.coming.front.bytes).depth;
-  known : AreKnown l.many.letters (g.C.NamedClauses.clauses l.clauses);
-  same : l.all.letters ≡ l.many.letters;
+  letters : l.scratch.letters ≡ letters_through l.closure.kind (counts l.closure.formula) (said_in l.fn.coming.front.bytes).depth;
+  known : AreKnown l.scratch.letters (g.C.NamedClauses.clauses l.clauses);
   count : g.S.Source.faults l.source ≡ g.S.Source.faults l.fn.source;
 }
