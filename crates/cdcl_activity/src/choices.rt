@@ -1,7 +1,7 @@
 // Which literal is decided next: of the letters without a value one that stood in many recent conflicts, with
-// the value that it had last. Activities are whole numbers; those that wait are kept as a binary heap. After
-// Een and Sorensson, MiniSat (2003). Which one comes first is not promised: who asks for a letter tests
-// whether it has a value.
+// the value that it had last. Activities are whole numbers of four bytes; those that wait are kept as a binary
+// heap. After Een and Sorensson, MiniSat (2003). Which one comes first is not promised: who asks for a letter
+// tests whether it has a value.
 ghost use Rattle.std.specs.Prelude.{◌≡◌, ◌≢◌, ◌↔◌, ◌⊎◌, ℕ, ◌^◌, ◌+◌, ◌/◌, ◌<◌, ◌≤◌, [], length, MatchOption, OnOk, OnErr};
 ghost use Rattle.cdcl_activity.specs.Order.{IsWaiting};
 ghost use Rattle.cdcl_activity.specs.Choices.{IsOffered, IsNew};
@@ -11,12 +11,19 @@ use cnf_base::{Letter, Literal};
 use std::alloc::{AllocError, Global};
 use std::marker::Model;
 
+/// Where what a letter gains is above this, or an activity above twice as much, all of them are made smaller.
+const LARGE: u32 = 1 << 30;
+
+/// By so many bits they are made smaller.
+const SMALLER: u32 = 20;
+
 /// Letters by their activity, the most active first, and the values that they had last.
 #[derive(Drop)]
 pub struct Choices {
     order: Order,
-    activities: Vec<u64>,
-    bump: u64,
+    activities: Vec<u32>,
+    /// So much a letter gains that is met in an analysis.
+    bump: u32,
     /// Whether the letter was false last.
     phases: Vec<bool>,
     /// The letter that was taken out last to be decided; 0 for none.
@@ -69,7 +76,7 @@ impl Choices {
         Ok(())
     }
 
-    fn activity(&self, letter: u32) -> u64 {
+    fn activity(&self, letter: u32) -> u32 {
         match self.activities.get(letter as usize) {
             None => 0,
             Some(activity) => *activity,
@@ -245,7 +252,7 @@ impl Choices {
         let at = letter as usize;
         if at < self.activities.len() {
             self.activities[at] = self.activities[at].saturating_add(self.bump);
-            if self.activities[at] > 1 << 60 {
+            if self.activities[at] > 2 * LARGE {
                 self.rescale();
             }
         }
@@ -259,9 +266,9 @@ impl Choices {
         ensures { self.new ≡ self.old }
     {
         for i in 0..self.activities.len() {
-            self.activities[i] >>= 40;
+            self.activities[i] >>= SMALLER;
         }
-        self.bump = self.bump >> 40 | 1;
+        self.bump = self.bump >> SMALLER | 1;
     }
 
     /// Lets later bumps count more, by a nineteenth.
@@ -269,7 +276,7 @@ impl Choices {
         ensures { self.new ≡ self.old }
     {
         self.bump = self.bump.saturating_add(self.bump / 19 + 1);
-        if self.bump > 1 << 60 {
+        if self.bump > LARGE {
             self.rescale();
         }
     }

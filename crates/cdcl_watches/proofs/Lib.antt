@@ -16,6 +16,7 @@ pub mod Kept
 pub mod Rewatched
 pub mod AddedWatchers
 pub mod Walks
+pub mod Rooms
 pub mod PoolBlocks
 pub mod PoolContents
 pub mod PoolCalls

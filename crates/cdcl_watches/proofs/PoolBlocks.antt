@@ -183,7 +183,7 @@ module _ (size : ℕ) (spans : List Span) (spare : List (List ℕ)) (are : AreBl
       (λ c i low. clear_swap (span_at spans k).from (room_of (span_at spans k).class) (spare_at spare c i) (room_of c) (are.between k c i known low))
 
   -- the list moves to a free block, and its own is free then
-  module _ (s : Span) (free : IsFree size spans spare s.from (room_of s.class)) (fits : s.len ≤ room_of s.class) (classed : s.class < 32) where
+  module _ (s : Span) (free : IsFree size spans spare s.from (room_of s.class)) (fits : s.len ≤ room_of s.class) (classed : s.class < 63) where
     pub moved_blocks : AreBlocks size (set spans k s) spare
     moved_blocks = put_blocks size spans spare are k known s (record { inside = free.inside; fits = fits; classed = classed }) (λ j low _. free.lists j low) free.spares
 

@@ -1,12 +1,11 @@
 -- What the calls on lists in a pool make of them, and that the pool stays one.
-use Rattle.std.proofs.Common.{◌≡◌, ℕ, ◌+◌, ◌-◌, ◌<◌, ◌≤◌, ◌^◌, inl, inr, cond, List, [], ◌∷◌, ◌++◌, take, set, length, get_or, refl, sym, ap, ◌∙◌, subst, arith, length-set, length-take-le}
+use Rattle.std.proofs.Common.{◌≡◌, ℕ, ◌+◌, ◌-◌, ◌<◌, ◌≤◌, ◌^◌, List, [], ◌∷◌, ◌++◌, take, set, length, get_or, refl, sym, ap, ◌∙◌, subst, arith, length-set, length-take-le}
 use Rattle.std.specs.List.{remove_range, CopiedTo, SameBelow, SameFrom}
-use Rattle.std.proofs.lemmas.Bool.{cases_eq, ne_eqb}
-use Rattle.std.proofs.lemmas.Nat.{pow_below}
 use Rattle.std.proofs.lemmas.List.{get_or_default, get_or-set_same, length-map, length_push}
 use Rattle.cdcl_watches.specs.declared.watcher.Watcher.{Watcher}
 use Rattle.cdcl_watches.specs.declared.span.Span.{Span}
 use Rattle.cdcl_watches.specs.Pool.{nowhere, counted, room_of, content, contents, span_at, IsFree, AreBlocks, IsPool}
+use Rattle.cdcl_watches.proofs.Rooms.{room_more}
 use Rattle.cdcl_watches.proofs.PoolBlocks.{counted_blocks, moved_blocks, moved_free, grown_blocks, shrunk_blocks}
 use Rattle.cdcl_watches.proofs.PoolContents.{length_list, list_set, list_push, list_take, list_close, contents_longer, contents_moved}
 
@@ -102,17 +101,6 @@ module _ (pool : List Watcher) (spans : List Span) (spare : List (List ℕ)) (is
       ≡ set (contents pool spans) k (get_or (contents pool spans) k [] ++ w ∷ [])
   put_call w = list_push pool spans spare is.blocks k known w room
 
--- a block that has room has as much as its class says
-room_is : (c : ℕ) → 0 < c → room_of c ≡ 2 ^ c
-room_is c some = ap (λ b. cond b 0 (2 ^ c)) (ne_eqb c 0 (λ e. omega (arith, some, e)))
-
--- the next class has more room
-pub room_more : (c : ℕ) → room_of c < room_of (c + 1)
-room_more c = elim (cases_eq c 0) [
-  | inl none ↦ subst (λ n. room_of n < room_of (n + 1)) (sym none) (omega arith)
-  | inr some ↦ omega (arith, room_is c (omega (arith, some)), room_is (c + 1) (omega arith), pow_below c (c + 1) (omega arith))
-]
-
 -- a list moves to a block of the next class, which is free in a pool that is longer maybe
 module _ (pool longer : List Watcher) (spans : List Span) (spare left : List (List ℕ)) (is : IsPool pool spans spare) (k : ℕ) (known : k < length spans) (p : Span) (p_is : p ≡ get_or spans k p) (from : ℕ)
     (blocks : AreBlocks (length longer) spans left) (free : IsFree (length longer) spans left from (room_of (p.class + 1))) where
@@ -140,7 +128,7 @@ module _ (pool longer : List Watcher) (spans : List Span) (spare left : List (Li
         ∙ contents_longer pool longer spans spare is.blocks up same
 
     -- and its own block was left
-    pub moved_pool : length longer < 2 ^ 32 → p.class + 1 < 32 → (after : List (List ℕ))
+    pub moved_pool : length longer < 2 ^ 32 → p.class + 1 < 63 → (after : List (List ℕ))
         → ((size : ℕ) (ss : List Span) → AreBlocks size ss left → IsFree size ss left p.from (room_of p.class) → AreBlocks size ss after)
         → IsPool new (set spans k (record { from = from; len = p.len; class = p.class + 1 })) after
     moved_pool few small after left_is =

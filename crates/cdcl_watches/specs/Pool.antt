@@ -1,5 +1,5 @@
 -- Lists of watchers in one pool. Each stands in a block of its own, and blocks that no list has are spare.
-use Rattle.std.specs.Prelude.{◌≢◌, ℕ, ◌+◌, ◌<◌, ◌≤◌, ◌^◌, ◌⊎◌, nat_eq, if◌then◌else◌, List, [], map, take, drop, length, slice_index_or}
+use Rattle.std.specs.Prelude.{◌≢◌, ℕ, ◌+◌, ◌-◌, ◌*◌, ◌/◌, ◌%◌, ◌<◌, ◌≤◌, ◌^◌, ◌⊎◌, nat_eq, if◌then◌else◌, List, [], map, take, drop, length, slice_index_or}
 use Rattle.cdcl_watches.specs.declared.watcher.Watcher.{Watcher}
 use Rattle.cdcl_watches.specs.declared.span.Span.{Span}
 
@@ -11,9 +11,9 @@ nowhere = record { from = 0; len = 0; class = 0 }
 abbrev pub counted : Span → ℕ → Span
 counted s len = record { from = s.from; len = len; class = s.class }
 
--- so many watchers have room in a block of this class
+-- so many watchers have room in a block of this class: 0, 2, 3, 4, 6, 8, 12, 16, 24 and so on
 abbrev pub room_of : ℕ → ℕ
-room_of class = if nat_eq class 0 then 0 else 2 ^ class
+room_of class = if nat_eq class 0 then 0 else (2 + (class - 1) % 2) * 2 ^ ((class - 1) / 2)
 
 -- the watchers of a list
 abbrev pub content : List Watcher → Span → List Watcher
@@ -43,7 +43,7 @@ AreClear a m b n = (a + m ≤ b) ⊎ (b + n ≤ a)
 pub record IsSpan (size : ℕ) (s : Span) : Type 0 where
   pub inside : s.from + room_of s.class ≤ size
   pub fits : s.len ≤ room_of s.class
-  pub classed : s.class < 32
+  pub classed : s.class < 63
 
 -- the block lies in the pool, and neither a list nor a spare block has a place of it
 pub record IsFree (size : ℕ) (spans : List Span) (spare : List (List ℕ)) (from room : ℕ) : Type 0 where

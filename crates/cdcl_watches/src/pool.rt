@@ -1,6 +1,6 @@
-// Blocks of the pool: a list that has no room left moves to a block of twice the room, the first one of two
-// watchers. Its old block is spare then, and serves the next list that wants one of that room, so that the
-// pool stays small.
+// Blocks of the pool: a list that has no room left moves to a block of half as much room again, or of a third,
+// the first one of two watchers: 2, 3, 4, 6, 8, 12 and so on. Its old block is spare then, and serves the next
+// list that wants one of that room, so that the pool stays small.
 ghost use Rattle.std.specs.Prelude.{◌≡◌, ◌+◌, ◌<◌, ◌≤◌, ◌^◌, List, ℕ, length, IfOk, OnOk, slice_set};
 ghost use Rattle.std.specs.List.{SameBelow};
 ghost use Rattle.cdcl_watches.specs.declared.span.Span.{Span};
@@ -15,12 +15,12 @@ use std::alloc::AllocError;
 /// The greatest number of 32 bits.
 const MAX_WATCHERS: usize = 4294967295;
 
-/// As many classes as there are: a block of the greatest has room for 2 ^ 31 watchers.
-const CLASSES: u32 = 32;
+/// As many classes as there are: a block of the greatest has room for 3 * 2 ^ 30 watchers.
+const CLASSES: u32 = 63;
 
 /// Lengthens the pool by a block of the class, and answers where it begins.
 fn lengthen(pool: &mut Vec<Watcher>, class: u32) -> Result<u32, AllocError>
-    requires class { class < 32 }
+    requires class { class < 63 }
     requires few { length pool.old.items < 2 ^ 32 }
     ensures few { length pool.new.items < 2 ^ 32 }
     ensures from { IfOk result (λ from. (from ≡ length pool.old.items)
@@ -45,7 +45,7 @@ fn lengthen(pool: &mut Vec<Watcher>, class: u32) -> Result<u32, AllocError>
 
 /// A block of the class that no list has: a spare one, or one behind the others.
 fn free_block(pool: &mut Vec<Watcher>, spare: &mut Spare, class: u32) -> Result<u32, AllocError>
-    requires class { class < 32 }
+    requires class { class < 63 }
     requires few { length pool.old.items < 2 ^ 32 }
     ensures few { length pool.new.items < 2 ^ 32 }
     ensures long { length pool.old.items ≤ length pool.new.items }
@@ -76,7 +76,7 @@ fn leave(spare: &mut Spare, span: Span)
     }
 }
 
-/// Moves a list to a block of twice the room, or of two where it has none.
+/// Moves a list to a block of the next class, so of two watchers where it has none.
 pub fn widen(
     spans: &mut Vec<Span>,
     pool: &mut Vec<Watcher>,

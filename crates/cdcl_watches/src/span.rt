@@ -2,8 +2,8 @@
 ghost use Rattle.std.specs.Prelude.{◌≡◌, ◌<◌};
 ghost use Rattle.cdcl_watches.specs.Pool.{room_of};
 
-/// A list begins at `from` in the pool and has `len` watchers. Its block has room for 2 ^ `class` of them; a
-/// list of class 0 has no block.
+/// A list begins at `from` in the pool and has `len` watchers. Its block has room for 2, 3, 4, 6, 8, 12 and so
+/// on by its class, from 1 on; a list of class 0 has no block.
 #[derive(Clone, Copy, Drop)]
 pub struct Span {
     pub from: u32,
@@ -20,8 +20,13 @@ pub const NOWHERE: Span = Span {
 
 /// So many watchers have room in a block of the class.
 pub fn room(class: u32) -> u32
-    requires { class < 32 }
+    requires { class < 63 }
     ensures { result ≡ room_of class }
 {
-    if class == 0 { 0 } else { 1 << class }
+    if class == 0 {
+        return 0;
+    }
+    let doubled = (class - 1) / 2;
+    let first = 2 + (class - 1) % 2;
+    first << doubled
 }

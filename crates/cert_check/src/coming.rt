@@ -18,7 +18,7 @@ use std::alloc::Global;
 use std::thread::Threads;
 
 /// Judges the certificate text that begins with the bytes at hand and goes on with what the source has left,
-/// as `check` does, by two workers or more. Lines are judged while later ones are being read. The source is
+/// as `check` does. So many workers judge lines while one thread more reads later ones. The source is
 /// read to its end, whatever the answer is. Refused is a source that fails, and want of memory.
 pub fn check_coming<R: Threads + Sync, S: Source, G: Gate + Sync>(
     rt: &R,
@@ -32,7 +32,7 @@ pub fn check_coming<R: Threads + Sync, S: Source, G: Gate + Sync>(
     gate: &G,
 ) -> Result<Result<Verdict, CheckRefused>, ReadRefused>
     requires root { root < length table.now.nodes }
-    requires some { 2 ≤ workers }
+    requires some { 1 ≤ workers }
     requires few { workers ≤ 16 }
     ensures answer { IfOk result (IsSaidOfAll (tree_at table.now root) kind front.items
         (S.rest source.old) (S.rest source.new)) }
@@ -61,7 +61,7 @@ fn by_pieces<R: Threads + Sync, S: Source, G: Gate + Sync>(
     gate: &G,
 ) -> Result<Result<(), Vec<u8>>, ReadRefused>
     requires root { root < length table.now.nodes }
-    requires some { 2 ≤ workers }
+    requires some { 1 ≤ workers }
     requires few { workers ≤ 16 }
     ensures is { IfOk result (λ r. MatchResult r
         (λ _. IsVerifiedWhole (tree_at table.now root) kind hand.items (S.rest source.old)
@@ -98,7 +98,7 @@ fn whole<R: Threads + Sync, S: Source, G: Gate + Sync>(
     gate: &G,
 ) -> Result<Result<Verdict, CheckRefused>, ReadRefused>
     requires root { root < length table.now.nodes }
-    requires some { 2 ≤ workers }
+    requires some { 1 ≤ workers }
     requires few { workers ≤ 16 }
     ensures answer { IfOk result (IsSaidOfAll (tree_at table.now root) kind bytes.items
         (S.rest source.old) (S.rest source.new)) }

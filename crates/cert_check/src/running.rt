@@ -36,7 +36,7 @@ pub fn judge<R: Threads + Sync, S: Source, G: Gate + Sync>(
     requires fits { Fits (layout_of closure.now) (said_in coming.front.bytes).depth }
     requires judged { coming.judged ≡ 0 }
     requires ended { coming.ended ≡ false }
-    requires some { 2 ≤ workers }
+    requires some { 1 ≤ workers }
     requires few { workers ≤ 16 }
     ensures is { IfOk result (λ r. MatchResult r
         (λ _. IsVerifiedWhole closure.now.formula closure.now.kind (bytes_in coming) (S.rest source.old)
@@ -72,7 +72,7 @@ fn judge_over<R: Threads + Sync, C: NamedClauses + Sync, S: Source, G: Gate + Sy
         ≡ clause_list closure.now.formula closure.now.kind (said_in coming.front.bytes).depth }
     requires judged { coming.judged ≡ 0 }
     requires ended { coming.ended ≡ false }
-    requires some { 2 ≤ workers }
+    requires some { 1 ≤ workers }
     requires few { workers ≤ 16 }
     ensures is { IfOk result (λ r. MatchResult r
         (λ _. IsVerifiedWhole closure.now.formula closure.now.kind (bytes_in coming) (S.rest source.old)

@@ -204,7 +204,7 @@ const ON_LAST: &[Row] = &[
     ),
 ];
 
-/// What stands behind 600,000 good lines of a certificate of `false`, and what is shown.
+/// What stands behind 1,800,000 good lines of a certificate of `false`, and what is shown.
 const LONG_ENDS: &[Row] = &[
     (b"close 1 1800000\n", VERIFIED, Status::Good),
     (
@@ -263,15 +263,21 @@ fn worked_certificates(rt: HostRuntime) -> Result<(), Fail> {
     Ok(())
 }
 
-/// Inputs that are longer than what is read before lines are judged.
+/// `false` with a certificate of 1,800,000 good lines and this end: longer than what is read before lines are
+/// judged.
+fn long_input(alloc: Global, last: &[u8]) -> Result<Vec<u8>, AllocError> {
+    let lines = repeated(alloc, b"-2 0 2 1 0\n", 1_800_000, last)?;
+    let mut text = b"ltlcert 1 infinite 0\n".to_vec(alloc)?;
+    text.extend_from_slice(&lines)?;
+    joined(alloc, b"false", &text)
+}
+
+/// Inputs whose lines are judged while later ones are being read.
 #[test]
 fn judged_while_read(rt: HostRuntime) -> Result<(), Fail> {
     let alloc = rt.alloc();
     for (last, output, status) in LONG_ENDS {
-        let lines = repeated(alloc, b"-2 0 2 1 0\n", 1_800_000, last)?;
-        let mut text = b"ltlcert 1 infinite 0\n".to_vec(alloc)?;
-        text.extend_from_slice(&lines)?;
-        let input = joined(alloc, b"false", &text)?;
+        let input = long_input(alloc, last)?;
         shows(&rt, alloc, "check --workers 2", &input, output, *status)?;
     }
     Ok(())
@@ -353,17 +359,22 @@ fn printed_certificates_verify(rt: HostRuntime) -> Result<(), Fail> {
     Ok(())
 }
 
-/// Two workers are at work at once.
-#[test]
-fn workers_meet(rt: HostRuntime) -> Result<(), Fail> {
-    let alloc = rt.alloc();
+/// `check` by two workers verifies the input, and both are at work at once.
+fn meet<R: Threads + Abort + Sync>(rt: &R, alloc: Global, input: Vec<u8>) -> Result<(), Fail> {
     let gate = Meeting::new();
     let words = list(alloc, "check --workers 2")?;
-    let input = joined(alloc, b"wX false", LAST)?;
-    let mut source = MemorySource::new(input, 1000, Vec::new(alloc));
+    let mut source = MemorySource::new(input, 65536, Vec::new(alloc));
     let mut sink = MemorySink::new(alloc, 64, 64, Vec::new(alloc))?;
-    let status = run(&rt, alloc, &words, &mut source, &mut sink, &gate);
+    let status = run(rt, alloc, &words, &mut source, &mut sink, &gate);
     assert!(rt; status == Status::Good && sink.content() == VERIFIED);
     assert!(rt; gate.met());
     Ok(())
+}
+
+/// On an input that is read whole first, and on a longer one, which is judged while it is read.
+#[test]
+fn workers_meet(rt: HostRuntime) -> Result<(), Fail> {
+    let alloc = rt.alloc();
+    meet(&rt, alloc, joined(alloc, b"wX false", LAST)?)?;
+    meet(&rt, alloc, long_input(alloc, b"close 1 1800000\n")?)
 }

@@ -11,6 +11,15 @@ returns-then-span-room c =
     let room = room_at spans c.args.list c.index-span.result.now known c.index-span.ensures (omega (arith, c.if-span-room.true, c.room.ensures)) in
     rw (← c.self.view_is) (ap₂ contents c.put.ensures.pool c.put.ensures.spans ∙ put_call pool spans c.self.inside.spare c.self.invariant c.args.list known room c.args.watcher)
 
+pub invariant_of-self : goal.invariant_of-self
+invariant_of-self c =
+    let pool = c.self.inside.pool.items in
+    let spans = c.self.inside.spans.items in
+    let known = known_list pool spans c.args.list (rw (← c.self.view_is) at c.requires) in
+    let room = room_at spans c.args.list c.index-span.result.now known c.index-span.ensures (omega (arith, c.if-span-room.true, c.room.ensures)) in
+    rw (c.put.ensures.pool, c.put.ensures.spans)
+    (put_pool pool spans c.self.inside.spare c.self.invariant c.args.list known room c.args.watcher)
+
 pub invariant_of-self-2 : goal.invariant_of-self-2
 invariant_of-self-2 c =
     let known = known_list c.self.inside.pool.items c.self.inside.spans.items c.args.list (rw (← c.self.view_is) at c.requires) in
