@@ -17,6 +17,7 @@ pub fn find(bytes: &[u8], at: usize, byte: u8) -> usize
     ensures within { result ≤ length bytes.now }
     ensures first { (before word more : List ℕ) → All (λ b. b ≡ byte → ⊥) word
         → bytes.now ≡ before ++ (word ++ byte ∷ more) → length before ≡ at → result ≡ at + length word }
+    ensures stands { result < length bytes.now → get_or bytes.now result 0 ≡ byte }
 {
     match memchr(byte, &bytes[at..]) {
         None => bytes.len(),
