@@ -87,7 +87,7 @@ covered trail k marked clause falses covers within l there is_marked =
     subst (Contains falses) (ap opposite place.2 ∙ opposite_opposite l) inside
 
 -- known letters are numbers of a `u32`
-within_u32 : (letters : ℕ) (clause : List Literal) → letters ≤ 2 ^ 32 → All (IsBelow letters) clause → All (IsKnown greatest_u32) clause
+pub within_u32 : (letters : ℕ) (clause : List Literal) → letters ≤ 2 ^ 32 → All (IsBelow letters) clause → All (IsKnown greatest_u32) clause
 within_u32 letters clause few known k d below = let here = known k d below in record { from_one = here.0; within = omega (arith, here.1, few) }
 
 pub walk_start : (inputs lines : List (List Literal)) (trail : List Entry) (letters : ℕ) (marked : ℕ → Type 0) (hint : Hint) (clause : List Literal)

@@ -2,3 +2,4 @@ pub mod Marks
 pub mod Waiting
 pub mod Learnt
 pub mod Analysis
+pub mod Consequences

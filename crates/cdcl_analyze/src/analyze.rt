@@ -1,20 +1,22 @@
 // Why a conflict came: the walk down the trail resolves what reasons forced, until the clause that is left
-// has one literal of the conflict's level (the first unique implication point), or decisions alone. The
-// reasons that were resolved, in the order of the trail, and then the conflict are the clause's hints. After
+// has one literal of the conflict's level (the first unique implication point), or decisions alone. Of lower
+// levels the clause keeps what does not follow from the rest, and of level 0 nothing. The reasons that were
+// resolved, each behind those that it needs, and then the conflict are the clause's hints. After
 // Marques-Silva and Sakallah, GRASP (1999), and, for the hints, Goldberg and Novikov, Verification of proofs
 // of unsatisfiability for CNF formulas (2003).
-ghost use Rattle.std.specs.Prelude.{◌≡◌, ℕ, ◌^◌, ◌<◌, ◌≤◌, List, [], ◌∷◌, ◌++◌, length, All, Some, OnOk, IfOk, true, false, slice_index_or};
+ghost use Rattle.std.specs.Prelude.{◌≡◌, ℕ, ◌^◌, ◌<◌, ◌≤◌, List, [], ◌∷◌, ◌++◌, length, map, reverse, All, Some, None, OnOk, IfOk, slice_index_or};
 ghost use Rattle.cnf_base.specs.Step.{named};
 ghost use Rattle.cdcl_trail.specs.Trail.{IsTrail, IsConflict, literals_of, blank_entry, IsDecision};
 ghost use Rattle.cdcl_analyze.specs.Learnt.{IsLearnt};
 ghost use Rattle.cdcl_trail.specs.Values.{IsBelow, AreBelow};
 ghost use Rattle.cdcl_analyze.specs.Analysis.{AreFromOne, AreWaiting, IsLike, IsWalk, refuted_at};
-ghost use Rattle.cdcl_analyze.specs.Marks.{IsMarked, HasAsked};
+ghost use Rattle.cdcl_analyze.specs.Marks.{IsMarked, outcome_of, FoundSame};
+ghost use Rattle.cdcl_analyze.specs.Consequences.{IsRest};
 ghost use Rattle.cdcl_trail.specs.declared.assigned.Entry.{Entry};
 ghost use Rattle.cdcl_analyze.specs.declared.analyze.Cut.TheVariants.{Decisions};
 
-use crate::marks::Marks;
-use crate::minimize::is_covered;
+use crate::marks::{Consequence, Marks};
+use crate::minimize::{STEPS, settle};
 use cdcl_activity::choices::Choices;
 use cdcl_trail::assigned::{Assigned, Entry};
 use cdcl_trail::named::clause_of;
@@ -89,6 +91,7 @@ fn mark_letter(
     ensures marked { OnOk result (IsMarked marks.new letter) }
     ensures waiting { OnOk result ((end : ℕ) → AreWaiting assigned.now.trail end marks.old
         → AreWaiting assigned.now.trail end marks.new) }
+    ensures found { FoundSame marks.old marks.new }
 {
     if marks.has(letter as usize) {
         return Ok(());
@@ -119,43 +122,12 @@ fn mark(
     ensures all { OnOk result (All (λ l. IsMarked marks.new l.letter.0) clause.now) }
     ensures waiting { OnOk result ((end : ℕ) → AreWaiting assigned.now.trail end marks.old
         → AreWaiting assigned.now.trail end marks.new) }
+    ensures found { FoundSame marks.old marks.new }
 {
     for literal in clause {
         mark_letter(assigned, cut, literal.letter.0, marks, choices, open)?;
     }
     Ok(())
-}
-
-/// Whether an entry that has this reason is to be resolved away: of the cut's level all but the last one that
-/// is open, and of lower levels those that follow from the rest.
-fn resolves(
-    assigned: &Assigned,
-    view: &LogView<'_>,
-    cut: Cut,
-    entry: Entry,
-    hint: Hint,
-    marks: &mut Marks,
-    open: &mut usize,
-) -> bool
-    ensures all { cut ≡ Decisions → result ≡ true }
-    ensures same { HasAsked marks.old marks.new }
-{
-    match cut {
-        Cut::Decisions => {
-            return true;
-        }
-        Cut::FirstUnique(level) => {
-            if entry.level != level {
-                return entry.level == 0
-                    || is_covered(assigned, view, entry.literal.letter.0 as usize, hint, marks);
-            }
-            if *open <= 1 {
-                return false;
-            }
-            *open -= 1;
-            return true;
-        }
-    }
 }
 
 /// Keeps a literal, whose opposite stands at the place, in the clause.
@@ -179,16 +151,14 @@ fn cite(learnt: &mut Learnt, hint: Hint) -> Result<(), AllocError>
     Ok(())
 }
 
-/// Goes down the marked places of the trail below `from`, and resolves their literals or keeps them in the
-/// clause.
+/// Goes down the marked places of the trail below `from`, resolves what has a reason and keeps the decisions in
+/// the clause.
 fn walk(
     assigned: &Assigned,
     log: &Log,
-    cut: Cut,
     from: usize,
     marks: &mut Marks,
     choices: &mut Choices,
-    open: &mut usize,
     learnt: &mut Learnt,
 ) -> Result<(), AllocError>
     requires is_trail { IsTrail log.now.inputs log.now.lines assigned.now.trail }
@@ -205,23 +175,26 @@ fn walk(
         → IsWalk log.now.inputs log.now.lines t 0 (IsMarked marks.new) learnt.new.clause.items
         learnt.new.hints.items learnt.new.places.items) }
     ensures decided { OnOk result ((t : List Entry) → IsLike log.now.inputs log.now.lines assigned.now.trail
-        t from → cut ≡ Decisions → All (IsDecision t) learnt.old.places.items
-        → All (IsDecision t) learnt.new.places.items) }
+        t from → All (IsDecision t) learnt.old.places.items → All (IsDecision t) learnt.new.places.items) }
 {
     assigned.told();
     let view = log.view();
+    let mut open: usize = 0;
     let mut end = from;
     'down: while let Some(place) = marks.pop(end) {
         end = place;
         let entry = assigned.entry(place);
         match entry.reason {
             Some(hint) => {
-                if resolves(assigned, &view, cut, entry, hint, marks, open) {
-                    cite(learnt, hint)?;
-                    mark(assigned, cut, clause_of(&view, hint), marks, choices, open)?;
-                    continue 'down;
-                }
-                keep(learnt, entry.literal.opposite(), place)?;
+                cite(learnt, hint)?;
+                mark(
+                    assigned,
+                    Cut::Decisions,
+                    clause_of(&view, hint),
+                    marks,
+                    choices,
+                    &mut open,
+                )?;
                 continue 'down;
             }
             None => {
@@ -231,6 +204,216 @@ fn walk(
         }
     }
     Ok(())
+}
+
+/// Goes down the marked places of the trail and resolves what stands there, while more than one literal of the
+/// cut's level is open. The clause keeps the last one, whose place it answers.
+fn walk_level(
+    assigned: &Assigned,
+    log: &Log,
+    cut: Cut,
+    marks: &mut Marks,
+    choices: &mut Choices,
+    open: &mut usize,
+    learnt: &mut Learnt,
+) -> Result<usize, AllocError>
+    requires is_trail { IsTrail log.now.inputs log.now.lines assigned.now.trail }
+    requires known_inputs { AreBelow (length assigned.now.values) log.now.inputs }
+    requires known_lines { AreBelow (length assigned.now.values) log.now.lines }
+    requires few { length assigned.now.values ≤ 2 ^ 32 }
+    requires size { length assigned.now.values ≤ length marks.old.stamps }
+    requires waiting { AreWaiting assigned.now.trail (length assigned.now.trail) marks.old }
+    ensures size { length marks.new.stamps ≡ length marks.old.stamps }
+    ensures within { IfOk result (λ place. place ≤ length assigned.now.trail) }
+    ensures walked { IfOk result (λ place. IsWalk log.now.inputs log.now.lines assigned.now.trail
+        (length assigned.now.trail)
+        (IsMarked marks.old) learnt.old.clause.items learnt.old.hints.items learnt.old.places.items
+        → IsWalk log.now.inputs log.now.lines assigned.now.trail place (IsMarked marks.new)
+        learnt.new.clause.items learnt.new.hints.items learnt.new.places.items) }
+    ensures waiting { IfOk result (λ place. AreWaiting assigned.now.trail place marks.new) }
+    ensures found { OnOk result (FoundSame marks.old marks.new) }
+{
+    assigned.told();
+    let view = log.view();
+    let mut end = assigned.len();
+    'down: while let Some(place) = marks.pop(end) {
+        end = place;
+        let entry = assigned.entry(place);
+        match entry.reason {
+            Some(hint) => {
+                if *open <= 1 {
+                    keep(learnt, entry.literal.opposite(), place)?;
+                    return Ok(place);
+                }
+                *open -= 1;
+                cite(learnt, hint)?;
+                mark(assigned, cut, clause_of(&view, hint), marks, choices, open)?;
+                continue 'down;
+            }
+            None => {
+                keep(learnt, entry.literal.opposite(), place)?;
+                return Ok(place);
+            }
+        }
+    }
+    Ok(0)
+}
+
+/// How many of the first `from` entries are of level 0: those stand before all others. It is found by halves.
+fn base_of(assigned: &Assigned, from: usize) -> usize
+    ensures { result ≤ from }
+{
+    let mut low = 0;
+    let mut high = from;
+    'halves: while low < high {
+        let middle = low + (high - low) / 2;
+        if assigned.level_at(middle) == 0 {
+            low = middle + 1;
+        } else {
+            high = middle;
+        }
+    }
+    low
+}
+
+/// Goes down the marked places from `from` to the base, and keeps in the clause what does not follow from the
+/// rest. What follows is left in the marks, and so is what waits below the base.
+fn keep_rest(
+    assigned: &Assigned,
+    log: &Log,
+    base: usize,
+    from: usize,
+    marks: &mut Marks,
+    learnt: &mut Learnt,
+) -> Result<(), AllocError>
+    requires is_trail { IsTrail log.now.inputs log.now.lines assigned.now.trail }
+    requires base { base ≤ from }
+    requires from { from ≤ length assigned.now.trail }
+    requires size { length assigned.now.values ≤ length marks.old.stamps }
+    requires waiting { AreWaiting assigned.now.trail from marks.old }
+    requires unasked { (x : ℕ) → outcome_of marks.old x ≡ None }
+    requires none_follows { marks.old.consequences ≡ [] }
+    ensures size { length marks.new.stamps ≡ length marks.old.stamps }
+    ensures waiting { OnOk result (AreWaiting assigned.now.trail base marks.new) }
+    ensures rest { OnOk result (IsRest log.now.inputs log.now.lines assigned.now.trail base from base
+        marks.old marks.new learnt.old.clause.items learnt.old.places.items learnt.new.clause.items
+        learnt.new.places.items) }
+    ensures hints { OnOk result (learnt.new.hints.items ≡ learnt.old.hints.items) }
+{
+    assigned.told();
+    let view = log.view();
+    let mut end = from;
+    'down: while let Some(place) = marks.pop(end) {
+        let entry = assigned.entry(place);
+        let letter = entry.literal.letter.0;
+        if place < base {
+            // It waits for the walk over what stands below the base.
+            marks.mark(letter as usize, place)?;
+            return Ok(());
+        }
+        end = place;
+        settle(assigned, &view, base, letter, marks, STEPS)?;
+        if marks.outcome(letter as usize) != Some(true) {
+            marks.told();
+            marks.deny(letter as usize);
+            keep(learnt, entry.literal.opposite(), place)?;
+        }
+    }
+    Ok(())
+}
+
+/// Puts the reasons by which values follow behind the hints, the last first.
+fn cite_consequences(consequences: &[Consequence], learnt: &mut Learnt) -> Result<(), AllocError>
+    ensures clause { OnOk result (learnt.new.clause.items ≡ learnt.old.clause.items) }
+    ensures places { OnOk result (learnt.new.places.items ≡ learnt.old.places.items) }
+    ensures hints { OnOk result (learnt.new.hints.items ≡ learnt.old.hints.items
+        ++ reverse (map (λ c. c.reason) consequences.now)) }
+{
+    let mut count = consequences.len();
+    'down: while count > 0 {
+        count -= 1;
+        cite(learnt, consequences[count].reason)?;
+    }
+    Ok(())
+}
+
+/// Goes down the marked places below `from`: the clause keeps what does not follow from the rest, and what
+/// stands on level 0 is resolved away.
+fn minimize(
+    assigned: &Assigned,
+    log: &Log,
+    from: usize,
+    marks: &mut Marks,
+    choices: &mut Choices,
+    learnt: &mut Learnt,
+) -> Result<(), AllocError>
+    requires is_trail { IsTrail log.now.inputs log.now.lines assigned.now.trail }
+    requires known_inputs { AreBelow (length assigned.now.values) log.now.inputs }
+    requires known_lines { AreBelow (length assigned.now.values) log.now.lines }
+    requires few { length assigned.now.values ≤ 2 ^ 32 }
+    requires from { from ≤ length assigned.now.trail }
+    requires size { length assigned.now.values ≤ length marks.old.stamps }
+    requires waiting { AreWaiting assigned.now.trail from marks.old }
+    requires unasked { (x : ℕ) → outcome_of marks.old x ≡ None }
+    requires none_follows { marks.old.consequences ≡ [] }
+    ensures size { length marks.new.stamps ≡ length marks.old.stamps }
+    ensures walked { OnOk result (IsWalk log.now.inputs log.now.lines assigned.now.trail from
+        (IsMarked marks.old) learnt.old.clause.items learnt.old.hints.items learnt.old.places.items
+        → IsWalk log.now.inputs log.now.lines assigned.now.trail 0 (IsMarked marks.new)
+        learnt.new.clause.items learnt.new.hints.items learnt.new.places.items) }
+{
+    assigned.told();
+    let base = base_of(assigned, from);
+    keep_rest(assigned, log, base, from, marks, learnt)?;
+    for consequence in marks.consequences() {
+        // What is marked is more active already.
+        if !marks.has(consequence.letter as usize) {
+            choices.bump(consequence.letter);
+        }
+    }
+    cite_consequences(marks.consequences(), learnt)?;
+    walk(assigned, log, base, marks, choices, learnt)
+}
+
+/// Goes down the marked places of the trail, and resolves there what the cut does not keep in the clause.
+fn resolve(
+    assigned: &Assigned,
+    log: &Log,
+    cut: Cut,
+    marks: &mut Marks,
+    choices: &mut Choices,
+    open: &mut usize,
+    learnt: &mut Learnt,
+) -> Result<(), AllocError>
+    requires is_trail { IsTrail log.now.inputs log.now.lines assigned.now.trail }
+    requires known_inputs { AreBelow (length assigned.now.values) log.now.inputs }
+    requires known_lines { AreBelow (length assigned.now.values) log.now.lines }
+    requires few { length assigned.now.values ≤ 2 ^ 32 }
+    requires size { length assigned.now.values ≤ length marks.old.stamps }
+    requires waiting { AreWaiting assigned.now.trail (length assigned.now.trail) marks.old }
+    requires unasked { (x : ℕ) → outcome_of marks.old x ≡ None }
+    requires none_follows { marks.old.consequences ≡ [] }
+    ensures size { length marks.new.stamps ≡ length marks.old.stamps }
+    ensures walked { OnOk result (IsWalk log.now.inputs log.now.lines assigned.now.trail
+        (length assigned.now.trail)
+        (IsMarked marks.old) learnt.old.clause.items learnt.old.hints.items learnt.old.places.items
+        → IsWalk log.now.inputs log.now.lines assigned.now.trail 0 (IsMarked marks.new)
+        learnt.new.clause.items learnt.new.hints.items learnt.new.places.items) }
+    ensures decided { OnOk result (cut ≡ Decisions → All (IsDecision assigned.now.trail) learnt.old.places.items
+        → All (IsDecision assigned.now.trail) learnt.new.places.items) }
+{
+    assigned.told();
+    match cut {
+        Cut::Decisions => {
+            walk(assigned, log, assigned.len(), marks, choices, learnt)?;
+            return Ok(());
+        }
+        Cut::FirstUnique(_) => {
+            let place = walk_level(assigned, log, cut, marks, choices, open, learnt)?;
+            minimize(assigned, log, place, marks, choices, learnt)?;
+            return Ok(());
+        }
+    }
 }
 
 /// Explains a conflict.
@@ -269,16 +452,7 @@ pub fn explain(
         choices,
         &mut open,
     )?;
-    walk(
-        assigned,
-        log,
-        cut,
-        assigned.len(),
-        marks,
-        choices,
-        &mut open,
-        &mut learnt,
-    )?;
+    resolve(assigned, log, cut, marks, choices, &mut open, &mut learnt)?;
     learnt.hints.reverse();
     Ok(learnt)
 }
@@ -322,16 +496,7 @@ pub fn explain_forced(
         choices,
         &mut open,
     )?;
-    walk(
-        assigned,
-        log,
-        Cut::Decisions,
-        place,
-        marks,
-        choices,
-        &mut open,
-        &mut learnt,
-    )?;
+    walk(assigned, log, place, marks, choices, &mut learnt)?;
     learnt.hints.reverse();
     Ok(learnt)
 }

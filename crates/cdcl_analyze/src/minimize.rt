@@ -1,121 +1,174 @@
-// A learnt clause without what follows from the rest of it: an entry of a lower level is resolved away where
-// each other literal of its reason is marked, or on level 0, or follows from such ones in turn; the walk goes
-// on to each of these. What follows and what doesn't is remembered for one analysis, so that each letter is
-// asked once, and a letter on a level of which the clause has nothing is not asked at all. After Sorensson
-// and Biere, Minimizing learned clauses (2009). Nothing is promised of it but safety.
-ghost use Rattle.cdcl_analyze.specs.Marks.{HasAsked};
+// A learnt clause without what follows from the rest of it: a marked letter is left out where each other
+// literal of its reason is marked, or on level 0, or follows from such ones in turn. The search goes down the
+// reasons and comes back up: so what follows is found behind all that it follows from, which is the order in
+// which hints have to stand, and no second walk is needed for them. What follows and what doesn't is
+// remembered for one analysis, so that each letter is asked once but for those found on the way to one that
+// does not follow: these are taken back, for no hint is to be there in vain. A letter on a level of which the
+// clause has nothing is not asked at all. After Sorensson and Biere, Minimizing learned clauses (2009).
+ghost use Rattle.std.specs.Prelude.{◌≡◌, ◌≢◌, ℕ, ◌<◌, ◌≤◌, ◌⊎◌, List, true, false, All, length, Some, None, IfOk, OnOk};
+ghost use Rattle.cnf_base.specs.declared.literal.Literal.{Literal};
+ghost use Rattle.cnf_base.specs.Step.{named};
+ghost use Rattle.cdcl_trail.specs.Trail.{IsTrail, AreValues, literal_at};
+ghost use Rattle.cdcl_analyze.specs.Marks.{outcome_of};
+ghost use Rattle.cdcl_analyze.specs.Consequences.{StandsBelow, IsGiven, HasReason, AreConsequences, Grows};
 
 use crate::marks::Marks;
 use cdcl_trail::assigned::Assigned;
+use cdcl_trail::named::clause_of;
 use clause_log::LogView;
-use cnf_base::{Hint, Literal};
+use cnf_base::Hint;
+use std::alloc::AllocError;
 
 /// How many reasons deep a letter may follow.
-const STEPS: u32 = 1000;
+pub(crate) const STEPS: u32 = 1000;
 
-/// The clause that the hint names, if there is one.
-fn clause_at<'a>(view: &LogView<'a>, hint: Hint) -> Option<&'a [Literal]> {
-    match hint {
-        Hint::Clause(number) => {
-            if number < 1 || view.inputs() < number {
-                return None;
-            }
-            Some(view.input(number))
-        }
-        Hint::Line(number) => {
-            if number < 1 || view.lines() < number {
-                return None;
-            }
-            Some(view.literals(number))
-        }
-    }
-}
-
-/// Whether each literal of the reason but that of the letter is marked, or follows from literals that are.
-pub(crate) fn is_covered(
-    assigned: &Assigned,
-    view: &LogView<'_>,
-    letter: usize,
-    hint: Hint,
-    marks: &mut Marks,
-) -> bool
-    ensures { HasAsked marks.old marks.new }
-{
-    if marks.outcome(letter) == Some(true) {
-        return true;
-    }
-    follows(assigned, view, letter, hint, marks, STEPS)
-}
-
-/// Whether the letter's value follows from marked literals by this reason, in at most so many steps.
+/// Whether the letter is marked, or stands below the base, or its value follows from such ones. What is marked
+/// follows or stays in the clause, and its outcome tells; below the base the letter is marked, and its place
+/// waits.
 #[cycle(following)]
-fn follows(
+#[inline(always)]
+pub(crate) fn settle(
     assigned: &Assigned,
     view: &LogView<'_>,
-    letter: usize,
-    hint: Hint,
+    base: usize,
+    letter: u32,
     marks: &mut Marks,
     steps: u32,
-) -> bool
-    ensures { HasAsked marks.old marks.new }
+) -> Result<bool, AllocError>
+    requires told { AreValues assigned.now.values assigned.now.trail }
+    requires is_trail { IsTrail view.now.inputs view.now.lines assigned.now.trail }
+    requires size { length assigned.now.values ≤ length marks.old.stamps }
+    requires stands { StandsBelow assigned.now.trail (length assigned.now.trail) letter }
+    requires base { base ≤ length assigned.now.trail }
+    requires consequences { AreConsequences view.now.inputs view.now.lines assigned.now.trail base
+        marks.old }
+    ensures size { length marks.new.stamps ≡ length marks.old.stamps }
+    ensures given { IfOk result (λ is_given. is_given ≡ true
+        → IsGiven assigned.now.trail base marks.new letter) }
+    ensures grows { OnOk result ((end : ℕ) → StandsBelow assigned.now.trail end letter
+        → Grows view.now.inputs view.now.lines assigned.now.trail base end marks.old marks.new) }
 {
-    match clause_at(view, hint) {
-        None => false,
-        Some(clause) => all_follow(assigned, view, letter, clause, marks, steps),
+    match marks.outcome(letter as usize) {
+        Some(true) => return Ok(true),
+        Some(false) => return Ok(marks.has(letter as usize)),
+        None => return ask(assigned, view, base, letter, marks, steps),
     }
 }
 
+/// The same for a letter of which nothing is known.
 #[cycle(following)]
-fn all_follow(
+fn ask(
     assigned: &Assigned,
     view: &LogView<'_>,
-    letter: usize,
-    clause: &[Literal],
+    base: usize,
+    letter: u32,
     marks: &mut Marks,
     steps: u32,
-) -> bool
-    ensures { HasAsked marks.old marks.new }
+) -> Result<bool, AllocError>
+    requires told { AreValues assigned.now.values assigned.now.trail }
+    requires is_trail { IsTrail view.now.inputs view.now.lines assigned.now.trail }
+    requires size { length assigned.now.values ≤ length marks.old.stamps }
+    requires stands { StandsBelow assigned.now.trail (length assigned.now.trail) letter }
+    requires base { base ≤ length assigned.now.trail }
+    requires consequences { AreConsequences view.now.inputs view.now.lines assigned.now.trail base
+        marks.old }
+    requires unknown { outcome_of marks.old letter ≡ None }
+    ensures size { length marks.new.stamps ≡ length marks.old.stamps }
+    ensures given { IfOk result (λ is_given. is_given ≡ true
+        → IsGiven assigned.now.trail base marks.new letter) }
+    ensures grows { OnOk result ((end : ℕ) → StandsBelow assigned.now.trail end letter
+        → Grows view.now.inputs view.now.lines assigned.now.trail base end marks.old marks.new) }
 {
-    for literal in clause {
-        let other = literal.letter.0 as usize;
-        if other != letter && !is_given(assigned, view, other, marks, steps) {
-            return false;
+    marks.told();
+    let place = assigned.place_of(letter as usize);
+    let marked = marks.has(letter as usize);
+    if place < base {
+        if !marked {
+            marks.mark(letter as usize, place)?;
+        }
+        return Ok(true);
+    }
+    let entry = assigned.entry(place);
+    if !marked && !marks.may_have(entry.level) {
+        return Ok(false);
+    }
+    match entry.reason {
+        Some(reason) => {
+            let follows = derive(assigned, view, base, letter, reason, marks, steps)?;
+            Ok(marked || follows)
+        }
+        None => {
+            marks.deny(letter as usize);
+            Ok(marked)
         }
     }
-    true
 }
 
-/// Whether the letter is marked, or on level 0, or its value follows.
+/// Whether the letter's value follows by this reason, in at most so many steps; remembers what it finds.
 #[cycle(following)]
-fn is_given(
+fn derive(
     assigned: &Assigned,
     view: &LogView<'_>,
-    letter: usize,
+    base: usize,
+    letter: u32,
+    reason: Hint,
     marks: &mut Marks,
     steps: u32,
-) -> bool
-    ensures { HasAsked marks.old marks.new }
+) -> Result<bool, AllocError>
+    requires told { AreValues assigned.now.values assigned.now.trail }
+    requires is_trail { IsTrail view.now.inputs view.now.lines assigned.now.trail }
+    requires size { length assigned.now.values ≤ length marks.old.stamps }
+    requires reason { HasReason assigned.now.trail base letter reason }
+    requires consequences { AreConsequences view.now.inputs view.now.lines assigned.now.trail base
+        marks.old }
+    requires unknown { outcome_of marks.old letter ≡ None }
+    ensures size { length marks.new.stamps ≡ length marks.old.stamps }
+    ensures outcome { IfOk result (λ follows. outcome_of marks.new letter ≡ Some follows) }
+    ensures grows { OnOk result ((end : ℕ) → StandsBelow assigned.now.trail end letter
+        → Grows view.now.inputs view.now.lines assigned.now.trail base end marks.old marks.new) }
 {
-    if marks.has(letter) {
-        return true;
+    let count = marks.consequences().len();
+    if steps > 0 && are_given(assigned, view, base, letter, reason, marks, steps - 1)? {
+        marks.told();
+        marks.conclude(letter, reason)?;
+        return Ok(true);
     }
-    let level = assigned.level_of(letter);
-    if level == 0 {
-        return true;
-    }
-    match marks.outcome(letter) {
-        Some(known) => return known,
-        None => {}
-    }
-    if steps == 0 || !marks.may_have(level) {
-        return false;
-    }
-    match assigned.reason_of(letter) {
-        None => false,
-        Some(hint) => {
-            let covered = follows(assigned, view, letter, hint, marks, steps - 1);
-            marks.remember(letter, covered);
-            covered
+    marks.take_back(count);
+    marks.told();
+    marks.deny(letter as usize);
+    Ok(false)
+}
+
+/// Whether each literal of the reason but that of the letter is given.
+#[cycle(following)]
+fn are_given(
+    assigned: &Assigned,
+    view: &LogView<'_>,
+    base: usize,
+    letter: u32,
+    reason: Hint,
+    marks: &mut Marks,
+    steps: u32,
+) -> Result<bool, AllocError>
+    requires told { AreValues assigned.now.values assigned.now.trail }
+    requires is_trail { IsTrail view.now.inputs view.now.lines assigned.now.trail }
+    requires size { length assigned.now.values ≤ length marks.old.stamps }
+    requires reason { HasReason assigned.now.trail base letter reason }
+    requires consequences { AreConsequences view.now.inputs view.now.lines assigned.now.trail base
+        marks.old }
+    ensures size { length marks.new.stamps ≡ length marks.old.stamps }
+    ensures given { IfOk result (λ are_given. are_given ≡ true → (clause : List Literal)
+        → named view.now.inputs view.now.lines reason ≡ Some clause
+        → All (λ l. (l.letter.0 ≡ letter) ⊎ IsGiven assigned.now.trail base marks.new l.letter.0) clause) }
+    ensures grows { OnOk result ((place : ℕ) → place < length assigned.now.trail
+        → (literal_at assigned.now.trail place).letter.0 ≡ letter
+        → Grows view.now.inputs view.now.lines assigned.now.trail base place marks.old marks.new) }
+{
+    for literal in clause_of(view, reason) {
+        let other = literal.letter.0;
+        if other != letter && !settle(assigned, view, base, other, marks, steps)? {
+            return Ok(false);
         }
     }
+    Ok(true)
 }

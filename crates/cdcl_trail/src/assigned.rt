@@ -1,7 +1,7 @@
 // The trail: the literals that are true, in the order in which they became so, each with its level and its
 // reason, and the letters' values that it tells. After Marques-Silva and Sakallah, GRASP (1999).
 ghost use Rattle.std.specs.Prelude.{◌≡◌, ℕ, ◌+◌, ◌-◌, ◌<◌, ◌≤◌, [], ◌∷◌, ◌++◌, length, take, Option, Some, None, OnOk, not, if◌then◌else◌, is_ok, slice_index_or, Contains, ◌↔◌, IsTrue};
-ghost use Rattle.cdcl_trail.specs.Trail.{IsUnset, literals_of, AreValues, blank_entry, literal_at, place_level, place_reason};
+ghost use Rattle.cdcl_trail.specs.Trail.{IsUnset, literals_of, AreValues, blank_entry, literal_at, place_level};
 ghost use Rattle.cdcl_trail.specs.Entries.{Fits};
 
 use crate::entries::Entries;
@@ -137,28 +137,6 @@ impl Assigned {
             → result ≡ k }
     {
         self.places[letter] as usize
-    }
-
-    /// Why the letter has its value, if it stands on the trail; a decision has no reason.
-    pub fn reason_of(&self, letter: usize) -> Option<Hint>
-        ensures { (k : ℕ) → k < length self.now.trail → (literal_at self.now.trail k).letter.0 ≡ letter
-            → result ≡ place_reason self.now.trail k }
-    {
-        match self.places.get(letter) {
-            Some(place) => self.trail.reason(*place as usize),
-            None => None,
-        }
-    }
-
-    /// The level of the letter, if it stands on the trail.
-    pub fn level_of(&self, letter: usize) -> usize
-        ensures { (k : ℕ) → k < length self.now.trail → (literal_at self.now.trail k).letter.0 ≡ letter
-            → result ≡ place_level self.now.trail k }
-    {
-        match self.places.get(letter) {
-            Some(place) => self.level_at(*place as usize),
-            None => 0,
-        }
     }
 
     /// The level of the entry at a place; 0 where there is none.

@@ -2,7 +2,7 @@
 // what matters is that many of them fit into a cache.
 ghost use Rattle.std.specs.Prelude.{◌≡◌, ◌<◌, ◌≤◌, [], ◌∷◌, ◌++◌, length, take, if◌then◌else◌, is_ok, MatchOption, OnOk, slice_index_or};
 ghost use Rattle.cdcl_trail.specs.Entries.{literal_of, reason_of, HasNumber, Fits};
-ghost use Rattle.cdcl_trail.specs.Trail.{blank_entry, place_level, place_reason};
+ghost use Rattle.cdcl_trail.specs.Trail.{blank_entry, place_level};
 
 use crate::assigned::Entry;
 use crate::hints::{lengthen, shorten};
@@ -127,16 +127,6 @@ impl Entries {
         match self.items.get(place) {
             Some(packed) => packed.level as usize,
             None => 0,
-        }
-    }
-
-    /// The reason of the entry at a place; none where there is no entry.
-    pub fn reason(&self, place: usize) -> Option<Hint>
-        ensures { result ≡ place_reason self.now place }
-    {
-        match self.items.get(place) {
-            Some(packed) => lengthen_reason(packed.reason),
-            None => None,
         }
     }
 

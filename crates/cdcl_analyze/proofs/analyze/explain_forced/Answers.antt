@@ -1,4 +1,4 @@
-use Rattle.std.proofs.Common.{◌≡◌, [], ◌∷◌, Option, Some, All, Contains, length, refl, sym, ap, ◌∙◌, subst, arith}
+use Rattle.std.proofs.Common.{◌≡◌, [], ◌∷◌, Some, All, Contains, length, sym, ap, ◌∙◌, subst, arith}
 use Rattle.std.proofs.lemmas.List.{get_or_default}
 use Rattle.std.proofs.lemmas.List.Elements.{All-nil, All-cons}
 use Rattle.cnf_base.specs.Literal.{opposite}
@@ -12,12 +12,10 @@ use Rattle.cdcl_trail.specs.declared.assigned.Entry.{Entry}
 use Rattle.cdcl_analyze.specs.Marks.{IsMarked}
 use Rattle.cdcl_trail.proofs.Bridge.{named_has}
 use Rattle.cdcl_trail.proofs.Standing.{reason_at}
+use Rattle.cdcl_analyze.proofs.Outcomes.{some_same}
 use Rattle.cdcl_analyze.proofs.Walk.{walk_start, walk_keep, walk_end}
 use Rattle.cdcl_analyze.proofs.Refuted.{refuted_from_one, refuted_like, refuted_false, refuted_last, refuted_length}
 use Rattle.cdcl_analyze.proofs.analyze.explain_forced.Goals as goal
-
-some_same : {X : Type 0} {x y : X} {o : Option X} → o ≡ Some x → o ≡ Some y → x ≡ y
-some_same a b = cc
 
 pub mark-requires-clause-known : goal.mark-requires-clause-known
 mark-requires-clause-known c =
@@ -70,7 +68,7 @@ returns-clause-decided c =
     let like = refuted_like log.inputs log.lines values trail p c.requires.is_trail c.told.ensures c.requires.place c.requires.few in
     let len = refuted_length log.inputs log.lines values trail p c.requires.is_trail c.told.ensures c.requires.place in
     let last = refuted_last log.inputs log.lines values trail p c.requires.is_trail c.told.ensures c.requires.place in
-    c.in_ok-walk.ensures.decided t like refl
+    c.in_ok-walk.ensures.decided t like
     (rw (c.in_ok-cite.ensures.places, c.in_ok-keep.ensures.places, c.in_ok-learnt.ensures.places)
     (All-cons (IsDecision t) p [] (record { within = omega (arith, len); free = ap (λ (e : Entry). e.reason) last }) (All-nil (IsDecision t))))
 

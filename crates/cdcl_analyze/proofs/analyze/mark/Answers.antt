@@ -2,6 +2,7 @@ use Rattle.std.proofs.Common.{◌∙◌, take, All, subst, arith}
 use Rattle.std.proofs.lemmas.List.{take_all}
 use Rattle.std.proofs.lemmas.List.Elements.{All-more, All-weaker}
 use Rattle.cdcl_analyze.specs.Marks.{IsMarked}
+use Rattle.cdcl_analyze.proofs.Steps.{found_again}
 use Rattle.cdcl_analyze.proofs.analyze.mark.Goals as goal
 
 pub loop-literal-preserved : goal.loop-literal-preserved
@@ -16,9 +17,13 @@ loop-literal-preserved c =
           (All-weaker (λ m. IsMarked c.loop-literal.marks m.letter.0) (λ m. IsMarked new m.letter.0) (λ m is. c.in_ok-mark_letter.ensures.kept m.letter.0 is) (take i clause) c.loop-literal.invariant.seen)
           c.in_ok-mark_letter.ensures.marked;
       waiting = λ end waits. c.in_ok-mark_letter.ensures.waiting end (c.loop-literal.invariant.waiting end waits);
+      found = found_again c.args.marks.now c.loop-literal.marks new c.loop-literal.invariant.found c.mark_letter.ensures.found;
     }
 
 pub returns-clause-all : goal.returns-clause-all
 returns-clause-all c =
     let clause = c.args.clause.now in
     subst (All (λ m. IsMarked c.loop-literal.marks m.letter.0)) (take_all c.loop-literal.literal-index clause (omega arith)) c.loop-literal.invariant.seen
+
+pub returns-in_err-mark_letter-clause-found : goal.returns-in_err-mark_letter-clause-found
+returns-in_err-mark_letter-clause-found c = found_again c.args.marks.now c.loop-literal.marks c.mark_letter.new.marks c.loop-literal.invariant.found c.mark_letter.ensures.found

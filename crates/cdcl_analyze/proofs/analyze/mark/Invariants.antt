@@ -1,6 +1,6 @@
 use Rattle.std.proofs.Common.{◌≡◌, ℕ, take, All, length}
 use Rattle.cdcl_analyze.specs.Analysis.{AreWaiting}
-use Rattle.cdcl_analyze.specs.Marks.{IsMarked}
+use Rattle.cdcl_analyze.specs.Marks.{IsMarked, FoundSame}
 use Rattle.cdcl_analyze.proofs.analyze.mark.Given as goal
 
 abbrev pub invariant-loop-literal : goal.invariant-loop-literal
@@ -9,4 +9,5 @@ invariant-loop-literal l = record {
   size : length l.marks.stamps ≡ length l.initial.marks.stamps;
   seen : All (λ m. IsMarked l.marks m.letter.0) (take l.literal-index l.clause);
   waiting : (end : ℕ) → AreWaiting l.assigned.trail end l.initial.marks → AreWaiting l.assigned.trail end l.marks;
+  found : FoundSame l.initial.marks l.marks;
 }

@@ -1,15 +1,24 @@
-use Rattle.std.proofs.Common.{◌+◌, ◌*◌}
-use Rattle.cdcl_analyze.specs.Marks.{HasAsked}
+use Rattle.std.proofs.Common.{◌≡◌, ℕ, ◌+◌, ◌*◌, ◌<◌, ◌⊎◌, take, All, length}
+use Rattle.cdcl_trail.specs.Trail.{literal_at}
+use Rattle.cdcl_analyze.specs.Consequences.{IsGiven, Grows}
 use Rattle.cdcl_analyze.proofs.minimize.+following.Given as goal
 
-abbrev pub decreases-follows : goal.decreases-follows
-decreases-follows l = 3 * l.steps + 2
+abbrev pub decreases-settle : goal.decreases-settle
+decreases-settle l = 4 * l.steps + 3
 
-abbrev pub decreases-all_follow : goal.decreases-all_follow
-decreases-all_follow l = 3 * l.steps + 1
+abbrev pub decreases-ask : goal.decreases-ask
+decreases-ask l = 4 * l.steps + 2
 
-abbrev pub decreases-is_given : goal.decreases-is_given
-decreases-is_given l = 3 * l.steps
+abbrev pub decreases-derive : goal.decreases-derive
+decreases-derive l = 4 * l.steps + 1
 
-abbrev pub invariant-all_follow-loop-literal : goal.invariant-all_follow-loop-literal
-invariant-all_follow-loop-literal l = HasAsked l.initial.marks l.marks
+abbrev pub decreases-are_given : goal.decreases-are_given
+decreases-are_given l = 4 * l.steps + 4
+
+abbrev pub invariant-are_given-loop-literal : goal.invariant-are_given-loop-literal
+invariant-are_given-loop-literal l = record {
+  size : length l.marks.stamps ≡ length l.initial.marks.stamps;
+  given : All (λ m. (m.letter.0 ≡ l.letter) ⊎ IsGiven l.assigned.trail l.base l.marks m.letter.0) (take l.literal-index l.literal-items);
+  grows : (place : ℕ) → place < length l.assigned.trail → (literal_at l.assigned.trail place).letter.0 ≡ l.letter
+      → Grows l.view.inputs l.view.lines l.assigned.trail l.base place l.initial.marks l.marks;
+}
