@@ -1,6 +1,6 @@
 -- The watched clauses that come over as they are.
-use Rattle.std.proofs.Common.{◌≡◌, ℕ, suc, ◌<◌, ◌⊎◌, inl, inr, Bool, true, false, List, [], ◌∷◌, ◌++◌, Option, Some, None, MatchOption, IfSome, All, Contains, map, length, replicate, get_or, sym, ap, ◌∙◌, subst, arith}
-use Rattle.std.proofs.Math.ListN.{get_or-map, get_or-eq_default}
+use Rattle.std.proofs.Common.{◌≡◌, ℕ, suc, ◌<◌, ◌≤◌, ◌⊎◌, inl, inr, false, List, [], ◌∷◌, ◌++◌, Option, Some, None, MatchOption, IfSome, All, Contains, map, length, replicate, get_or, sym, ap, ◌∙◌, subst, arith}
+use Rattle.std.proofs.Math.ListN.{get_or-map}
 use Rattle.std.proofs.lemmas.Bool.{cases_lt}
 use Rattle.std.proofs.lemmas.List.{map-append, length-map, length-replicate, get_or_append_left, get_or_at, get_or_default, length_push}
 use mathlib.Core.Bool.{false≢true}
@@ -16,37 +16,32 @@ use Rattle.cdcl_watches.proofs.HeadNumbers.{number_at, number_low}
 use Rattle.cdcl_propagate.specs.Visit.{HaveSame, IsStored, names_of, blank_hint}
 use Rattle.cdcl_propagate.specs.Units.{IsOne}
 use Rattle.cdcl_state.specs.State.{IsListed, AreLong}
-use Rattle.cdcl_state.specs.Gathered.{MayCome, IsCopied, IsMet, IsGathered}
+use Rattle.cdcl_state.specs.Gathered.{MayCome, IsCopied, IsCarried, IsGathered}
 use Rattle.cdcl_state.proofs.States.{long_clause}
 use Rattle.cdcl_state.proofs.Attach.{listed_more, listed_last}
-use Rattle.cdcl_state.proofs.Gathering.{numbered_within}
 
 -- a name as a hint
-name_at : (names : List ℕ) (c : ℕ) → get_or (map hint_of names) c blank_hint ≡ hint_of (get_or names c 0)
+pub name_at : (names : List ℕ) (c : ℕ) → get_or (map hint_of names) c blank_hint ≡ hint_of (get_or names c 0)
 name_at names c = get_or-map hint_of names c 0
 
 -- the clause of a head may come where all may
 pub come_at : (lists : ℕ) (old : ArenaValue) (head : ℕ) → Contains old.heads head → length old.heads ≡ length old.clauses → All (MayCome lists) old.clauses → MayCome lists (clause_of old.clauses (number_of old.heads head))
 come_at lists old head there paired come = let low = number_low old.heads head there in come (number_of old.heads head) [] (omega (arith, low.0, paired))
 
--- no clause yet, and no mark
-pub copied_none : (old : ArenaValue) (there : List Bool) (w : WatchValue) → w.clauses ≡ [] → w.names ≡ [] → All (λ mark. mark ≡ false) there → IsCopied old 0 there w
-copied_none old there w clauses names unmarked = record {
-  paired = ap length names ∙ sym (ap length clauses);
-  from_old = λ c low. absurd (omega (arith, low, ap length clauses));
+-- no clause yet
+pub copied_none : (clauses : List (List Literal)) (names : List ℕ) (w : WatchValue) → w.clauses ≡ [] → w.names ≡ [] → IsCopied clauses names 0 w
+copied_none clauses names w no_clauses no_names = record {
+  paired = ap length no_names ∙ sym (ap length no_clauses);
+  from_old = λ c low. absurd (omega (arith, low, ap length no_clauses));
   inputs = λ n at. absurd (omega (arith, at.1));
-  lines = λ n is. elim (cases_lt n (length there)) [
-    | inl low ↦ absurd (false≢true (sym (unmarked n false low) ∙ is))
-    | inr high ↦ absurd (false≢true (sym (get_or-eq_default there false high) ∙ is))
-  ];
 }
 
-module _ (old : ArenaValue) (c name : ℕ) (there : List Bool) (w : WatchValue) (copied : IsCopied old c there w) (name_is : name ≡ get_or old.names c 0) where
-  here : hint_of name ≡ get_or (map hint_of old.names) c blank_hint
-  here = ap hint_of name_is ∙ sym (name_at old.names c)
+module _ (clauses : List (List Literal)) (names : List ℕ) (c name : ℕ) (w : WatchValue) (copied : IsCopied clauses names c w) (name_is : name ≡ get_or names c 0) where
+  here : hint_of name ≡ get_or (map hint_of names) c blank_hint
+  here = ap hint_of name_is ∙ sym (name_at names c)
 
   -- a line is left out
-  pub copied_left : ((n : ℕ) → ¬ (hint_of name ≡ Clause n)) → IsCopied old (suc c) there w
+  pub copied_left : ((n : ℕ) → ¬ (hint_of name ≡ Clause n)) → IsCopied clauses names (suc c) w
   copied_left not_input = record {
     paired = copied.paired;
     from_old = copied.from_old;
@@ -54,18 +49,16 @@ module _ (old : ArenaValue) (c name : ℕ) (there : List Bool) (w : WatchValue) 
       | inl low ↦ copied.inputs n (at.0, low, at.2)
       | inr high ↦
           let same : at.0 ≡ c = omega (arith, at.1, high) in
-          absurd (not_input n (here ∙ ap (λ k. get_or (map hint_of old.names) k blank_hint) (sym same) ∙ at.2))
+          absurd (not_input n (here ∙ ap (λ k. get_or (map hint_of names) k blank_hint) (sym same) ∙ at.2))
     ];
-    lines = copied.lines;
   }
 
   -- a clause comes over
-  pub copied_more : (marks : List Bool) (v : WatchValue) → c < length old.clauses → v ≡ with_clause w (clause_of old.clauses c) name
-      → ((n : ℕ) → get_or marks n false ≡ true → (get_or there n false ≡ true) ⊎ (hint_of name ≡ Line n)) → IsCopied old (suc c) marks v
-  copied_more marks v known is only =
-      let r = clause_of old.clauses c in
+  pub copied_more : (v : WatchValue) → c < length clauses → v ≡ with_clause w (clause_of clauses c) name → IsCopied clauses names (suc c) v
+  copied_more v known is =
+      let r = clause_of clauses c in
       let names_are : names_of (with_clause w r name) ≡ names_of w ++ hint_of name ∷ [] = map-append hint_of w.names (name ∷ []) in
-      subst (IsCopied old (suc c) marks) (sym is) (record {
+      subst (IsCopied clauses names (suc c)) (sym is) (record {
         paired = omega (arith, copied.paired, length_push w.names name, length_push w.clauses r);
         from_old = λ k below. elim (cases_lt k (length w.clauses)) [
           | inl low ↦
@@ -83,11 +76,7 @@ module _ (old : ArenaValue) (c name : ℕ) (there : List Bool) (w : WatchValue) 
           | inl low ↦ listed_more (names_of w) (hint_of name) (Clause n) (copied.inputs n (at.0, low, at.2))
           | inr high ↦
               let same : at.0 ≡ c = omega (arith, at.1, high) in
-              listed_last (names_of w) (hint_of name) (Clause n) (sym (here ∙ ap (λ k. get_or (map hint_of old.names) k blank_hint) (sym same) ∙ at.2))
-        ]);
-        lines = λ n marked. subst (λ ns. IsListed ns (Line n)) (sym names_are) (elim (only n marked) [
-          | inl was ↦ listed_more (names_of w) (hint_of name) (Line n) (copied.lines n was)
-          | inr e ↦ listed_last (names_of w) (hint_of name) (Line n) (sym e)
+              listed_last (names_of w) (hint_of name) (Clause n) (sym (here ∙ ap (λ k. get_or (map hint_of names) k blank_hint) (sym same) ∙ at.2))
         ]);
       })
 
@@ -112,9 +101,9 @@ first_head heads None is = sym (ap length is)
 first_head heads (Some head) is = is
 
 -- what was copied of the log's clauses is the log's
-pub gathered_copied : (log : LogValue) (old v : WatchValue) (heads : List ℕ) (there : List Bool) → IsStored log.inputs log.lines old.clauses (names_of old) → AreLong log.inputs log.lines (names_of old)
-    → IsCopied (record { clauses = old.clauses; heads = heads; names = old.names }) (length old.clauses) there v → IsGathered (IsMet (names_of old) there 0) log v
-gathered_copied log old v heads there stored long copied = record {
+pub gathered_copied : (log : LogValue) (old v : WatchValue) → IsStored log.inputs log.lines old.clauses (names_of old) → AreLong log.inputs log.lines (names_of old)
+    → IsCopied old.clauses old.names (length old.clauses) v → IsGathered (IsCarried false (names_of old)) log v
+gathered_copied log old v stored long copied = record {
   stored = record {
     paired = length-map v.names hint_of ∙ copied.paired;
     from_log = λ c known.
@@ -132,20 +121,22 @@ gathered_copied log old v heads there stored long copied = record {
     same_name : (c : ℕ) (known : c < length v.clauses) → get_or (names_of v) c blank_hint ≡ get_or (names_of old) (copied.from_old c known).0 blank_hint
     same_name c known = let from = copied.from_old c known in name_at v.names c ∙ ap hint_of from.3 ∙ sym (name_at old.names from.0)
 
-    held : (hint : Hint) (clause : List Literal) → IsMet (names_of old) there 0 hint → named log.inputs log.lines hint ≡ Some clause → IsListed (names_of v) hint ⊎ IsOne clause
+    held : (hint : Hint) (clause : List Literal) → IsCarried false (names_of old) hint → named log.inputs log.lines hint ≡ Some clause → IsListed (names_of v) hint ⊎ IsOne clause
     held (Clause n) clause met is = inl (copied.inputs n (met.0, omega (arith, met.1, stored.paired), met.2))
-    held (Line n) clause met is = elim met [
-      | inl marked ↦ inl (copied.lines n marked)
-      | inr none ↦ let within = numbered_within log.lines n clause is in absurd (omega (arith, within.0, none))
-    ]
+    held (Line n) clause met is = absurd (false≢true met)
 
 -- a clause that is watched may come
-pub may_come : (lists : ℕ) (log : LogValue) (old : WatchValue) → IsWatching old.clauses old.lists → length old.lists ≡ lists → IsStored log.inputs log.lines old.clauses (names_of old) → AreLong log.inputs log.lines (names_of old)
-    → All (MayCome lists) old.clauses
-may_come lists log old watching size stored long c d known =
+pub may_come : (lists : ℕ) (old : WatchValue) → IsWatching old.clauses old.lists → length old.lists ≡ lists → All (λ clause. 2 ≤ length clause) old.clauses → All (MayCome lists) old.clauses
+may_come lists old watching size long c d known =
     let same : get_or old.clauses c d ≡ clause_of old.clauses c = get_or_default old.clauses c d [] known in
     subst (MayCome lists) (sym same) (record {
-      long = long_clause log.inputs log.lines old.clauses (names_of old) stored long c known;
+      long = long c [] known;
       apart = watching.apart c known;
       fits = subst (λ n. All (λ l. code l < n) (clause_of old.clauses c)) size (watching.fits c known);
     })
+
+-- no clause that is watched is short
+pub all_long : (log : LogValue) (old : WatchValue) → IsStored log.inputs log.lines old.clauses (names_of old) → AreLong log.inputs log.lines (names_of old) → All (λ clause. 2 ≤ length clause) old.clauses
+all_long log old stored long c d known =
+    let same : get_or old.clauses c d ≡ clause_of old.clauses c = get_or_default old.clauses c d [] known in
+    subst (λ clause. 2 ≤ length clause) (sym same) (long_clause log.inputs log.lines old.clauses (names_of old) stored long c known)

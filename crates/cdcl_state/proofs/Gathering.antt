@@ -1,7 +1,8 @@
--- The clauses of a log that are gathered anew, and the state that watches them.
-use Rattle.std.proofs.Common.{◌≡◌, ℕ, zero, suc, ◌<◌, ◌≤◌, ◌+◌, ◌*◌, ◌-◌, ◌⊎◌, inl, inr, Bool, true, false, List, [], ◌∷◌, ◌++◌, Some, All, length, get_or, refl, sym, ap, ◌∙◌, subst, arith}
+-- The clauses of a log that are gathered anew or come from the log, and the state that watches them.
+use Rattle.std.proofs.Common.{◌≡◌, ℕ, zero, suc, ◌<◌, ◌≤◌, ◌+◌, ◌*◌, ◌-◌, ◌⊎◌, inl, inr, Bool, true, false, List, [], ◌∷◌, ◌++◌, Some, All, length, map, get_or, refl, sym, ap, ◌∙◌, subst, arith}
 use Rattle.std.proofs.lemmas.Bool.{cases_lt}
-use Rattle.std.proofs.lemmas.List.{map-append}
+use Rattle.std.proofs.Math.ListN.{get_or-map, get_or-eq_default}
+use Rattle.std.proofs.lemmas.List.{map-append, length-map}
 use Rattle.std.proofs.lemmas.Option.{slice_get-get_or, slice_get_within}
 use mathlib.Core.Bool.{false≢true}
 use Rattle.cnf_base.specs.declared.literal.Literal.{Literal}
@@ -18,7 +19,7 @@ use Rattle.cdcl_propagate.specs.Units.{IsOne}
 use Rattle.cdcl_propagate.proofs.Ready.{code_known}
 use Rattle.cdcl_state.specs.State.{IsState, IsNamed, AreAll, AreLong, IsListed}
 use Rattle.cdcl_state.specs.StateValue.{IsHeeded}
-use Rattle.cdcl_state.specs.Gathered.{HasRoom, IsPut, IsMet, IsCarried, IsGathered}
+use Rattle.cdcl_state.specs.Gathered.{HasRoom, IsPut, AreThere, IsMet, IsCarried, IsGathered}
 use Rattle.cdcl_state.proofs.Attach.{IsMore, listed_more, listed_last, stored_more, long_more, lists_added}
 use Rattle.cdcl_state.proofs.Distinct.{one_short, same_itself, same_again}
 
@@ -103,15 +104,66 @@ met_marked names there j h marked met = elim (met_line names there j h met) [
   | inr e ↦ subst (IsMet names there j) (sym e) (inl marked)
 ]
 
+-- what was met at the beginning
+pub met_begun : (names : List Hint) (there : List Bool) (j : ℕ) (h : Hint) → IsMet names there 0 h → IsMet names there j h
+met_begun names there j (Clause n) met = met
+met_begun names there j (Line n) met = elim met [
+  | inl marked ↦ inl marked
+  | inr none ↦ inr (omega (arith, none))
+]
+
+pub gathered_begun : (names : List Hint) (there : List Bool) (j : ℕ) (log : LogValue) (w : WatchValue) → IsGathered (IsMet names there j) log w → IsGathered (IsMet names there 0) log w
+gathered_begun names there j log w gathered = gathered_fewer log w (IsMet names there j) (IsMet names there 0) gathered (λ h c met is. met_begun names there j h met)
+
 -- where lines are left out, the inputs
-pub carried_inputs : (names : List Hint) (there : List Bool) (h : Hint) → IsCarried false names h → IsMet names there 0 h
+carried_inputs : (names : List Hint) (there : List Bool) (h : Hint) → IsCarried false names h → IsMet names there 0 h
 carried_inputs names there (Clause n) carried = carried
 carried_inputs names there (Line n) carried = absurd (false≢true carried)
 
+pub gathered_inputs : (names : List Hint) (there : List Bool) (log : LogValue) (w : WatchValue) → IsGathered (IsMet names there 0) log w → IsGathered (IsCarried false names) log w
+gathered_inputs names there log w gathered = gathered_fewer log w (IsMet names there 0) (IsCarried false names) gathered (λ h c carried is. carried_inputs names there h carried)
+
 -- where every line was met
-pub carried_all : (log : LogValue) (names : List Hint) (there : List Bool) (h : Hint) (clause : List Literal) → IsCarried true names h → named log.inputs log.lines h ≡ Some clause → IsMet names there (length log.lines) h
+carried_all : (log : LogValue) (names : List Hint) (there : List Bool) (h : Hint) (clause : List Literal) → IsCarried true names h → named log.inputs log.lines h ≡ Some clause → IsMet names there (length log.lines) h
 carried_all log names there (Clause n) clause carried is = carried
 carried_all log names there (Line n) clause carried is = inr (numbered_within log.lines n clause is).1
+
+pub gathered_all : (names : List Hint) (there : List Bool) (log : LogValue) (w : WatchValue) → IsGathered (IsMet names there (length log.lines)) log w → IsGathered (IsCarried true names) log w
+gathered_all names there log w gathered = gathered_fewer log w (IsMet names there (length log.lines)) (IsCarried true names) gathered (λ h c carried is. carried_all log names there h c carried is)
+
+-- no line is marked yet
+pub there_none : (names : List Hint) (there : List Bool) → All (λ mark. mark ≡ false) there → AreThere names there
+there_none names there unmarked n is = elim (cases_lt n (length there)) [
+  | inl low ↦ absurd (false≢true (sym (unmarked n false low) ∙ is))
+  | inr high ↦ absurd (false≢true (sym (get_or-eq_default there false high) ∙ is))
+]
+
+-- a line that is watched is marked
+pub there_more : (names : List ℕ) (there marks : List Bool) (c name : ℕ) → AreThere (map hint_of names) there → c < length names → name ≡ get_or names c 0
+    → ((n : ℕ) → get_or marks n false ≡ true → (get_or there n false ≡ true) ⊎ (hint_of name ≡ Line n)) → AreThere (map hint_of names) marks
+there_more names there marks c name are low name_is only n is = elim (only n is) [
+  | inl was ↦ are n was
+  | inr e ↦ (c, omega (arith, low, length-map names hint_of), get_or-map hint_of names c 0 ∙ ap hint_of (sym name_is) ∙ e)
+]
+
+-- what is watched before a line comes from the log
+pub gathered_there : (log : LogValue) (w : WatchValue) (there : List Bool) → IsStored log.inputs log.lines w.clauses (names_of w) → AreLong log.inputs log.lines (names_of w) → AreThere (names_of w) there → IsGathered (IsMet (names_of w) there 0) log w
+gathered_there log w there stored long are = record { stored = stored; long = long; held = held }
+  where
+    held : (hint : Hint) (clause : List Literal) → IsMet (names_of w) there 0 hint → named log.inputs log.lines hint ≡ Some clause → IsListed (names_of w) hint ⊎ IsOne clause
+    held (Clause n) clause met is = inl met
+    held (Line n) clause met is = elim met [
+      | inl marked ↦ inl (are n marked)
+      | inr none ↦ let within = numbered_within log.lines n clause is in absurd (omega (arith, within.0, none))
+    ]
+
+-- the inputs among what is watched
+pub gathered_itself : (log : LogValue) (w : WatchValue) → IsStored log.inputs log.lines w.clauses (names_of w) → AreLong log.inputs log.lines (names_of w) → IsGathered (IsCarried false (names_of w)) log w
+gathered_itself log w stored long = record { stored = stored; long = long; held = held }
+  where
+    held : (hint : Hint) (clause : List Literal) → IsCarried false (names_of w) hint → named log.inputs log.lines hint ≡ Some clause → IsListed (names_of w) hint ⊎ IsOne clause
+    held (Clause n) clause carried is = inl carried
+    held (Line n) clause carried is = absurd (false≢true carried)
 
 -- a clause's literals have room where all clauses' have
 pub room_at : (marked lists m n i : ℕ) (clauses : List (List Literal)) (clause : List Literal) → All (All (HasRoom marked lists)) clauses → m ≡ marked → n ≡ lists → i < length clauses → clause ≡ clause_at clauses (i + 1) → All (HasRoom m n) clause

@@ -1,4 +1,4 @@
--- The clauses of a log that are gathered anew: which are put among the watched ones, and which were met.
+-- The clauses of a log that are gathered anew or come from the log: which are put among the watched ones, and which were met.
 use Rattle.std.specs.Prelude.{◌≡◌, ℕ, ◌<◌, ◌≤◌, ◌⊎◌, Bool, true, false, List, length, map, All, Some, slice_index_or}
 use Rattle.cnf_base.specs.declared.literal.Literal.{Literal}
 use Rattle.cnf_base.specs.declared.literal.Hint.{Hint}
@@ -6,18 +6,10 @@ use Rattle.cnf_base.specs.declared.literal.Hint.TheVariants.{Clause, Line}
 use Rattle.cnf_base.specs.Step.{named}
 use Rattle.clause_log.specs.LogValue.{LogValue}
 use Rattle.cdcl_watches.specs.Watching.{WatchValue, AreApart, clause_of, code}
-use Rattle.cdcl_watches.specs.Heads.{ArenaValue}
 use Rattle.cdcl_trail.specs.Entries.{hint_of}
 use Rattle.cdcl_propagate.specs.Visit.{HaveSame, IsStored, names_of, blank_hint}
 use Rattle.cdcl_propagate.specs.Units.{IsOne}
 use Rattle.cdcl_state.specs.State.{IsListed, IsNamed, AreLong}
-use Rattle.cdcl_state.specs.declared.kept.Kept.{Kept}
-use Rattle.cdcl_state.specs.declared.kept.Kept.TheVariants.{Every, Marked}
-
--- no line is left out
-abbrev pub is_whole : Kept → Bool
-is_whole Every = true
-is_whole (Marked marks) = false
 
 -- the literal's letter has a mark, and the literal a list
 pub record HasRoom (marked lists : ℕ) (l : Literal) : Type 0 where
@@ -41,12 +33,15 @@ pub record MayCome (lists : ℕ) (clause : List Literal) : Type 0 where
   pub apart : AreApart clause
   pub fits : All (λ l. code l < lists) clause
 
--- each watched clause is one of the old ones, as it stands there and by its name; among them are the inputs of the first old ones, and each line that is marked
-pub record IsCopied (old : ArenaValue) (count : ℕ) (there : List Bool) (w : WatchValue) : Type 0 where
+-- each watched clause is one of the old ones, as it stands there and by its name; among them are the inputs of so many first of the old ones
+pub record IsCopied (clauses : List (List Literal)) (names : List ℕ) (count : ℕ) (w : WatchValue) : Type 0 where
   pub paired : length w.names ≡ length w.clauses
-  pub from_old : (c : ℕ) → c < length w.clauses → (d : ℕ) × (d < length old.clauses) × (clause_of w.clauses c ≡ clause_of old.clauses d) × (slice_index_or w.names c 0 ≡ slice_index_or old.names d 0)
-  pub inputs : (n : ℕ) → IsListedBelow (map hint_of old.names) count (Clause n) → IsListed (names_of w) (Clause n)
-  pub lines : (n : ℕ) → slice_index_or there n false ≡ true → IsListed (names_of w) (Line n)
+  pub from_old : (c : ℕ) → c < length w.clauses → (d : ℕ) × (d < length clauses) × (clause_of w.clauses c ≡ clause_of clauses d) × (slice_index_or w.names c 0 ≡ slice_index_or names d 0)
+  pub inputs : (n : ℕ) → IsListedBelow (map hint_of names) count (Clause n) → IsListed (names_of w) (Clause n)
+
+-- each line that is marked stands among the names
+abbrev pub AreThere : List Hint → List Bool → Type 0
+AreThere names there = (n : ℕ) → slice_index_or there n false ≡ true → IsListed names (Line n)
 
 -- an input that stands among the names, or a line that is marked or one of so many first
 abbrev pub IsMet : List Hint → List Bool → ℕ → Hint → Type 0

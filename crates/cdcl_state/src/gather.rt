@@ -1,17 +1,22 @@
-// The clauses of a log that are to be watched, gathered anew: those that are watched now and are kept come
-// over as they are watched, each copied as one block, and where every line is kept, those that were forgotten
-// come from the log. Clauses of one literal or none are left out, since nobody watches them.
-ghost use Rattle.std.specs.Prelude.{◌≡◌, ◌<◌, List, false, length, All, IfOk, OnOk};
+// Which clauses of a log are watched changes in two ways. What is to stay is gathered anew: of the clauses
+// that are watched now, those that are kept come over as they are watched, each copied as one block. And the
+// lines that are missing come from the log, behind those that are watched, which stay where they stand.
+// Clauses of one literal or none are left out, since nobody watches them.
+ghost use Rattle.std.specs.Prelude.{◌≡◌, ℕ, ◌⊎◌, ◌<◌, ◌≤◌, List, true, false, length, map, All, IfOk, OnErr, OnOk, slice_index_or};
+ghost use Rattle.cnf_base.specs.declared.literal.Hint.TheVariants.{Line};
+ghost use Rattle.cdcl_trail.specs.Entries.{hint_of};
 ghost use Rattle.cdcl_watches.specs.Watching.{code, AreApart};
 ghost use Rattle.cdcl_propagate.specs.Visit.{IsStored, names_of};
 ghost use Rattle.cdcl_state.specs.State.{AreLong};
-ghost use Rattle.cdcl_state.specs.Gathered.{is_whole, HasRoom, IsPut, IsMet, IsCarried, IsGathered};
+ghost use Rattle.cdcl_state.specs.Gathered.{HasRoom, IsPut, IsCopied, AreThere, IsMet, IsCarried, IsGathered};
 
 use crate::copy::copy;
-use crate::kept::{Kept, is_every, is_marked};
+use crate::kept::is_marked;
 use crate::repeats::repeats;
 use crate::store::{distinct, store};
 use cdcl_analyze::marks::Marks;
+use cdcl_trail::hints::lengthen;
+use cdcl_watches::arena::Arena;
 use cdcl_watches::watches::Watches;
 use clause_log::LogView;
 use cnf_base::{Hint, Literal};
@@ -21,7 +26,8 @@ use std::alloc::{AllocError, Global};
 fn put_apart(clause: &[Literal], hint: Hint, watches: &mut Watches) -> Result<(), AllocError>
     requires apart { AreApart clause.now }
     requires fits { All (λ l. code l < length watches.old.lists) clause.now }
-    ensures { OnOk result (IsPut watches.old watches.new clause.now hint) }
+    ensures added { OnOk result (IsPut watches.old watches.new clause.now hint) }
+    ensures refused { OnErr result (watches.new ≡ watches.old) }
 {
     if clause.len() < 2 {
         return Ok(());
@@ -40,6 +46,7 @@ fn put(
     requires { All (HasRoom (length marks.old.stamps) (length watches.old.lists)) clause.now }
     ensures size { length marks.new.stamps ≡ length marks.old.stamps }
     ensures added { OnOk result (IsPut watches.old watches.new clause.now hint) }
+    ensures refused { OnErr result (watches.new ≡ watches.old) }
 {
     if !repeats(marks, clause) {
         return put_apart(clause, hint, watches);
@@ -61,6 +68,35 @@ fn unmarked(alloc: Global, count: u64) -> Result<Vec<bool>, AllocError>
     Ok(there)
 }
 
+/// Marks the line of this name as one that is there. An input has no mark.
+fn mark(name: u32, there: &mut Vec<bool>)
+    ensures { (n : ℕ) → slice_index_or there.new.items n false ≡ true
+        → (slice_index_or there.old.items n false ≡ true) ⊎ (hint_of name ≡ Line n) }
+{
+    match lengthen(name) {
+        Hint::Clause(_) => {}
+        Hint::Line(line) => {
+            if (line as usize) < there.len() {
+                there[line as usize] = true;
+            }
+        }
+    }
+}
+
+/// Marks the lines that are watched.
+fn mark_watched(arena: &Arena, there: &mut Vec<bool>)
+    requires { All (λ mark. mark ≡ false) there.old.items }
+    ensures { AreThere (map hint_of arena.now.names) there.new.items }
+{
+    arena.told();
+    let mut next = arena.first();
+    'heads: while let Some(head) = next {
+        let name = arena.name(head);
+        mark(name, there);
+        next = arena.after(head);
+    }
+}
+
 /// Puts the lines that are not marked among the watched ones.
 fn put_missing(
     alloc: Global,
@@ -71,7 +107,10 @@ fn put_missing(
 ) -> Result<(), AllocError>
     requires { All (All (HasRoom (length marks.old.stamps) (length watches.old.lists))) log.now.lines }
     ensures size { length marks.new.stamps ≡ length marks.old.stamps }
-    ensures lists { OnOk result (length watches.new.lists ≡ length watches.old.lists) }
+    ensures lists { length watches.new.lists ≡ length watches.old.lists }
+    ensures kept { (names : List Hint)
+        → IsGathered (IsMet names there.now.items 0) log.now watches.old
+        → IsGathered (IsMet names there.now.items 0) log.now watches.new }
     ensures gathered { OnOk result ((names : List Hint)
         → IsGathered (IsMet names there.now.items 0) log.now watches.old
         → IsGathered (IsMet names there.now.items (length log.now.lines)) log.now watches.new) }
@@ -85,28 +124,35 @@ fn put_missing(
     Ok(())
 }
 
-/// The clauses that are watched now and are kept, and where every line is kept, the other lines of the log.
-pub fn gather(
+/// Puts the lines that are not watched behind the watched clauses. For want of memory some may come and some
+/// not.
+pub fn complete(
     alloc: Global,
     log: &LogView<'_>,
-    old: &Watches,
-    kept: Kept<'_>,
     marks: &mut Marks,
-) -> Result<Watches, AllocError>
-    requires stored { IsStored log.now.inputs log.now.lines old.now.clauses (names_of old.now) }
-    requires long { AreLong log.now.inputs log.now.lines (names_of old.now) }
-    requires lines { All (All (HasRoom (length marks.old.stamps) (length old.now.lists))) log.now.lines }
+    watches: &mut Watches,
+) -> Result<(), AllocError>
+    requires stored { IsStored log.now.inputs log.now.lines watches.old.clauses (names_of watches.old) }
+    requires long { AreLong log.now.inputs log.now.lines (names_of watches.old) }
+    requires lines { All (All (HasRoom (length marks.old.stamps) (length watches.old.lists))) log.now.lines }
     ensures size { length marks.new.stamps ≡ length marks.old.stamps }
+    ensures lists { length watches.new.lists ≡ length watches.old.lists }
+    ensures kept { IsGathered (IsCarried false (names_of watches.old)) log.now watches.new }
+    ensures whole { OnOk result (IsGathered (IsCarried true (names_of watches.old)) log.now watches.new) }
+{
+    let mut there = unmarked(alloc, log.lines())?;
+    mark_watched(&watches.arena, &mut there);
+    put_missing(alloc, log, &there, marks, watches)
+}
+
+/// The clauses that are watched now and are kept: the inputs, and the lines whose numbers are marked.
+pub fn gather(alloc: Global, old: &Watches, kept: &[bool]) -> Result<Watches, AllocError>
+    requires { All (λ clause. 2 ≤ length clause) old.now.clauses }
     ensures lists { IfOk result (λ watches. length watches.lists ≡ length old.now.lists) }
-    ensures gathered { IfOk result (IsGathered (IsCarried (is_whole kept.entry) (names_of old.now)) log.now) }
+    ensures copied { IfOk result (IsCopied old.now.clauses old.now.names (length old.now.clauses)) }
 {
     old.watching();
     let mut watches = old.emptied(alloc)?;
-    let mut there = unmarked(alloc, log.lines())?;
-    copy(&old.arena, kept, &mut there, &mut watches)?;
-    if !is_every(kept) {
-        return Ok(watches);
-    }
-    put_missing(alloc, log, &there, marks, &mut watches)?;
+    copy(&old.arena, kept, &mut watches)?;
     Ok(watches)
 }

@@ -1,13 +1,13 @@
 // Forgetting: the inputs and some of the lines are watched, and the other lines rest in the log, where the
 // trail and the hints of later lines still name them. The lists of watchers grow with all that was ever
-// learnt, most of which is of no use any more, so a long search is faster without it. `restore` watches all
-// lines again. After Een and Sorensson, An extensible SAT-solver (2003).
+// learnt, most of which is of no use any more, so a long search is faster without it. `forget` gathers what
+// stays anew. `restore` puts the lines that are missing among the watched ones, after the others, which stay
+// where they are. After either each list has to be visited again, since the first two literals of a clause
+// may be false. After Een and Sorensson, An extensible SAT-solver (2003).
 ghost use Rattle.std.specs.Prelude.{◌≡◌, OnErr, OnOk, true, false};
 ghost use Rattle.cdcl_state.specs.StateValue.{with_whole};
-ghost use Rattle.cdcl_state.specs.Gathered.{is_whole};
 
-use crate::gather::gather;
-use crate::kept::{Kept, is_every};
+use crate::gather::{complete, gather};
 use crate::state::State;
 use std::alloc::{AllocError, Global};
 
@@ -18,7 +18,12 @@ impl State {
         ensures forgot { OnOk result (self.new ≡ with_whole self.old false) }
         ensures refused { OnErr result (self.new ≡ self.old) }
     {
-        self.watch(alloc, Kept::Marked(kept))
+        let watches = gather(alloc, &self.watches, kept)?;
+        self.watches = watches;
+        self.head = 0;
+        self.sure = 0;
+        self.whole = false;
+        Ok(())
     }
 
     /// Watches all lines again, if some were forgotten.
@@ -29,26 +34,11 @@ impl State {
         if self.whole {
             return Ok(());
         }
-        self.watch(alloc, Kept::Every)
-    }
-
-    /// Watches the inputs and the lines that are kept. Each list has to be visited again, since the first two
-    /// literals of a clause may be false.
-    fn watch(&mut self, alloc: Global, kept: Kept<'_>) -> Result<(), AllocError>
-        ensures watched { OnOk result (self.new ≡ with_whole self.old (is_whole kept.entry)) }
-        ensures refused { OnErr result (self.new ≡ self.old) }
-    {
-        let watches = gather(
-            alloc,
-            &self.log.view(),
-            &self.watches,
-            kept,
-            &mut self.marks,
-        )?;
-        self.watches = watches;
+        // First, since some lines may have come where memory is wanting for the others.
         self.head = 0;
         self.sure = 0;
-        self.whole = is_every(kept);
+        complete(alloc, &self.log.view(), &mut self.marks, &mut self.watches)?;
+        self.whole = true;
         Ok(())
     }
 }

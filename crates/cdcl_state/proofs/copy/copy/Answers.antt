@@ -12,7 +12,7 @@ heads-init c =
     record {
       head = at.0;
       lists = refl;
-      copied = subst (λ n. IsCopied old n c.args.there.now.items c.args.watches.now) (sym at.1) (copied_none old c.args.there.now.items c.args.watches.now c.requires.clauses c.requires.names c.requires.unmarked);
+      copied = subst (λ n. IsCopied old.clauses old.names n c.args.watches.now) (sym at.1) (copied_none old.clauses old.names c.args.watches.now c.requires.clauses c.requires.names);
     }
 
 pub heads-preserved : goal.heads-preserved
@@ -23,7 +23,7 @@ heads-preserved c =
     record {
       head = at.0;
       lists = c.in_ok-copy_clause.ensures.lists ∙ c.heads.invariant.lists;
-      copied = subst (λ n. IsCopied old n c.copy_clause.new.there.items c.copy_clause.new.watches) (sym at.1) c.in_ok-copy_clause.ensures.copied;
+      copied = subst (λ n. IsCopied old.clauses old.names n c.copy_clause.new.watches) (sym at.1) c.in_ok-copy_clause.ensures.copied;
     }
 
 pub heads-smaller : goal.heads-smaller

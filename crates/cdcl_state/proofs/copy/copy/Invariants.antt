@@ -7,7 +7,7 @@ abbrev pub invariant-heads : goal.invariant-heads
 invariant-heads l = record {
   head : IfSome l.next (Contains l.old.heads);
   lists : length l.watches.lists ≡ length l.initial.watches.lists;
-  copied : IsCopied l.old (count_at l.old.heads l.next) l.there.items l.watches;
+  copied : IsCopied l.old.clauses l.old.names (count_at l.old.heads l.next) l.watches;
 }
 
 abbrev pub decreases-heads : goal.decreases-heads

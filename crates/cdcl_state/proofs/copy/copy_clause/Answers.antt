@@ -9,7 +9,7 @@ use Rattle.cdcl_state.proofs.copy.copy_clause.Goals as goal
 pub returns-then-not-stays-clause-copied : goal.returns-then-not-stays-clause-copied
 returns-then-not-stays-clause-copied c =
     let old = c.args.old.now in
-    copied_left old (number_of old.heads c.args.head) c.name-name.result c.args.there.now.items c.args.watches.now c.requires.begun c.name-name.ensures
+    copied_left old.clauses old.names (number_of old.heads c.args.head) c.name-name.result c.args.watches.now c.requires.begun c.name-name.ensures
     (λ n input. false≢true (sym c.if-not-stays.true ∙ c.stays.ensures n input))
 
 pub add_from-requires-clause-long : goal.add_from-requires-clause-long
@@ -26,5 +26,5 @@ returns-clause-copied c =
     let old = c.args.old.now in
     let low = number_low old.heads c.args.head c.requires.head in
     let n = number_of old.heads c.args.head in
-    copied_more old n c.name-name.result c.args.there.now.items c.args.watches.now c.requires.begun c.name-name.ensures c.mark.new.there.items c.add_from.new.self
-    (omega (arith, low.0, c.told.ensures.paired)) (c.in_ok-add_from.ensures ∙ ap (with_clause c.args.watches.now (clause_of old.clauses n)) (sym c.name-name.ensures)) c.mark.ensures
+    copied_more old.clauses old.names n c.name-name.result c.args.watches.now c.requires.begun c.name-name.ensures c.add_from.new.self
+    (omega (arith, low.0, c.told.ensures.paired)) (c.in_ok-add_from.ensures ∙ ap (with_clause c.args.watches.now (clause_of old.clauses n)) (sym c.name-name.ensures))

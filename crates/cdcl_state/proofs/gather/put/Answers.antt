@@ -20,4 +20,4 @@ returns-clause-added c =
     let new = c.put_apart-2.new.watches in
     let same = subst (HaveSame c.args.clause.now) (sym c.deref.ensures.value) c.in_ok-distinct.ensures.same in
     IfOk-weaker c.put_apart-2.result (λ _. IsPut old new c.deref.result.now c.args.hint) (λ _. IsPut old new c.args.clause.now c.args.hint)
-    (λ _ put. put_same old new c.args.clause.now c.deref.result.now c.args.hint same put) c.put_apart-2.ensures
+    (λ _ put. put_same old new c.args.clause.now c.deref.result.now c.args.hint same put) c.put_apart-2.ensures.added

@@ -4,8 +4,8 @@ use Rattle.cdcl_state.specs.Gathered.{IsPut}
 use Rattle.cdcl_state.proofs.Gathering.{put_long}
 use Rattle.cdcl_state.proofs.gather.put_apart.Goals as goal
 
-pub returns : goal.returns
-returns c =
+pub returns-clause-added : goal.returns-clause-added
+returns-clause-added c =
     let old = c.args.watches.now in
     let new = c.store.new.watches in
     IfOk-weaker c.store.result (λ _. IsNamed old new c.args.clause.now c.args.hint) (λ _. IsPut old new c.args.clause.now c.args.hint)

@@ -2,7 +2,7 @@ use Rattle.std.proofs.Common.{◌≡◌, ◌<◌, ◌≤◌, ◌+◌, true, fals
 use Rattle.cnf_base.specs.declared.literal.Hint.TheVariants.{Line}
 use Rattle.cnf_base.specs.Step.{named}
 use Rattle.cdcl_state.specs.Gathered.{IsMet, IsGathered}
-use Rattle.cdcl_state.proofs.Gathering.{room_at, put_lists, numbered_at, gathered_put, gathered_fewer, met_line, met_marked}
+use Rattle.cdcl_state.proofs.Gathering.{room_at, put_lists, numbered_at, gathered_put, gathered_fewer, gathered_begun, met_line, met_marked}
 use Rattle.cdcl_state.proofs.gather.put_missing.Goals as goal
 use Rattle.cdcl_state.proofs.gather.put_missing.Goals.{then-not-is_marked+in_ok-put, else-not-is_marked}
 
@@ -39,6 +39,18 @@ loop-index-preserved c =
                 (gathered_fewer log c.loop-index.watches (IsMet names there i) (IsMet names there (i + 1)) (c.loop-index.invariant.gathered names begun) (λ h x met is. met_marked names there i h (subst (λ l. slice_index_or l (i + 1) false ≡ true) c.deref.ensures.value (sym c.is_marked.ensures ∙ w.if-not-is_marked.false)) met));
           }
     ]
+
+pub returns-in_err-put-clause-lists : goal.returns-in_err-put-clause-lists
+returns-in_err-put-clause-lists c = ap (λ v. length v.lists) c.in_err-put.ensures.refused ∙ c.loop-index.invariant.lists
+
+pub returns-in_err-put-clause-kept : goal.returns-in_err-put-clause-kept
+returns-in_err-put-clause-kept c =
+    let log = c.args.log.now in
+    let there = c.args.there.now.items in
+    λ names begun. subst (IsGathered (IsMet names there 0) log) (sym c.in_err-put.ensures.refused) (gathered_begun names there c.loop-index.index log c.loop-index.watches (c.loop-index.invariant.gathered names begun))
+
+pub returns-clause-kept : goal.returns-clause-kept
+returns-clause-kept c = λ names begun. gathered_begun names c.args.there.now.items c.loop-index.index c.args.log.now c.loop-index.watches (c.loop-index.invariant.gathered names begun)
 
 pub returns-clause-gathered : goal.returns-clause-gathered
 returns-clause-gathered c =
