@@ -15,10 +15,10 @@ use cnf_base::Hint;
 use std::alloc::{AllocError, Global};
 
 /// So many lines are learnt before the first are forgotten, in all questions together.
-const FIRST: u64 = 2000;
+const FIRST: u64 = 2500;
 
 /// So many lines more each time.
-const MORE: u64 = 200;
+const MORE: u64 = 300;
 
 /// Levels and literals are told apart below this number.
 const MANY: usize = 256;

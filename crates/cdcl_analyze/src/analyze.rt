@@ -337,6 +337,19 @@ fn cite_consequences(consequences: &[Consequence], learnt: &mut Learnt) -> Resul
     Ok(())
 }
 
+/// Makes the letters that follow more active, the last that was found first. What is marked is so already.
+fn bump_consequences(marks: &Marks, choices: &mut Choices) {
+    let consequences = marks.consequences();
+    let mut count = consequences.len();
+    'down: while count > 0 {
+        count -= 1;
+        let letter = consequences[count].letter;
+        if !marks.has(letter as usize) {
+            choices.bump(letter);
+        }
+    }
+}
+
 /// Goes down the marked places below `from`: the clause keeps what does not follow from the rest, and what
 /// stands on level 0 is resolved away.
 fn minimize(
@@ -365,12 +378,7 @@ fn minimize(
     assigned.told();
     let base = base_of(assigned, from);
     keep_rest(assigned, log, base, from, marks, learnt)?;
-    for consequence in marks.consequences() {
-        // What is marked is more active already.
-        if !marks.has(consequence.letter as usize) {
-            choices.bump(consequence.letter);
-        }
-    }
+    bump_consequences(marks, choices);
     cite_consequences(marks.consequences(), learnt)?;
     walk(assigned, log, base, marks, choices, learnt)
 }
