@@ -331,7 +331,7 @@ module _ (inputs lines : List (List Literal)) (trail : List Entry) (base : ℕ) 
               (there.0, there.1, ap (λ (l : Literal). l.letter.0) there.2)
         ])
 
-    reason_named : (clause : List Literal) × (named inputs lines reason ≡ Some clause)
+    pub reason_named : (clause : List Literal) × (named inputs lines reason ≡ Some clause)
     reason_named = let entry = entry_reason inputs lines trail why.place reason is_trail why.inside why.reason_is in (entry.clause, entry.is)
 
     pub given_more : (end : ℕ) (old new : MarksValue) (clause : List Literal) (i : ℕ) (d : Literal) → Grows inputs lines trail base end old new → i < length clause

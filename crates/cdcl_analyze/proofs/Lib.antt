@@ -8,3 +8,4 @@ pub mod Back
 mod Growth
 mod Minimal
 mod Resting
+mod Sameness

@@ -1,4 +1,5 @@
 pub mod Marks
+pub mod Reason
 pub mod Waiting
 pub mod Learnt
 pub mod Analysis

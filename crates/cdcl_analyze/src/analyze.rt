@@ -5,10 +5,10 @@
 // Marques-Silva and Sakallah, GRASP (1999), and, for the hints, Goldberg and Novikov, Verification of proofs
 // of unsatisfiability for CNF formulas (2003).
 ghost use Rattle.std.specs.Prelude.{◌≡◌, ℕ, ◌^◌, ◌<◌, ◌≤◌, List, [], ◌∷◌, ◌++◌, length, map, reverse, All, Some, None, OnOk, IfOk, slice_index_or};
-ghost use Rattle.cnf_base.specs.Step.{named};
-ghost use Rattle.cdcl_trail.specs.Trail.{IsTrail, IsConflict, literals_of, blank_entry, IsDecision};
+ghost use Rattle.cdcl_trail.specs.Trail.{IsConflict, literals_of, blank_entry, IsDecision};
 ghost use Rattle.cdcl_analyze.specs.Learnt.{IsLearnt};
-ghost use Rattle.cdcl_trail.specs.Values.{IsBelow, AreBelow};
+ghost use Rattle.cdcl_analyze.specs.Reason.{IsAnalyzable, read_literals};
+ghost use Rattle.cdcl_trail.specs.Values.{IsBelow};
 ghost use Rattle.cdcl_analyze.specs.Analysis.{AreFromOne, AreWaiting, IsLike, IsWalk, refuted_at};
 ghost use Rattle.cdcl_analyze.specs.Marks.{IsMarked, outcome_of, FoundSame};
 ghost use Rattle.cdcl_analyze.specs.Consequences.{IsRest};
@@ -17,10 +17,12 @@ ghost use Rattle.cdcl_analyze.specs.declared.analyze.Cut.TheVariants.{Decisions}
 
 use crate::marks::{Consequence, Marks};
 use crate::minimize::{STEPS, settle};
+use crate::reason::Reason;
 use cdcl_activity::choices::Choices;
 use cdcl_trail::assigned::{Assigned, Entry};
 use cdcl_trail::named::clause_of;
-use clause_log::{Log, LogView};
+use cdcl_watches::arena::Arena;
+use clause_log::Log;
 use cnf_base::{Hint, Literal};
 use std::alloc::{AllocError, Global};
 
@@ -110,22 +112,22 @@ fn mark_letter(
 fn mark(
     assigned: &Assigned,
     cut: Cut,
-    clause: &[Literal],
+    clause: &Reason<'_>,
     marks: &mut Marks,
     choices: &mut Choices,
     open: &mut usize,
 ) -> Result<(), AllocError>
-    requires known { All (IsBelow (length assigned.now.values)) clause.now }
+    requires known { All (IsBelow (length assigned.now.values)) (read_literals clause.now) }
     requires size { length assigned.now.values ≤ length marks.old.stamps }
     ensures size { length marks.new.stamps ≡ length marks.old.stamps }
     ensures kept { OnOk result ((x : ℕ) → IsMarked marks.old x → IsMarked marks.new x) }
-    ensures all { OnOk result (All (λ l. IsMarked marks.new l.letter.0) clause.now) }
+    ensures all { OnOk result (All (λ l. IsMarked marks.new l.letter.0) (read_literals clause.now)) }
     ensures waiting { OnOk result ((end : ℕ) → AreWaiting assigned.now.trail end marks.old
         → AreWaiting assigned.now.trail end marks.new) }
     ensures found { FoundSame marks.old marks.new }
 {
-    for literal in clause {
-        mark_letter(assigned, cut, literal.letter.0, marks, choices, open)?;
+    for place in 0..clause.len() {
+        mark_letter(assigned, cut, clause.letter(place), marks, choices, open)?;
     }
     Ok(())
 }
@@ -155,16 +157,14 @@ fn cite(learnt: &mut Learnt, hint: Hint) -> Result<(), AllocError>
 /// the clause.
 fn walk(
     assigned: &Assigned,
+    arena: &Arena,
     log: &Log,
     from: usize,
     marks: &mut Marks,
     choices: &mut Choices,
     learnt: &mut Learnt,
 ) -> Result<(), AllocError>
-    requires is_trail { IsTrail log.now.inputs log.now.lines assigned.now.trail }
-    requires known_inputs { AreBelow (length assigned.now.values) log.now.inputs }
-    requires known_lines { AreBelow (length assigned.now.values) log.now.lines }
-    requires few { length assigned.now.values ≤ 2 ^ 32 }
+    requires analyzable { IsAnalyzable log.now assigned.now arena.now }
     requires from { from ≤ length assigned.now.trail }
     requires size { length assigned.now.values ≤ length marks.old.stamps }
     requires waiting { AreWaiting assigned.now.trail from marks.old }
@@ -187,14 +187,8 @@ fn walk(
         match entry.reason {
             Some(hint) => {
                 cite(learnt, hint)?;
-                mark(
-                    assigned,
-                    Cut::Decisions,
-                    clause_of(&view, hint),
-                    marks,
-                    choices,
-                    &mut open,
-                )?;
+                let clause = Reason::of(arena, &view, entry.literal.letter.0, hint);
+                mark(assigned, Cut::Decisions, &clause, marks, choices, &mut open)?;
                 continue 'down;
             }
             None => {
@@ -210,6 +204,7 @@ fn walk(
 /// cut's level is open. The clause keeps the last one, whose place it answers.
 fn walk_level(
     assigned: &Assigned,
+    arena: &Arena,
     log: &Log,
     cut: Cut,
     marks: &mut Marks,
@@ -217,10 +212,7 @@ fn walk_level(
     open: &mut usize,
     learnt: &mut Learnt,
 ) -> Result<usize, AllocError>
-    requires is_trail { IsTrail log.now.inputs log.now.lines assigned.now.trail }
-    requires known_inputs { AreBelow (length assigned.now.values) log.now.inputs }
-    requires known_lines { AreBelow (length assigned.now.values) log.now.lines }
-    requires few { length assigned.now.values ≤ 2 ^ 32 }
+    requires analyzable { IsAnalyzable log.now assigned.now arena.now }
     requires size { length assigned.now.values ≤ length marks.old.stamps }
     requires waiting { AreWaiting assigned.now.trail (length assigned.now.trail) marks.old }
     ensures size { length marks.new.stamps ≡ length marks.old.stamps }
@@ -247,7 +239,8 @@ fn walk_level(
                 }
                 *open -= 1;
                 cite(learnt, hint)?;
-                mark(assigned, cut, clause_of(&view, hint), marks, choices, open)?;
+                let clause = Reason::of(arena, &view, entry.literal.letter.0, hint);
+                mark(assigned, cut, &clause, marks, choices, open)?;
                 continue 'down;
             }
             None => {
@@ -280,13 +273,14 @@ fn base_of(assigned: &Assigned, from: usize) -> usize
 /// rest. What follows is left in the marks, and so is what waits below the base.
 fn keep_rest(
     assigned: &Assigned,
+    arena: &Arena,
     log: &Log,
     base: usize,
     from: usize,
     marks: &mut Marks,
     learnt: &mut Learnt,
 ) -> Result<(), AllocError>
-    requires is_trail { IsTrail log.now.inputs log.now.lines assigned.now.trail }
+    requires analyzable { IsAnalyzable log.now assigned.now arena.now }
     requires base { base ≤ from }
     requires from { from ≤ length assigned.now.trail }
     requires size { length assigned.now.values ≤ length marks.old.stamps }
@@ -312,7 +306,7 @@ fn keep_rest(
             return Ok(());
         }
         end = place;
-        settle(assigned, &view, base, letter, marks, STEPS)?;
+        settle(assigned, arena, &view, base, letter, marks, STEPS)?;
         if marks.outcome(letter as usize) != Some(true) {
             marks.told();
             marks.deny(letter as usize);
@@ -354,16 +348,14 @@ fn bump_consequences(marks: &Marks, choices: &mut Choices) {
 /// stands on level 0 is resolved away.
 fn minimize(
     assigned: &Assigned,
+    arena: &Arena,
     log: &Log,
     from: usize,
     marks: &mut Marks,
     choices: &mut Choices,
     learnt: &mut Learnt,
 ) -> Result<(), AllocError>
-    requires is_trail { IsTrail log.now.inputs log.now.lines assigned.now.trail }
-    requires known_inputs { AreBelow (length assigned.now.values) log.now.inputs }
-    requires known_lines { AreBelow (length assigned.now.values) log.now.lines }
-    requires few { length assigned.now.values ≤ 2 ^ 32 }
+    requires analyzable { IsAnalyzable log.now assigned.now arena.now }
     requires from { from ≤ length assigned.now.trail }
     requires size { length assigned.now.values ≤ length marks.old.stamps }
     requires waiting { AreWaiting assigned.now.trail from marks.old }
@@ -377,15 +369,16 @@ fn minimize(
 {
     assigned.told();
     let base = base_of(assigned, from);
-    keep_rest(assigned, log, base, from, marks, learnt)?;
+    keep_rest(assigned, arena, log, base, from, marks, learnt)?;
     bump_consequences(marks, choices);
     cite_consequences(marks.consequences(), learnt)?;
-    walk(assigned, log, base, marks, choices, learnt)
+    walk(assigned, arena, log, base, marks, choices, learnt)
 }
 
 /// Goes down the marked places of the trail, and resolves there what the cut does not keep in the clause.
 fn resolve(
     assigned: &Assigned,
+    arena: &Arena,
     log: &Log,
     cut: Cut,
     marks: &mut Marks,
@@ -393,10 +386,7 @@ fn resolve(
     open: &mut usize,
     learnt: &mut Learnt,
 ) -> Result<(), AllocError>
-    requires is_trail { IsTrail log.now.inputs log.now.lines assigned.now.trail }
-    requires known_inputs { AreBelow (length assigned.now.values) log.now.inputs }
-    requires known_lines { AreBelow (length assigned.now.values) log.now.lines }
-    requires few { length assigned.now.values ≤ 2 ^ 32 }
+    requires analyzable { IsAnalyzable log.now assigned.now arena.now }
     requires size { length assigned.now.values ≤ length marks.old.stamps }
     requires waiting { AreWaiting assigned.now.trail (length assigned.now.trail) marks.old }
     requires unasked { (x : ℕ) → outcome_of marks.old x ≡ None }
@@ -413,12 +403,12 @@ fn resolve(
     assigned.told();
     match cut {
         Cut::Decisions => {
-            walk(assigned, log, assigned.len(), marks, choices, learnt)?;
+            walk(assigned, arena, log, assigned.len(), marks, choices, learnt)?;
             return Ok(());
         }
         Cut::FirstUnique(_) => {
-            let place = walk_level(assigned, log, cut, marks, choices, open, learnt)?;
-            minimize(assigned, log, place, marks, choices, learnt)?;
+            let place = walk_level(assigned, arena, log, cut, marks, choices, open, learnt)?;
+            minimize(assigned, arena, log, place, marks, choices, learnt)?;
             return Ok(());
         }
     }
@@ -428,16 +418,14 @@ fn resolve(
 pub fn explain(
     alloc: Global,
     assigned: &Assigned,
+    arena: &Arena,
     log: &Log,
     cut: Cut,
     marks: &mut Marks,
     choices: &mut Choices,
     conflict: Hint,
 ) -> Result<Learnt, AllocError>
-    requires is_trail { IsTrail log.now.inputs log.now.lines assigned.now.trail }
-    requires known_inputs { AreBelow (length assigned.now.values) log.now.inputs }
-    requires known_lines { AreBelow (length assigned.now.values) log.now.lines }
-    requires few { length assigned.now.values ≤ 2 ^ 32 }
+    requires analyzable { IsAnalyzable log.now assigned.now arena.now }
     requires size { length assigned.now.values ≤ length marks.old.stamps }
     requires from_one { AreFromOne assigned.now.trail }
     requires conflict { IsConflict log.now.inputs log.now.lines (literals_of assigned.now.trail) conflict }
@@ -452,15 +440,18 @@ pub fn explain(
     let mut open: usize = 0;
     let mut learnt = blank(alloc)?;
     cite(&mut learnt, conflict)?;
-    mark(
+    let clause = Reason::Logged(clause_of(&view, conflict));
+    mark(assigned, cut, &clause, marks, choices, &mut open)?;
+    resolve(
         assigned,
+        arena,
+        log,
         cut,
-        clause_of(&view, conflict),
         marks,
         choices,
         &mut open,
+        &mut learnt,
     )?;
-    resolve(assigned, log, cut, marks, choices, &mut open, &mut learnt)?;
     learnt.hints.reverse();
     Ok(learnt)
 }
@@ -470,16 +461,14 @@ pub fn explain(
 pub fn explain_forced(
     alloc: Global,
     assigned: &Assigned,
+    arena: &Arena,
     log: &Log,
     marks: &mut Marks,
     choices: &mut Choices,
     place: usize,
     hint: Hint,
 ) -> Result<Learnt, AllocError>
-    requires is_trail { IsTrail log.now.inputs log.now.lines assigned.now.trail }
-    requires known_inputs { AreBelow (length assigned.now.values) log.now.inputs }
-    requires known_lines { AreBelow (length assigned.now.values) log.now.lines }
-    requires few { length assigned.now.values ≤ 2 ^ 32 }
+    requires analyzable { IsAnalyzable log.now assigned.now arena.now }
     requires size { length assigned.now.values ≤ length marks.old.stamps }
     requires from_one { AreFromOne assigned.now.trail }
     requires place { place < length assigned.now.trail }
@@ -496,15 +485,9 @@ pub fn explain_forced(
     let mut learnt = blank(alloc)?;
     keep(&mut learnt, assigned.entry(place).literal, place)?;
     cite(&mut learnt, hint)?;
-    mark(
-        assigned,
-        Cut::Decisions,
-        clause_of(&view, hint),
-        marks,
-        choices,
-        &mut open,
-    )?;
-    walk(assigned, log, place, marks, choices, &mut learnt)?;
+    let clause = Reason::Logged(clause_of(&view, hint));
+    mark(assigned, Cut::Decisions, &clause, marks, choices, &mut open)?;
+    walk(assigned, arena, log, place, marks, choices, &mut learnt)?;
     learnt.hints.reverse();
     Ok(learnt)
 }

@@ -4,4 +4,5 @@
 pub mod analyze;
 pub mod marks;
 mod minimize;
+mod reason;
 mod waiting;

@@ -8,13 +8,15 @@
 ghost use Rattle.std.specs.Prelude.{◌≡◌, ◌≢◌, ℕ, ◌<◌, ◌≤◌, ◌⊎◌, List, true, false, All, length, Some, None, IfOk, OnOk};
 ghost use Rattle.cnf_base.specs.declared.literal.Literal.{Literal};
 ghost use Rattle.cnf_base.specs.Step.{named};
-ghost use Rattle.cdcl_trail.specs.Trail.{IsTrail, AreValues, literal_at};
+ghost use Rattle.cdcl_trail.specs.Trail.{AreValues, literal_at};
 ghost use Rattle.cdcl_analyze.specs.Marks.{outcome_of};
+ghost use Rattle.cdcl_analyze.specs.Reason.{IsAnalyzable};
 ghost use Rattle.cdcl_analyze.specs.Consequences.{StandsBelow, IsGiven, HasReason, AreConsequences, Grows};
 
 use crate::marks::Marks;
+use crate::reason::Reason;
 use cdcl_trail::assigned::Assigned;
-use cdcl_trail::named::clause_of;
+use cdcl_watches::arena::Arena;
 use clause_log::LogView;
 use cnf_base::Hint;
 use std::alloc::AllocError;
@@ -29,6 +31,7 @@ pub(crate) const STEPS: u32 = 1000;
 #[inline(always)]
 pub(crate) fn settle(
     assigned: &Assigned,
+    arena: &Arena,
     view: &LogView<'_>,
     base: usize,
     letter: u32,
@@ -36,7 +39,7 @@ pub(crate) fn settle(
     steps: u32,
 ) -> Result<bool, AllocError>
     requires told { AreValues assigned.now.values assigned.now.trail }
-    requires is_trail { IsTrail view.now.inputs view.now.lines assigned.now.trail }
+    requires analyzable { IsAnalyzable view.now assigned.now arena.now }
     requires size { length assigned.now.values ≤ length marks.old.stamps }
     requires stands { StandsBelow assigned.now.trail (length assigned.now.trail) letter }
     requires base { base ≤ length assigned.now.trail }
@@ -51,7 +54,7 @@ pub(crate) fn settle(
     match marks.outcome(letter as usize) {
         Some(true) => return Ok(true),
         Some(false) => return Ok(marks.has(letter as usize)),
-        None => return ask(assigned, view, base, letter, marks, steps),
+        None => return ask(assigned, arena, view, base, letter, marks, steps),
     }
 }
 
@@ -59,6 +62,7 @@ pub(crate) fn settle(
 #[cycle(following)]
 fn ask(
     assigned: &Assigned,
+    arena: &Arena,
     view: &LogView<'_>,
     base: usize,
     letter: u32,
@@ -66,7 +70,7 @@ fn ask(
     steps: u32,
 ) -> Result<bool, AllocError>
     requires told { AreValues assigned.now.values assigned.now.trail }
-    requires is_trail { IsTrail view.now.inputs view.now.lines assigned.now.trail }
+    requires analyzable { IsAnalyzable view.now assigned.now arena.now }
     requires size { length assigned.now.values ≤ length marks.old.stamps }
     requires stands { StandsBelow assigned.now.trail (length assigned.now.trail) letter }
     requires base { base ≤ length assigned.now.trail }
@@ -94,7 +98,7 @@ fn ask(
     }
     match entry.reason {
         Some(reason) => {
-            let follows = derive(assigned, view, base, letter, reason, marks, steps)?;
+            let follows = derive(assigned, arena, view, base, letter, reason, marks, steps)?;
             Ok(marked || follows)
         }
         None => {
@@ -108,6 +112,7 @@ fn ask(
 #[cycle(following)]
 fn derive(
     assigned: &Assigned,
+    arena: &Arena,
     view: &LogView<'_>,
     base: usize,
     letter: u32,
@@ -116,7 +121,7 @@ fn derive(
     steps: u32,
 ) -> Result<bool, AllocError>
     requires told { AreValues assigned.now.values assigned.now.trail }
-    requires is_trail { IsTrail view.now.inputs view.now.lines assigned.now.trail }
+    requires analyzable { IsAnalyzable view.now assigned.now arena.now }
     requires size { length assigned.now.values ≤ length marks.old.stamps }
     requires reason { HasReason assigned.now.trail base letter reason }
     requires consequences { AreConsequences view.now.inputs view.now.lines assigned.now.trail base
@@ -128,7 +133,18 @@ fn derive(
         → Grows view.now.inputs view.now.lines assigned.now.trail base end marks.old marks.new) }
 {
     let count = marks.consequences().len();
-    if steps > 0 && are_given(assigned, view, base, letter, reason, marks, steps - 1)? {
+    if steps > 0
+        && are_given(
+            assigned,
+            arena,
+            view,
+            base,
+            letter,
+            reason,
+            marks,
+            steps - 1,
+        )?
+    {
         marks.told();
         marks.conclude(letter, reason)?;
         return Ok(true);
@@ -143,6 +159,7 @@ fn derive(
 #[cycle(following)]
 fn are_given(
     assigned: &Assigned,
+    arena: &Arena,
     view: &LogView<'_>,
     base: usize,
     letter: u32,
@@ -151,7 +168,7 @@ fn are_given(
     steps: u32,
 ) -> Result<bool, AllocError>
     requires told { AreValues assigned.now.values assigned.now.trail }
-    requires is_trail { IsTrail view.now.inputs view.now.lines assigned.now.trail }
+    requires analyzable { IsAnalyzable view.now assigned.now arena.now }
     requires size { length assigned.now.values ≤ length marks.old.stamps }
     requires reason { HasReason assigned.now.trail base letter reason }
     requires consequences { AreConsequences view.now.inputs view.now.lines assigned.now.trail base
@@ -164,9 +181,10 @@ fn are_given(
         → (literal_at assigned.now.trail place).letter.0 ≡ letter
         → Grows view.now.inputs view.now.lines assigned.now.trail base place marks.old marks.new) }
 {
-    for literal in clause_of(view, reason) {
-        let other = literal.letter.0;
-        if other != letter && !settle(assigned, view, base, other, marks, steps)? {
+    let clause = Reason::of(arena, view, letter, reason);
+    for place in 0..clause.len() {
+        let other = clause.letter(place);
+        if other != letter && !settle(assigned, arena, view, base, other, marks, steps)? {
             return Ok(false);
         }
     }

@@ -113,5 +113,6 @@ pub fn visit(
         level,
         reason: Some(hint),
     })?;
+    arena.note(other.letter.0, head);
     Ok(None)
 }

@@ -14,10 +14,12 @@ use Rattle.cdcl_trail.specs.Trail.{literals_of, AreValues, IsTrail, IsConflict, 
 use Rattle.cdcl_state.specs.StateValue.{IsBack, IsSettled, Propagated, state_of}
 use Rattle.cdcl_trail.specs.Values.{AreBelow}
 use Rattle.cdcl_watches.specs.Watching.{WatchValue, IsWatching, clause_of}
+use Rattle.cdcl_watches.specs.Heads.{ArenaValue}
 use Rattle.cdcl_trail.specs.Assigned.{AssignedValue}
 use Rattle.cdcl_trail.specs.Entries.{hint_of}
 use Rattle.cdcl_propagate.specs.Visit.{HasTrue, IsReady, IsStored, IsGrown, IsGuarded, HaveSame, blank_hint, names_of}
 use Rattle.cdcl_propagate.specs.Sure.{IsSure}
+use Rattle.cdcl_analyze.specs.Reason.{IsAnalyzable}
 use Rattle.cdcl_state.specs.State.{IsState, AreAll, AreLong, AreKnownDecisions}
 use Rattle.cdcl_propagate.specs.Units.{IsOne, AreFirm}
 use Rattle.cdcl_trail.specs.declared.assigned.Entry.{Entry}
@@ -36,6 +38,18 @@ pub below_values : (letters : ℕ) (a : AssignedValue) (clauses : List (List Lit
 below_values letters a clauses room known i d below j e low =
     let k = known i d below j e low in
     (k.from_one, room (get_or (get_or clauses i d) j e).letter.0 k.from_one k.within)
+
+-- what holds of a state is what an analysis asks for
+pub analyzable : {letters : ℕ} {a : AssignedValue} {w : WatchValue} {units : List Hint} {log : LogValue} {head sure done firm marked : ℕ} {whole : Bool} → IsState letters a w units log head sure done firm marked whole
+    → (arena : ArenaValue) → arena.clauses ≡ w.clauses → arena.names ≡ w.names → IsAnalyzable log a arena
+analyzable {letters} {a} {w} {units} {log} state arena clauses names = record {
+  is_trail = state.ready.is_trail;
+  known_inputs = below_values letters a log.inputs state.room state.known_inputs;
+  known_lines = below_values letters a log.lines state.room state.known_lines;
+  few = state.few;
+  stored = subst (λ cs. IsStored log.inputs log.lines cs (map hint_of arena.names)) (sym clauses)
+      (subst (λ ns. IsStored log.inputs log.lines w.clauses (map hint_of ns)) (sym names) state.ready.stored);
+}
 
 -- a watched clause has two literals
 pub long_clause : (inputs lines clauses : List (List Literal)) (names : List Hint) → IsStored inputs lines clauses names → AreLong inputs lines names → (c : ℕ) → c < length clauses → 2 ≤ length (clause_of clauses c)

@@ -3,6 +3,7 @@ pub mod Turned
 pub mod HeadWalk
 pub mod Buffer
 pub mod HeadNumbers
+pub mod Noted
 pub mod Removed
 pub mod Gap
 pub mod Moves

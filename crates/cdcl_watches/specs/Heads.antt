@@ -1,6 +1,6 @@
 -- Clauses in one buffer of numbers: each is its length, its name and the codes of its literals. The codes
 -- behind the first two stand from the last down.
-use Rattle.std.specs.Prelude.{◌≡◌, ℕ, zero, suc, ◌+◌, ◌-◌, ◌<◌, ◌≤◌, ◌^◌, nat_eq, if◌then◌else◌, List, [], ◌∷◌, length, map, take, drop, slice_index_or}
+use Rattle.std.specs.Prelude.{◌≡◌, ℕ, zero, suc, ◌+◌, ◌-◌, ◌<◌, ◌≤◌, ◌^◌, ◌⊎◌, All, Contains, nat_eq, if◌then◌else◌, List, [], ◌∷◌, length, map, take, drop, slice_index_or}
 use Rattle.cnf_base.specs.declared.literal.Literal.{Literal}
 use Rattle.cnf_base.specs.RowPieces.{Place, row_pieces}
 use Rattle.cdcl_watches.specs.Watching.{literal_of}
@@ -52,6 +52,10 @@ pub record AreHeads (items heads : List ℕ) : Type 0 where
   pub first : slice_index_or heads 0 0 ≡ 0
   pub none : length heads ≡ 0 → length items ≡ 0
   pub few : length items < 2 ^ 32
+
+-- each noted place is no head, or one of the heads
+abbrev pub AreNoted : List ℕ → List ℕ → Type 0
+AreNoted heads reasons = All (λ h. (h ≡ 4294967295) ⊎ Contains heads h) reasons
 
 -- clauses, their heads and their names
 pub record ArenaValue : Type 0 where

@@ -6,7 +6,7 @@
 // The codes behind the first two stand from the last down. Propagation looks at the first two literals and
 // then from the end of the clause on: so what it looks at first stands beside the head, and a long clause
 // costs one read of memory far away in place of two. Callers see each clause in its own order.
-ghost use Rattle.std.specs.Prelude.{◌≡◌, suc, ◌+◌, ◌-◌, ◌<◌, ◌^◌, [], ◌∷◌, ◌++◌, length, map, take, All, Contains, IfOk, OnOk, OnErr, MatchOption, slice_index_or, slice_set};
+ghost use Rattle.std.specs.Prelude.{◌≡◌, ℕ, suc, ◌+◌, ◌-◌, ◌<◌, ◌^◌, [], ◌∷◌, ◌++◌, length, map, take, replicate, All, Contains, IfSome, IfOk, OnOk, OnErr, MatchOption, slice_index_or, slice_set};
 ghost use Rattle.std.specs.List.{swap};
 ghost use Rattle.cdcl_watches.specs.Watching.{code, clause_of, AreApart};
 ghost use Rattle.cdcl_watches.specs.Turned.{turned};
@@ -21,16 +21,21 @@ use std::marker::Model;
 /// The greatest number of 32 bits.
 const MAX_ITEMS: usize = 4294967295;
 
+/// The place of no head.
+const NO_HEAD: u32 = 4294967295;
+
 /// Clauses, each at the place of its head and with a name that the caller gave it; two literals of a clause
 /// can change places. There is room for 4,294,967,295 numbers, two of them a head: their places are numbers
 /// of 32 bits.
 #[derive(Drop)]
 pub struct Arena {
     items: Vec<u32>,
+    /// Under the number of a letter, the head of the clause that forced it last, or no head.
+    reasons: Vec<u32>,
 }
 
 impl Model for Arena {
-    ghost use Rattle.cdcl_watches.specs.Heads.{ArenaValue, clauses_at, heads_of, names_at, AreHeads};
+    ghost use Rattle.cdcl_watches.specs.Heads.{ArenaValue, clauses_at, heads_of, names_at, AreHeads, AreNoted};
 
     ghost Value = { ArenaValue };
 
@@ -40,7 +45,8 @@ impl Model for Arena {
       names = names_at a.items.items (heads_of a.items.items);
     } };
 
-    ghost invariant = { λ a. AreHeads a.items.items (heads_of a.items.items) };
+    ghost invariant = { λ a. AreHeads a.items.items (heads_of a.items.items)
+        × AreNoted (heads_of a.items.items) a.reasons.items };
 }
 
 impl Arena {
@@ -50,6 +56,7 @@ impl Arena {
     {
         Arena {
             items: Vec::new(alloc),
+            reasons: Vec::new(alloc),
         }
     }
 
@@ -58,7 +65,10 @@ impl Arena {
         ensures { IfOk result (λ arena. arena ≡ record { clauses = []; heads = []; names = [] }) }
     {
         let items = Vec::with_capacity(alloc, self.items.len())?;
-        Ok(Arena { items })
+        Ok(Arena {
+            items,
+            reasons: Vec::new(alloc),
+        })
     }
 
     /// Each clause has one head, the first of them 0, and one name.
@@ -172,6 +182,38 @@ impl Arena {
         } }
     {
         self.items.truncate(head as usize);
+        self.reasons.truncate(0);
+    }
+
+    /// Notes that the clause of this head forced the letter last. Where memory is wanting it is not noted.
+    #[inline(always)]
+    pub fn note(&mut self, letter: u32, head: u32)
+        requires { Contains self.old.heads head }
+        ensures { self.new ≡ self.old }
+    {
+        if letter as usize >= self.reasons.len() {
+            make_room(&mut self.reasons, letter);
+        }
+        if (letter as usize) < self.reasons.len() {
+            self.reasons[letter as usize] = head;
+        }
+    }
+
+    /// The clause that forced the letter last, if it is noted and has this name.
+    #[inline(always)]
+    pub fn reason(&self, letter: u32, name: u32) -> Option<Clause<'_>>
+        ensures { IfSome result (λ clause. (c : ℕ) × (c < length self.now.clauses)
+            × (slice_index_or self.now.names c 0 ≡ name) × (clause ≡ clause_of self.now.clauses c)) }
+    {
+        match self.reasons.get(letter as usize) {
+            None => None,
+            Some(head) => {
+                if *head == NO_HEAD || self.name(*head) != name {
+                    return None;
+                }
+                Some(self.clause(*head))
+            }
+        }
     }
 
     /// Lets two literals of a clause change places.
@@ -192,6 +234,17 @@ impl Arena {
         let b = self.items[second];
         self.items[first] = b;
         self.items[second] = a;
+    }
+}
+
+/// Makes room for the letter, where there is memory.
+fn make_room(reasons: &mut Vec<u32>, letter: u32)
+    ensures { (n : ℕ) × (reasons.new.items ≡ reasons.old.items ++ replicate n 4294967295) }
+{
+    let count = (letter as usize + 1).max(reasons.len());
+    match reasons.resize(count, NO_HEAD) {
+        Ok(()) => return,
+        Err(_) => return,
     }
 }
 

@@ -52,6 +52,14 @@ impl Watches {
         self.arena.told();
     }
 
+    /// The clauses and their names, for reading.
+    pub fn arena(&self) -> &Arena
+        ensures clauses { result.now.clauses ≡ self.now.clauses }
+        ensures names { result.now.names ≡ self.now.names }
+    {
+        &self.arena
+    }
+
     /// Puts the clause behind the others by this name, and watches its first two literals.
     pub fn add(&mut self, name: u32, clause: &[Literal]) -> Result<(), AllocError>
         requires long { 2 ≤ length clause.now }
@@ -65,6 +73,7 @@ impl Watches {
         let head = self.arena.push(name, clause)?;
         self.arena.told();
         link(&mut self.arena, &mut self.lists, head, first, second)?;
+        self.arena.note(first.letter.0, head);
         Ok(())
     }
 

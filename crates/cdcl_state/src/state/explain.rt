@@ -27,6 +27,7 @@ impl State {
         let learnt = explain(
             alloc,
             &self.assigned,
+            self.watches.arena(),
             &self.log,
             cut,
             &mut self.marks,
@@ -95,6 +96,7 @@ impl State {
                 let learnt = explain_forced(
                     alloc,
                     &self.assigned,
+                    self.watches.arena(),
                     &self.log,
                     &mut self.marks,
                     &mut self.choices,

@@ -23,14 +23,14 @@ returns-clause-learnt c =
     let is : named log.inputs log.lines c.args.conflict ≡ Some clause =
     subst (λ (l : LogValue). named l.inputs l.lines c.args.conflict ≡ Some clause) c.view-view.ensures.same c.clause_of.ensures in
     let given = c.requires.conflict in
-    let known = named_has (All (IsBelow letters)) log.inputs log.lines c.args.conflict clause c.requires.known_inputs c.requires.known_lines is in
-    let start = walk_start log.inputs log.lines trail letters (IsMarked c.mark.new.marks) c.args.conflict clause is known c.requires.few
+    let known = named_has (All (IsBelow letters)) log.inputs log.lines c.args.conflict clause c.requires.analyzable.known_inputs c.requires.analyzable.known_lines is in
+    let start = walk_start log.inputs log.lines trail letters (IsMarked c.mark.new.marks) c.args.conflict clause is known c.requires.analyzable.few
     (subst (All (λ l. Contains (literals_of trail) (opposite l))) (some_same given.is is) given.all_false) c.in_ok-mark.ensures.all in
     let begun : IsWalk log.inputs log.lines trail (length trail) (IsMarked c.mark.new.marks) c.cite.new.learnt.clause.items c.cite.new.learnt.hints.items c.cite.new.learnt.places.items =
     rw (c.in_ok-cite.ensures.clause, c.in_ok-cite.ensures.hints, c.in_ok-cite.ensures.places, c.in_ok-learnt.ensures.clause, c.in_ok-learnt.ensures.hints, c.in_ok-learnt.ensures.places) start in
     let walked = c.in_ok-resolve.ensures.walked begun in
     record {
-      step = rw c.reverse.ensures.items (walk_end values log.inputs log.lines trail _ _ _ _ c.told.ensures c.requires.few c.requires.from_one walked);
+      step = rw c.reverse.ensures.items (walk_end values log.inputs log.lines trail _ _ _ _ c.told.ensures c.requires.analyzable.few c.requires.from_one walked);
       clause_is = walked.clause_is;
       inside = walked.inside;
       falling = walked.falling;

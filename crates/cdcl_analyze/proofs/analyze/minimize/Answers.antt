@@ -16,13 +16,13 @@ returns-clause-walked c =
     let like : IsLike log.inputs log.lines trail trail base = record {
       same = λ k low. refl;
       long = omega (arith, fits, c.requires.from);
-      is_trail = c.requires.is_trail;
+      is_trail = c.requires.analyzable.is_trail;
       values = c.args.assigned.now.values;
       told = c.told.ensures;
-      few = c.requires.few;
+      few = c.requires.analyzable.few;
     } in
     on_ok_weaker c.walk.result (λ walked start. walked trail like
     (walk_cited log.inputs log.lines trail c.args.assigned.now.values (length c.args.assigned.now.values) base c.args.from c.args.marks.now marks c.args.learnt.now.clause.items c.args.learnt.now.hints.items
-    c.args.learnt.now.places.items kept.clause.items kept.places.items c.requires.is_trail c.told.ensures c.requires.known_inputs c.requires.known_lines c.requires.few fits start c.in_ok-keep_rest.ensures.rest
+    c.args.learnt.now.places.items kept.clause.items kept.places.items c.requires.analyzable.is_trail c.told.ensures c.requires.analyzable.known_inputs c.requires.analyzable.known_lines c.requires.analyzable.few fits start c.in_ok-keep_rest.ensures.rest
     cited.clause.items kept.hints.items cited.hints.items cited.places.items c.consequences.result.now c.in_ok-cite_consequences.ensures.clause c.in_ok-cite_consequences.ensures.places
     c.in_ok-keep_rest.ensures.hints c.consequences.ensures c.in_ok-cite_consequences.ensures.hints)) c.walk.ensures.walked

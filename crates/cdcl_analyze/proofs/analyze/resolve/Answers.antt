@@ -8,7 +8,7 @@ pub returns-in-Decisions-clause-walked : goal.returns-in-Decisions-clause-walked
 returns-in-Decisions-clause-walked c = λ start.
     let log = c.args.log.now in
     let trail = c.args.assigned.now.trail in
-    let like = like_itself log.inputs log.lines trail c.args.assigned.now.values c.requires.is_trail c.told.ensures c.requires.few in
+    let like = like_itself log.inputs log.lines trail c.args.assigned.now.values c.requires.analyzable.is_trail c.told.ensures c.requires.analyzable.few in
     c.in_ok-walk-in-Decisions.ensures.walked trail (subst (IsLike log.inputs log.lines trail trail) (sym c.len.ensures) like)
     (subst (λ n. IsWalk log.inputs log.lines trail n (IsMarked c.args.marks.now) c.args.learnt.now.clause.items c.args.learnt.now.hints.items c.args.learnt.now.places.items) (sym c.len.ensures) start)
 
@@ -16,7 +16,7 @@ pub returns-in-Decisions-clause-decided : goal.returns-in-Decisions-clause-decid
 returns-in-Decisions-clause-decided c = λ is_cut start.
     let log = c.args.log.now in
     let trail = c.args.assigned.now.trail in
-    let like = like_itself log.inputs log.lines trail c.args.assigned.now.values c.requires.is_trail c.told.ensures c.requires.few in
+    let like = like_itself log.inputs log.lines trail c.args.assigned.now.values c.requires.analyzable.is_trail c.told.ensures c.requires.analyzable.few in
     c.in_ok-walk-in-Decisions.ensures.decided trail (subst (IsLike log.inputs log.lines trail trail) (sym c.len.ensures) like) start
 
 pub returns-in-FirstUnique-clause-walked : goal.returns-in-FirstUnique-clause-walked

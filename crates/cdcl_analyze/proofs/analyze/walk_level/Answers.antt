@@ -1,20 +1,14 @@
-use Rattle.std.proofs.Common.{◌≡◌, ◌<◌, length, All, Some, ◌∙◌, subst, arith}
-use Rattle.cnf_base.specs.Step.{named}
-use Rattle.clause_log.specs.LogValue.{LogValue}
-use Rattle.cdcl_trail.specs.Values.{IsBelow}
+use Rattle.std.proofs.Common.{◌<◌, length, ◌∙◌, arith}
 use Rattle.cdcl_analyze.specs.Marks.{IsMarked}
-use Rattle.cdcl_trail.proofs.Bridge.{named_has}
+use Rattle.cdcl_analyze.specs.Reason.{read_literals}
+use Rattle.cdcl_analyze.proofs.Sameness.{reason_read, reason_known, clause_has}
 use Rattle.cdcl_analyze.proofs.Steps.{found_again, like_itself, still_waiting, like_ended, like_keep, like_resolve}
 use Rattle.cdcl_analyze.proofs.analyze.walk_level.Goals as goal
 
 pub mark-requires-clause-known : goal.mark-requires-clause-known
 mark-requires-clause-known c =
-    let log = c.args.log.now in
-    let letters = length c.args.assigned.now.values in
-    let clause = c.clause_of.result.now in
-    let is : named log.inputs log.lines c.in-Some-reason.hint ≡ Some clause =
-    subst (λ (l : LogValue). named l.inputs l.lines c.in-Some-reason.hint ≡ Some clause) c.view-view.ensures.same c.clause_of.ensures in
-    named_has (All (IsBelow letters)) log.inputs log.lines c.in-Some-reason.hint clause c.requires.known_inputs c.requires.known_lines is
+    reason_known c.args.log.now c.view-view.result c.args.assigned.now.trail c.in-Some.place c.entry-entry.result c.in-Some-reason.hint (read_literals c.of-clause.result) c.view-view.ensures.same c.requires.analyzable.is_trail
+    (omega (arith, c.in-Some.ensures.next.low, c.down.invariant.low)) c.entry-entry.ensures c.in-Some-reason.is c.of-clause.ensures (length c.args.assigned.now.values) c.requires.analyzable.known_inputs c.requires.analyzable.known_lines
 
 pub down-preserved : goal.down-preserved
 down-preserved c =
@@ -26,16 +20,15 @@ down-preserved c =
     let next = c.in-Some.ensures.next in
     let fits = c.down.invariant.low in
     let low : k < length trail = omega (arith, next.low, fits) in
-    let clause = c.clause_of.result.now in
-    let is : named log.inputs log.lines c.in-Some-reason.hint ≡ Some clause =
-    subst (λ (l : LogValue). named l.inputs l.lines c.in-Some-reason.hint ≡ Some clause) c.view-view.ensures.same c.clause_of.ensures in
+    let read = read_literals c.of-clause.result in
+    let reason = reason_read log c.view-view.result trail k c.entry-entry.result c.in-Some-reason.hint read c.view-view.ensures.same c.requires.analyzable.is_trail low c.entry-entry.ensures c.in-Some-reason.is c.of-clause.ensures in
     let old = c.down.marks in
     let popped = c.pop.new.self in
     let after = c.mark.new.marks in
-    let like = like_itself log.inputs log.lines trail values c.requires.is_trail c.told.ensures c.requires.few in
+    let like = like_itself log.inputs log.lines trail values c.requires.analyzable.is_trail c.told.ensures c.requires.analyzable.few in
     record {
       walked = λ start. like_resolve log.inputs log.lines trail trail (length trail) c.down.end k c.entry-entry.result old popped like fits (omega arith) c.down.invariant.waiting c.pop.ensures.marks next c.entry-entry.ensures _ _ _ (c.down.invariant.walked start)
-          letters (IsMarked after) c.in-Some-reason.hint clause _ _ _ c.in-Some-reason.is is c.requires.known_inputs c.requires.known_lines c.requires.few c.in_ok-mark-in-Some-reason.ensures.kept c.in_ok-mark-in-Some-reason.ensures.all
+          letters (IsMarked after) c.in-Some-reason.hint reason.0 _ _ _ c.in-Some-reason.is reason.1 c.requires.analyzable.known_inputs c.requires.analyzable.known_lines c.requires.analyzable.few c.in_ok-mark-in-Some-reason.ensures.kept (clause_has (λ l. IsMarked after l.letter.0) reason.0 read reason.2 c.in_ok-mark-in-Some-reason.ensures.all)
           c.in_ok-cite-in-Some-reason.ensures.clause c.in_ok-cite-in-Some-reason.ensures.hints c.in_ok-cite-in-Some-reason.ensures.places;
       size = c.mark.ensures.size ∙ c.pop.ensures.room ∙ c.down.invariant.size;
       waiting = c.in_ok-mark-in-Some-reason.ensures.waiting k (still_waiting trail c.down.end k old popped c.down.invariant.waiting c.pop.ensures.marks next fits);
@@ -47,7 +40,7 @@ pub returns-then-open-le1-clause-walked : goal.returns-then-open-le1-clause-walk
 returns-then-open-le1-clause-walked c = λ start.
     let log = c.args.log.now in
     let trail = c.args.assigned.now.trail in
-    let like = like_itself log.inputs log.lines trail c.args.assigned.now.values c.requires.is_trail c.told.ensures c.requires.few in
+    let like = like_itself log.inputs log.lines trail c.args.assigned.now.values c.requires.analyzable.is_trail c.told.ensures c.requires.analyzable.few in
     like_keep log.inputs log.lines trail trail (length trail) c.down.end c.in-Some.place c.entry-entry.result c.down.marks c.pop.new.self like c.down.invariant.low (omega arith) c.down.invariant.waiting c.pop.ensures.marks c.in-Some.ensures.next c.entry-entry.ensures _ _ _
     (c.down.invariant.walked start) c.opposite.result _ _ _ c.opposite.ensures c.in_ok-keep-in-Some-reason.ensures.clause c.in_ok-keep-in-Some-reason.ensures.hints c.in_ok-keep-in-Some-reason.ensures.places
 
@@ -55,7 +48,7 @@ pub returns-in-None-clause-walked : goal.returns-in-None-clause-walked
 returns-in-None-clause-walked c = λ start.
     let log = c.args.log.now in
     let trail = c.args.assigned.now.trail in
-    let like = like_itself log.inputs log.lines trail c.args.assigned.now.values c.requires.is_trail c.told.ensures c.requires.few in
+    let like = like_itself log.inputs log.lines trail c.args.assigned.now.values c.requires.analyzable.is_trail c.told.ensures c.requires.analyzable.few in
     like_keep log.inputs log.lines trail trail (length trail) c.down.end c.in-Some.place c.entry-entry.result c.down.marks c.pop.new.self like c.down.invariant.low (omega arith) c.down.invariant.waiting c.pop.ensures.marks c.in-Some.ensures.next c.entry-entry.ensures _ _ _
     (c.down.invariant.walked start) c.opposite-in-None.result _ _ _ c.opposite-in-None.ensures c.in_ok-keep-in-None.ensures.clause c.in_ok-keep-in-None.ensures.hints c.in_ok-keep-in-None.ensures.places
 
@@ -63,7 +56,7 @@ pub returns-clause-walked : goal.returns-clause-walked
 returns-clause-walked c = λ start.
     let log = c.args.log.now in
     let trail = c.args.assigned.now.trail in
-    let like = like_itself log.inputs log.lines trail c.args.assigned.now.values c.requires.is_trail c.told.ensures c.requires.few in
+    let like = like_itself log.inputs log.lines trail c.args.assigned.now.values c.requires.analyzable.is_trail c.told.ensures c.requires.analyzable.few in
     like_ended log.inputs log.lines trail trail (length trail) c.down.end c.down.marks c.pop.new.self like c.down.invariant.low (omega arith) c.down.invariant.waiting
     c.in_default.ensures.next _ _ _ (c.down.invariant.walked start)
 

@@ -1,6 +1,7 @@
 use Rattle.std.proofs.Common.{◌≡◌, ℕ, ◌+◌, ◌*◌, ◌<◌, ◌⊎◌, take, All, length}
 use Rattle.cdcl_trail.specs.Trail.{literal_at}
 use Rattle.cdcl_analyze.specs.Consequences.{IsGiven, Grows}
+use Rattle.cdcl_analyze.specs.Reason.{read_literals}
 use Rattle.cdcl_analyze.proofs.minimize.+following.Given as goal
 
 abbrev pub decreases-settle : goal.decreases-settle
@@ -15,10 +16,10 @@ decreases-derive l = 4 * l.steps + 1
 abbrev pub decreases-are_given : goal.decreases-are_given
 decreases-are_given l = 4 * l.steps + 4
 
-abbrev pub invariant-are_given-loop-literal : goal.invariant-are_given-loop-literal
-invariant-are_given-loop-literal l = record {
+abbrev pub invariant-are_given-loop-place : goal.invariant-are_given-loop-place
+invariant-are_given-loop-place l = record {
   size : length l.marks.stamps ≡ length l.initial.marks.stamps;
-  given : All (λ m. (m.letter.0 ≡ l.letter) ⊎ IsGiven l.assigned.trail l.base l.marks m.letter.0) (take l.literal-index l.literal-items);
+  given : All (λ m. (m.letter.0 ≡ l.letter) ⊎ IsGiven l.assigned.trail l.base l.marks m.letter.0) (take l.place (read_literals l.clause));
   grows : (place : ℕ) → place < length l.assigned.trail → (literal_at l.assigned.trail place).letter.0 ≡ l.letter
       → Grows l.view.inputs l.view.lines l.assigned.trail l.base place l.initial.marks l.marks;
 }

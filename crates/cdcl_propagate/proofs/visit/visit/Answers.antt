@@ -1,4 +1,4 @@
-use Rattle.std.proofs.Common.{◌≡◌, ℕ, ◌<◌, ◌+◌, ◌-◌, Some, map, All, Contains, length, get_or, refl, sym, ap, ◌∙◌, subst, arith}
+use Rattle.std.proofs.Common.{◌≡◌, ℕ, ◌<◌, ◌+◌, ◌-◌, [], Some, map, All, Contains, length, get_or, refl, sym, ap, ◌∙◌, subst, arith}
 use Rattle.std.proofs.lemmas.List.{get_or_default}
 use Rattle.cnf_base.specs.declared.literal.Literal.{Literal}
 use Rattle.cnf_base.specs.Literal.{opposite}
@@ -7,10 +7,10 @@ use Rattle.cdcl_trail.specs.Trail.{literals_of, StandsAt, IsConflict, blank_entr
 use Rattle.cdcl_trail.specs.Entries.{hint_of}
 use Rattle.cdcl_trail.specs.declared.assigned.Entry.{Entry}
 use Rattle.cdcl_watches.specs.Watching.{code, clause_of, blank}
-use Rattle.cdcl_watches.specs.Heads.{number_of}
+use Rattle.cdcl_watches.specs.Heads.{number_of, ArenaValue}
 use Rattle.cdcl_watches.specs.Watchers.{walked}
 use Rattle.cdcl_watches.proofs.Walks.{next_standing, next_watched}
-use Rattle.cdcl_propagate.specs.Visit.{IsVisiting, IsReplacement, AreFalseFrom, false_at, blank_hint}
+use Rattle.cdcl_propagate.specs.Visit.{IsVisiting, IsPassed, IsReplacement, AreFalseFrom, false_at, blank_hint}
 use Rattle.cdcl_propagate.specs.Sure.{IsSure}
 use Rattle.cdcl_propagate.proofs.SureVisit.{sure_moved, sure_grown}
 use Rattle.cdcl_propagate.proofs.Guard.{visit_grown}
@@ -183,7 +183,8 @@ returns-clause-kept c =
     (subst (λ n. StandsAt c.args.log.now.inputs c.args.log.now.lines c.args.assigned.now.trail (make c.get-other.result n (get_or (map hint_of c.face.new.arena.names) (number_of c.face.new.arena.heads c.args.head) blank_hint))) (sym c.level-level.ensures)
     (subst (λ u. StandsAt c.args.log.now.inputs c.args.log.now.lines c.args.assigned.now.trail (make u (get_or c.args.assigned.now.trail (length c.args.assigned.now.trail - 1) blank_entry).level (get_or (map hint_of c.face.new.arena.names) (number_of c.face.new.arena.heads c.args.head) blank_hint))) (sym first) stands_first)) in
     let after = visit_grown c.args.log.now.inputs c.args.log.now.lines c.args.place c.args.walk.now.kept c.args.assigned.now (walked c.face.new.arena c.args.lists.now (code c.args.falsified) c.args.walk.now.kept c.args.walk.now.next) e c.assign.new.self stands c.in_ok-assign.ensures.trail c.in_ok-assign.ensures.letters at.visiting in
-    subst (IsVisiting c.args.log.now.inputs c.args.log.now.lines c.args.place 0 c.assign.new.self) (sym c.keep-2.ensures.same) (visit_all c.args.log.now.inputs c.args.log.now.lines c.args.place c.args.walk.now.kept c.assign.new.self (walked c.face.new.arena c.args.lists.now (code c.args.falsified) c.args.walk.now.kept c.args.walk.now.next) after)
+    subst (λ (a : ArenaValue). IsVisiting c.args.log.now.inputs c.args.log.now.lines c.args.place 0 c.assign.new.self (walked a c.keep-2.new.lists (code c.args.falsified) c.keep-2.new.walk.kept c.keep-2.new.walk.next)) (sym c.note.ensures)
+    (subst (IsVisiting c.args.log.now.inputs c.args.log.now.lines c.args.place 0 c.assign.new.self) (sym c.keep-2.ensures.same) (visit_all c.args.log.now.inputs c.args.log.now.lines c.args.place c.args.walk.now.kept c.assign.new.self (walked c.face.new.arena c.args.lists.now (code c.args.falsified) c.args.walk.now.kept c.args.walk.now.next) after))
 
 pub returns-clause-found : goal.returns-clause-found
 returns-clause-found c =
@@ -200,17 +201,22 @@ returns-clause-found c =
     (subst (λ n. StandsAt c.args.log.now.inputs c.args.log.now.lines c.args.assigned.now.trail (make c.get-other.result n (get_or (map hint_of c.face.new.arena.names) (number_of c.face.new.arena.heads c.args.head) blank_hint))) (sym c.level-level.ensures)
     (subst (λ u. StandsAt c.args.log.now.inputs c.args.log.now.lines c.args.assigned.now.trail (make u (get_or c.args.assigned.now.trail (length c.args.assigned.now.trail - 1) blank_entry).level (get_or (map hint_of c.face.new.arena.names) (number_of c.face.new.arena.heads c.args.head) blank_hint))) (sym first) stands_first)) in
     let done = at_assigned c.args.log.now.inputs c.args.log.now.lines c.args.place c.args.walk.now.kept c.args.assigned.now (walked c.face.new.arena c.args.lists.now (code c.args.falsified) c.args.walk.now.kept c.args.walk.now.next) (number_of c.face.new.arena.heads c.args.head) at e c.assign.new.self stands first c.in_ok-assign.ensures.trail c.in_ok-assign.ensures.letters in
-    record {
+    subst (λ (a : ArenaValue). IsPassed c.args.log.now.inputs c.args.log.now.lines c.args.place c.args.walk.now.next (length (get_or c.args.lists.now (code c.args.falsified) [])) c.assign.new.self a c.keep-2.new.lists (code c.args.falsified) c.keep-2.new.walk.kept c.keep-2.new.walk.next) (sym c.note.ensures)
+    (record {
       visiting = subst (λ m. IsVisiting c.args.log.now.inputs c.args.log.now.lines c.args.place m c.assign.new.self (walked c.face.new.arena c.keep-2.new.lists (code c.args.falsified) c.keep-2.new.walk.kept c.keep-2.new.walk.next)) (sym c.keep-2.ensures.kept)
           (subst (IsVisiting c.args.log.now.inputs c.args.log.now.lines c.args.place (c.args.walk.now.kept + 1) c.assign.new.self) (sym c.keep-2.ensures.same) done);
       on = c.keep-2.ensures.next;
       same = c.keep-2.ensures.length;
-    }
+    })
 
 pub returns-clause-sure : goal.returns-clause-sure
 returns-clause-sure c =
-    λ n low sure. subst (λ t. IsSure c.face.new.arena.clauses t n) (sym c.in_ok-assign.ensures.trail)
-    (sure_grown c.face.new.arena.clauses c.args.assigned.now.trail n (record { literal = c.get-other.result; level = c.level-level.result; reason = Some c.lengthen-hint.result }) (omega (arith, low, c.requires.visiting.within)) (faced_sure c.args.arena.now c.face.new.arena c.args.lists.now c.args.falsified c.args.walk.now.kept c.args.walk.now.next c.requires.walked c.requires.there c.args.head c.requires.head c.face.ensures.heads c.face.ensures.faced c.args.assigned.now.trail n sure))
+    λ n low sure. subst (λ (a : ArenaValue). IsSure a.clauses c.assign.new.self.trail n) (sym c.note.ensures) (subst (λ t. IsSure c.face.new.arena.clauses t n) (sym c.in_ok-assign.ensures.trail)
+    (sure_grown c.face.new.arena.clauses c.args.assigned.now.trail n (record { literal = c.get-other.result; level = c.level-level.result; reason = Some c.lengthen-hint.result }) (omega (arith, low, c.requires.visiting.within)) (faced_sure c.args.arena.now c.face.new.arena c.args.lists.now c.args.falsified c.args.walk.now.kept c.args.walk.now.next c.requires.walked c.requires.there c.args.head c.requires.head c.face.ensures.heads c.face.ensures.faced c.args.assigned.now.trail n sure)))
+
+pub note-requires : goal.note-requires
+note-requires c =
+    next_standing c.face.new.arena c.args.lists.now c.args.falsified c.args.walk.now.kept c.args.walk.now.next (faced_walked c.args.arena.now c.face.new.arena c.args.lists.now c.args.falsified c.args.walk.now.kept c.args.walk.now.next c.requires.walked c.requires.there c.args.head c.requires.head c.face.ensures.heads c.face.ensures.faced) c.requires.there c.args.head c.requires.head
 
 pub keep-requires-clause-first : goal.keep-requires-clause-first
 keep-requires-clause-first c =

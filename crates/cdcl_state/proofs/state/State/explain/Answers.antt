@@ -2,6 +2,7 @@ use Rattle.std.proofs.Common.{All, subst}
 use Rattle.cnf_base.specs.Known.{IsKnown}
 use Rattle.cdcl_state.specs.StateValue.{StateValue}
 use Rattle.cdcl_state.proofs.Known.{trail_known, known_from_one, learnt_known}
+use Rattle.cdcl_state.proofs.States.{analyzable}
 use Rattle.cdcl_state.proofs.state.State.explain.Goals as goal
 
 pub explain-requires-clause-from_one : goal.explain-requires-clause-from_one
@@ -11,6 +12,10 @@ explain-requires-clause-from_one c =
     let letters = c.self.inside.letters in
     let state = c.self.invariant in
     known_from_one letters a.trail (trail_known letters log.inputs log.lines a.trail state.ready.is_trail state.known_inputs state.known_lines state.decided)
+
+pub explain-requires-clause-analyzable : goal.explain-requires-clause-analyzable
+explain-requires-clause-analyzable c =
+    analyzable c.self.invariant c.arena.result.now c.arena.ensures.clauses c.arena.ensures.names
 
 pub returns-clause-known : goal.returns-clause-known
 returns-clause-known c =

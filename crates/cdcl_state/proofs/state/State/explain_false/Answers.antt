@@ -6,7 +6,7 @@ use Rattle.cdcl_state.specs.StateValue.{StateValue}
 use Rattle.cdcl_trail.specs.Trail.{blank_entry, literal_at, IsDecision}
 use Rattle.cdcl_analyze.specs.Analysis.{refuted_at}
 use Rattle.cdcl_trail.specs.declared.assigned.Entry.{Entry}
-use Rattle.cdcl_state.proofs.States.{below_values}
+use Rattle.cdcl_state.proofs.States.{analyzable}
 use Rattle.cdcl_state.proofs.Known.{trail_known, known_from_one, learnt_known, refuted_known}
 use Rattle.cdcl_state.proofs.state.State.explain_false.Goals as goal
 
@@ -18,11 +18,9 @@ explain_forced-requires-clause-from_one c =
     let state = c.self.invariant in
     known_from_one letters a.trail (trail_known letters log.inputs log.lines a.trail state.ready.is_trail state.known_inputs state.known_lines state.decided)
 
-pub explain_forced-requires-clause-known_inputs : goal.explain_forced-requires-clause-known_inputs
-explain_forced-requires-clause-known_inputs c = below_values c.self.inside.letters c.self.inside.assigned c.self.inside.log.inputs c.self.invariant.room c.self.invariant.known_inputs
-
-pub explain_forced-requires-clause-known_lines : goal.explain_forced-requires-clause-known_lines
-explain_forced-requires-clause-known_lines c = below_values c.self.inside.letters c.self.inside.assigned c.self.inside.log.lines c.self.invariant.room c.self.invariant.known_lines
+pub explain_forced-requires-clause-analyzable : goal.explain_forced-requires-clause-analyzable
+explain_forced-requires-clause-analyzable c =
+    analyzable c.self.invariant c.arena.result.now c.arena.ensures.clauses c.arena.ensures.names
 
 pub returns-in-Some-clause-known : goal.returns-in-Some-clause-known
 returns-in-Some-clause-known c =
