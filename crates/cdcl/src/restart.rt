@@ -4,7 +4,7 @@
 ghost use Rattle.std.specs.Prelude.{◌≡◌, ◌+◌, ◌⊎◌, true, false};
 
 /// So many conflicts go by for each one that the sequence says.
-const STEP: u64 = 140;
+const STEP: u64 = 120;
 
 /// The conflicts of one question, as far as they decide when the search begins anew.
 #[derive(Drop)]
