@@ -27,8 +27,8 @@ pub enum Answer {
     Unsat(u64),
 }
 
-/// Answers by the line that the one hint names, where that is a line, since it says as much. Else puts the clause
-/// behind the lines, and answers by it.
+/// Answers by the line that the one hint names, where that is a line, since it says as much. Else puts the
+/// clause behind the lines, and answers by it.
 fn finish(state: &mut State, alloc: Global, learnt: &Learnt) -> Result<Answer, AllocError>
     requires step { IsHintedStep state.old.log.inputs state.old.log.lines greatest_u32
         learnt.now.clause.items learnt.now.hints.items }

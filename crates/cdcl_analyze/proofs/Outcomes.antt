@@ -1,7 +1,5 @@
 -- What is known of a letter, and how it changes once the letter is denied or concluded.
-use Rattle.std.proofs.Common.{◌≡◌, ◌≢◌, ℕ, ◌+◌, ◌<◌, [], ◌∷◌, ◌++◌, Bool, true, false, not, Option, Some, None, length, slice_set, nat_eq, refl, sym, ◌∙◌, arith}
-use Rattle.std.specs.Option.{option_eq}
-use mathlib.Core.Bool.{beq, false≢true}
+use Rattle.std.proofs.Common.{◌≡◌, ◌≢◌, ℕ, ◌+◌, ◌<◌, [], ◌∷◌, ◌++◌, Bool, true, false, Option, Some, None, length, slice_set, nat_eq, refl, ◌∙◌, arith}
 use Rattle.std.proofs.lemmas.Bool.{lt-ltb, le-ltb, eq-eqb, false_from_ne_true, eqb-true}
 use Rattle.std.proofs.lemmas.List.{get_or-set_same, get_or-set_other, length-set}
 use Rattle.cnf_base.specs.declared.literal.Hint.{Hint}
@@ -15,17 +13,6 @@ true_not_false a b = cc
 
 pub none_not_some : {o : Option Bool} {b : Bool} → o ≡ None → ¬ (o ≡ Some b)
 none_not_some a b = cc
-
--- what a test of an outcome says
-pub told_true : (o : Option Bool) → not (option_eq beq o (Some true)) ≡ false → o ≡ Some true
-told_true None e = absurd (false≢true (sym e))
-told_true (Some true) e = refl
-told_true (Some false) e = absurd (false≢true (sym e))
-
-pub told_not_true : (o : Option Bool) → true ≡ not (option_eq beq o (Some true)) → ¬ (o ≡ Some true)
-told_not_true None e is = cc
-told_not_true (Some true) e is = absurd (false≢true (sym e))
-told_not_true (Some false) e is = cc
 
 -- what is remembered once a letter is denied, and once it is concluded
 abbrev pub denied : MarksValue → ℕ → MarksValue

@@ -4,11 +4,13 @@ use Rattle.cnf_base.specs.declared.literal.Literal.{Literal}
 use Rattle.cnf_base.specs.declared.literal.Hint.{Hint}
 use Rattle.cnf_base.specs.Literal.{opposite}
 use Rattle.cnf_base.specs.Step.{Refutes}
-use Rattle.clause_log.specs.LogValue.{greatest_u32}
+use Rattle.clause_log.specs.LogValue.{LogValue, greatest_u32}
 use Rattle.cdcl_trail.specs.Trail.{IsTrail, AreValues, blank_entry, literal_at, IsInside}
+use Rattle.cdcl_analyze.specs.Graph.{GraphValue}
 use Rattle.cdcl_analyze.specs.Marks.{MarksValue, IsMarked}
 use Rattle.cdcl_analyze.specs.Waiting.{IsWaiting}
 use Rattle.cdcl_trail.specs.declared.assigned.Entry.{Entry}
+use Rattle.cdcl_analyze.specs.declared.analyze.Learnt.{Learnt}
 
 -- the letters of the trail are numbered from 1
 abbrev pub AreFromOne : List Entry → Type 0
@@ -17,6 +19,12 @@ AreFromOne trail = All (λ e. 1 ≤ e.literal.letter.0) trail
 -- of the trail's first `end` places each whose letter is marked waits
 abbrev pub AreWaiting : List Entry → ℕ → MarksValue → Type 0
 AreWaiting trail end marks = (j : ℕ) → j < end → j < length trail → IsMarked marks (literal_at trail j).letter.0 → IsWaiting marks.waiting j
+
+-- a walk can go down from a place: each letter can be marked, and the marked ones below wait
+pub record CanWalk (graph : GraphValue) (from : ℕ) (marks : MarksValue) : Type 0 where
+  pub within : from ≤ length graph.trail
+  pub size : length graph.values ≤ length marks.stamps
+  pub waiting : AreWaiting graph.trail from marks
 
 -- m is the opposite of a literal of the trail's first k
 abbrev pub IsUnder : List Entry → ℕ → Literal → Type 0
@@ -37,11 +45,17 @@ pub record IsWalk (inputs lines : List (List Literal)) (trail : List Entry) (k :
   pub falling : AllPairs (λ p q. q < p) places
   pub within : k ≤ length trail
 
--- the other trail is one of the same log, and has the same entries below `from`
-pub record IsLike (inputs lines : List (List Literal)) (trail other : List Entry) (from : ℕ) : Type 0 where
-  pub same : (k : ℕ) → k < from → slice_index_or other k blank_entry ≡ slice_index_or trail k blank_entry
+-- what is explained from one place on is then explained from the other place on, with what the marks and the clause have become
+abbrev pub Walks : LogValue → List Entry → ℕ → ℕ → MarksValue → MarksValue → Learnt → Learnt → Type 0
+Walks log trail from to old new learnt more =
+    IsWalk log.inputs log.lines trail from (IsMarked old) learnt.clause.items learnt.hints.items learnt.places.items
+    → IsWalk log.inputs log.lines trail to (IsMarked new) more.clause.items more.hints.items more.places.items
+
+-- the other trail is one of the same log, and has the graph's entries below `from`
+pub record IsLike (graph : GraphValue) (other : List Entry) (from : ℕ) : Type 0 where
+  pub same : (k : ℕ) → k < from → slice_index_or other k blank_entry ≡ slice_index_or graph.trail k blank_entry
   pub long : from ≤ length other
-  pub is_trail : IsTrail inputs lines other
+  pub is_trail : IsTrail graph.log.inputs graph.log.lines other
   pub values : List (Option Bool)
   pub told : AreValues values other
   pub few : length values ≤ 2 ^ 32

@@ -8,6 +8,7 @@ use Rattle.cdcl_trail.specs.Trail.{literal_at, place_reason}
 use Rattle.cdcl_trail.specs.declared.assigned.Entry.{Entry}
 use Rattle.cdcl_analyze.specs.Marks.{MarksValue, IsMarked, outcome_of, letter_at, reason_at, IsAmong}
 use Rattle.cdcl_analyze.specs.Analysis.{AreWaiting}
+use Rattle.cdcl_analyze.specs.Graph.{GraphValue}
 
 -- the letter stands on the trail below the end
 abbrev pub StandsBelow : List Entry → ℕ → ℕ → Type 0
@@ -62,6 +63,16 @@ pub record Grows (inputs lines : List (List Literal)) (trail : List Entry) (base
   pub long : length old.consequences ≤ length new.consequences
   pub first : take (length old.consequences) new.consequences ≡ old.consequences
   pub waiting : (e : ℕ) → AreWaiting trail e old → AreWaiting trail e new
+
+-- the same of letters below wherever this one stands
+abbrev pub GrowsBy : GraphValue → ℕ → ℕ → MarksValue → MarksValue → Type 0
+GrowsBy graph base letter old new = (end : ℕ) → StandsBelow graph.trail end letter → Grows graph.log.inputs graph.log.lines graph.trail base end old new
+
+-- what follows from the marks can be asked of each letter, with this base
+pub record CanAsk (graph : GraphValue) (base : ℕ) (m : MarksValue) : Type 0 where
+  pub size : length graph.values ≤ length m.stamps
+  pub within : base ≤ length graph.trail
+  pub consequences : AreConsequences graph.log.inputs graph.log.lines graph.trail base m
 
 -- of the marked places from `end` up to `from` the clause got those that do not follow, the last first; what follows stands below `from`
 pub record IsRest (inputs lines : List (List Literal)) (trail : List Entry) (base from end : ℕ) (old new : MarksValue) (clause : List Literal) (places : List ℕ) (more : List Literal) (next : List ℕ) : Type 0 where

@@ -1,5 +1,5 @@
 -- The marks of an analysis, and what it found out of letters.
-use Rattle.std.specs.Prelude.{◌≡◌, ℕ, ◌+◌, ◌%◌, ◌<◌, ◌≤◌, Bool, not, nat_eq, nat_lt, if◌then◌else◌, List, length, Option, Some, None, slice_index_or}
+use Rattle.std.specs.Prelude.{◌≡◌, ℕ, ◌+◌, ◌%◌, ◌<◌, ◌≤◌, Bool, not, nat_eq, nat_lt, if◌then◌else◌, List, [], length, Option, Some, None, slice_index_or}
 use Rattle.std.specs.Int.{bit_at}
 use Rattle.cnf_base.specs.declared.literal.Hint.{Hint}
 use Rattle.cnf_base.specs.declared.literal.Hint.TheVariants.{Clause}
@@ -30,6 +30,11 @@ outcome_number stamp follows = stamp + (if follows then 1 else 0)
 -- whether the letter follows, if this analysis has asked
 abbrev pub outcome_of : MarksValue → ℕ → Option Bool
 outcome_of m letter = if nat_lt letter (length m.outcomes) then outcome_from m.stamp (slice_index_or m.outcomes letter 0) else None
+
+-- nothing is known of any letter
+pub record IsUnasked (m : MarksValue) : Type 0 where
+  pub unasked : (x : ℕ) → outcome_of m x ≡ None
+  pub none_follows : m.consequences ≡ []
 
 abbrev pub with_outcomes : MarksValue → List ℕ → MarksValue
 with_outcomes m outcomes = record { stamps = m.stamps; stamp = m.stamp; waiting = m.waiting; outcomes = outcomes; consequences = m.consequences; levels = m.levels }

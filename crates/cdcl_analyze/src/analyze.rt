@@ -4,25 +4,23 @@
 // resolved, each behind those that it needs, and then the conflict are the clause's hints. After
 // Marques-Silva and Sakallah, GRASP (1999), and, for the hints, Goldberg and Novikov, Verification of proofs
 // of unsatisfiability for CNF formulas (2003).
-ghost use Rattle.std.specs.Prelude.{◌≡◌, ℕ, ◌^◌, ◌<◌, ◌≤◌, List, [], ◌∷◌, ◌++◌, length, map, reverse, All, Some, None, OnOk, IfOk, slice_index_or};
+ghost use Rattle.std.specs.Prelude.{◌≡◌, ℕ, ◌<◌, ◌≤◌, List, [], ◌∷◌, ◌++◌, length, map, reverse, All, Some, None, OnOk, IfOk, slice_index_or};
 ghost use Rattle.cdcl_trail.specs.Trail.{IsConflict, literals_of, blank_entry, IsDecision};
 ghost use Rattle.cdcl_analyze.specs.Learnt.{IsLearnt};
-ghost use Rattle.cdcl_analyze.specs.Reason.{IsAnalyzable, read_literals};
+ghost use Rattle.cdcl_analyze.specs.Reason.{read_literals};
 ghost use Rattle.cdcl_trail.specs.Values.{IsBelow};
-ghost use Rattle.cdcl_analyze.specs.Analysis.{AreFromOne, AreWaiting, IsLike, IsWalk, refuted_at};
-ghost use Rattle.cdcl_analyze.specs.Marks.{IsMarked, outcome_of, FoundSame};
+ghost use Rattle.cdcl_analyze.specs.Analysis.{AreFromOne, AreWaiting, CanWalk, IsLike, Walks, refuted_at};
+ghost use Rattle.cdcl_analyze.specs.Marks.{IsMarked, FoundSame, IsUnasked};
 ghost use Rattle.cdcl_analyze.specs.Consequences.{IsRest};
 ghost use Rattle.cdcl_trail.specs.declared.assigned.Entry.{Entry};
 ghost use Rattle.cdcl_analyze.specs.declared.analyze.Cut.TheVariants.{Decisions};
 
+use crate::graph::ImplicationGraph;
 use crate::marks::{Consequence, Marks};
-use crate::minimize::{STEPS, settle};
+use crate::minimize::follows;
 use crate::reason::Reason;
 use cdcl_activity::choices::Choices;
-use cdcl_trail::assigned::{Assigned, Entry};
-use cdcl_trail::named::clause_of;
-use cdcl_watches::arena::Arena;
-use clause_log::Log;
+use cdcl_trail::assigned::Entry;
 use cnf_base::{Hint, Literal};
 use std::alloc::{AllocError, Global};
 
@@ -79,27 +77,27 @@ fn count(cut: Cut, reached: usize, open: &mut usize) {
 /// Marks the letter, lets its place wait, and makes it more active, if it had no mark.
 #[inline(always)]
 fn mark_letter(
-    assigned: &Assigned,
+    graph: &ImplicationGraph<'_>,
     cut: Cut,
     letter: u32,
     marks: &mut Marks,
     choices: &mut Choices,
     open: &mut usize,
 ) -> Result<(), AllocError>
-    requires known { letter < length assigned.now.values }
-    requires size { length assigned.now.values ≤ length marks.old.stamps }
+    requires known { letter < length graph.now.values }
+    requires size { length graph.now.values ≤ length marks.old.stamps }
     ensures size { length marks.new.stamps ≡ length marks.old.stamps }
     ensures kept { OnOk result ((x : ℕ) → IsMarked marks.old x → IsMarked marks.new x) }
     ensures marked { OnOk result (IsMarked marks.new letter) }
-    ensures waiting { OnOk result ((end : ℕ) → AreWaiting assigned.now.trail end marks.old
-        → AreWaiting assigned.now.trail end marks.new) }
+    ensures waiting { OnOk result ((end : ℕ) → AreWaiting graph.now.trail end marks.old
+        → AreWaiting graph.now.trail end marks.new) }
     ensures found { FoundSame marks.old marks.new }
 {
     if marks.has(letter as usize) {
         return Ok(());
     }
-    let place = assigned.place_of(letter as usize);
-    let level = assigned.level_at(place);
+    let place = graph.place_of(letter as usize);
+    let level = graph.level_at(place);
     count(cut, level, open);
     marks.join(level);
     marks.mark(letter as usize, place)?;
@@ -110,24 +108,24 @@ fn mark_letter(
 /// Marks the letters of the clause, and counts those that are new on the level of the cut.
 #[inline(always)]
 fn mark(
-    assigned: &Assigned,
+    graph: &ImplicationGraph<'_>,
     cut: Cut,
     clause: &Reason<'_>,
     marks: &mut Marks,
     choices: &mut Choices,
     open: &mut usize,
 ) -> Result<(), AllocError>
-    requires known { All (IsBelow (length assigned.now.values)) (read_literals clause.now) }
-    requires size { length assigned.now.values ≤ length marks.old.stamps }
+    requires known { All (IsBelow (length graph.now.values)) (read_literals clause.now) }
+    requires size { length graph.now.values ≤ length marks.old.stamps }
     ensures size { length marks.new.stamps ≡ length marks.old.stamps }
     ensures kept { OnOk result ((x : ℕ) → IsMarked marks.old x → IsMarked marks.new x) }
     ensures all { OnOk result (All (λ l. IsMarked marks.new l.letter.0) (read_literals clause.now)) }
-    ensures waiting { OnOk result ((end : ℕ) → AreWaiting assigned.now.trail end marks.old
-        → AreWaiting assigned.now.trail end marks.new) }
+    ensures waiting { OnOk result ((end : ℕ) → AreWaiting graph.now.trail end marks.old
+        → AreWaiting graph.now.trail end marks.new) }
     ensures found { FoundSame marks.old marks.new }
 {
     for place in 0..clause.len() {
-        mark_letter(assigned, cut, clause.letter(place), marks, choices, open)?;
+        mark_letter(graph, cut, clause.letter(place), marks, choices, open)?;
     }
     Ok(())
 }
@@ -153,42 +151,33 @@ fn cite(learnt: &mut Learnt, hint: Hint) -> Result<(), AllocError>
     Ok(())
 }
 
-/// Goes down the marked places of the trail below `from`, resolves what has a reason and keeps the decisions in
-/// the clause.
+/// Goes down the marked places of the trail below `from`, resolves what has a reason and keeps the decisions
+/// in the clause.
 fn walk(
-    assigned: &Assigned,
-    arena: &Arena,
-    log: &Log,
+    graph: &ImplicationGraph<'_>,
     from: usize,
     marks: &mut Marks,
     choices: &mut Choices,
     learnt: &mut Learnt,
 ) -> Result<(), AllocError>
-    requires analyzable { IsAnalyzable log.now assigned.now arena.now }
-    requires from { from ≤ length assigned.now.trail }
-    requires size { length assigned.now.values ≤ length marks.old.stamps }
-    requires waiting { AreWaiting assigned.now.trail from marks.old }
+    requires can_walk { CanWalk graph.now from marks.old }
     ensures size { length marks.new.stamps ≡ length marks.old.stamps }
-    ensures walked { OnOk result ((t : List Entry) → IsLike log.now.inputs log.now.lines assigned.now.trail t
-        from → IsWalk log.now.inputs log.now.lines t from
-        (IsMarked marks.old) learnt.old.clause.items learnt.old.hints.items learnt.old.places.items
-        → IsWalk log.now.inputs log.now.lines t 0 (IsMarked marks.new) learnt.new.clause.items
-        learnt.new.hints.items learnt.new.places.items) }
-    ensures decided { OnOk result ((t : List Entry) → IsLike log.now.inputs log.now.lines assigned.now.trail
-        t from → All (IsDecision t) learnt.old.places.items → All (IsDecision t) learnt.new.places.items) }
+    ensures walked { OnOk result ((t : List Entry) → IsLike graph.now t from
+        → Walks graph.now.log t from 0 marks.old marks.new learnt.old learnt.new) }
+    ensures decided { OnOk result ((t : List Entry) → IsLike graph.now t from
+        → All (IsDecision t) learnt.old.places.items → All (IsDecision t) learnt.new.places.items) }
 {
-    assigned.told();
-    let view = log.view();
+    graph.told();
     let mut open: usize = 0;
     let mut end = from;
     'down: while let Some(place) = marks.pop(end) {
         end = place;
-        let entry = assigned.entry(place);
+        let entry = graph.entry(place);
         match entry.reason {
             Some(hint) => {
                 cite(learnt, hint)?;
-                let clause = Reason::of(arena, &view, entry.literal.letter.0, hint);
-                mark(assigned, Cut::Decisions, &clause, marks, choices, &mut open)?;
+                let clause = graph.reason(entry.literal.letter.0, hint);
+                mark(graph, Cut::Decisions, &clause, marks, choices, &mut open)?;
                 continue 'down;
             }
             None => {
@@ -200,37 +189,28 @@ fn walk(
     Ok(())
 }
 
-/// Goes down the marked places of the trail and resolves what stands there, while more than one literal of the
-/// cut's level is open. The clause keeps the last one, whose place it answers.
+/// Goes down the marked places of the trail and resolves what stands there, while more than one literal of
+/// the cut's level is open. The clause keeps the last one, whose place it answers.
 fn walk_level(
-    assigned: &Assigned,
-    arena: &Arena,
-    log: &Log,
+    graph: &ImplicationGraph<'_>,
     cut: Cut,
     marks: &mut Marks,
     choices: &mut Choices,
     open: &mut usize,
     learnt: &mut Learnt,
 ) -> Result<usize, AllocError>
-    requires analyzable { IsAnalyzable log.now assigned.now arena.now }
-    requires size { length assigned.now.values ≤ length marks.old.stamps }
-    requires waiting { AreWaiting assigned.now.trail (length assigned.now.trail) marks.old }
+    requires can_walk { CanWalk graph.now (length graph.now.trail) marks.old }
     ensures size { length marks.new.stamps ≡ length marks.old.stamps }
-    ensures within { IfOk result (λ place. place ≤ length assigned.now.trail) }
-    ensures walked { IfOk result (λ place. IsWalk log.now.inputs log.now.lines assigned.now.trail
-        (length assigned.now.trail)
-        (IsMarked marks.old) learnt.old.clause.items learnt.old.hints.items learnt.old.places.items
-        → IsWalk log.now.inputs log.now.lines assigned.now.trail place (IsMarked marks.new)
-        learnt.new.clause.items learnt.new.hints.items learnt.new.places.items) }
-    ensures waiting { IfOk result (λ place. AreWaiting assigned.now.trail place marks.new) }
+    ensures can_walk { IfOk result (λ place. CanWalk graph.now place marks.new) }
+    ensures walked { IfOk result (λ place. Walks graph.now.log graph.now.trail (length graph.now.trail) place
+        marks.old marks.new learnt.old learnt.new) }
     ensures found { OnOk result (FoundSame marks.old marks.new) }
 {
-    assigned.told();
-    let view = log.view();
-    let mut end = assigned.len();
+    graph.told();
+    let mut end = graph.len();
     'down: while let Some(place) = marks.pop(end) {
         end = place;
-        let entry = assigned.entry(place);
+        let entry = graph.entry(place);
         match entry.reason {
             Some(hint) => {
                 if *open <= 1 {
@@ -239,8 +219,8 @@ fn walk_level(
                 }
                 *open -= 1;
                 cite(learnt, hint)?;
-                let clause = Reason::of(arena, &view, entry.literal.letter.0, hint);
-                mark(assigned, cut, &clause, marks, choices, open)?;
+                let clause = graph.reason(entry.literal.letter.0, hint);
+                mark(graph, cut, &clause, marks, choices, open)?;
                 continue 'down;
             }
             None => {
@@ -253,14 +233,14 @@ fn walk_level(
 }
 
 /// How many of the first `from` entries are of level 0: those stand before all others. It is found by halves.
-fn base_of(assigned: &Assigned, from: usize) -> usize
+fn base_of(graph: &ImplicationGraph<'_>, from: usize) -> usize
     ensures { result ≤ from }
 {
     let mut low = 0;
     let mut high = from;
     'halves: while low < high {
         let middle = low + (high - low) / 2;
-        if assigned.level_at(middle) == 0 {
+        if graph.level_at(middle) == 0 {
             low = middle + 1;
         } else {
             high = middle;
@@ -272,33 +252,26 @@ fn base_of(assigned: &Assigned, from: usize) -> usize
 /// Goes down the marked places from `from` to the base, and keeps in the clause what does not follow from the
 /// rest. What follows is left in the marks, and so is what waits below the base.
 fn keep_rest(
-    assigned: &Assigned,
-    arena: &Arena,
-    log: &Log,
+    graph: &ImplicationGraph<'_>,
     base: usize,
     from: usize,
     marks: &mut Marks,
     learnt: &mut Learnt,
 ) -> Result<(), AllocError>
-    requires analyzable { IsAnalyzable log.now assigned.now arena.now }
     requires base { base ≤ from }
-    requires from { from ≤ length assigned.now.trail }
-    requires size { length assigned.now.values ≤ length marks.old.stamps }
-    requires waiting { AreWaiting assigned.now.trail from marks.old }
-    requires unasked { (x : ℕ) → outcome_of marks.old x ≡ None }
-    requires none_follows { marks.old.consequences ≡ [] }
+    requires can_walk { CanWalk graph.now from marks.old }
+    requires fresh { IsUnasked marks.old }
     ensures size { length marks.new.stamps ≡ length marks.old.stamps }
-    ensures waiting { OnOk result (AreWaiting assigned.now.trail base marks.new) }
-    ensures rest { OnOk result (IsRest log.now.inputs log.now.lines assigned.now.trail base from base
+    ensures can_walk { OnOk result (CanWalk graph.now base marks.new) }
+    ensures rest { OnOk result (IsRest graph.now.log.inputs graph.now.log.lines graph.now.trail base from base
         marks.old marks.new learnt.old.clause.items learnt.old.places.items learnt.new.clause.items
         learnt.new.places.items) }
     ensures hints { OnOk result (learnt.new.hints.items ≡ learnt.old.hints.items) }
 {
-    assigned.told();
-    let view = log.view();
+    graph.told();
     let mut end = from;
     'down: while let Some(place) = marks.pop(end) {
-        let entry = assigned.entry(place);
+        let entry = graph.entry(place);
         let letter = entry.literal.letter.0;
         if place < base {
             // It waits for the walk over what stands below the base.
@@ -306,8 +279,7 @@ fn keep_rest(
             return Ok(());
         }
         end = place;
-        settle(assigned, arena, &view, base, letter, marks, STEPS)?;
-        if marks.outcome(letter as usize) != Some(true) {
+        if !follows(graph, base, letter, marks)? {
             marks.told();
             marks.deny(letter as usize);
             keep(learnt, entry.literal.opposite(), place)?;
@@ -347,68 +319,52 @@ fn bump_consequences(marks: &Marks, choices: &mut Choices) {
 /// Goes down the marked places below `from`: the clause keeps what does not follow from the rest, and what
 /// stands on level 0 is resolved away.
 fn minimize(
-    assigned: &Assigned,
-    arena: &Arena,
-    log: &Log,
+    graph: &ImplicationGraph<'_>,
     from: usize,
     marks: &mut Marks,
     choices: &mut Choices,
     learnt: &mut Learnt,
 ) -> Result<(), AllocError>
-    requires analyzable { IsAnalyzable log.now assigned.now arena.now }
-    requires from { from ≤ length assigned.now.trail }
-    requires size { length assigned.now.values ≤ length marks.old.stamps }
-    requires waiting { AreWaiting assigned.now.trail from marks.old }
-    requires unasked { (x : ℕ) → outcome_of marks.old x ≡ None }
-    requires none_follows { marks.old.consequences ≡ [] }
+    requires can_walk { CanWalk graph.now from marks.old }
+    requires fresh { IsUnasked marks.old }
     ensures size { length marks.new.stamps ≡ length marks.old.stamps }
-    ensures walked { OnOk result (IsWalk log.now.inputs log.now.lines assigned.now.trail from
-        (IsMarked marks.old) learnt.old.clause.items learnt.old.hints.items learnt.old.places.items
-        → IsWalk log.now.inputs log.now.lines assigned.now.trail 0 (IsMarked marks.new)
-        learnt.new.clause.items learnt.new.hints.items learnt.new.places.items) }
+    ensures walked { OnOk result (Walks graph.now.log graph.now.trail from 0 marks.old marks.new learnt.old
+        learnt.new) }
 {
-    assigned.told();
-    let base = base_of(assigned, from);
-    keep_rest(assigned, arena, log, base, from, marks, learnt)?;
+    graph.told();
+    let base = base_of(graph, from);
+    keep_rest(graph, base, from, marks, learnt)?;
     bump_consequences(marks, choices);
     cite_consequences(marks.consequences(), learnt)?;
-    walk(assigned, arena, log, base, marks, choices, learnt)
+    walk(graph, base, marks, choices, learnt)
 }
 
 /// Goes down the marked places of the trail, and resolves there what the cut does not keep in the clause.
 fn resolve(
-    assigned: &Assigned,
-    arena: &Arena,
-    log: &Log,
+    graph: &ImplicationGraph<'_>,
     cut: Cut,
     marks: &mut Marks,
     choices: &mut Choices,
     open: &mut usize,
     learnt: &mut Learnt,
 ) -> Result<(), AllocError>
-    requires analyzable { IsAnalyzable log.now assigned.now arena.now }
-    requires size { length assigned.now.values ≤ length marks.old.stamps }
-    requires waiting { AreWaiting assigned.now.trail (length assigned.now.trail) marks.old }
-    requires unasked { (x : ℕ) → outcome_of marks.old x ≡ None }
-    requires none_follows { marks.old.consequences ≡ [] }
+    requires can_walk { CanWalk graph.now (length graph.now.trail) marks.old }
+    requires fresh { IsUnasked marks.old }
     ensures size { length marks.new.stamps ≡ length marks.old.stamps }
-    ensures walked { OnOk result (IsWalk log.now.inputs log.now.lines assigned.now.trail
-        (length assigned.now.trail)
-        (IsMarked marks.old) learnt.old.clause.items learnt.old.hints.items learnt.old.places.items
-        → IsWalk log.now.inputs log.now.lines assigned.now.trail 0 (IsMarked marks.new)
-        learnt.new.clause.items learnt.new.hints.items learnt.new.places.items) }
-    ensures decided { OnOk result (cut ≡ Decisions → All (IsDecision assigned.now.trail) learnt.old.places.items
-        → All (IsDecision assigned.now.trail) learnt.new.places.items) }
+    ensures walked { OnOk result (Walks graph.now.log graph.now.trail (length graph.now.trail) 0 marks.old
+        marks.new learnt.old learnt.new) }
+    ensures decided { OnOk result (cut ≡ Decisions → All (IsDecision graph.now.trail) learnt.old.places.items
+        → All (IsDecision graph.now.trail) learnt.new.places.items) }
 {
-    assigned.told();
+    graph.told();
     match cut {
         Cut::Decisions => {
-            walk(assigned, arena, log, assigned.len(), marks, choices, learnt)?;
+            walk(graph, graph.len(), marks, choices, learnt)?;
             return Ok(());
         }
         Cut::FirstUnique(_) => {
-            let place = walk_level(assigned, arena, log, cut, marks, choices, open, learnt)?;
-            minimize(assigned, arena, log, place, marks, choices, learnt)?;
+            let place = walk_level(graph, cut, marks, choices, open, learnt)?;
+            minimize(graph, place, marks, choices, learnt)?;
             return Ok(());
         }
     }
@@ -417,41 +373,29 @@ fn resolve(
 /// Explains a conflict.
 pub fn explain(
     alloc: Global,
-    assigned: &Assigned,
-    arena: &Arena,
-    log: &Log,
+    graph: &ImplicationGraph<'_>,
     cut: Cut,
     marks: &mut Marks,
     choices: &mut Choices,
     conflict: Hint,
 ) -> Result<Learnt, AllocError>
-    requires analyzable { IsAnalyzable log.now assigned.now arena.now }
-    requires size { length assigned.now.values ≤ length marks.old.stamps }
-    requires from_one { AreFromOne assigned.now.trail }
-    requires conflict { IsConflict log.now.inputs log.now.lines (literals_of assigned.now.trail) conflict }
+    requires size { length graph.now.values ≤ length marks.old.stamps }
+    requires from_one { AreFromOne graph.now.trail }
+    requires conflict { IsConflict graph.now.log.inputs graph.now.log.lines (literals_of graph.now.trail)
+        conflict }
     ensures size { length marks.new.stamps ≡ length marks.old.stamps }
-    ensures learnt { IfOk result (IsLearnt log.now assigned.now.trail) }
+    ensures learnt { IfOk result (IsLearnt graph.now.log graph.now.trail) }
     ensures decided { IfOk result (λ learnt. cut ≡ Decisions
-        → All (IsDecision assigned.now.trail) learnt.places.items) }
+        → All (IsDecision graph.now.trail) learnt.places.items) }
 {
-    assigned.told();
-    let view = log.view();
+    graph.told();
     marks.begin();
     let mut open: usize = 0;
     let mut learnt = blank(alloc)?;
     cite(&mut learnt, conflict)?;
-    let clause = Reason::Logged(clause_of(&view, conflict));
-    mark(assigned, cut, &clause, marks, choices, &mut open)?;
-    resolve(
-        assigned,
-        arena,
-        log,
-        cut,
-        marks,
-        choices,
-        &mut open,
-        &mut learnt,
-    )?;
+    let clause = graph.clause(conflict);
+    mark(graph, cut, &clause, marks, choices, &mut open)?;
+    resolve(graph, cut, marks, choices, &mut open, &mut learnt)?;
     learnt.hints.reverse();
     Ok(learnt)
 }
@@ -460,34 +404,30 @@ pub fn explain(
 /// false.
 pub fn explain_forced(
     alloc: Global,
-    assigned: &Assigned,
-    arena: &Arena,
-    log: &Log,
+    graph: &ImplicationGraph<'_>,
     marks: &mut Marks,
     choices: &mut Choices,
     place: usize,
     hint: Hint,
 ) -> Result<Learnt, AllocError>
-    requires analyzable { IsAnalyzable log.now assigned.now arena.now }
-    requires size { length assigned.now.values ≤ length marks.old.stamps }
-    requires from_one { AreFromOne assigned.now.trail }
-    requires place { place < length assigned.now.trail }
-    requires forced { (slice_index_or assigned.now.trail place blank_entry).reason ≡ Some hint }
+    requires size { length graph.now.values ≤ length marks.old.stamps }
+    requires from_one { AreFromOne graph.now.trail }
+    requires place { place < length graph.now.trail }
+    requires forced { (slice_index_or graph.now.trail place blank_entry).reason ≡ Some hint }
     ensures size { length marks.new.stamps ≡ length marks.old.stamps }
-    ensures learnt { IfOk result (IsLearnt log.now (refuted_at assigned.now.trail place)) }
-    ensures decided { IfOk result (λ learnt. All (IsDecision (refuted_at assigned.now.trail place))
+    ensures learnt { IfOk result (IsLearnt graph.now.log (refuted_at graph.now.trail place)) }
+    ensures decided { IfOk result (λ learnt. All (IsDecision (refuted_at graph.now.trail place))
         learnt.places.items) }
 {
-    assigned.told();
-    let view = log.view();
+    graph.told();
     marks.begin();
     let mut open: usize = 0;
     let mut learnt = blank(alloc)?;
-    keep(&mut learnt, assigned.entry(place).literal, place)?;
+    keep(&mut learnt, graph.entry(place).literal, place)?;
     cite(&mut learnt, hint)?;
-    let clause = Reason::Logged(clause_of(&view, hint));
-    mark(assigned, Cut::Decisions, &clause, marks, choices, &mut open)?;
-    walk(assigned, arena, log, place, marks, choices, &mut learnt)?;
+    let clause = graph.clause(hint);
+    mark(graph, Cut::Decisions, &clause, marks, choices, &mut open)?;
+    walk(graph, place, marks, choices, &mut learnt)?;
     learnt.hints.reverse();
     Ok(learnt)
 }

@@ -2,6 +2,7 @@
 #![tactic(auto)]
 
 pub mod analyze;
+pub mod graph;
 pub mod marks;
 mod minimize;
 mod reason;

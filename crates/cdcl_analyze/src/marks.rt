@@ -5,6 +5,7 @@
 ghost use Rattle.std.specs.Prelude.{◌≡◌, ◌≢◌, ℕ, ◌+◌, ◌%◌, ◌<◌, ◌≤◌, [], ◌∷◌, ◌++◌, ◌⊎◌, ◌↔◌, true, All, length, take, IsTrue, Some, None, MatchOption, OnOk, slice_set};
 ghost use Rattle.std.specs.Int.{bit_at};
 ghost use Rattle.cdcl_analyze.specs.Marks.{IsMarked, outcome_of, outcome_number, with_outcomes, with_consequences, with_levels, FoundSame, IsFrom, MayHave};
+ghost use Rattle.cdcl_analyze.specs.Consequences.{IsKept};
 ghost use Rattle.cdcl_analyze.specs.Waiting.{IsWaiting, IsNext};
 
 use crate::waiting::{Waiting, with_bit};
@@ -182,6 +183,20 @@ impl Marks {
         }
     }
 
+    /// Whether the letter is marked or its value follows, if this analysis has asked.
+    #[inline(always)]
+    pub(crate) fn given(&self, letter: usize) -> Option<bool>
+        requires { letter < length self.now.stamps }
+        ensures { MatchOption result (outcome_of self.now letter ≡ None) (λ is_given. IsTrue is_given
+            ↔ (IsKept self.now letter ⊎ (outcome_of self.now letter ≡ Some true))) }
+    {
+        match self.outcome(letter) {
+            Some(true) => Some(true),
+            Some(false) => Some(self.has(letter)),
+            None => None,
+        }
+    }
+
     /// Remembers whether the letter's value follows.
     fn remember(&mut self, letter: usize, follows: bool)
         ensures { self.new ≡ with_outcomes self.old
@@ -213,8 +228,8 @@ impl Marks {
         Ok(())
     }
 
-    /// Keeps the first `count` consequences. Whether the values of the others' letters follow is not known any
-    /// longer.
+    /// Keeps the first `count` consequences. Whether the values of the others' letters follow is not known
+    /// any longer.
     pub(crate) fn take_back(&mut self, count: usize)
         ensures rest { self.new ≡ with_consequences (with_outcomes self.old self.new.outcomes)
             (take count self.old.consequences) }

@@ -5,86 +5,67 @@
 // remembered for one analysis, so that each letter is asked once but for those found on the way to one that
 // does not follow: these are taken back, for no hint is to be there in vain. A letter on a level of which the
 // clause has nothing is not asked at all. After Sorensson and Biere, Minimizing learned clauses (2009).
-ghost use Rattle.std.specs.Prelude.{◌≡◌, ◌≢◌, ℕ, ◌<◌, ◌≤◌, ◌⊎◌, List, true, false, All, length, Some, None, IfOk, OnOk};
+ghost use Rattle.std.specs.Prelude.{◌≡◌, ℕ, ◌<◌, ◌⊎◌, ◌↔◌, IsTrue, List, true, All, length, Some, None, IfOk, OnOk};
 ghost use Rattle.cnf_base.specs.declared.literal.Literal.{Literal};
 ghost use Rattle.cnf_base.specs.Step.{named};
-ghost use Rattle.cdcl_trail.specs.Trail.{AreValues, literal_at};
+ghost use Rattle.cdcl_trail.specs.Trail.{literal_at};
 ghost use Rattle.cdcl_analyze.specs.Marks.{outcome_of};
-ghost use Rattle.cdcl_analyze.specs.Reason.{IsAnalyzable};
-ghost use Rattle.cdcl_analyze.specs.Consequences.{StandsBelow, IsGiven, HasReason, AreConsequences, Grows};
+ghost use Rattle.cdcl_analyze.specs.Consequences.{StandsBelow, IsGiven, HasReason, Grows, CanAsk, GrowsBy};
 
+use crate::graph::ImplicationGraph;
 use crate::marks::Marks;
-use crate::reason::Reason;
-use cdcl_trail::assigned::Assigned;
-use cdcl_watches::arena::Arena;
-use clause_log::LogView;
 use cnf_base::Hint;
 use std::alloc::AllocError;
 
 /// How many reasons deep a letter may follow.
-pub(crate) const STEPS: u32 = 1000;
+const STEPS: u32 = 1000;
 
-/// Whether the letter is marked, or stands below the base, or its value follows from such ones. What is marked
-/// follows or stays in the clause, and its outcome tells; below the base the letter is marked, and its place
-/// waits.
-#[cycle(following)]
+/// Whether the letter's value follows from what the clause keeps and what is marked below the base, as far as
+/// so many reasons tell.
 #[inline(always)]
-pub(crate) fn settle(
-    assigned: &Assigned,
-    arena: &Arena,
-    view: &LogView<'_>,
+pub(crate) fn follows(
+    graph: &ImplicationGraph<'_>,
     base: usize,
     letter: u32,
     marks: &mut Marks,
-    steps: u32,
 ) -> Result<bool, AllocError>
-    requires told { AreValues assigned.now.values assigned.now.trail }
-    requires analyzable { IsAnalyzable view.now assigned.now arena.now }
-    requires size { length assigned.now.values ≤ length marks.old.stamps }
-    requires stands { StandsBelow assigned.now.trail (length assigned.now.trail) letter }
-    requires base { base ≤ length assigned.now.trail }
-    requires consequences { AreConsequences view.now.inputs view.now.lines assigned.now.trail base
-        marks.old }
+    requires can_ask { CanAsk graph.now base marks.old }
+    requires stands { StandsBelow graph.now.trail (length graph.now.trail) letter }
     ensures size { length marks.new.stamps ≡ length marks.old.stamps }
-    ensures given { IfOk result (λ is_given. is_given ≡ true
-        → IsGiven assigned.now.trail base marks.new letter) }
-    ensures grows { OnOk result ((end : ℕ) → StandsBelow assigned.now.trail end letter
-        → Grows view.now.inputs view.now.lines assigned.now.trail base end marks.old marks.new) }
+    ensures outcome { IfOk result (λ follows. IsTrue follows ↔ (outcome_of marks.new letter ≡ Some true)) }
+    ensures grows { OnOk result (GrowsBy graph.now base letter marks.old marks.new) }
 {
     match marks.outcome(letter as usize) {
-        Some(true) => return Ok(true),
-        Some(false) => return Ok(marks.has(letter as usize)),
-        None => return ask(assigned, arena, view, base, letter, marks, steps),
+        Some(follows) => Ok(follows),
+        None => {
+            ask(graph, base, letter, marks, STEPS)?;
+            Ok(marks.outcome(letter as usize) == Some(true))
+        }
     }
 }
 
-/// The same for a letter of which nothing is known.
+/// Whether the letter, of which nothing is known, is marked, or stands below the base, or its value follows
+/// from such ones. What is marked follows or stays in the clause, and its outcome tells; below the base the
+/// letter is marked, and its place waits.
 #[cycle(following)]
 fn ask(
-    assigned: &Assigned,
-    arena: &Arena,
-    view: &LogView<'_>,
+    graph: &ImplicationGraph<'_>,
     base: usize,
     letter: u32,
     marks: &mut Marks,
     steps: u32,
 ) -> Result<bool, AllocError>
-    requires told { AreValues assigned.now.values assigned.now.trail }
-    requires analyzable { IsAnalyzable view.now assigned.now arena.now }
-    requires size { length assigned.now.values ≤ length marks.old.stamps }
-    requires stands { StandsBelow assigned.now.trail (length assigned.now.trail) letter }
-    requires base { base ≤ length assigned.now.trail }
-    requires consequences { AreConsequences view.now.inputs view.now.lines assigned.now.trail base
-        marks.old }
+    requires can_ask { CanAsk graph.now base marks.old }
+    requires stands { StandsBelow graph.now.trail (length graph.now.trail) letter }
     requires unknown { outcome_of marks.old letter ≡ None }
     ensures size { length marks.new.stamps ≡ length marks.old.stamps }
     ensures given { IfOk result (λ is_given. is_given ≡ true
-        → IsGiven assigned.now.trail base marks.new letter) }
-    ensures grows { OnOk result ((end : ℕ) → StandsBelow assigned.now.trail end letter
-        → Grows view.now.inputs view.now.lines assigned.now.trail base end marks.old marks.new) }
+        → IsGiven graph.now.trail base marks.new letter) }
+    ensures grows { OnOk result (GrowsBy graph.now base letter marks.old marks.new) }
 {
+    graph.told();
     marks.told();
-    let place = assigned.place_of(letter as usize);
+    let place = graph.place_of(letter as usize);
     let marked = marks.has(letter as usize);
     if place < base {
         if !marked {
@@ -92,13 +73,13 @@ fn ask(
         }
         return Ok(true);
     }
-    let entry = assigned.entry(place);
+    let entry = graph.entry(place);
     if !marked && !marks.may_have(entry.level) {
         return Ok(false);
     }
     match entry.reason {
         Some(reason) => {
-            let follows = derive(assigned, arena, view, base, letter, reason, marks, steps)?;
+            let follows = derive(graph, base, letter, reason, marks, steps)?;
             Ok(marked || follows)
         }
         None => {
@@ -111,40 +92,23 @@ fn ask(
 /// Whether the letter's value follows by this reason, in at most so many steps; remembers what it finds.
 #[cycle(following)]
 fn derive(
-    assigned: &Assigned,
-    arena: &Arena,
-    view: &LogView<'_>,
+    graph: &ImplicationGraph<'_>,
     base: usize,
     letter: u32,
     reason: Hint,
     marks: &mut Marks,
     steps: u32,
 ) -> Result<bool, AllocError>
-    requires told { AreValues assigned.now.values assigned.now.trail }
-    requires analyzable { IsAnalyzable view.now assigned.now arena.now }
-    requires size { length assigned.now.values ≤ length marks.old.stamps }
-    requires reason { HasReason assigned.now.trail base letter reason }
-    requires consequences { AreConsequences view.now.inputs view.now.lines assigned.now.trail base
-        marks.old }
+    requires can_ask { CanAsk graph.now base marks.old }
+    requires reason { HasReason graph.now.trail base letter reason }
     requires unknown { outcome_of marks.old letter ≡ None }
     ensures size { length marks.new.stamps ≡ length marks.old.stamps }
     ensures outcome { IfOk result (λ follows. outcome_of marks.new letter ≡ Some follows) }
-    ensures grows { OnOk result ((end : ℕ) → StandsBelow assigned.now.trail end letter
-        → Grows view.now.inputs view.now.lines assigned.now.trail base end marks.old marks.new) }
+    ensures grows { OnOk result (GrowsBy graph.now base letter marks.old marks.new) }
 {
+    graph.told();
     let count = marks.consequences().len();
-    if steps > 0
-        && are_given(
-            assigned,
-            arena,
-            view,
-            base,
-            letter,
-            reason,
-            marks,
-            steps - 1,
-        )?
-    {
+    if steps > 0 && are_given(graph, base, letter, reason, marks, steps - 1)? {
         marks.told();
         marks.conclude(letter, reason)?;
         return Ok(true);
@@ -158,33 +122,35 @@ fn derive(
 /// Whether each literal of the reason but that of the letter is given.
 #[cycle(following)]
 fn are_given(
-    assigned: &Assigned,
-    arena: &Arena,
-    view: &LogView<'_>,
+    graph: &ImplicationGraph<'_>,
     base: usize,
     letter: u32,
     reason: Hint,
     marks: &mut Marks,
     steps: u32,
 ) -> Result<bool, AllocError>
-    requires told { AreValues assigned.now.values assigned.now.trail }
-    requires analyzable { IsAnalyzable view.now assigned.now arena.now }
-    requires size { length assigned.now.values ≤ length marks.old.stamps }
-    requires reason { HasReason assigned.now.trail base letter reason }
-    requires consequences { AreConsequences view.now.inputs view.now.lines assigned.now.trail base
-        marks.old }
+    requires can_ask { CanAsk graph.now base marks.old }
+    requires reason { HasReason graph.now.trail base letter reason }
     ensures size { length marks.new.stamps ≡ length marks.old.stamps }
     ensures given { IfOk result (λ are_given. are_given ≡ true → (clause : List Literal)
-        → named view.now.inputs view.now.lines reason ≡ Some clause
-        → All (λ l. (l.letter.0 ≡ letter) ⊎ IsGiven assigned.now.trail base marks.new l.letter.0) clause) }
-    ensures grows { OnOk result ((place : ℕ) → place < length assigned.now.trail
-        → (literal_at assigned.now.trail place).letter.0 ≡ letter
-        → Grows view.now.inputs view.now.lines assigned.now.trail base place marks.old marks.new) }
+        → named graph.now.log.inputs graph.now.log.lines reason ≡ Some clause
+        → All (λ l. (l.letter.0 ≡ letter) ⊎ IsGiven graph.now.trail base marks.new l.letter.0) clause) }
+    ensures grows { OnOk result ((place : ℕ) → place < length graph.now.trail
+        → (literal_at graph.now.trail place).letter.0 ≡ letter
+        → Grows graph.now.log.inputs graph.now.log.lines graph.now.trail base place marks.old marks.new) }
 {
-    let clause = Reason::of(arena, view, letter, reason);
-    for place in 0..clause.len() {
+    graph.told();
+    let clause = graph.reason(letter, reason);
+    'others: for place in 0..clause.len() {
         let other = clause.letter(place);
-        if other != letter && !settle(assigned, arena, view, base, other, marks, steps)? {
+        if other == letter {
+            continue 'others;
+        }
+        let is_given = match marks.given(other as usize) {
+            Some(is_given) => is_given,
+            None => ask(graph, base, other, marks, steps)?,
+        };
+        if !is_given {
             return Ok(false);
         }
     }

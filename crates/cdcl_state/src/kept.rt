@@ -6,8 +6,8 @@ ghost use Rattle.cnf_base.specs.declared.literal.Hint.TheVariants.{Clause};
 use cdcl_trail::hints::lengthen;
 use cnf_base::Hint;
 
-/// Whether the line is marked. The marks stand under the lines' numbers, which begin at 1; behind the last mark
-/// no line is marked.
+/// Whether the line is marked. The marks stand under the lines' numbers, which begin at 1; behind the last
+/// mark no line is marked.
 pub fn is_marked(marks: &[bool], line: u64) -> bool
     ensures { result ≡ slice_index_or marks.now line false }
 {

@@ -11,6 +11,7 @@ ghost use Rattle.cdcl_analyze.specs.declared.analyze.Cut.TheVariants.{Decisions}
 
 use crate::state::State;
 use cdcl_analyze::analyze::{Cut, Learnt, explain, explain_forced};
+use cdcl_analyze::graph::ImplicationGraph;
 use cnf_base::{Hint, Literal};
 use std::alloc::{AllocError, Global};
 
@@ -24,11 +25,10 @@ impl State {
         ensures decided { IfOk result (λ learnt. cut ≡ Decisions
             → All (IsDecision self.old.trail) learnt.places.items) }
     {
+        let graph = ImplicationGraph::of(&self.assigned, self.watches.arena(), &self.log);
         let learnt = explain(
             alloc,
-            &self.assigned,
-            self.watches.arena(),
-            &self.log,
+            &graph,
             cut,
             &mut self.marks,
             &mut self.choices,
@@ -93,11 +93,10 @@ impl State {
         let place = self.assigned.place(literal.opposite());
         match self.assigned.entry(place).reason {
             Some(hint) => {
+                let graph = ImplicationGraph::of(&self.assigned, self.watches.arena(), &self.log);
                 let learnt = explain_forced(
                     alloc,
-                    &self.assigned,
-                    self.watches.arena(),
-                    &self.log,
+                    &graph,
                     &mut self.marks,
                     &mut self.choices,
                     place,

@@ -9,6 +9,6 @@ invariant-loop-place l = record {
   kept : (x : ℕ) → IsMarked l.initial.marks x → IsMarked l.marks x;
   size : length l.marks.stamps ≡ length l.initial.marks.stamps;
   seen : All (λ m. IsMarked l.marks m.letter.0) (take l.place (read_literals l.clause));
-  waiting : (end : ℕ) → AreWaiting l.assigned.trail end l.initial.marks → AreWaiting l.assigned.trail end l.marks;
+  waiting : (end : ℕ) → AreWaiting l.graph.trail end l.initial.marks → AreWaiting l.graph.trail end l.marks;
   found : FoundSame l.initial.marks l.marks;
 }

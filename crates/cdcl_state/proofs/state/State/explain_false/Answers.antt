@@ -4,7 +4,7 @@ use Rattle.cnf_base.specs.Literal.{opposite}
 use Rattle.cnf_base.specs.Known.{IsKnown}
 use Rattle.cdcl_state.specs.StateValue.{StateValue}
 use Rattle.cdcl_trail.specs.Trail.{blank_entry, literal_at, IsDecision}
-use Rattle.cdcl_analyze.specs.Analysis.{refuted_at}
+use Rattle.cdcl_analyze.specs.Analysis.{AreFromOne, refuted_at}
 use Rattle.cdcl_trail.specs.declared.assigned.Entry.{Entry}
 use Rattle.cdcl_state.proofs.States.{analyzable}
 use Rattle.cdcl_state.proofs.Known.{trail_known, known_from_one, learnt_known, refuted_known}
@@ -16,10 +16,11 @@ explain_forced-requires-clause-from_one c =
     let log = c.self.inside.log in
     let letters = c.self.inside.letters in
     let state = c.self.invariant in
-    known_from_one letters a.trail (trail_known letters log.inputs log.lines a.trail state.ready.is_trail state.known_inputs state.known_lines state.decided)
+    subst AreFromOne (sym c.of-graph.ensures.trail)
+    (known_from_one letters a.trail (trail_known letters log.inputs log.lines a.trail state.ready.is_trail state.known_inputs state.known_lines state.decided))
 
-pub explain_forced-requires-clause-analyzable : goal.explain_forced-requires-clause-analyzable
-explain_forced-requires-clause-analyzable c =
+pub of-graph-requires : goal.of-graph-requires
+of-graph-requires c =
     analyzable c.self.invariant c.arena.result.now c.arena.ensures.clauses c.arena.ensures.names
 
 pub returns-in-Some-clause-known : goal.returns-in-Some-clause-known
@@ -32,7 +33,8 @@ returns-in-Some-clause-known c =
     let learnt = c.in_ok-learnt-in-Some.learnt in
     let known = trail_known letters log.inputs log.lines a.trail state.ready.is_trail state.known_inputs state.known_lines state.decided in
     subst (λ (s : StateValue). All (IsKnown s.letters) learnt.clause.items) c.self.view_is
-    (learnt_known letters log (refuted_at a.trail place) learnt c.in_ok-learnt-in-Some.ensures.learnt (refuted_known letters a.trail place c.place-place.ensures.within known))
+    (learnt_known letters c.of-graph.result.log (refuted_at c.of-graph.result.trail place) learnt c.in_ok-learnt-in-Some.ensures.learnt
+    (subst (λ t. All (λ e. IsKnown letters e.literal) (refuted_at t place)) (sym c.of-graph.ensures.trail) (refuted_known letters a.trail place c.place-place.ensures.within known)))
 
 -- a decision at the place would have another literal
 pub unreachable-requires : goal.unreachable-requires
