@@ -116,14 +116,23 @@ pub struct LogView<'a> {
 }
 
 impl<'a> Model for LogView<'a> {
-    ghost use Rattle.clause_log.specs.LogValue.{LogValue};
+    ghost use Rattle.clause_log.specs.LogValue.{LogValue, IsLog};
 
     ghost Value = { LogValue };
 
     ghost view = { λ a. a.log.now };
+
+    ghost invariant = { λ a. IsLog a.log.now };
 }
 
 impl<'a> LogView<'a> {
+    /// It does nothing: its clause says what every view keeps to.
+    pub fn is_log(&self)
+        ensures { IsLog self.now }
+    {
+        let _ = &self.log;
+    }
+
     /// The number of inputs.
     pub fn inputs(&self) -> u64
         ensures { result ≡ length self.now.inputs }

@@ -4,7 +4,6 @@
 // were up to each line, which is the new number of a marked line.
 ghost use Rattle.std.specs.Prelude.{◌≡◌, ℕ, ◌<◌, ◌≤◌, ◌+◌, ◌*◌, [], length, map, slice_index_or, IfOk, OnOk, Contains};
 ghost use Rattle.cnf_base.specs.declared.literal.Hint.TheVariants.{Line};
-ghost use Rattle.clause_log.specs.LogValue.{IsLog};
 ghost use Rattle.log_trim.specs.Kept.{Marks, IsClosed, AreNumbers, AreKept, renumbered};
 ghost use Rattle.log_trim.specs.Marking.{marked, AddsHints, AreTheNeeded, AreLines};
 ghost use Rattle.log_trim.specs.Trimmed.{IsTrimmed};
@@ -41,12 +40,12 @@ fn mark_hints(hints: &[Hint], flags: &mut Vec<bool>)
 
 /// A mark for each line that is needed.
 fn needed(alloc: Global, view: &LogView<'_>, targets: &[u64]) -> Result<Vec<bool>, AllocError>
-    requires log { IsLog view.now }
     requires targets { AreLines view.now targets.now }
     ensures long { IfOk result (λ flags. length flags.items ≡ length view.now.lines) }
     ensures closed { IfOk result (λ flags. IsClosed view.now (marked flags.items)) }
     ensures needed { IfOk result (λ flags. AreTheNeeded view.now targets.now (marked flags.items)) }
 {
+    view.is_log();
     let count = view.lines() as usize;
     let mut flags = vec![in alloc; false; count]?;
     'targets: for target in targets {
@@ -72,12 +71,12 @@ fn renumber(
     index: u64,
     table: &Vec<u64>,
 ) -> Result<Vec<Hint>, AllocError>
-    requires log { IsLog view.now }
     requires line { index < length view.now.lines }
     requires table { AreNumbers (marked flags.now.items) view.now.lines index table.now.items }
     ensures { IfOk result (λ new. new.items
         ≡ map (renumbered (marked flags.now.items) view.now.lines) (slice_index_or view.now.hints index [])) }
 {
+    view.is_log();
     let hints = view.hints(index + 1);
     let mut new = Vec::new(alloc);
     'hints: for hint in hints {
@@ -100,7 +99,6 @@ fn keep_line(
     index: u64,
     kept: &mut KeptLines,
 ) -> Result<(), AllocError>
-    requires log { IsLog view.now }
     requires long { length flags.now.items ≡ length view.now.lines }
     requires line { index < length view.now.lines }
     requires kept { AreKept (marked flags.now.items) view.now index
@@ -109,6 +107,7 @@ fn keep_line(
         (AreKept (marked flags.now.items) view.now (index + 1) kept.new.lines kept.new.hints
         kept.new.table.items) }
 {
+    view.is_log();
     if flags[index as usize] {
         let hints = renumber(alloc, view, flags, index, &kept.table)?;
         kept.lines.push(view.literals(index + 1))?;
@@ -120,7 +119,6 @@ fn keep_line(
 
 /// The marked lines, in their order.
 fn keep_lines(alloc: Global, view: &LogView<'_>, flags: &Vec<bool>) -> Result<KeptLines, AllocError>
-    requires log { IsLog view.now }
     requires long { length flags.now.items ≡ length view.now.lines }
     ensures { IfOk result (λ kept. AreKept (marked flags.now.items) view.now (length view.now.lines)
         kept.lines kept.hints kept.table.items) }

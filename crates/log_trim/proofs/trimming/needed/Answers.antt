@@ -11,7 +11,7 @@ targets-preserved c =
 pub mark_hints-requires : goal.mark_hints-requires
 mark_hints-requires c = record {
   lines = λ m h.
-      let w = hints_within c.args.view.now c.lines.left m c.hints.result.now c.requires.log c.lines-test.true c.lines.invariant.left c.hints.ensures h in
+      let w = hints_within c.args.view.now c.lines.left m c.hints.result.now c.is_log.ensures c.lines-test.true c.lines.invariant.left c.hints.ensures h in
       (w.0, omega (arith, w.1, c.lines.invariant.long));
 }
 
@@ -19,11 +19,11 @@ pub lines-preserved-then-index : goal.lines-preserved-then-index
 lines-preserved-then-index c =
     let lt : c.lines.left - 1 < length c.lines.flags.items = omega (arith, c.lines-test.true, c.lines.invariant.left, c.lines.invariant.long) in
     record {
-      marked = line_on c.args.view.now c.args.targets.now c.lines.left c.lines.flags.items c.mark_hints.new.flags.items c.hints.result.now c.requires.log c.lines-test.true c.lines.invariant.left
+      marked = line_on c.args.view.now c.args.targets.now c.lines.left c.lines.flags.items c.mark_hints.new.flags.items c.hints.result.now c.is_log.ensures c.lines-test.true c.lines.invariant.left
           (read_at c.lines.flags.items (c.lines.left - 1) c.index.result.now false lt c.index.ensures ∙ c.if-index.true) c.hints.ensures c.mark_hints.ensures.adds c.lines.invariant.marked;
       long = c.mark_hints.ensures.long ∙ c.lines.invariant.long;
       left = omega (arith, c.lines.invariant.left);
     }
 
 pub returns-clause-needed : goal.returns-clause-needed
-returns-clause-needed c = all_needed c.args.view.now c.args.targets.now c.lines.left (marked c.lines.flags.items) c.requires.log c.lines-test.false c.lines.invariant.marked
+returns-clause-needed c = all_needed c.args.view.now c.args.targets.now c.lines.left (marked c.lines.flags.items) c.is_log.ensures c.lines-test.false c.lines.invariant.marked

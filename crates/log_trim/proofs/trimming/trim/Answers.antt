@@ -1,4 +1,4 @@
-use Rattle.std.proofs.Common.{◌∙◌, arith, refl, get_or, length, map, subst, sym, ap}
+use Rattle.std.proofs.Common.{◌∙◌, refl, get_or, length, map, subst, sym, ap}
 use Rattle.std.proofs.lemmas.List.{take_all}
 use Rattle.clause_log.specs.LogValue.{LogValue, IsLog}
 use Rattle.log_trim.specs.Kept.{AreKept, IsClosed, new_number}
