@@ -16,14 +16,14 @@ use Rattle.command_words.proofs.OneCommand.{false_not_true}
 
 -- ---- commands by their words
 
-abbrev all_commands : List CommandName
+abbrev pub all_commands : List CommandName
 all_commands = commands.Solve ∷ commands.Check ∷ commands.Trace ∷ commands.Demo ∷ commands.Batch ∷ commands.System ∷ commands.Monitor ∷ commands.Depast ∷ []
 
 -- the command of a word
-abbrev command_at : List ℕ → Option CommandName
+abbrev pub command_at : List ℕ → Option CommandName
 command_at word = find (λ c. bytes_eq (command_row c).word word) all_commands
 
-command_at_word : (c : CommandName) → command_at (command_row c).word ≡ Some c
+pub command_at_word : (c : CommandName) → command_at (command_row c).word ≡ Some c
 command_at_word commands.Solve = refl
 command_at_word commands.Check = refl
 command_at_word commands.Trace = refl
@@ -50,7 +50,7 @@ built_among (offer ∷ offers) option is = by offer.built (same_option offer.opt
   by true false is rest = rest is
   by false false is rest = rest is
 
-all_among : (row : CommandRow) (settings : List Setting) → All (IsBuilt row) settings → All (IsAmong row) settings
+pub all_among : (row : CommandRow) (settings : List Setting) → All (IsBuilt row) settings → All (IsAmong row) settings
 all_among row settings built k d within = built_among row.options _ (built k d within)
 
 -- the command takes options
@@ -115,7 +115,7 @@ asks_nothing words more word name whole named none c asks =
     let first = first_asks words more word c whole asks in
     none c (command_word_one (name_of c) name (sym first.0 ∙ named)) asks.1 first.1
 
-no_offers : (name : CommandName) → All (IsBuilt (command_row name)) []
+pub no_offers : (name : CommandName) → All (IsBuilt (command_row name)) []
 no_offers name = All-nil (IsBuilt (command_row name))
 
 -- a built command's word, and what follows it, ask for the command

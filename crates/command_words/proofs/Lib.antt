@@ -5,3 +5,4 @@ mod Walking
 mod Matched
 mod Telling
 mod Asking
+mod Decided

@@ -1,6 +1,7 @@
 pub mod Cuts
 pub mod Words
 pub mod OneList
+pub mod SomeList
 pub mod Places
 mod Numbers
 pub mod Bounded

@@ -6,6 +6,11 @@ ghost use Rattle.ltl_lexer.specs.declared.token.TokenKind.TheVariants as kinds;
 ghost use Rattle.ltl_lexer.specs.declared.token.UnaryWord.{UnaryWord};
 ghost use Rattle.ltl_lexer.specs.Tokens.{AreTokens, HasNumbers, IsPartOf, IsWord, Spells};
 
+/// Each text, of bytes or of other numbers, has a list of tokens, up to its first fault where it has one.
+pub fn some_list()
+    ensures { (text : List ℕ) → (ts : List Token) × (f : Option ℕ) × AreTokens 0 text ts f }
+{}
+
 /// A text has one list of tokens, and one fault at most.
 pub fn one_list()
     ensures { (text : List ℕ) (ts us : List Token) (f g : Option ℕ) → AreTokens 0 text ts f

@@ -1,11 +1,11 @@
--- What a text has: one lexical fault, one grammar fault or one formula, and the size of this formula as its count.
+-- What each text has: one lexical fault, one grammar fault or one formula, and the size of this formula as its count.
 use Rattle.std.proofs.Common.{◌≡◌, ℕ, ◌+◌, ◌⊎◌, inl, inr, List, [], ◌∷◌, ◌++◌, arith, refl, sym, ap, ◌∙◌, subst}
 use Rattle.std.specs.Prelude.{Option, Some, None, slice_range}
 use Rattle.std.specs.List.{All}
 use Rattle.std.proofs.lemmas.List.Elements.{All-head, All-tail}
 use Rattle.ltl_syntax.specs.declared.node.UnaryOp.{UnaryOp}
 use Rattle.ltl_syntax.specs.declared.node.UnaryOp.TheVariants as one
-use Rattle.ltl_syntax.specs.Formula.{Formula, nodes_in}
+use Rattle.ltl_syntax.specs.Formula.{Formula, Const, Name, Letter, Unary, Binary, Fresh, HasNoFresh, nodes_in}
 use Rattle.ltl_syntax.specs.Size.{formula_size, IsInOrder}
 use Rattle.ltl_lexer.specs.declared.token.UnaryWord.{UnaryWord}
 use Rattle.ltl_lexer.specs.declared.token.UnaryWord.TheVariants as uword
@@ -16,6 +16,7 @@ use Rattle.ltl_lexer.specs.Tokens.{HasNumbers, Spells, AreTokens, IsLexicalFault
 use Rattle.ltl_lexer.proofs.Words.{identifier_is_word, numbers_fit}
 use Rattle.ltl_lexer.proofs.OneList.{one_list}
 use Rattle.ltl_lexer.proofs.Places.{parts_of_text}
+use Rattle.ltl_lexer.proofs.SomeList.{some_list}
 use Rattle.ltl_parser.specs.Grammar.{Symbol, Leaf, Prefix, Infix, Open, Close, Reads, Apart, Applied, Enclosed, Alone, fault, node_count}
 use Rattle.ltl_parser.specs.Text.{symbol, symbol_of, symbols, unary_op, IsWithin, ReadsText, grammar_fault, byte_at, IsGrammarFault, NodesOf, IsPrintable}
 use Rattle.ltl_parser.specs.Standing.{units}
@@ -166,6 +167,17 @@ printable ts f (Alone t x e) s = (subst AreSimple e s).0.2
 pub read_is_printable : (text : List ℕ) (f : Formula) → ReadsText text f → IsPrintable f
 read_is_printable text f r = printable (symbols text r.tokens) f r.reads (simple_symbols text r.tokens r.lexed)
 
+printed_without_fresh : (f : Formula) → IsPrintable f → HasNoFresh f
+printed_without_fresh (Const b) p = tt
+printed_without_fresh (Letter (Name bytes)) p = tt
+printed_without_fresh (Letter (Fresh n)) p = p
+printed_without_fresh (Unary op a) p = printed_without_fresh a p.1
+printed_without_fresh (Binary op a b) p = (printed_without_fresh a p.0, printed_without_fresh b p.1)
+
+-- what was read has no fresh letters
+pub read_without_fresh : (text : List ℕ) (f : Formula) → ReadsText text f → HasNoFresh f
+read_without_fresh text f r = printed_without_fresh f (read_is_printable text f r)
+
 pub nodes_of_tokens : (text : List ℕ) (ts : List Token) (f : Formula) → AreTokens 0 text ts None → Reads (symbols text ts) f → nodes_in f ≡ units (symbols text ts)
 nodes_of_tokens text ts f a r = sym (united (symbols text ts) f r (simple_symbols text ts a))
 
@@ -214,3 +226,14 @@ read_or_fault text ts a = go (fault (symbols text ts)) refl
     go : (w : Option ℕ) → fault (symbols text ts) ≡ w → ((f : Formula) × ReadsText text f) ⊎ ((byte : ℕ) × IsGrammarFault text byte)
     go None e = let r = reading_of (symbols text ts) e in inl (r.0, record { tokens = ts; lexed = a; reads = r.1 })
     go (Some i) e = inr (_, record { tokens = ts; lexed = a; fault = ap (byte_at text ts) e })
+
+-- a text has a lexical fault, a grammar fault or a formula
+abbrev HasOutcome : List ℕ → Type 0
+HasOutcome text = ((byte : ℕ) × IsLexicalFault text byte) ⊎ (((byte : ℕ) × IsGrammarFault text byte) ⊎ ((f : Formula) × ReadsText text f))
+
+pub some_outcome : (text : List ℕ) → HasOutcome text
+some_outcome text = let t = some_list text in go t.0 t.1 t.2
+  where
+    go : (ts : List Token) (f : Option ℕ) → AreTokens 0 text ts f → HasOutcome text
+    go ts None a = elim (read_or_fault text ts a) [ inl r ↦ inr (inr r) | inr g ↦ inr (inl g) ]
+    go ts (Some byte) a = inl (byte, (ts, a))

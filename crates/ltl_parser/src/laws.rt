@@ -2,7 +2,7 @@
 ghost use Rattle.std.specs.Prelude.{◌≡◌, ◌↔◌, ◌⊎◌, List, ℕ, None};
 ghost use Rattle.ltl_lexer.specs.declared.token.Token.{Token};
 ghost use Rattle.ltl_lexer.specs.Tokens.{AreTokens, IsLexicalFault};
-ghost use Rattle.ltl_syntax.specs.Formula.{Formula};
+ghost use Rattle.ltl_syntax.specs.Formula.{Formula, HasNoFresh};
 ghost use Rattle.ltl_syntax.specs.Size.{formula_size};
 ghost use Rattle.ltl_syntax.specs.Print.{text_of};
 ghost use Rattle.ltl_parser.specs.Grammar.{Symbol, Reads, fault};
@@ -35,6 +35,8 @@ pub fn one_outcome()
 
     ensures read_or_fault { (text : List ℕ) (ts : List Token) → AreTokens 0 text ts None
         → ((f : Formula) × ReadsText text f) ⊎ ((byte : ℕ) × IsGrammarFault text byte) }
+    ensures some_outcome { (text : List ℕ) → ((byte : ℕ) × IsLexicalFault text byte)
+        ⊎ (((byte : ℕ) × IsGrammarFault text byte) ⊎ ((f : Formula) × ReadsText text f)) }
 {}
 
 /// The sizes of the tokens of a text other than parentheses add up to the size of its formula.
@@ -49,4 +51,9 @@ pub fn printed_text()
     ensures reads { (f : Formula) → IsPrintable f → ReadsText (text_of f) f }
     ensures only { (f g : Formula) → IsPrintable f → ReadsText (text_of f) g → f ≡ g }
     ensures printable { (text : List ℕ) (f : Formula) → ReadsText text f → IsPrintable f }
+{}
+
+/// A formula that a text reads as has no fresh letters.
+pub fn no_fresh()
+    ensures { (text : List ℕ) (f : Formula) → ReadsText text f → HasNoFresh f }
 {}

@@ -13,4 +13,5 @@ mod Prefixes
 mod Forms
 mod Parts
 mod OneReading
+mod SomeReading
 mod Lookup

@@ -19,29 +19,26 @@ use Rattle.ltl_word.proofs.Forms.{same_items}
 
 -- ---- a set of names has one list
 
-below : List ℕ → List ℕ → Type 0
+abbrev pub below : List ℕ → List ℕ → Type 0
 below x y = slice_cmp nat_cmp x y ≡ Less
 
 not_below_itself : (x : List ℕ) → below x x → ⊥
-unfolding below
 not_below_itself x h = let e : slice_cmp nat_cmp x x ≡ Equal = tied_itself nat_list_cmp_total x in cc
 
 not_both_below : (x y : List ℕ) → below x y → below y x → ⊥
-unfolding below
 not_both_below x y h k = let e : slice_cmp nat_cmp x y ≡ Greater = nat_list_cmp_total.antisymm x y ∙ ap ordering_reverse k in cc
 
-first_below : (x : List ℕ) (xs : Names) (y : List ℕ) → IsAscending (x ∷ xs) → Contains xs y → below x y
-unfolding below
+pub first_below : (x : List ℕ) (xs : Names) (y : List ℕ) → IsAscending (x ∷ xs) → Contains xs y → below x y
 first_below x xs y h c = All-contains (λ z. slice_cmp nat_cmp x z ≡ Less) xs y (All-after_first (slice_cmp nat_cmp) x xs h) c
 
-first_or_later : (x : List ℕ) (xs : Names) (y : List ℕ) → Contains (x ∷ xs) y → (x ≡ y) ⊎ Contains xs y
+pub first_or_later : (x : List ℕ) (xs : Names) (y : List ℕ) → Contains (x ∷ xs) y → (x ≡ y) ⊎ Contains xs y
 first_or_later x xs y (zero, lt, e) = inl e
 first_or_later x xs y (suc k, lt, e) = inr (k, omega arith, e)
 
-here : (x : List ℕ) (xs : Names) → Contains (x ∷ xs) x
+pub here : (x : List ℕ) (xs : Names) → Contains (x ∷ xs) x
 here x xs = (zero, omega arith, refl)
 
-later : (x : List ℕ) (xs : Names) (y : List ℕ) → Contains xs y → Contains (x ∷ xs) y
+pub later : (x : List ℕ) (xs : Names) (y : List ℕ) → Contains xs y → Contains (x ∷ xs) y
 later x xs y (k, lt, e) = (suc k, omega arith, e)
 
 SameMembers : Names → Names → Type 0
@@ -67,7 +64,7 @@ same_rest : (x : List ℕ) (xs ys : Names) → IsAscending (x ∷ xs) → IsAsce
 unfolding SameMembers
 same_rest x xs ys h k same n = (rest_within x xs ys h (λ m. (same m).0) n, rest_within x ys xs k (λ m. (same m).1) n)
 
-no_member : (x : List ℕ) → Contains [] x → ⊥
+pub no_member : (x : List ℕ) → Contains [] x → ⊥
 no_member x (k, lt, e) = omega arith
 
 one_list : (xs ys : Names) → IsAscending xs → IsAscending ys → SameMembers xs ys → xs ≡ ys

@@ -41,3 +41,7 @@ DependsOnLetters = (t u : Trace) (f : Formula) (i j : ℕ) → IsPropositional f
 -- two readings of the same bytes are one, where memory was not wanting
 abbrev pub IsOneReading : Type 0
 IsOneReading = (bytes : List ℕ) (r s : Result Trace TraceFault) → IsReading bytes r → IsReading bytes s → r ≢ Err NoMemory → s ≢ Err NoMemory → r ≡ s
+
+-- bytes have a reading, which is not want of memory
+abbrev pub EachIsRead : Type 0
+EachIsRead = (bytes : List ℕ) → (r : Result Trace TraceFault) × (r ≢ Err NoMemory) × IsReading bytes r

@@ -4,7 +4,7 @@ ghost use Rattle.std.specs.Prelude.{ℕ, suc, Bool, true, false, not};
 ghost use Rattle.ltl_syntax.specs.Formula.{Formula, Const, Unary, Binary};
 ghost use Rattle.ltl_syntax.specs.declared.node.UnaryOp.TheVariants.{Always, AlwaysIn, Eventually, EventuallyIn, Historically, HistoricallyIn, Next, NextTimes, Not, Once, OnceIn, WeakNext, WeakYesterday, Yesterday, YesterdayTimes};
 ghost use Rattle.ltl_syntax.specs.declared.node.BinaryOp.TheVariants.{And, Iff, Implies, Or, Release, Since, StrongRelease, Trigger, Until, WeakUntil};
-ghost use Rattle.ltl_word.specs.Laws.{IsPeriodic, EachIsDecided, AreEquivalent, AreEquivalentAtPositions, DependsOnState, DependsOnLetters, IsOneReading};
+ghost use Rattle.ltl_word.specs.Laws.{IsPeriodic, EachIsDecided, AreEquivalent, AreEquivalentAtPositions, DependsOnState, DependsOnLetters, IsOneReading, EachIsRead};
 
 /// On an infinite trace a formula repeats with the loop from some position on.
 pub fn periodic()
@@ -159,4 +159,9 @@ pub fn propositional()
 /// exactly where `IsReading` says.
 pub fn one_reading()
     ensures { IsOneReading }
+{}
+
+/// Bytes have a reading that is not want of memory: a trace, or one of the four faults.
+pub fn some_reading()
+    ensures { EachIsRead }
 {}
