@@ -72,7 +72,7 @@ module _ (T : Test) (f : Formula) where
     | inr lt ↦ absurd (omega arith)
   ]
 
-  settled : (P Q : Places) → Pass P Q → AreSame P Q → Pass P P
+  pub settled : (P Q : Places) → Pass P Q → AreSame P Q → Pass P P
   settled P Q w same = walk_same T f (nodes_in f) 0 P Q P w (λ n. sym (same n))
 
   module _ (exclusive : IsExclusive T) where

@@ -2,6 +2,9 @@
 mod Kept
 mod Walks
 mod Cores
+mod Tabled
+mod Limits
+mod There
 mod Members
 mod Tasks
 mod Marks

@@ -1,7 +1,7 @@
 -- What a task says of the places of its formula.
 use Rattle.std.proofs.Common.{◌≡◌, ℕ, ◌+◌, ◌<◌, ◌≤◌, subst, ap, arith, ◌∙◌, List, length, get_or, All, Contains}
 use Rattle.std.proofs.lemmas.List.Elements.{Contains-get_or}
-use Rattle.ltl_syntax.specs.Formula.{nodes_in}
+use Rattle.ltl_syntax.specs.Formula.{HasNoFresh, nodes_in}
 use Rattle.ltl_syntax.specs.Table.{Table, IsTable, tree_at}
 use Rattle.ltl_syntax.specs.Flat.{order_at, node_at}
 use Rattle.ltl_syntax.specs.Replacement.{part_at}
@@ -27,12 +27,14 @@ order_under t root order count is lt same all k d low =
     let i = order_low t is root lt (get_or order k d) member in omega arith
 
 module _ (task : Task) where
-  pub task_made : (by_node : List ℕ) → IsTable task.table.now.nodes task.table.now.names → task.root < length task.table.now.nodes → task.order.items ≡ order_at task.table.now task.root
+  pub task_made : (by_node : List ℕ) → IsTable task.table.now.nodes task.table.now.names → task.root < length task.table.now.nodes → HasNoFresh (formula_of task)
+      → task.order.items ≡ order_at task.table.now task.root
       → length task.sizes.items ≡ length task.order.items → ((n : ℕ) → n < length task.order.items → get_or task.sizes.items n 0 ≡ get_or by_node (get_or task.order.items n 0) 0)
       → ((k : ℕ) → k < length task.table.now.nodes → get_or by_node k 0 ≡ nodes_in (tree_at task.table.now k)) → task.asked ≤ 1000 → IsTask task
-  task_made by_node is root order long sizes nodes asked = record {
+  task_made by_node is root given order long sizes nodes asked = record {
     table = is;
     root = root;
+    given = given;
     order = order;
     long = long;
     sizes = λ n lt.

@@ -1,6 +1,6 @@
 -- How the tests of a core go over the nodes of a table: occurrences by their places, marks for those that are replaced, and groups of tests.
 use Rattle.std.specs.Prelude.{◌≡◌, ℕ, ◌+◌, ◌<◌, ◌≤◌, Bool, false, List, length, slice_index_or, ⊤, Option, Some, None}
-use Rattle.ltl_syntax.specs.Formula.{Formula, nodes_in}
+use Rattle.ltl_syntax.specs.Formula.{Formula, HasNoFresh, nodes_in}
 use Rattle.ltl_syntax.specs.Table.{IsTable, tree_at}
 use Rattle.ltl_syntax.specs.Flat.{order_at}
 use Rattle.ltl_syntax.specs.Replacement.{Places, AreSame, IsKept, IsClear, AreApart, size_at, added, rep}
@@ -19,10 +19,11 @@ formula_of task = tree_at task.table.now task.root
 abbrev pub test_of : Task → Test
 test_of task = tableau task.kind task.asked
 
--- the task has the nodes of the formula in the order of their places, and how many nodes stand under each, with itself
+-- the task has a formula without fresh letters, its nodes in the order of their places, and how many nodes stand under each, with itself
 pub record IsTask (task : Task) : Type 0 where
   pub table : IsTable task.table.now.nodes task.table.now.names
   pub root : task.root < length task.table.now.nodes
+  pub given : HasNoFresh (formula_of task)
   pub order : task.order.items ≡ order_at task.table.now task.root
   pub long : length task.sizes.items ≡ length task.order.items
   pub sizes : (n : ℕ) → n < length task.order.items → slice_index_or task.sizes.items n 0 ≡ size_at (formula_of task) n

@@ -1,6 +1,7 @@
 // The core of a refuted formula: each occurrence is replaced by a fresh letter that the formula can do
 // without, so that what is left shows which parts conflict.
 ghost use Rattle.std.specs.Prelude.{◌<◌, ◌≤◌, length, IfOk};
+ghost use Rattle.ltl_syntax.specs.Formula.{HasNoFresh};
 ghost use Rattle.ltl_syntax.specs.Table.{tree_at};
 ghost use Rattle.ltl_run.specs.Laws.{HasNoTrace};
 ghost use Rattle.core_extract.specs.Core.{IsRefuted, IsCore, tableau};
@@ -15,7 +16,8 @@ use std::thread::Threads;
 
 /// The core of a formula whose verdict is UNSAT at its limit in force for the number `asked`: a table, and
 /// the core's root in it. It is the formula with some occurrences replaced by fresh letters, which are
-/// numbered from 0 in the order of the text. It is one and the same for every number of workers.
+/// numbered from 0 in the order of the text; so the formula has none of its own. It is one and the same for
+/// every number of workers.
 ///
 /// The occurrences are tested in groups, as many as there are workers, from 1 to 16, each by a worker of its
 /// own. `gate` is told of each test as it begins, by its number in its group, from 0.
@@ -30,6 +32,7 @@ pub fn core<R: Threads + Sync, G: Gate + Sync>(
     gate: &G,
 ) -> Result<(FormulaTable, u32), AllocError>
     requires root { root < length table.now.nodes }
+    requires given { HasNoFresh (tree_at table.now root) }
     requires asked { asked ≤ 1000 }
     requires refuted { IsRefuted kind asked (tree_at table.now root) }
     requires some { 1 ≤ workers }

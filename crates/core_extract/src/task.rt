@@ -1,6 +1,6 @@
 // What all tests of a core read: the formula, its nodes by their places, and how it is decided.
 ghost use Rattle.std.specs.Prelude.{◌≡◌, ℕ, ◌<◌, ◌≤◌, length, slice_index_or, All, IfOk};
-ghost use Rattle.ltl_syntax.specs.Formula.{nodes_in};
+ghost use Rattle.ltl_syntax.specs.Formula.{HasNoFresh, nodes_in};
 ghost use Rattle.ltl_syntax.specs.Table.{tree_at};
 ghost use Rattle.core_extract.specs.Testing.{IsTask};
 
@@ -31,6 +31,7 @@ impl<'t> Task<'t> {
         asked: u32,
     ) -> Result<Task<'t>, AllocError>
         requires root { root < length table.now.nodes }
+        requires given { HasNoFresh (tree_at table.now root) }
         requires asked { asked ≤ 1000 }
         ensures task { IfOk result IsTask }
         ensures table { IfOk result (λ task. task.table.now ≡ table.now) }

@@ -7,7 +7,6 @@ use Rattle.ltl_word.specs.declared.trace.Trace.TheVariants.{Infinite, Finite}
 use Rattle.ltl_word.specs.Trace.{IsPosition, state_at}
 use Rattle.ltl_word.specs.Holds.{Holds, name_of}
 use Rattle.ltl_word.specs.Depth.{past_depth}
-use Rattle.ltl_word.specs.Propositional.{HasLetter}
 use Rattle.ltl_syntax.specs.Replacement.{Places, replaced}
 
 -- a formula as a text can write it: no letter is fresh, and no name begins with an opening brace
@@ -17,10 +16,6 @@ IsOriginal (Letter (Name bytes)) = IsPlain bytes
 IsOriginal (Letter (Fresh n)) = ⊥
 IsOriginal (Unary op a) = IsOriginal a
 IsOriginal (Binary op a b) = IsOriginal a × IsOriginal b
-
--- no letter of the formula is fresh
-abbrev pub HasNoFresh : Formula → Type 0
-HasNoFresh f = (n : ℕ) → HasLetter f (Fresh n) → ⊥
 
 -- the formula is one that a text can write. No two fresh letters that replace occurrences of it have one name, since they are few
 abbrev pub IsGiven : Formula → Type 0

@@ -2,7 +2,7 @@
 use Rattle.std.specs.Prelude.{◌≡◌, ℕ, ◌+◌, ◌-◌, ◌*◌, ◌<◌, ◌≤◌, ◌↔◌, Bool, List, length, All}
 use Rattle.ltl_syntax.specs.declared.node.Kind.{Kind}
 use Rattle.ltl_syntax.specs.declared.node.Kind.TheVariants as Kinds
-use Rattle.ltl_syntax.specs.Formula.{Formula}
+use Rattle.ltl_syntax.specs.Formula.{Formula, HasNoFresh}
 use Rattle.ltl_syntax.specs.Table.{Table, IsTable, tree_at}
 use Rattle.ltl_word.specs.declared.trace.Trace.{Trace}
 use Rattle.ltl_word.specs.declared.trace.Trace.TheVariants.{Infinite}
@@ -16,7 +16,7 @@ use Rattle.ltl_run.specs.declared.run_state.Close.{Close}
 use Rattle.ltl_run.specs.TraceOf.{ClosesTo, Accepts, GivesTrace}
 use Rattle.ltl_run.specs.Plain.{HasPlainNames, IsSmallNode}
 use Rattle.ltl_run.specs.Repeated.{HaveCarry}
-use Rattle.ltl_run.specs.Extension.{HasNoFresh, IsGiven, IsExtension}
+use Rattle.ltl_run.specs.Extension.{IsGiven, IsExtension}
 use Rattle.ltl_syntax.specs.Replacement.{Places, rep}
 
 -- the normal form of a formula holds at the positions where the formula does

@@ -13,3 +13,4 @@ mod Pending
 mod Cutting
 mod Marking
 pub mod Few
+mod NoFresh

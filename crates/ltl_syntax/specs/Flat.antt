@@ -1,5 +1,5 @@
 -- The places of a formula in a table: the numbers of its nodes, in the order of their places.
-use Rattle.std.specs.Prelude.{◌≡◌, ℕ, zero, suc, ◌+◌, ◌<◌, ◌&&◌, ◌==◌, nat_lt, cond, List, [], ◌∷◌, ◌++◌, length, slice_index_or, slice_get, Some, IsTrue}
+use Rattle.std.specs.Prelude.{◌≡◌, Bool, true, false, ℕ, zero, suc, ◌+◌, ◌<◌, ◌&&◌, ◌==◌, nat_lt, cond, List, [], ◌∷◌, ◌++◌, length, slice_index_or, slice_get, Some, IsTrue}
 use Rattle.std.specs.List.{list_any}
 use Rattle.ltl_syntax.specs.declared.node.Node.{Node}
 use Rattle.ltl_syntax.specs.declared.node.Node.TheVariants as nodes
@@ -25,6 +25,14 @@ orders_after orders (node ∷ rest) = orders_after (orders ++ ordered orders (le
 
 unfoldable pub orders_of : Table → List (List ℕ)
 orders_of t = orders_after [] t.nodes
+
+-- whether the node is a fresh letter
+abbrev pub is_fresh : Node → Bool
+is_fresh (nodes.Const b) = false
+is_fresh (nodes.Letter n) = false
+is_fresh (nodes.Fresh n) = true
+is_fresh (nodes.Unary op a) = false
+is_fresh (nodes.Binary op a b) = false
 
 -- the nodes of the tree under a number, each at its place
 abbrev pub order_at : Table → ℕ → List ℕ

@@ -22,3 +22,11 @@ nodes_in (Const b) = 1
 nodes_in (Letter p) = 1
 nodes_in (Unary op a) = nodes_in a + 1
 nodes_in (Binary op a b) = nodes_in a + nodes_in b + 1
+
+-- no letter of the formula is fresh
+abbrev pub HasNoFresh : Formula → Type 0
+HasNoFresh (Const b) = Unit {0}
+HasNoFresh (Letter (Name bytes)) = Unit {0}
+HasNoFresh (Letter (Fresh n)) = ⊥
+HasNoFresh (Unary op a) = HasNoFresh a
+HasNoFresh (Binary op a b) = HasNoFresh a × HasNoFresh b

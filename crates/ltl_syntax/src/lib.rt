@@ -1,6 +1,7 @@
 //! Formulas of linear temporal logic with past: a flat table of nodes, and their text.
 #![tactic(auto)]
 
+mod fresh;
 pub mod laws;
 mod node;
 mod preorder;
@@ -9,6 +10,7 @@ mod replacing;
 mod shared;
 mod table;
 
+pub use fresh::has_no_fresh;
 pub use node::{BinaryOp, Kind, Node, UnaryOp};
 pub use preorder::nodes_under;
 pub use printing::print;

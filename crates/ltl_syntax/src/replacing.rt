@@ -3,6 +3,7 @@
 // Node numbers stay: the copy has a fresh letter in the place of each replaced node, and what was under it
 // is left there as a tree that nothing uses.
 ghost use Rattle.std.specs.Prelude.{◌≡◌, ◌+◌, ◌<◌, ◌≤◌, [], ◌∷◌, ◌++◌, All, length, IfOk, OnOk};
+ghost use Rattle.ltl_syntax.specs.Formula.{HasNoFresh};
 ghost use Rattle.ltl_syntax.specs.Table.{IsTable, MayFollow, tree_at};
 ghost use Rattle.ltl_syntax.specs.Size.{sizes, node_size};
 ghost use Rattle.ltl_syntax.specs.Replacement.{AreApart, rep};
@@ -16,6 +17,7 @@ use std::alloc::{AllocError, Global};
 /// The formula under a root with a fresh letter in the place of each of these nodes. The fresh letters are
 /// numbered from 0 in the order in which the text of the formula has them.
 ///
+/// The formula has no fresh letters of its own (`has_no_fresh` tells), so each one stands for one occurrence.
 /// A node that is not under the root changes nothing, nor does one that comes twice. The answer is a table
 /// with the same names, and the root in it, which has the same number. It has as many nodes, so the limit on
 /// nodes does not stand in the way. Takes time linear in the nodes of the table.
@@ -27,6 +29,7 @@ pub fn replace(
 ) -> Result<(FormulaTable, u32), AllocError>
     requires root { root < length table.now.nodes }
     requires places { All (λ number. number < length table.now.nodes) places.now }
+    requires given { HasNoFresh (tree_at table.now root) }
     requires apart { AreApart (tree_at table.now root) (places_of table.now root places.now) }
     ensures tree { IfOk result (λ r. tree_at r.0 r.1
         ≡ rep (tree_at table.now root) (places_of table.now root places.now)) }

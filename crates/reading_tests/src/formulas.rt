@@ -1,7 +1,9 @@
 ghost use Rattle.std.specs.Prelude.{IsTrue};
 ghost use Rattle.ltl_syntax.specs.Table.{IsPlain};
 
-use ltl_syntax::{BinaryOp, FormulaTable, Node, PushRefused, UnaryOp, nodes_under, print, replace};
+use ltl_syntax::{
+    BinaryOp, FormulaTable, Node, PushRefused, UnaryOp, has_no_fresh, nodes_under, print, replace,
+};
 use std::process::Abort;
 
 fn is_plain(text: &str) -> bool
@@ -157,12 +159,26 @@ fn replaces_nothing(rt: HostRuntime) {
     let mut table = FormulaTable::new(rt.alloc());
     let p = name(&rt, &mut table, "p");
     let right = push(&rt, &mut table, Node::Letter(p));
-    let left = push(&rt, &mut table, Node::Fresh(3));
+    let left = push(&rt, &mut table, Node::Const(true));
     let root = push(&rt, &mut table, Node::Binary(BinaryOp::Until, left, right));
     assert!(rt; root < table.len());
     let order = nodes_under(rt.alloc(), &table, root).expect(&rt, "memory");
     assert!(rt; order.as_slice() == [root, left, right].as_slice());
+    let given = has_no_fresh(rt.alloc(), &table, root).expect(&rt, "memory");
+    assert!(rt; given);
     let (copy, same) = replace(rt.alloc(), &table, root, &[]).expect(&rt, "memory");
     let text = print(rt.alloc(), &copy, same).expect(&rt, "memory");
-    assert!(rt; text.as_slice() == b"({3} U p)".as_slice());
+    assert!(rt; text.as_slice() == b"(true U p)".as_slice());
+}
+
+#[test]
+fn prints_fresh_letters(rt: HostRuntime) {
+    let mut table = FormulaTable::new(rt.alloc());
+    let fresh = push(&rt, &mut table, Node::Fresh(3));
+    let root = push(&rt, &mut table, Node::Unary(UnaryOp::Not, fresh));
+    assert!(rt; root < table.len());
+    let given = has_no_fresh(rt.alloc(), &table, root).expect(&rt, "memory");
+    assert!(rt; !given);
+    let text = print(rt.alloc(), &table, root).expect(&rt, "memory");
+    assert!(rt; text.as_slice() == b"!{3}".as_slice());
 }

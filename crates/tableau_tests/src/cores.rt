@@ -2,7 +2,7 @@
 use crate::tables::table_of;
 use core_extract::{core, is_refuted, laws};
 use ltl_io::{Gate, NoGate};
-use ltl_syntax::{BinaryOp, Kind, Node, UnaryOp, print};
+use ltl_syntax::{BinaryOp, Kind, Node, UnaryOp, has_no_fresh, print};
 use std::alloc::Global;
 use std::process::Abort;
 use std::sync::atomic::{AtomicBool, Ordering};
@@ -56,6 +56,8 @@ fn core_text<R: Abort + Threads + Sync, G: Gate + Sync>(
 ) -> Vec<u8> {
     let (table, root) = table_of(rt, alloc, &["p", "q", "r"], row.0);
     assert!(rt; root < table.len() && 1 <= workers && workers <= 16);
+    let given = has_no_fresh(alloc, &table, root).expect(rt, "memory");
+    assert!(rt; given);
     let refuted = is_refuted(alloc, &table, root, row.1, 64).expect(rt, "memory");
     assert!(rt; refuted);
     let found = core(rt, alloc, &table, root, row.1, 64, workers, gate).expect(rt, "memory");
@@ -71,6 +73,7 @@ fn leaves_what_conflicts(rt: HostRuntime) {
         }
     }
     laws::core_is_one();
+    laws::core_exists();
     laws::core_is_least();
 }
 

@@ -10,3 +10,5 @@ mod LetterEntries
 mod Rules
 mod Rooms
 mod Verdicts
+mod Searching
+pub mod There

@@ -6,6 +6,7 @@ mod closing;
 mod deciding;
 mod decision;
 mod growing;
+pub mod laws;
 mod questions;
 mod showing;
 

@@ -6,4 +6,4 @@ sizes_of-requires c = order_under c.args.table.now c.args.root c.in_ok-order.ord
 
 pub returns-clause-task : goal.returns-clause-task
 returns-clause-task c =
-    task_made _ c.in_ok-by_node.by_node.items c.is_table.ensures c.requires.root c.in_ok-order.ensures c.in_ok-sizes.ensures.long c.in_ok-sizes.ensures.each c.in_ok-by_node.ensures.each c.requires.asked
+    task_made _ c.in_ok-by_node.by_node.items c.is_table.ensures c.requires.root c.requires.given c.in_ok-order.ensures c.in_ok-sizes.ensures.long c.in_ok-sizes.ensures.each c.in_ok-by_node.ensures.each c.requires.asked
