@@ -6,4 +6,3 @@ pub mod Closing
 mod Among
 mod Judging
 mod Walking
-mod Arriving

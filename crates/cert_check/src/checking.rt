@@ -18,7 +18,7 @@ use std::alloc::Global;
 use std::thread::Threads;
 
 /// Where the letters through the depth are too many, the greatest depth up to it where they are few enough.
-pub fn limit_below(closure: &Closure<'_>, depth: u32) -> Option<u32>
+fn limit_below(closure: &Closure<'_>, depth: u32) -> Option<u32>
     requires { depth ≤ 1000 }
     ensures { MatchOption result (Fits (layout_of closure.now) depth)
         (λ limit. (¬ Fits (layout_of closure.now) depth)

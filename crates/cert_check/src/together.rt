@@ -1,13 +1,14 @@
 // Several workers: the places of all lines are kept, the lines are judged in as many pieces, and
 // targets by what the places say.
-ghost use Rattle.std.specs.Prelude.{◌≡◌, ◌≤◌, IfOk};
+ghost use Rattle.std.specs.Prelude.{◌≡◌, ◌+◌, ◌<◌, ◌≤◌, ◌↔◌, IsTrue, IfOk};
 ghost use Rattle.enc_layout.specs.Letters.{Fits};
 ghost use Rattle.enc_layout.specs.Clauses.{layout_of, clause_list};
-ghost use Rattle.cert_check.specs.Answer.{answer_of, IsJudged};
+ghost use Rattle.cert_check.specs.Lawful.{IsGoodTarget};
+ghost use Rattle.cert_check.specs.Answer.{answer_of, IsFirstTarget, IsJudged};
 
 use crate::listing::stored_for;
 use crate::on_demand::OnDemand;
-use crate::targets::{by_targets, first_bad_target};
+use crate::targets::{allowed, are_among, by_targets};
 use crate::verdict::{Reason, Verdict};
 use cert_text::CertView;
 use clause_index::Indexed;
@@ -17,6 +18,41 @@ use ltl_closure::Closure;
 use ltl_io::Gate;
 use std::alloc::{AllocError, Global};
 use std::thread::Threads;
+
+/// Whether a target names a line that is live at the close and has only its literals. Targets count from 0
+/// here.
+fn is_good(closure: &Closure<'_>, view: &CertView<'_>, index: u32) -> bool
+    requires kind { view.now.kind ≡ closure.now.kind }
+    requires fits { Fits (layout_of closure.now) view.now.depth }
+    requires index { index < view.now.depth + 2 }
+    ensures { IsTrue result ↔ IsGoodTarget closure.now.formula view.now index }
+{
+    view.is_text();
+    let line = view.target(index + 1);
+    if line < 1 || line > view.lines() {
+        return false;
+    }
+    if !view.live_at_close(line) {
+        return false;
+    }
+    let (first, second) = allowed(closure, view.depth(), index);
+    are_among(view.literals(line), first, second)
+}
+
+/// The first bad target, counted from 1.
+fn first_bad_target(closure: &Closure<'_>, view: &CertView<'_>) -> Option<u32>
+    requires kind { view.now.kind ≡ closure.now.kind }
+    requires fits { Fits (layout_of closure.now) view.now.depth }
+    ensures { IsFirstTarget (IsGoodTarget closure.now.formula view.now) (view.now.depth + 2) result }
+{
+    view.is_text();
+    'targets: for index in 0..view.depth() + 2 {
+        if !is_good(closure, view, index) {
+            return Some(index + 1);
+        }
+    }
+    None
+}
 
 /// The verdict on a certificate of the right kind whose letters are few enough, a text of so many bytes.
 pub fn judge<R: Threads + Sync, G: Gate + Sync>(

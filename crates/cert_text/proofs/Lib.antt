@@ -26,10 +26,3 @@ pub mod Marking
 pub mod InOrder
 pub mod Between
 pub mod Noughts
-pub mod Grown
-pub mod Fronts
-pub mod FirstLines
-pub mod Spotting
-pub mod Lookups
-pub mod Taking
-pub mod Behind

@@ -85,17 +85,6 @@ lines_on [] more = refl
 lines_on (Line ls hs ∷ parts) more = ap (λ x. ls ∷ x) (lines_on parts more)
 lines_on (Delete ns ∷ parts) more = lines_on parts more
 
-pub hints_on : (parts more : List Part) → hints_of (parts ++ more) ≡ hints_of parts ++ hints_of more
-hints_on [] more = refl
-hints_on (Line ls hs ∷ parts) more = ap (λ x. hs ∷ x) (hints_on parts more)
-hints_on (Delete ns ∷ parts) more = hints_on parts more
-
-pub before_on : (parts more : List Part) (k : ℕ) → k < length (lines_of parts) → parts_before (parts ++ more) k ≡ parts_before parts k
-before_on [] more k low = absurd (omega (arith, low))
-before_on (Delete ns ∷ parts) more k low = ap (λ ps. Delete ns ∷ ps) (before_on parts more k low)
-before_on (Line ls hs ∷ parts) more zero low = refl
-before_on (Line ls hs ∷ parts) more (suc k) low = ap (λ ps. Line ls hs ∷ ps) (before_on parts more k (omega (arith, low)))
-
 pub behind_on : (parts more : List Part) (k : ℕ) → k < length (lines_of parts) → parts_behind (parts ++ more) k ≡ parts_behind parts k ++ more
 behind_on [] more k low = absurd (omega (arith, low))
 behind_on (Delete ns ∷ parts) more k low = behind_on parts more k low

@@ -8,8 +8,7 @@ use Rattle.cnf_base.specs.declared.literal.Hint.TheVariants as hints
 use Rattle.cnf_base.specs.Step.{numbered, IsHintedStep}
 use Rattle.cnf_base.specs.Meaning.{Satisfies}
 use Rattle.cert_text.specs.Text.{Part, Certificate, greatest_u64, IsLiteral, IsNumber, IsHint, IsPart, literal_text, hint_text, target_text, text_of, IsTextOf, BeginsText, IsFormFault}
-use Rattle.cert_text.specs.Scan.{Scan, AtPart, AtEnd, start, step, run}
-use Rattle.cert_text.specs.Front.{AreFirstLines}
+use Rattle.cert_text.specs.Scan.{Scan, AtEnd, start, step, run}
 use Rattle.cert_text.specs.Live.{lines_of, hints_of, live_line, live_at, IsGoodLine, last_user}
 use Rattle.cert_text.specs.Reading.{certificate_in, line_start, literals_end, hints_end, targets_start}
 use Rattle.cert_text.specs.Writing.{numbers_to, last_use, ended_at, Ascends, EndsAt, IsLastUse, parts_from, written}
@@ -47,10 +46,6 @@ ScansStop = (bytes : List ℕ) (b : ℕ) (s : Scan) → b < length bytes → run
 -- where it goes on to the end of the bytes and they are no text, it is their length
 abbrev pub ScansEnd : Type 0
 ScansEnd = (bytes : List ℕ) (s : Scan) → run start bytes ≡ Some s → ((c : Certificate) → s ≡ ([], AtEnd c) → ⊥) → IsFormFault bytes (length bytes)
-
--- it stands before a part or behind the close exactly where the bytes are the first lines of a text
-abbrev pub ScansEndLines : Type 0
-ScansEndLines = (bytes : List ℕ) → AreFirstLines bytes ↔ ((c : Certificate) × ((run start bytes ≡ Some ([], AtPart c)) ⊎ (run start bytes ≡ Some ([], AtEnd c))))
 
 -- in version 1 each line that stands is live
 abbrev pub AllAreLive : Type 0

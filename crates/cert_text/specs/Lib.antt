@@ -10,5 +10,3 @@ pub mod Items
 pub mod View
 pub mod Skipped
 pub mod Passes
-pub mod Front
-pub mod Pieces

@@ -17,10 +17,6 @@ small_run left place (b ∷ bs) = option_and_then (λ t. small_run t.0 t.1 bs) (
 abbrev pub LeadsTo : List ℕ → List ℕ → Place → Type 0
 LeadsTo bytes left place = small_run (codes "ltlcert ") places.Version bytes ≡ Some (left, place)
 
--- they lead to no place behind which nothing must come
-abbrev pub LeadsNowhere : List ℕ → Place → List ℕ → Type 0
-LeadsNowhere left from bytes = (place : Place) → ¬ (small_run left from bytes ≡ Some ([], place))
-
 -- a piece comes where it says, if it follows a header
 abbrev pub IsPassed : List ℕ → Head → Piece → Type 0
 IsPassed bytes head piece = IfSome piece.came (λ place. small_run [] (places.Part head) (between bytes piece.from piece.to) ≡ Some ([], place))

@@ -1,7 +1,7 @@
 //! Laws of certificate texts. Each function is empty: its contract is the law, and a proof cites it by a
 //! call.
 ghost use Rattle.cert_text.specs.Worked.{WorkedTexts};
-ghost use Rattle.cert_text.specs.Laws.{TextsSayOne, TextsAreFound, FaultsAreOne, TextsHaveNone, OthersHaveOne, ScansRead, ScansBegin, ScansStop, ScansEnd, ScansEndLines, AllAreLive, GoodLinesAreLive, LiveToUser, LastUsersStand, GoodLinesFollow, LastUsesAreLast, EndedAscend, EndedAreOne, EndedAmongAll, HintsAreEarlier, LinesStand, TargetsStand, WrittenSays, WrittenIsText, WrittenIsGood, TargetsAreLive};
+ghost use Rattle.cert_text.specs.Laws.{TextsSayOne, TextsAreFound, FaultsAreOne, TextsHaveNone, OthersHaveOne, ScansRead, ScansBegin, ScansStop, ScansEnd, AllAreLive, GoodLinesAreLive, LiveToUser, LastUsersStand, GoodLinesFollow, LastUsesAreLast, EndedAscend, EndedAreOne, EndedAmongAll, HintsAreEarlier, LinesStand, TargetsStand, WrittenSays, WrittenIsText, WrittenIsGood, TargetsAreLive};
 
 /// A text says one thing. Bytes that are no text have one form fault, and a text has none.
 pub fn texts()
@@ -12,14 +12,12 @@ pub fn texts()
     ensures other { OthersHaveOne }
 {}
 
-/// One pass over the bytes reads a text to its end, and stops at the form fault. Behind the first lines of a
-/// text, and nowhere else, it stands before a part or behind the close.
+/// One pass over the bytes reads a text to its end, and stops at the form fault.
 pub fn scanning()
     ensures read { ScansRead }
     ensures begins { ScansBegin }
     ensures stops { ScansStop }
     ensures ends { ScansEnd }
-    ensures lines { ScansEndLines }
 {}
 
 /// Which lines are live where.

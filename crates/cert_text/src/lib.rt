@@ -4,15 +4,12 @@
 
 mod blocks;
 mod finding;
-mod front;
 pub mod glance;
 pub mod item;
 mod joining;
 pub mod laws;
 mod marks;
-pub mod passed;
 mod passing;
-mod pieces;
 mod printing;
 pub mod reader;
 pub mod refused;
@@ -24,10 +21,8 @@ mod uses;
 pub mod view;
 pub mod writing;
 
-pub use front::Front;
 pub use glance::Form;
 pub use item::Item;
-pub use passed::Passed;
 pub use reader::Items;
 pub use refused::CertRefused;
 pub use scanning::form;

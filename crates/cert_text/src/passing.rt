@@ -2,7 +2,7 @@
 // pass but for the count of the lines before it. So a piece may be gone over before the pieces in front of
 // it are.
 ghost use Rattle.std.specs.Prelude.{◌≡◌, ℕ, ◌+◌, ◌<◌, ◌≤◌, ◌^◌, List, [], Some, None, length, take, IfSome};
-ghost use Rattle.cert_text.specs.Passes.{small_run, LeadsTo, LeadsNowhere, IsPassed};
+ghost use Rattle.cert_text.specs.Passes.{small_run, LeadsTo, IsPassed};
 ghost use Rattle.cert_text.specs.declared.scanning.Place.TheVariants as places;
 
 use crate::scanning::{Head, Place, advance};
@@ -16,13 +16,11 @@ pub struct Piece {
     pub came: Option<Place>,
 }
 
-/// To where the pass goes on over these bytes from some place, where nothing must come behind them. There is
-/// no such place exactly where it answers none.
+/// To where the pass goes on over these bytes from some place, where nothing must come behind them.
 pub fn pass(bytes: &[u8], first: &'static [u8], from: Place) -> Option<Place>
     requires { (before : List ℕ) × LeadsTo before first.now from
         × (length before + length bytes.now < 2 ^ 64) }
-    ensures come { IfSome result (λ place. small_run first.now from bytes.now ≡ Some ([], place)) }
-    ensures nowhere { result ≡ None → LeadsNowhere first.now from bytes.now }
+    ensures { IfSome result (λ place. small_run first.now from bytes.now ≡ Some ([], place)) }
 {
     let mut left = first;
     let mut place = from;

@@ -1,12 +1,11 @@
 // Workers read a text at the same time. These calls stand only where the types are Send and Sync.
 
-use crate::{CertView, Front, Hints, Item, Items, Literals, Targets};
+use crate::{CertView, Hints, Item, Items, Literals, Targets};
 
 fn is_shared<T: Send + Sync>(_value: &T) {}
 
-fn are_shared(view: &CertView<'_>, front: &Front, items: &Items<'_>, item: &Item<'_>) {
+fn are_shared(view: &CertView<'_>, items: &Items<'_>, item: &Item<'_>) {
     is_shared(view);
-    is_shared(front);
     is_shared(items);
     is_shared(item);
 }

@@ -3,7 +3,6 @@ ghost use Rattle.std.specs.Prelude.{◌≡◌, ℕ, ◌+◌, ◌<◌, ◌≤◌,
 ghost use Rattle.std.specs.List.{flat_map};
 ghost use Rattle.cnf_base.specs.declared.literal.Hint.{Hint as SomeHint};
 ghost use Rattle.cnf_base.specs.declared.literal.Hint.TheVariants as hint_kinds;
-ghost use Rattle.clause_log.specs.LogValue.{IsLog};
 ghost use Rattle.cert_text.specs.Text.{part_text, text_of};
 ghost use Rattle.cert_text.specs.Text as text;
 ghost use Rattle.cert_text.specs.Writing.{is_ended, named_lines, ended_at, delete_of, written, AreLast};
@@ -101,7 +100,6 @@ fn push_step(
     found: &mut Vec<u64>,
     out: &mut Vec<u8>,
 ) -> Result<(), AllocError>
-    requires log { IsLog view.now }
     requires last { AreLast view.now.hints (length view.now.hints) last.now }
     requires low { index < length view.now.lines }
     ensures { OnOk result (out.new.items ≡ out.old.items
@@ -109,6 +107,7 @@ fn push_step(
         (slice_index_or view.now.hints index [])) ++ flat_map part_text
         (delete_of (ended_at view.now.hints targets.now (index + 1))))) }
 {
+    view.is_log();
     let line = index + 1;
     let hints = view.hints(line);
     push_line(view.literals(line), hints, out)?;
@@ -128,10 +127,10 @@ pub fn write(
     view: &LogView<'_>,
     targets: &[u64],
 ) -> Result<Vec<u8>, AllocError>
-    requires log { IsLog view.now }
     ensures { IfOk result (λ whole. whole.items ≡ text_of
         (written kind depth view.now.lines view.now.hints targets.now)) }
 {
+    view.is_log();
     let last = last_uses(alloc, view)?;
     let mut found = Vec::new(alloc);
     let mut out = Vec::new(alloc);

@@ -1,5 +1,4 @@
 pub mod Ranges
-pub mod Standing
 pub mod Taken
 pub mod OneHint
 pub mod Setting
@@ -10,7 +9,6 @@ pub mod Assuming
 pub mod Refuting
 pub mod Entries
 pub mod Cutting
-pub mod Marking
 pub mod AtLine
 pub mod Together
 pub mod ShortForms

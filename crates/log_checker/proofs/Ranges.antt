@@ -21,13 +21,13 @@ end_above Good from [] all = omega arith
 end_above Good from (p ∷ ps) all = omega (arith, all.0, end_above Good p.to ps all.2)
 
 -- two ranges, one behind the other
-pub joined : (Good : ℕ → Type 0) (from middle to : ℕ) (a b : Option ℕ) → from ≤ middle → middle ≤ to → IsFirstBad Good from middle a → IsFirstBad Good middle to b → IsFirstBad Good from to (prefer a b)
+joined : (Good : ℕ → Type 0) (from middle to : ℕ) (a b : Option ℕ) → from ≤ middle → middle ≤ to → IsFirstBad Good from middle a → IsFirstBad Good middle to b → IsFirstBad Good from to (prefer a b)
 joined Good from middle to (Some n) b low high one two = (one.0, omega (arith, one.1, high), one.2, one.3)
 joined Good from middle to None None low high one two = λ k above below. elim (cases_lt k middle) [ inl first ↦ one k above first | inr second ↦ two k second below ]
 joined Good from middle to None (Some n) low high one two =
     (omega (arith, low, two.0), two.1, two.2, λ k above below. elim (cases_lt k middle) [ inl first ↦ one k above first | inr second ↦ two.3 k second below ])
 
-pieces_answer : (Good : ℕ → Type 0) (from : ℕ) (pieces : List Piece) → AreAnswered Good from pieces → IsFirstBad Good from (end_of from pieces) (first_answer pieces)
+pub pieces_answer : (Good : ℕ → Type 0) (from : ℕ) (pieces : List Piece) → AreAnswered Good from pieces → IsFirstBad Good from (end_of from pieces) (first_answer pieces)
 pieces_answer Good from [] all = λ k above below. absurd (omega (arith, above, below))
 pieces_answer Good from (p ∷ ps) all =
     joined Good from p.to (end_of p.to ps) p.answer (first_answer ps) all.0 (end_above Good p.to ps all.2) all.1 (pieces_answer Good p.to ps all.2)

@@ -1,107 +1,116 @@
 -- What the workers have found together.
-use Rattle.std.proofs.Common.{◌≡◌, ℕ, ◌+◌, ◌-◌, ◌<◌, ◌≤◌, inl, inr, IfSome, Option, Some, None, List, [], ◌∷◌, length, get_or, take, All, refl, sym, ap, ◌∙◌, subst, arith}
-use Rattle.std.proofs.lemmas.List.{take_all}
-use Rattle.std.proofs.lemmas.List.Elements.{All-more}
+use Rattle.std.proofs.Common.{◌≡◌, ℕ, zero, suc, ◌+◌, ◌-◌, ◌<◌, ◌≤◌, IfSome, Option, Some, None, List, [], ◌∷◌, length, get_or, drop, All, refl, sym, ap, ◌∙◌, subst, arith}
 use Rattle.cnf_base.specs.declared.literal.Literal.{Literal}
+use Rattle.cnf_base.specs.Known.{AreKnown}
 use Rattle.cert_text.specs.Text.{Part}
 use Rattle.cert_text.specs.Live.{lines_of, IsGoodLine}
-use Rattle.log_checker.specs.Judging.{IsFirstBad, IsLinesAnswer, IsRangeAnswer}
-use Rattle.log_checker.specs.Shares.{AreCuts, IsInShare, IsMarkedIn, IsBefore, IsFound, IsJudged, IsLesser, IsLeast, KeepSizes, answer_by}
+use Rattle.log_checker.specs.Judging.{IsFirstBad, IsLinesAnswer, AreAnswered, end_of, prefer, first_answer}
+use Rattle.log_checker.specs.Pieces.{cut_at, AreCuts, IsJudged, KeepSizes, pieces_of, answer_by, IsScratch}
 use Rattle.log_checker.specs.declared.worker.Area.{Area}
 use Rattle.log_checker.specs.declared.lines.Lines.{Lines}
-use Rattle.log_checker.specs.declared.lines.Lines.TheVariants.{AllGood, FirstBad}
-use Rattle.log_checker.proofs.Cutting.{share_of, share_within}
-use Rattle.log_checker.proofs.Marking.{read_any}
+use Rattle.log_checker.proofs.Ranges.{pieces_answer}
 
--- a bad line, where there is one, is that of one of these areas
-abbrev pub IsOneOf : List Area → Option ℕ → Type 0
-IsOneOf areas least = IfSome least (λ bad. (i : ℕ) × (i < length areas) × ((d : Area) → (get_or areas i d).first_bad ≡ Some bad))
+-- the bad line of the first area that has one
+abbrev pub found : List Area → Option ℕ
+found [] = None
+found (a ∷ areas) = prefer a.first_bad (found areas)
 
--- the least of the first so many areas
-pub record IsLeastSoFar (areas : List Area) (n : ℕ) (least : Option ℕ) : Type 0 where
-  pub before : (line : ℕ) → IsBefore line least → All (λ (area : Area). IsBefore line area.first_bad) (take n areas)
-  pub one : IsOneOf areas least
+-- it does not depend on the cuts
+pub found_answers : (cuts : List ℕ) (number : ℕ) (areas : List Area) → found areas ≡ first_answer (pieces_of cuts number areas)
+found_answers cuts number [] = refl
+found_answers cuts number (a ∷ areas) = ap (λ o. prefer a.first_bad o) (found_answers cuts (suc number) areas)
 
-one_comes : (areas : List Area) (n : ℕ) (a : Area) (bad : Option ℕ) → n < length areas → a ≡ get_or areas n a → bad ≡ a.first_bad → IsOneOf areas bad
-one_comes areas n a None low at is = tt
-one_comes areas n a (Some b) low at is = (n, low, λ d. ap (λ (c : Area). c.first_bad) (read_any areas n d a low ∙ sym at) ∙ sym is)
+-- areas without a bad line are passed over
+found_on : (areas : List Area) (i : ℕ) (a : Area) → i < length areas → a ≡ get_or areas i a → found (drop i areas) ≡ prefer a.first_bad (found (drop (suc i) areas))
+found_on [] i a low at = absurd (omega (arith, low))
+found_on (x ∷ areas) zero a low at = ap (λ (b : Area). prefer b.first_bad (found areas)) (sym at)
+found_on (x ∷ areas) (suc i) a low at = found_on areas i a (omega (arith, low)) at
 
-pub none_yet : (areas : List Area) → IsLeastSoFar areas 0 None
-none_yet areas = record { before = λ line is k d low. absurd (omega (arith, low)); one = tt }
+pub found_none : (areas : List Area) (i : ℕ) (a : Area) → i < length areas → a ≡ get_or areas i a → a.first_bad ≡ None → found areas ≡ found (drop i areas) → found areas ≡ found (drop (i + 1) areas)
+found_none areas i a low at none so =
+    let up : suc i ≡ i + 1 = omega arith in
+    so ∙ found_on areas i a low at ∙ ap (λ o. prefer o (found (drop (suc i) areas))) none ∙ ap (λ n. found (drop n areas)) up
 
-pub least_more : (areas : List Area) (n : ℕ) (a : Area) (least both : Option ℕ) → n < length areas → a ≡ get_or areas n a → IsLeastSoFar areas n least → IsLesser least a.first_bad both
-    → IsLeastSoFar areas (n + 1) both
-least_more areas n a least both low at so lesser = record {
-  before = λ line is. All-more (λ (b : Area). IsBefore line b.first_bad) areas n a low (so.before line (lesser.before line is).0) (subst (λ (b : Area). IsBefore line b.first_bad) at (lesser.before line is).1);
-  one = elim lesser.either [ inl old ↦ subst (IsOneOf areas) (sym old) so.one | inr new ↦ one_comes areas n a both low at new ];
-}
+pub found_some : (areas : List Area) (i : ℕ) (a : Area) (line : ℕ) → i < length areas → a ≡ get_or areas i a → a.first_bad ≡ Some line → found areas ≡ found (drop i areas) → Some line ≡ found areas
+found_some areas i a line low at some so = sym (so ∙ found_on areas i a low at ∙ ap (λ o. prefer o (found (drop (suc i) areas))) some)
 
-pub least_all : (areas : List Area) (n : ℕ) (least : Option ℕ) → length areas ≤ n → IsLeastSoFar areas n least → IsLeast areas least
-least_all areas n least all so = record { before = λ line is. subst (All (λ (b : Area). IsBefore line b.first_bad)) (take_all n areas all) (so.before line is); one = so.one }
+found_end : (areas : List Area) (i : ℕ) → length areas ≤ i → found (drop i areas) ≡ None
+found_end [] zero high = refl
+found_end [] (suc i) high = refl
+found_end (x ∷ areas) zero high = absurd (omega (arith, high))
+found_end (x ∷ areas) (suc i) high = found_end areas i (omega (arith, high))
 
-some_area : (areas : List Area) (i : ℕ) → i < length areas → Area
-some_area [] i low = absurd (omega (arith, low))
-some_area (a ∷ areas) i low = a
+pub found_nowhere : (areas : List Area) (i : ℕ) → length areas ≤ i → found areas ≡ found (drop i areas) → None ≡ found areas
+found_nowhere areas i high so = sym (so ∙ found_end areas i high)
 
-module _ (Good : ℕ → Type 0) (shares from to : ℕ) (cuts : List ℕ) (areas : List Area) where
-  -- each share is marked by a worker
-  abbrev Found : Type 0
-  Found = All (λ (a : Area). (length a.marks.items ≡ shares) × IsFound Good cuts a.marks.items a.first_bad) areas
+-- the pieces end where the last cut is
+pieces_end : (cuts : List ℕ) (number : ℕ) (areas : List Area) → end_of (cut_at cuts number) (pieces_of cuts number areas) ≡ cut_at cuts (number + length areas)
+pieces_end cuts number [] = let e : number ≡ number + 0 = omega arith in ap (cut_at cuts) e
+pieces_end cuts number (a ∷ areas) =
+    let e : suc number + length areas ≡ number + suc (length areas) = omega arith in
+    pieces_end cuts (suc number) areas ∙ ap (cut_at cuts) e
 
-  abbrev Marked : Type 0
-  Marked = (share : ℕ) → share < shares → IsMarkedIn areas share
+module _ (Good : ℕ → Type 0) (cuts : List ℕ) where
+  -- each area has the first bad line of its piece
+  abbrev Judged : ℕ → List Area → Type 0
+  Judged number areas = (i : ℕ) (d : Area) → i < length areas → IsFirstBad Good (cut_at cuts (number + i)) (cut_at cuts (suc (number + i))) (get_or areas i d).first_bad
 
-  -- a line before the least bad one is good
-  good_line : AreCuts shares from cuts to → Found → Marked → (least : Option ℕ) → IsLeast areas least → (line : ℕ) → from ≤ line → line < to → IsBefore line least → Good line
-  good_line cut found marked least is line low high before =
-      let (share, below, there) = share_of shares from to line cuts cut low high in
-      let (i, at, mark) = marked share below in
-      let d = some_area areas i at in
-      (found i d at).1.good share line (mark d) there (is.before line before i d at)
+  pieces_are_answered : (number : ℕ) (areas : List Area) → ((piece : ℕ) → suc piece < length cuts → cut_at cuts piece ≤ cut_at cuts (suc piece)) → number + length areas < length cuts → Judged number areas
+      → AreAnswered Good (cut_at cuts number) (pieces_of cuts number areas)
+  pieces_are_answered number [] order room judged = tt
+  pieces_are_answered number (a ∷ areas) order room judged =
+      let here : number + 0 ≡ number = omega arith in (
+        order number (omega (arith, room)),
+        subst (λ n. IsFirstBad Good (cut_at cuts n) (cut_at cuts (suc n)) a.first_bad) here (judged 0 a (omega arith)),
+        pieces_are_answered (suc number) areas order (omega (arith, room)) (λ i d low.
+            let on : number + suc i ≡ suc number + i = omega arith in
+            subst (λ n. IsFirstBad Good (cut_at cuts n) (cut_at cuts (suc n)) (get_or areas i d).first_bad) on (judged (suc i) d (omega (arith, low)))),
+      )
 
-  -- the least bad line is one of the range
-  bad_line : AreCuts shares from cuts to → Found → (bad : ℕ) → IsLeast areas (Some bad) → (from ≤ bad) × (bad < to) × ¬ Good bad
-  bad_line cut found bad is =
-      let (i, at, here) = is.one in
-      let d = some_area areas i at in
-      let has = found i d at in
-      let ((share, below, there), not_good) = subst (λ o. IfSome o (λ line. ((s : ℕ) × (s < length (get_or areas i d).marks.items) × IsInShare cuts s line) × ¬ Good line)) (here d) has.1.bad in
-      let within = share_within shares from to share bad cuts cut (omega (arith, below, has.0)) there in
-      (within.0, within.1, not_good)
+  -- so the first answer is the first bad line
+  pub first_is_first : (count : ℕ) (areas : List Area) → AreCuts cuts count → length cuts ≡ suc (length areas) → Judged 0 areas → IsFirstBad Good 0 count (first_answer (pieces_of cuts 0 areas))
+  first_is_first count areas cut size judged =
+      let all = pieces_answer Good (cut_at cuts 0) (pieces_of cuts 0 areas) (pieces_are_answered 0 areas cut.order (omega (arith, size)) judged) in
+      let last : length cuts - 1 ≡ 0 + length areas = omega (arith, size) in
+      let end : end_of (cut_at cuts 0) (pieces_of cuts 0 areas) ≡ count = pieces_end cuts 0 areas ∙ ap (cut_at cuts) (sym last) ∙ cut.last in
+      subst (λ n. IsFirstBad Good n count (first_answer (pieces_of cuts 0 areas))) cut.first
+      (subst (λ n. IsFirstBad Good (cut_at cuts 0) n (first_answer (pieces_of cuts 0 areas))) end all)
 
-  pub least_is_first : AreCuts shares from cuts to → Found → Marked → (least : Option ℕ) → IsLeast areas least → IsFirstBad Good from to least
-  least_is_first cut found marked None is = λ line low high. good_line cut found marked None is line low high tt
-  least_is_first cut found marked (Some b) is =
-      let bad = bad_line cut found b is in
-      (bad.0, bad.1, bad.2, λ line low high. good_line cut found marked (Some b) is line low (omega (arith, high, bad.1)) high)
-
--- over as many letters as there were, and as many shares
-pub least_in_range : (clauses : List (List Literal)) (parts : List Part) (letters shares from to : ℕ) (cuts : List ℕ) (old new : List Area) (least : Option ℕ) → AreCuts shares from cuts to
-    → All (λ (a : Area). length a.assignment ≡ letters + 1) old → All (λ (a : Area). length a.marks.items ≡ shares) old → KeepSizes old new → All (IsJudged clauses parts cuts) new
-    → ((share : ℕ) → share + 1 < length cuts → IsMarkedIn new share) → IsLeast new least → IsFirstBad (IsGoodLine clauses letters parts) from to least
-least_in_range clauses parts letters shares from to cuts old new least cut sizes many keep judged marked is =
-    let found : Found (IsGoodLine clauses letters parts) shares from to cuts new = λ i d low.
+-- over as many letters as there were
+pub first_of_all : (clauses : List (List Literal)) (parts : List Part) (letters : ℕ) (cuts : List ℕ) (old new : List Area) → AreCuts cuts (length (lines_of parts)) → length cuts ≡ suc (length old)
+    → All (λ (a : Area). length a.assignment ≡ letters + 1) old → KeepSizes old new → ((i : ℕ) (d : Area) → i < length old → IsJudged clauses parts cuts i (get_or new i d))
+    → IsFirstBad (IsGoodLine clauses letters parts) 0 (length (lines_of parts)) (first_answer (pieces_of cuts 0 new))
+first_of_all clauses parts letters cuts old new cut size sizes keep judged =
+    first_is_first (IsGoodLine clauses letters parts) cuts (length (lines_of parts)) new cut (omega (arith, size, keep.count)) (λ i d low.
     let there : i < length old = omega (arith, low, keep.count) in
-    let kept = keep.each i d there in
-    let known : length (get_or new i d).assignment - 1 ≡ letters = omega (arith, kept.letters, sizes i d there) in (
-      kept.shares ∙ many i d there,
-      subst (λ n. IsFound (IsGoodLine clauses n parts) cuts (get_or new i d).marks.items (get_or new i d).first_bad) known (judged i d low),
-    ) in
-    least_is_first (IsGoodLine clauses letters parts) shares from to cuts new cut found (λ s low. marked s (omega (arith, low, cut.size))) least is
+    let known : length (get_or new i d).assignment - 1 ≡ letters = omega (arith, keep.each i d there, sizes i d there) in
+    let on : i ≡ 0 + i = omega arith in
+    subst (λ n. IsFirstBad (IsGoodLine clauses letters parts) (cut_at cuts n) (cut_at cuts (suc n)) (get_or new i d).first_bad) on
+    (subst (λ n. IsFirstBad (IsGoodLine clauses n parts) (cut_at cuts i) (cut_at cuts (suc i)) (get_or new i d).first_bad) known (judged i d there)))
 
--- the number of a bad line of the range fits where that of the end does
+-- the number of a bad line fits where that of the end does
 pub number_fits : (Good : ℕ → Type 0) (from to limit : ℕ) (bad : Option ℕ) → to < limit → IsFirstBad Good from to bad → IfSome bad (λ line. line + 1 < limit)
 number_fits Good from to limit None low is = tt
 number_fits Good from to limit (Some k) low is = omega (arith, low, is.1)
 
--- the first bad line of the range is the answer
-pub range_answer : (clauses : List (List Literal)) (parts : List Part) (letters from to : ℕ) (bad : Option ℕ) (r : Lines) → r ≡ answer_by bad → IsFirstBad (IsGoodLine clauses letters parts) from to bad
-    → IsRangeAnswer clauses letters parts from to r
-range_answer clauses parts letters from to None r at is = subst (IsRangeAnswer clauses letters parts from to) (sym at) is
-range_answer clauses parts letters from to (Some k) r at is = subst (IsRangeAnswer clauses letters parts from to) (sym at) (k, refl, is)
+-- the first bad line is the answer
+pub lines_answer : (clauses : List (List Literal)) (parts : List Part) (letters : ℕ) (bad : Option ℕ) (r : Lines) → r ≡ answer_by bad
+    → IsFirstBad (IsGoodLine clauses letters parts) 0 (length (lines_of parts)) bad → IsLinesAnswer clauses letters parts r
+lines_answer clauses parts letters None r at is = subst (IsLinesAnswer clauses letters parts) (sym at) is
+lines_answer clauses parts letters (Some k) r at is = subst (IsLinesAnswer clauses letters parts) (sym at) (k, refl, is)
 
--- the range of all lines
-pub whole_answer : (clauses : List (List Literal)) (parts : List Part) (letters count : ℕ) (r : Lines) → count ≡ length (lines_of parts) → IsRangeAnswer clauses letters parts 0 count r
-    → IsLinesAnswer clauses letters parts r
-whole_answer clauses parts letters count AllGood all is = subst (λ n. IsFirstBad (IsGoodLine clauses letters parts) 0 n None) all is
-whole_answer clauses parts letters count (FirstBad m) all (k, at, is) = (k, at, subst (λ n. IsFirstBad (IsGoodLine clauses letters parts) 0 n (Some k)) all is)
+-- a scratch keeps its sizes
+pub scratch_still : (letters : ℕ) (old new : List Area) (before after : List ℕ) → KeepSizes old new → length after ≡ length before → IsScratch letters old before → IsScratch letters new after
+scratch_still letters old new before after keep same scratch = record {
+  some = omega (arith, keep.count, scratch.some);
+  few = omega (arith, keep.count, scratch.few);
+  sizes = λ i d low. let there : i < length old = omega (arith, low, keep.count) in keep.each i d there ∙ scratch.sizes i d there;
+  cut = omega (arith, same, scratch.cut, keep.count);
+}
+
+-- in a scratch
+pub scratch_known : (clauses : List (List Literal)) (letters : ℕ) (areas : List Area) (cuts : List ℕ) → IsScratch letters areas cuts → AreKnown letters clauses
+    → All (λ (a : Area). AreKnown (length a.assignment - 1) clauses) areas
+scratch_known clauses letters areas cuts scratch known = λ i d low.
+    let same : length (get_or areas i d).assignment - 1 ≡ letters = omega (arith, scratch.sizes i d low) in
+    subst (λ n. AreKnown n clauses) (sym same) known

@@ -144,8 +144,3 @@ IsLineOutcome greatest falses line Neither = All (IsKnown greatest) line → IsO
 abbrev pub IsAssumed : ℕ → List Literal → List Literal → Bool → Type 0
 IsAssumed greatest line falses true = All (IsKnown greatest) line × HasNoPair line × ((l : Literal) → Contains falses l ↔ Contains line l)
 IsAssumed greatest line falses false = ¬ (All (IsKnown greatest) line × HasNoPair line)
-
--- the answer on the lines from one place up to another, which count from 0: the first bad one of them, by its number from 1
-abbrev pub IsRangeAnswer : List (List Literal) → ℕ → List Part → ℕ → ℕ → Lines → Type 0
-IsRangeAnswer clauses letters parts from to AllGood = IsFirstBad (IsGoodLine clauses letters parts) from to None
-IsRangeAnswer clauses letters parts from to (FirstBad n) = (k : ℕ) × (n ≡ suc k) × IsFirstBad (IsGoodLine clauses letters parts) from to (Some k)

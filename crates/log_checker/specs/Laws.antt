@@ -1,12 +1,12 @@
 -- What the laws of checking say.
-use Rattle.std.specs.Prelude.{◌≡◌, ℕ, ◌<◌, ◌≤◌, ◌↔◌, List, [], ◌∷◌, ◌++◌, length, Option, None}
+use Rattle.std.specs.Prelude.{◌≡◌, ℕ, ◌↔◌, List, [], ◌∷◌, length, Option}
 use Rattle.cnf_base.specs.declared.literal.Literal.{Literal}
 use Rattle.cnf_base.specs.declared.literal.Hint.{Hint}
 use Rattle.cnf_base.specs.Among.{NamesAmong, RefutesAmong}
 use Rattle.cert_text.specs.Text.{Part}
 use Rattle.cert_text.specs.Live.{lines_of, live_line, IsGoodLine}
 use Rattle.log_checker.specs.declared.outcome.Outcome.{Outcome}
-use Rattle.log_checker.specs.Judging.{IsOutcome, Goes, IsFirstBad, Piece, AreAnswered, end_of, first_answer, IsFirstBadLine, fresh, after, found}
+use Rattle.log_checker.specs.Judging.{IsOutcome, Goes, Piece, AreAnswered, end_of, first_answer, IsFirstBadLine, fresh, after, found}
 
 -- there is a first bad line, or none
 abbrev pub FirstBadIsThere : Type 0
@@ -17,21 +17,6 @@ abbrev pub CutsAgree : Type 0
 CutsAgree = (clauses : List (List Literal)) (greatest : ℕ) (parts : List Part) (pieces : List Piece) (answer : Option ℕ)
     → AreAnswered (IsGoodLine clauses greatest parts) 0 pieces → end_of 0 pieces ≡ length (lines_of parts) → IsFirstBadLine clauses greatest parts answer
     → first_answer pieces ≡ answer
-
--- what is said of a line does not depend on the parts behind it
-abbrev pub LinesStandAlone : Type 0
-LinesStandAlone = (clauses : List (List Literal)) (greatest : ℕ) (parts more : List Part) (k : ℕ) → k < length (lines_of parts)
-    → IsGoodLine clauses greatest (parts ++ more) k ↔ IsGoodLine clauses greatest parts k
-
--- so a range without a bad line has none with more parts behind
-abbrev pub RangesStayGood : Type 0
-RangesStayGood = (clauses : List (List Literal)) (greatest : ℕ) (parts more : List Part) (from to : ℕ) → IsFirstBad (IsGoodLine clauses greatest parts) from to None → to ≤ length (lines_of parts)
-    → IsFirstBad (IsGoodLine clauses greatest (parts ++ more)) from to None
-
--- two ranges without a bad line, one behind the other, are one range without a bad line
-abbrev pub GoodRangesJoin : Type 0
-GoodRangesJoin = (clauses : List (List Literal)) (greatest : ℕ) (parts : List Part) (from middle to : ℕ) → IsFirstBad (IsGoodLine clauses greatest parts) from middle None
-    → IsFirstBad (IsGoodLine clauses greatest parts) middle to None → IsFirstBad (IsGoodLine clauses greatest parts) from to None
 
 -- the checker that takes parts one by one keeps the lines that are live behind them
 abbrev pub CheckersKeepLive : Type 0

@@ -1,6 +1,6 @@
 pub mod Values
 pub mod Judging
 pub mod Kept
-pub mod Shares
+pub mod Pieces
 pub mod Laws
 pub mod Shorts

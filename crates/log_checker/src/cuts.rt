@@ -1,27 +1,25 @@
-// How lines are cut: into consecutive shares of nearly equally many bytes. Later lines are longer, so of
-// equally many lines the last share would have the most to do. The answer is right however they are cut, so
-// a caller is told only that the shares follow one another from the first line to the last.
-ghost use Rattle.std.specs.Prelude.{◌+◌, ◌-◌, ◌<◌, ◌≤◌, length};
+// How lines are cut: into consecutive pieces of nearly equally many bytes. Later lines are longer, so of
+// equally many lines the last piece would have the most to do. The answer is right however they are cut, so
+// a caller is told only that the pieces follow one another from the first line to the last.
+ghost use Rattle.std.specs.Prelude.{◌≡◌, ◌-◌, ◌^◌, ◌<◌, ◌≤◌, length};
 ghost use Rattle.cert_text.specs.Live.{lines_of};
-ghost use Rattle.log_checker.specs.Shares.{AreCuts};
+ghost use Rattle.cert_text.specs.Reading.{line_start};
+ghost use Rattle.log_checker.specs.Pieces.{AreCuts};
 
-use crate::numbered::NumberedLines;
+use cert_text::CertView;
 
-/// The first of the lines from `from` up to `to` that begins at this byte or behind it, or `to`. Lines are
-/// counted from 0 here.
-fn line_from<V: NumberedLines>(text: &V, from: u64, to: u64, byte: usize) -> u64
-    requires order { from ≤ to }
-    requires within { to ≤ length (lines_of (V.parts text.now)) }
-    ensures order { from ≤ result }
-    ensures within { result ≤ to }
-    ensures before { from < result → V.starts text.now (result - 1) < byte }
-    ensures behind { result < to → byte ≤ V.starts text.now result }
+/// The first line that begins at this byte or behind it, or the number of lines. Lines are counted from 0
+/// here.
+fn line_from(view: &CertView<'_>, byte: usize) -> u64
+    ensures within { result ≤ length (lines_of view.now.parts) }
+    ensures before { 0 < result → line_start view.now (result - 1) < byte }
+    ensures behind { result < length (lines_of view.now.parts) → byte ≤ line_start view.now result }
 {
-    let mut low = from;
-    let mut high = to;
+    let mut low = 0;
+    let mut high = view.lines();
     'halves: while low < high {
         let middle = low + (high - low) / 2;
-        if text.place(middle + 1) < byte {
+        if view.place(middle + 1) < byte {
             low = middle + 1;
         } else {
             high = middle;
@@ -30,64 +28,41 @@ fn line_from<V: NumberedLines>(text: &V, from: u64, to: u64, byte: usize) -> u64
     low
 }
 
-/// Where so many of equal shares of the bytes of a range of lines end: at the beginning of the range for
-/// none, at its end for all. Lines are counted from 0.
-fn share_end<V: NumberedLines>(text: &V, from: u64, to: u64, share: usize, shares: usize) -> u64
-    requires order { from ≤ to }
-    requires within { to ≤ length (lines_of (V.parts text.now)) }
-    requires some { 1 ≤ shares }
-    requires share { share ≤ shares }
-    ensures order { from ≤ result }
-    ensures within { result ≤ to }
-{
-    if share == 0 || from == to {
-        return from;
-    }
-    if share == shares {
-        return to;
-    }
-    let first = text.place(from + 1);
-    let bytes = text.place(to).saturating_sub(first) / shares;
-    line_from(text, from, to, first + bytes * share)
-}
-
-/// Where a share ends that begins at line `begin`, and behind which so many of equally many bytes have ended.
-fn end_behind<V: NumberedLines>(
-    text: &V,
-    from: u64,
-    to: u64,
-    begin: u64,
-    share: usize,
-    shares: usize,
-) -> u64
-    requires begins { from ≤ begin }
-    requires ends { begin ≤ to }
-    requires within { to ≤ length (lines_of (V.parts text.now)) }
-    requires some { 1 ≤ shares }
-    requires share { share ≤ shares }
+/// Where a piece ends that begins at line `begin`, where so many pieces end with it. Lines are counted from 0
+/// here.
+fn piece_end(view: &CertView<'_>, begin: u64, ended: usize, pieces: usize) -> u64
+    requires begins { begin ≤ length (lines_of view.now.parts) }
+    requires some { 1 ≤ pieces }
+    requires ended { ended ≤ pieces }
     ensures order { begin ≤ result }
-    ensures within { result ≤ to }
+    ensures within { result ≤ length (lines_of view.now.parts) }
 {
-    let end = share_end(text, from, to, share, shares);
-    // Shares end one behind another; to test it costs less than to prove it.
+    let lines = view.lines();
+    if lines == 0 {
+        return begin;
+    }
+    let first = view.place(1);
+    let bytes = view.place(lines).saturating_sub(first) / pieces;
+    let end = line_from(view, first + bytes * ended);
+    // Pieces end one behind another; to test it costs less than to prove it.
     if end < begin {
         return begin;
     }
     end
 }
 
-/// Cuts the lines from `from` up to `to`, which are counted from 0, into one share less than there are cuts,
-/// and leaves in `cuts` where each begins and the last one ends.
-pub fn cut_lines<V: NumberedLines>(text: &V, from: u64, to: u64, cuts: &mut Vec<u64>)
+/// Cuts all lines, which are counted from 0, into one piece less than there are cuts, and leaves in `cuts`
+/// where each begins and the last one ends.
+pub fn cut_lines(view: &CertView<'_>, cuts: &mut Vec<u64>)
     requires some { 2 ≤ length cuts.old.items }
-    requires order { from ≤ to }
-    requires within { to ≤ length (lines_of (V.parts text.now)) }
-    ensures { AreCuts (length cuts.old.items - 1) from cuts.new.items to }
+    ensures cuts { AreCuts cuts.new.items (length (lines_of view.now.parts)) }
+    ensures size { length cuts.new.items ≡ length cuts.old.items }
+    ensures few { length (lines_of view.now.parts) < 2 ^ 64 }
 {
-    let shares = cuts.len() - 1;
-    cuts[0] = from;
-    'cuts: for share in 1..shares {
-        cuts[share] = end_behind(text, from, to, cuts[share - 1], share, shares);
+    let pieces = cuts.len() - 1;
+    cuts[0] = 0;
+    'cuts: for piece in 1..pieces {
+        cuts[piece] = piece_end(view, cuts[piece - 1], piece, pieces);
     }
-    cuts[shares] = to;
+    cuts[pieces] = view.lines();
 }

@@ -12,7 +12,7 @@ ghost use Rattle.log_checker.specs.Judging.{IsOutcome, IsLineOutcome, IsHintOutc
 use crate::Outcome;
 use crate::assignment::{Assignment, Truth};
 use cert_text::{Hints, Literals};
-use cnf_base::{ClauseList, Clauses, Hint, Literal};
+use cnf_base::{Clauses, Hint, Literal};
 
 /// The clauses that hints may name, numbered from 1. Each is asked for once at a hint, so that whoever works
 /// a clause out does it once, and not for each literal.
@@ -38,8 +38,8 @@ pub trait NamedClauses {
         ensures { IsOutcome (falses_in assignment.now) (clause_at (clauses self.now) number) result };
 }
 
-impl NamedClauses for ClauseList {
-    ghost clauses = { λ list. list };
+impl<C: Clauses> NamedClauses for C {
+    ghost clauses = { λ c. C.clauses c };
 
     fn last_number(&self) -> u64 {
         self.count()

@@ -1,7 +1,6 @@
 //! Laws of checking. Each function is empty: its contract is the law, and a proof cites it by a call.
 ghost use Rattle.log_checker.specs.Laws.{FirstBadIsThere, CutsAgree, CheckersKeepLive, HintsGoOn};
 ghost use Rattle.log_checker.specs.Laws.{NoHintsRefute, UnnamedRefuteNothing};
-ghost use Rattle.log_checker.specs.Laws.{LinesStandAlone, RangesStayGood, GoodRangesJoin};
 
 /// The first bad line, by however many pieces it is looked for, and what a checker keeps that takes one
 /// part after another.
@@ -9,13 +8,6 @@ pub fn judging()
     ensures first { FirstBadIsThere }
     ensures cuts { CutsAgree }
     ensures kept { CheckersKeepLive }
-{}
-
-/// Lines may be judged as they come: what is said of a line stays so whatever comes behind it.
-pub fn standing()
-    ensures alone { LinesStandAlone }
-    ensures stay { RangesStayGood }
-    ensures join { GoodRangesJoin }
 {}
 
 /// How hints are gone through one after another.

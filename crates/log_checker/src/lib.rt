@@ -3,13 +3,11 @@
 
 mod assignment;
 mod cuts;
-mod gather;
 mod judge;
 mod kept;
 pub mod laws;
 pub mod lines;
 pub mod live;
-mod numbered;
 mod outcome;
 mod shared;
 pub mod stored;
@@ -17,8 +15,7 @@ mod worker;
 
 pub use assignment::Assignment;
 pub use judge::{NamedClauses, with_literal};
-pub use lines::{Lines, Scratch, check_lines, check_range};
+pub use lines::{Lines, Scratch, check_lines};
 pub use live::LiveChecker;
-pub use numbered::NumberedLines;
 pub use outcome::Outcome;
 pub use stored::StoredClauses;

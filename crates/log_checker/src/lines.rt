@@ -1,24 +1,22 @@
-// The lines of a certificate, or a range of them, judged by several workers. They are cut into consecutive
-// shares, many more than there are workers, which the workers take by turns, each in an area of its own; and
-// the least bad line that any of them has found is the answer.
-ghost use Rattle.std.specs.Prelude.{◌≡◌, ◌+◌, ◌^◌, ◌<◌, ◌≤◌, length, All, IfOk, IfSome};
+// The lines of a certificate, judged by several workers. They are cut into as many consecutive pieces as
+// there are workers. Each worker judges one piece in an area of its own, and all read one view that nobody
+// changes; then the first bad line of the first piece that has one is the answer.
+ghost use Rattle.std.specs.Prelude.{ℕ, ◌≡◌, ◌+◌, ◌^◌, ◌<◌, ◌≤◌, List, length, All, IfOk, IfSome, slice_index_or};
 ghost use Rattle.cnf_base.specs.Known.{AreKnown};
 ghost use Rattle.cert_text.specs.Live.{lines_of};
 ghost use Rattle.log_checker.specs.Values.{letters_in};
-ghost use Rattle.log_checker.specs.Judging.{IsLinesAnswer, IsRangeAnswer};
-ghost use Rattle.log_checker.specs.Shares.{AreShares, IsJudged, KeepSizes, answer_by};
+ghost use Rattle.log_checker.specs.Judging.{IsLinesAnswer, first_answer};
+ghost use Rattle.log_checker.specs.Pieces.{AreCuts, IsJudged, KeepSizes, pieces_of, answer_by};
+ghost use Rattle.log_checker.specs.declared.worker.Area.{Area};
 
 use crate::assignment::Assignment;
 use crate::cuts::cut_lines;
-use crate::gather::{judge_rest, least_bad};
 use crate::judge::NamedClauses;
-use crate::numbered::NumberedLines;
-use crate::worker::{Area, judge_by_turns};
+use crate::worker::{Area, judge_piece};
 use cert_text::CertView;
 use ltl_io::Gate;
 use std::alloc::{AllocError, Global};
 use std::marker::Model;
-use std::sync::atomic::AtomicU64;
 use std::thread;
 use std::thread::Threads;
 
@@ -31,12 +29,8 @@ pub enum Lines {
     FirstBad(u64),
 }
 
-/// How many shares the lines are cut into: so many that the last one that a slow processor has taken is soon
-/// done, and so few that the turns cost nothing.
-const SHARES: usize = 256;
-
 /// What the workers work in: an area for each, with a byte and four more for each letter; and the lines at
-/// which the shares begin, and the last one ends.
+/// which the pieces begin, and the last one ends.
 #[derive(Drop)]
 pub struct Scratch {
     letters: u32,
@@ -47,7 +41,7 @@ pub struct Scratch {
 impl Model for Scratch {
     ghost use Rattle.std.specs.Prelude.{length};
     ghost use Rattle.log_checker.specs.Judging.{ScratchValue};
-    ghost use Rattle.log_checker.specs.Shares.{IsScratch};
+    ghost use Rattle.log_checker.specs.Pieces.{IsScratch};
 
     ghost Value = { ScratchValue };
 
@@ -67,15 +61,13 @@ impl Scratch {
         let mut areas = Vec::new(alloc);
         'workers: for _worker in 0..workers {
             let assignment = Assignment::new(alloc, letters)?;
-            let marks = Vec::from_elem(alloc, false, SHARES)?;
             areas.push(Area {
                 assignment,
-                marks,
                 first_bad: None,
                 apart: [0; 16],
             })?;
         }
-        let cuts = Vec::from_elem(alloc, 0u64, SHARES + 1)?;
+        let cuts = Vec::from_elem(alloc, 0u64, workers as usize + 1)?;
         Ok(Scratch {
             letters,
             areas,
@@ -84,9 +76,9 @@ impl Scratch {
     }
 }
 
-/// Judges each line over the clauses and the lines that are live at it. The lines are cut into consecutive
-/// shares of nearly equally many bytes, which as many workers as the scratch has, numbered from 0, take by
-/// turns. Each worker, one that finds no share left too, tells the gate that it begins.
+/// Judges each line over the clauses and the lines that are live at it. The lines are cut into as many
+/// consecutive pieces of nearly equally many bytes as the scratch has workers, which are numbered from 0 as
+/// the pieces are. Each worker, one whose piece is empty too, tells the gate that it begins.
 pub fn check_lines<R: Threads + Sync, C: NamedClauses + Sync, G: Gate + Sync>(
     rt: &R,
     view: &CertView<'_>,
@@ -98,37 +90,15 @@ pub fn check_lines<R: Threads + Sync, C: NamedClauses + Sync, G: Gate + Sync>(
     ensures answer { IsLinesAnswer (C.clauses clauses.now) scratch.old.letters view.now.parts result }
     ensures same { scratch.new ≡ scratch.old }
 {
-    check_range(rt, view, 0, view.lines(), clauses, scratch, gate)
+    cut_lines(view, &mut scratch.cuts);
+    judge_pieces(rt, view, clauses, gate, &mut scratch.areas, &scratch.cuts);
+    numbered(first_bad_of(&scratch.areas))
 }
 
-/// Judges the lines from one place up to another, which count from 0, over the clauses and the lines that are
-/// live at each. They are cut into consecutive shares of nearly equally many bytes, which as many workers as
-/// the scratch has, numbered from 0, take by turns. Each worker, one that finds no share left too, tells the
-/// gate that it begins.
-pub fn check_range<
-    R: Threads + Sync,
-    V: NumberedLines + Sync,
-    C: NamedClauses + Sync,
-    G: Gate + Sync,
->(rt: &R, text: &V, from: u64, to: u64, clauses: &C, scratch: &mut Scratch, gate: &G) -> Lines
-    requires known { AreKnown scratch.old.letters (C.clauses clauses.now) }
-    requires order { from ≤ to }
-    requires within { to ≤ length (lines_of (V.parts text.now)) }
-    ensures answer { IsRangeAnswer (C.clauses clauses.now) scratch.old.letters (V.parts text.now) from to
-        result }
-    ensures same { scratch.new ≡ scratch.old }
-{
-    cut_lines(text, from, to, &mut scratch.cuts);
-    judge_shares(rt, text, clauses, gate, &mut scratch.areas, &scratch.cuts);
-    judge_rest(text, clauses, &mut scratch.areas, &scratch.cuts);
-    numbered(least_bad(&scratch.areas))
-}
-
-/// As many workers as there are areas judge shares by turns, each in a thread of its own where one can be
-/// made.
-fn judge_shares<R: Threads + Sync, V: NumberedLines + Sync, C: NamedClauses + Sync, G: Gate + Sync>(
+/// As many workers as there are areas judge a piece each, each in a thread of its own where one can be made.
+fn judge_pieces<R: Threads + Sync, C: NamedClauses + Sync, G: Gate + Sync>(
     rt: &R,
-    text: &V,
+    view: &CertView<'_>,
     clauses: &C,
     gate: &G,
     areas: &mut Vec<Area>,
@@ -138,20 +108,32 @@ fn judge_shares<R: Threads + Sync, V: NumberedLines + Sync, C: NamedClauses + Sy
     requires few { length areas.old.items ≤ 16 }
     requires known { All (λ area. AreKnown (letters_in area.assignment)
         (C.clauses clauses.now)) areas.old.items }
-    requires shares { All (λ area. AreShares (length area.marks.items) (length (lines_of (V.parts text.now)))
-        cuts.now.items) areas.old.items }
-    ensures judged { All (IsJudged (C.clauses clauses.now) (V.parts text.now)
-        cuts.now.items) areas.new.items }
+    requires cuts { AreCuts cuts.now.items (length (lines_of view.now.parts)) }
+    requires pieces { length cuts.now.items ≡ length areas.old.items + 1 }
+    ensures judged { (i : ℕ) (d : Area) → i < length areas.old.items →
+        IsJudged (C.clauses clauses.now) view.now.parts cuts.now.items i
+        (slice_index_or areas.new.items i d) }
     ensures sizes { KeepSizes areas.old.items areas.new.items }
 {
-    let turn = AtomicU64::new(0);
     let workers = areas.len();
     thread::for_each_mut(
         rt,
         areas.as_mut_slice(),
         workers,
-        &|worker, area| { judge_by_turns(text, clauses, gate, area, worker, cuts, &turn) },
+        &|worker, area| { judge_piece(view, clauses, gate, area, worker, cuts) },
     );
+}
+
+/// The first bad line of the first piece that has one, however the pieces are cut.
+fn first_bad_of(areas: &Vec<Area>) -> Option<u64>
+    ensures { (cuts : List ℕ) → result ≡ first_answer (pieces_of cuts 0 areas.now.items) }
+{
+    'areas: for index in 0..areas.len() {
+        if let Some(line) = areas[index].first_bad {
+            return Some(line);
+        }
+    }
+    None
 }
 
 /// The answer by the first bad line, which counts from 0 here.

@@ -1,8 +1,8 @@
 -- How a told content grows, and a told rest shrinks, over several calls.
-use Rattle.std.proofs.Common.{◌≡◌, ℕ, ◌+◌, ◌≤◌, true, List, ◌++◌, take, drop, length, ◌-◌, Option, Some, None, append_assoc, append-nil, refl, subst, sym, ap, ◌∙◌, arith, length-append}
+use Rattle.std.proofs.Common.{◌≡◌, ℕ, ◌+◌, ◌≤◌, List, ◌++◌, take, drop, length, ◌-◌, Option, Some, None, append_assoc, append-nil, refl, subst, sym, ap, ◌∙◌, arith, length-append}
 use Rattle.std.proofs.Math.Seq.{take-add}
 use Rattle.std.proofs.lemmas.List.{take_rest, take-append-drop, length-take, length-drop}
-use Rattle.ltl_io.specs.Outside.{Grows, GrowsByFront, Gives, Loses, LosesAtMost, IsReadOn, IsStopped}
+use Rattle.ltl_io.specs.Outside.{Grows, GrowsByFront, Gives, Loses, LosesAtMost}
 
 -- after n bytes of a list, m more are n + m of it
 pub grown_more : (n m : ℕ) (l : List ℕ) (x y z : Option (List ℕ)) → Grows (take n l) x y → Grows (take m (take (length l - n) (drop n l))) y z → Grows (take (n + m) l) x z
@@ -35,18 +35,3 @@ lost_more lost into n most more (Some rest) y z (left, split, told) g few less =
     let given : Gives n into (Some left) z = subst (λ o. Gives n into o z) told g in
     let size : length (take n left) ≤ n = omega (arith, length-take n left) in
     (lost ++ take n left, drop n left, split ∙ ap (λ l. lost ++ l) (sym (take-append-drop n left)) ∙ sym (append_assoc lost (take n left) (drop n left)), omega (arith, few, less, size, length-append lost (take n left)), given.2)
-
--- what was read on behind some bytes is a front of what was told
-pub read_front : (old new : List ℕ) (most : ℕ) (x y : Option (List ℕ)) → IsReadOn old new x y → length new ≤ length old + most → LosesAtMost most x y
-read_front old new most x y read few = lost_front read.taken most x y read.lost (omega (arith, few, ap length read.bytes, length-append old read.taken))
-
--- and after some more a longer one
-pub read_more : (old new into : List ℕ) (n most more : ℕ) (x y z : Option (List ℕ)) → IsReadOn old new x y → Gives n into y z → length new ≤ most → n ≤ more → LosesAtMost (most + more) x z
-read_more old new into n most more x y z read g few less = lost_more read.taken into n most more x y z read.lost g (omega (arith, few, ap length read.bytes, length-append old read.taken)) less
-
--- where nothing more is given, nothing is left of what was told
-pub given_nothing : (old new into : List ℕ) (n stop : ℕ) (x y z : Option (List ℕ)) → IsReadOn old new x y → Gives n into y z → n ≡ 0 → IsStopped true stop new x z
-given_nothing old new into n stop None y z read g none = tt
-given_nothing old new into n stop (Some rest) y z read g none =
-    let given : Gives n into (Some read.lost.0) z = subst (λ o. Gives n into o z) read.lost.2 g in
-    given.2 ∙ ap Some (ap (λ m. drop m read.lost.0) none ∙ given.3 none)

@@ -1,5 +1,5 @@
 -- What a source has left, and what a sink has taken, where they tell it.
-use Rattle.std.specs.Prelude.{◌≡◌, ◌<◌, ◌≤◌, ◌⊎◌, ◌++◌, ℕ, Bool, true, false, List, [], Option, Some, length, take, drop, IfSome}
+use Rattle.std.specs.Prelude.{◌≡◌, ◌<◌, ◌≤◌, ◌⊎◌, ◌++◌, ℕ, List, [], Option, Some, length, take, drop, IfSome}
 
 -- a told rest lost its first n bytes, which stand at the front of into; n is 0 only where nothing was left
 abbrev pub Gives : ℕ → List ℕ → Option (List ℕ) → Option (List ℕ) → Type 0
@@ -30,14 +30,3 @@ TakesWhole stop_after bytes before after = IfSome before (λ rest. (left : List 
 -- a told content grew by some front of these bytes
 abbrev pub GrowsByFront : List ℕ → Option (List ℕ) → Option (List ℕ) → Type 0
 GrowsByFront bytes before after = IfSome before (λ content. (n : ℕ) × (n ≤ length bytes) × (after ≡ Some (content ++ take n bytes)))
-
--- behind the bytes that were there stand those that a told rest lost
-pub record IsReadOn (old new : List ℕ) (before after : Option (List ℕ)) : Type 0 where
-  pub taken : List ℕ
-  pub bytes : new ≡ old ++ taken
-  pub lost : Loses taken before after
-
--- reading stopped at the end of a told rest, or with more than stop_after bytes
-abbrev pub IsStopped : Bool → ℕ → List ℕ → Option (List ℕ) → Option (List ℕ) → Type 0
-IsStopped true stop_after bytes before after = IfSome before (λ rest. after ≡ Some [])
-IsStopped false stop_after bytes before after = stop_after < length bytes

@@ -17,5 +17,5 @@ pub use gate::{Gate, NoGate};
 pub use memory_sink::MemorySink;
 pub use memory_source::MemorySource;
 pub use sink::{Sink, WriteFault, write_whole};
-pub use source::{Failed, ReadRefused, Source, read_on, read_whole};
+pub use source::{Failed, ReadRefused, Source, read_whole};
 pub use sure_source::SureSource;

@@ -2,7 +2,7 @@
 ghost use Rattle.std.specs.Prelude.{◌≡◌, ◌+◌, ◌<◌, ◌≤◌, Option, List, ℕ, length, IfOk, OnOk, OnErr, IsErrOf};
 ghost use Rattle.ltl_io.specs.declared.source.ReadRefused.TheVariants.{NoMemory};
 ghost use Rattle.ltl_io.specs.Count.{Rose, Counts};
-ghost use Rattle.ltl_io.specs.Outside.{Gives, Stays, LosesAtMost, TakesWhole, IsReadOn, IsStopped};
+ghost use Rattle.ltl_io.specs.Outside.{Gives, Stays, LosesAtMost, TakesWhole};
 
 use std::alloc::{AllocError, Global};
 
@@ -49,39 +49,6 @@ pub trait Source {
 // How many bytes are asked for at once.
 const PIECE: usize = 65_536;
 
-/// Reads on behind the bytes that are there, to the end of input or until there are more than `stop_after`, and
-/// answers whether it came to the end. So an input above a limit is known by its length, and what stands
-/// behind the read that brought it there is left for another reader.
-pub fn read_on<S: Source>(
-    source: &mut S,
-    bytes: &mut Vec<u8>,
-    stop_after: usize,
-) -> Result<bool, ReadRefused>
-    ensures bytes { OnOk result (IsReadOn bytes.old.items bytes.new.items (S.rest source.old)
-        (S.rest source.new)) }
-    ensures ended { IfOk result (λ ended. IsStopped ended stop_after bytes.new.items (S.rest source.old)
-        (S.rest source.new)) }
-    ensures bounded { length bytes.old.items ≤ stop_after + PIECE
-        → length bytes.new.items ≤ stop_after + PIECE }
-    ensures left { LosesAtMost (stop_after + PIECE) (S.rest source.old) (S.rest source.new) }
-    ensures fault_left { IsErrOf result ReadRefused.Fault
-        → LosesAtMost stop_after (S.rest source.old) (S.rest source.new) }
-    ensures fault { IsErrOf result ReadRefused.Fault → Rose (S.faults source.old) (S.faults source.new) }
-    ensures no_memory { IsErrOf result ReadRefused.NoMemory → S.faults source.new ≡ S.faults source.old }
-    ensures count { OnOk result (S.faults source.new ≡ S.faults source.old) }
-    ensures counts { Counts (S.faults source.old) (S.faults source.new) }
-{
-    let mut buffer = [0u8; PIECE];
-    'reads: while bytes.len() <= stop_after {
-        match source.read(&mut buffer) {
-            Err(Failed) => return Err(ReadRefused::Fault),
-            Ok(0) => return Ok(true),
-            Ok(n) => bytes.extend_from_slice(&buffer[..n])?,
-        }
-    }
-    Ok(false)
-}
-
 /// Reads to the end of input, or until more than `stop_after` bytes were taken, and answers the
 /// bytes in order. So an input above a limit is known by its length, and what stands behind the
 /// read that brought it there is left for another reader.
@@ -102,6 +69,13 @@ pub fn read_whole<S: Source>(
     ensures counts { Counts (S.faults source.old) (S.faults source.new) }
 {
     let mut bytes = Vec::new(alloc);
-    let _ = read_on(source, &mut bytes, stop_after)?;
+    let mut buffer = [0u8; PIECE];
+    'reads: while bytes.len() <= stop_after {
+        match source.read(&mut buffer) {
+            Err(Failed) => return Err(ReadRefused::Fault),
+            Ok(0) => return Ok(bytes),
+            Ok(n) => bytes.extend_from_slice(&buffer[..n])?,
+        }
+    }
     Ok(bytes)
 }

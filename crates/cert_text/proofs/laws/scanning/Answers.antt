@@ -1,5 +1,4 @@
 use Rattle.cert_text.proofs.Faults.{scans_read, scans_begin, scans_stop, scans_end}
-use Rattle.cert_text.proofs.FirstLines.{scans_end_lines}
 use Rattle.cert_text.proofs.laws.scanning.Goals as goal
 
 pub returns-clause-read : goal.returns-clause-read
@@ -13,6 +12,3 @@ returns-clause-stops c = scans_stop
 
 pub returns-clause-ends : goal.returns-clause-ends
 returns-clause-ends c = scans_end
-
-pub returns-clause-lines : goal.returns-clause-lines
-returns-clause-lines c = scans_end_lines

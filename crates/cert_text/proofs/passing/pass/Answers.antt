@@ -1,10 +1,9 @@
-use Rattle.std.proofs.Common.{◌≡◌, ℕ, ◌+◌, ◌==◌, suc, Bool, true, false, List, [], ◌∷◌, Some, length, take, refl, sym, ap, ◌∙◌, arith, length-append}
-use Rattle.std.proofs.lemmas.Bool.{eq-eqb, ne_eqb}
+use Rattle.std.proofs.Common.{◌≡◌, ℕ, ◌+◌, ◌==◌, suc, Bool, true, List, [], ◌∷◌, Some, length, take, refl, sym, ap, ◌∙◌, arith, length-append}
+use Rattle.std.proofs.lemmas.Bool.{ne_eqb}
 use mathlib.Core.Bool.{false≢true}
 use Rattle.std.proofs.lemmas.List.{take_all, length-take-le}
 use Rattle.cert_text.specs.Passes.{small_run}
 use Rattle.cert_text.proofs.Runs.{run_byte, run_behind, led_range, led_lines}
-use Rattle.cert_text.proofs.Behind.{byte_nowhere, left_nowhere}
 use Rattle.cert_text.proofs.passing.pass.Goals as goal
 
 pub bytes-init : goal.bytes-init
@@ -32,21 +31,8 @@ left_none : (left : List ℕ) (b : Bool) → b ≡ (length left == 0) → b ≡ 
 left_none [] b e f = refl
 left_none (x ∷ left) b e f = absurd (false≢true (sym (ne_eqb (suc (length left)) 0 (λ h. omega (arith, h))) ∙ sym e ∙ f))
 
-left_some : (left : List ℕ) (b : Bool) → b ≡ (length left == 0) → b ≡ false → left ≡ [] → ⊥
-left_some left b e f none = false≢true (sym f ∙ e ∙ eq-eqb (length left) 0 (ap length none))
-
-pub returns-in_default-clause-nowhere : goal.returns-in_default-clause-nowhere
-returns-in_default-clause-nowhere c e =
-    byte_nowhere c.args.bytes.now c.args.first.now c.bytes.left.now c.args.from c.bytes.place c.bytes.index c.bytes-test.true c.bytes.invariant.1 c.in_default.ensures
-
-pub returns-then-not-is_empty-clause-nowhere : goal.returns-then-not-is_empty-clause-nowhere
-returns-then-not-is_empty-clause-nowhere c e =
-    let all = take_all c.bytes.index c.args.bytes.now c.bytes-test.false in
-    left_nowhere c.args.bytes.now c.args.first.now c.bytes.left.now c.args.from c.bytes.place (ap (small_run c.args.first.now c.args.from) (sym all) ∙ c.bytes.invariant.1)
-    (left_some c.bytes.left.now c.is_empty.result c.is_empty.ensures c.if-not-is_empty.true)
-
-pub returns-clause-come : goal.returns-clause-come
-returns-clause-come c =
+pub returns : goal.returns
+returns c =
     let none = left_none c.bytes.left.now c.is_empty.result c.is_empty.ensures c.if-not-is_empty.false in
     let all = take_all c.bytes.index c.args.bytes.now c.bytes-test.false in
     ap (small_run c.args.first.now c.args.from) (sym all) ∙ c.bytes.invariant.1 ∙ ap (λ l. Some (l, c.bytes.place)) none

@@ -1,10 +1,12 @@
-use Rattle.std.proofs.Common.{◌-◌, ◌<◌, ◌≤◌}
+use Rattle.std.proofs.Common.{◌-◌, ◌<◌, ◌≤◌, length}
+use Rattle.cert_text.specs.Live.{lines_of}
+use Rattle.cert_text.specs.Reading.{line_start}
 use Rattle.log_checker.proofs.cuts.line_from.Given as goal
 
 abbrev pub invariant-halves : goal.invariant-halves
-invariant-halves g l = (l.from ≤ l.low) × (l.low ≤ l.high) × (l.high ≤ l.to)
-    × (l.from < l.low → g.V.NumberedLines.starts l.text (l.low - 1) < l.byte)
-    × (l.high < l.to → l.byte ≤ g.V.NumberedLines.starts l.text l.high)
+invariant-halves l = (l.low ≤ l.high) × (l.high ≤ length (lines_of l.view.parts))
+    × (0 < l.low → line_start l.view (l.low - 1) < l.byte)
+    × (l.high < length (lines_of l.view.parts) → l.byte ≤ line_start l.view l.high)
 
 abbrev pub decreases-halves : goal.decreases-halves
-decreases-halves g l = l.high - l.low
+decreases-halves l = l.high - l.low

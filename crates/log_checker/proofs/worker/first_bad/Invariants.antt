@@ -6,4 +6,4 @@ use Rattle.log_checker.proofs.worker.first_bad.Given as goal
 
 abbrev pub invariant-lines : goal.invariant-lines
 invariant-lines g l = (length l.assignment ≡ length l.fn.assignment)
-    × IsFirstBad (IsGoodLine (g.C.NamedClauses.clauses l.clauses) (letters_in l.fn.assignment) (g.V.NumberedLines.parts l.text)) l.from l.index None
+    × IsFirstBad (IsGoodLine (g.C.NamedClauses.clauses l.clauses) (letters_in l.fn.assignment) l.view.parts) l.from l.index None

@@ -7,8 +7,8 @@ use Rattle.log_checker.proofs.worker.is_good.Goals as goal
 pub returns-clause-good : goal.returns-clause-good
 returns-clause-good g c =
     let clauses = g.C.NamedClauses.clauses c.args.clauses.now in
-    let lines = live_at (g.V.NumberedLines.parts c.args.text.now) (c.args.line - 1) in
-    let line = get_or (lines_of (g.V.NumberedLines.parts c.args.text.now)) (c.args.line - 1) [] in
+    let lines = live_at c.args.view.now.parts (c.args.line - 1) in
+    let line = get_or (lines_of c.args.view.now.parts) (c.args.line - 1) [] in
     let letters = letters_in c.args.assignment.now in
     let r = c.judge.result in
     subst (λ hs. IsTrue r ↔ IsStepAmong clauses lines letters line hs) c.hints.ensures (subst (λ ls. IsTrue r ↔ IsStepAmong clauses lines letters ls c.hints.result) c.literals.ensures c.judge.ensures.judged)

@@ -3,4 +3,4 @@ use Rattle.log_checker.specs.declared.worker.Area.{Area}
 use Rattle.log_checker.proofs.lines.Scratch.new.Given as goal
 
 abbrev pub invariant-workers : goal.invariant-workers
-invariant-workers l = (length l.areas.items ≡ l._worker) × All (λ (area : Area). length area.assignment ≡ l.letters + 1) l.areas.items × All (λ (area : Area). length area.marks.items ≡ 256) l.areas.items
+invariant-workers l = (length l.areas.items ≡ l._worker) × All (λ (area : Area). length area.assignment ≡ l.letters + 1) l.areas.items

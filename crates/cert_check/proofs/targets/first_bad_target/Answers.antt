@@ -1,9 +1,0 @@
-use Rattle.std.proofs.Common.{IsTrue}
-use Rattle.cert_check.specs.Lawful.{IsGoodTarget}
-use Rattle.cert_check.proofs.Judging.{good_so_far}
-use Rattle.cert_check.proofs.targets.first_bad_target.Goals as goal
-
-pub targets-preserved : goal.targets-preserved
-targets-preserved g c =
-    let yes : IsTrue c.is_good.result = search in
-    good_so_far (IsGoodTarget c.args.closure.now.formula (g.T.Closed.said c.args.text.now)) c.targets.index c.targets.invariant (c.is_good.ensures.0 yes)
