@@ -1,2 +1,4 @@
--- Lemmas on what is printed.
+-- Lemmas on the words, on what is printed of a trace, and on what is answered.
+mod Reading
 mod Printing
+mod Answering

@@ -1,4 +1,6 @@
-pub mod Status
+pub mod Words
+pub mod Asked
 pub mod Input
+pub mod Status
 pub mod Output
 pub mod View

@@ -11,7 +11,7 @@ use Rattle.ltl_word.specs.Json.{IsReading}
 use Rattle.trace_view.specs.Grid.{GridValue, IsGridOf, Occurs, cells_for}
 use Rattle.trace_view.specs.Text.{text}
 use Rattle.trace_view.specs.Diagram.{svg}
-use Rattle.black_view.specs.declared.request.Request.{Request}
+use Rattle.black_view.specs.declared.words.Request.{Request}
 use Rattle.black_view.specs.declared.status.Status.{Status}
 use Rattle.black_view.specs.declared.status.Status.TheVariants as statuses
 use Rattle.black_view.specs.Input.{HasNoTrace, IsTraceAt}

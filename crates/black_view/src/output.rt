@@ -5,8 +5,8 @@ ghost use Rattle.black_view.specs.declared.status.Status.TheVariants as statuses
 ghost use Rattle.black_view.specs.Output.{IsViewed, IsDrawn, IsAskedGrid, IsTooLarge, picture_of};
 
 use crate::input::trace_at;
-use crate::request::Request;
 use crate::status::Status;
+use crate::words::Request;
 use ltl_word::{Trace, TraceFault};
 use std::alloc::{AllocError, Global};
 use trace_view::{Grid, GridRefused, letters_of, svg, text};

@@ -1,8 +1,6 @@
 // What the program shows, over memory. The expected pictures were drawn by hand.
-use crate::request::requested;
 use crate::status::Status;
 use crate::view::run;
-use clap::error::ErrorKind;
 use ltl_io::{MemorySink, MemorySource};
 use std::alloc::{AllocError, Global};
 use std::test::Fail;
@@ -15,15 +13,12 @@ fn list(alloc: Global, words: &str) -> Result<Vec<String>, AllocError> {
     Ok(all)
 }
 
-/// The status and the output, where the words are taken.
+/// The status and the output.
 fn shown(alloc: Global, words: &str, input: &[u8]) -> Result<(Status, Vec<u8>), Fail> {
     let words = list(alloc, words)?;
-    let Ok(request) = requested(alloc, &words) else {
-        return Err(Fail::new("the words are not taken"));
-    };
     let mut source = MemorySource::new(input.to_vec(alloc)?, 1000, Vec::new(alloc));
     let mut sink = MemorySink::new(alloc, 65_536, 7, Vec::new(alloc))?;
-    let status = run(alloc, &request, &mut source, &mut sink);
+    let status = run(alloc, &words, &mut source, &mut sink);
     Ok((status, sink.content().to_vec(alloc)?))
 }
 
@@ -32,54 +27,49 @@ fn pictures(rt: HostRuntime) -> Result<(), Fail> {
     let alloc = rt.alloc();
     let table: [(&str, &str, &str, Status); 11] = [
         (
-            "black_view",
+            "",
             "SAT 2\n{\"kind\":\"infinite\",\"loop\":[[],[\"p\"]],\"stem\":[[\"p\"]]}\n",
             "SAT 2\n  0|1 2\np #|. #\n   ^--<\n",
             Status::Good,
         ),
         (
-            "black_view --only q,p,r",
+            "--only q,p,r",
             "{\"kind\":\"finite\",\"states\":[[\"p\"],[\"q\"]]}",
             "  0 1\nq . #\np # .\nr . .\n",
             Status::Good,
         ),
         (
-            "black_view --width=3",
+            "--width=3",
             "{\"kind\":\"finite\",\"states\":[[\"p\"],[]]}",
             "  0\np #\n\n  1\np .\n",
             Status::Good,
         ),
-        ("black_view", "UNSAT 2\n", "UNSAT 2\n", Status::NoTrace),
-        ("black_view", "", "", Status::NoTrace),
+        ("", "UNSAT 2\n", "UNSAT 2\n", Status::NoTrace),
+        ("", "", "", Status::NoTrace),
         // a core has a brace, and begins no line with it
         (
-            "black_view",
+            "",
             "UNSAT 2\ncore ((G F p & G !p) & {0})\n",
             "UNSAT 2\ncore ((G F p & G !p) & {0})\n",
             Status::NoTrace,
         ),
         (
-            "black_view",
+            "",
             "SAT 1\n{\"kind\":\"infinite\",\"loop\":[],\"stem\":[]}\n",
             "SAT 1\ntrace fault: loop is empty\n",
             Status::Text,
         ),
-        ("black_view", "{\n", "trace fault: not JSON\n", Status::Text),
+        ("", "{\n", "trace fault: not JSON\n", Status::Text),
+        ("", "{}", "trace fault: not a trace\n", Status::Text),
         (
-            "black_view",
-            "{}",
-            "trace fault: not a trace\n",
-            Status::Text,
-        ),
-        (
-            "black_view",
+            "",
             "{\"kind\":\"finite\",\"states\":[]}",
             "trace fault: states is empty\n",
             Status::Text,
         ),
         // letters that are named by several words
         (
-            "black_view --only p --only q",
+            "--only p --only=q",
             "X p\n{\"kind\":\"finite\",\"states\":[[\"p\"]]}",
             "X p\n  0\np #\nq .\n",
             Status::Good,
@@ -97,7 +87,7 @@ fn pictures(rt: HostRuntime) -> Result<(), Fail> {
 fn diagrams(rt: HostRuntime) -> Result<(), Fail> {
     let alloc = rt.alloc();
     let input = b"SAT 0\n{\"kind\":\"infinite\",\"loop\":[[]],\"stem\":[[\"p\"]]}\n";
-    let (status, text) = shown(alloc, "black_view --svg", input)?;
+    let (status, text) = shown(alloc, "--svg", input)?;
     assert_eq!(rt; status, Status::Good);
     let (head, _rest) = text.split_at(text.len().min(5));
     assert_eq!(rt; head, b"<?xml".as_slice());
@@ -107,17 +97,26 @@ fn diagrams(rt: HostRuntime) -> Result<(), Fail> {
 #[test]
 fn words(rt: HostRuntime) -> Result<(), Fail> {
     let alloc = rt.alloc();
-    let table: [(&str, ErrorKind); 4] = [
-        ("black_view --help", ErrorKind::DisplayHelp),
-        ("black_view --version", ErrorKind::DisplayVersion),
-        ("black_view --width wide", ErrorKind::ValueValidation),
-        ("black_view trace", ErrorKind::UnknownArgument),
+    let usage = "usage: black_view [--svg] [--width N] [--only LETTERS]\n";
+    let table: [(&str, &str, Status); 11] = [
+        ("--version", "black_view 1.0\n", Status::Good),
+        ("--help --svg", usage, Status::Usage),
+        ("trace", usage, Status::Usage),
+        ("--width wide", usage, Status::Usage),
+        ("--width=", usage, Status::Usage),
+        ("--width", usage, Status::Usage),
+        ("--width 1000000000", usage, Status::Usage),
+        ("--width 3 --width 3", usage, Status::Usage),
+        ("--svg --svg", usage, Status::Usage),
+        ("--only --svg", usage, Status::Usage),
+        ("--svg=p", usage, Status::Usage),
     ];
-    for (words, kind) in table {
-        let words = list(alloc, words)?;
-        let refused = requested(alloc, &words).err().map(|error| error.kind());
-        assert!(rt; refused == Some(kind));
+    for (words, wanted, status) in table {
+        let (given, text) = shown(alloc, words, b"{}")?;
+        assert!(rt; given == status && *text == *wanted.as_bytes(), "{words}");
     }
+    let (given, text) = shown(alloc, "--help", b"")?;
+    assert!(rt; given == Status::Good && text.starts_with(b"Draws the trace"));
     Ok(())
 }
 
@@ -127,7 +126,7 @@ fn asked(alloc: Global, count: usize) -> Result<Vec<String>, AllocError> {
     for _letter in 1..count {
         only.push_str(",p")?;
     }
-    let mut words = list(alloc, "black_view")?;
+    let mut words = list(alloc, "")?;
     words.push(only)?;
     Ok(words)
 }
@@ -149,7 +148,7 @@ fn limits(rt: HostRuntime) -> Result<(), Fail> {
     let spaces = vec![in alloc; b' '; 16_777_217]?;
     let table = [
         (
-            list(alloc, "black_view")?,
+            list(alloc, "")?,
             spaces,
             b"limit text 16777216\n".as_slice(),
         ),
@@ -160,12 +159,9 @@ fn limits(rt: HostRuntime) -> Result<(), Fail> {
         ),
     ];
     for (words, input, wanted) in table {
-        let Ok(request) = requested(alloc, &words) else {
-            return Err(Fail::new("the words are not taken"));
-        };
         let mut source = MemorySource::new(input, 65_536, Vec::new(alloc));
         let mut sink = MemorySink::new(alloc, 64, 64, Vec::new(alloc))?;
-        let status = run(alloc, &request, &mut source, &mut sink);
+        let status = run(alloc, &words, &mut source, &mut sink);
         assert!(rt; status == Status::Limit && sink.content() == wanted);
     }
     Ok(())
@@ -180,13 +176,11 @@ fn failing_devices(rt: HostRuntime) -> Result<(), Fail> {
         (&[], &[2], Status::WriteFault, b"UNS"),
     ];
     for (reads, writes, wanted, front) in table {
-        let Ok(request) = requested(alloc, &list(alloc, "black_view")?) else {
-            return Err(Fail::new("the words are not taken"));
-        };
+        let words = list(alloc, "")?;
         let input = b"UNSAT 2\n".to_vec(alloc)?;
         let mut source = MemorySource::new(input, 3, reads.to_vec(alloc)?);
         let mut sink = MemorySink::new(alloc, 64, 3, writes.to_vec(alloc)?)?;
-        let status = run(alloc, &request, &mut source, &mut sink);
+        let status = run(alloc, &words, &mut source, &mut sink);
         assert!(rt; status == wanted && sink.content() == front);
     }
     Ok(())

@@ -7,15 +7,17 @@ use Rattle.ltl_syntax.specs.declared.node.Node.{Node}
 use Rattle.ltl_syntax.specs.declared.node.Node.TheVariants as nodes
 use Rattle.ltl_syntax.specs.Formula.{Formula}
 use Rattle.ltl_syntax.specs.Table.{Table, tree_at, trees_of, made, has_child, IsFine, tree_among}
+use Rattle.lasso_eval.specs.Under.{IsUnder, Here, Below}
 use Rattle.past_monitor.specs.Past.{IsPast}
 use Rattle.past_monitor.specs.Part.{value_at, IsPastNode, AreMarked}
 
--- from a place on, the marked nodes are done: they do not look ahead, and their children are marked. A marked node does not look
--- ahead where the root does not
+-- from a place on, the marked nodes are done: they do not look ahead, and their children are marked. A marked node is under the root,
+-- and does not look ahead where the root does not
 pub record IsMarking (t : Table) (root : ℕ) (from : ℕ) (marks : List Bool) : Type 0 where
   pub long : length marks ≡ root + 1
   pub within : from ≤ root + 1
   pub top : value_at marks root ≡ true
+  pub under : (i : ℕ) → value_at marks i ≡ true → IsUnder t root i
   pub past : (i : ℕ) (node : Node) → from ≤ i → value_at marks i ≡ true → slice_get t.nodes i ≡ Some node → IsPastNode node
   pub closed : (i : ℕ) (node : Node) (child : ℕ) → from ≤ i → value_at marks i ≡ true → slice_get t.nodes i ≡ Some node → has_child child node ≡ true → value_at marks child ≡ true
   pub sound : (i : ℕ) → value_at marks i ≡ true → IsPast (tree_at t root) → IsPast (tree_at t i)
@@ -39,6 +41,7 @@ begun t root none marks long all e =
       long = ap length e ∙ (length-set none root true ∙ long);
       within = omega arith;
       top = top;
+      under = λ i h. Here i (alone i h);
       past = λ i node le h at. absurd (few i le h);
       closed = λ i node child le h at has. absurd (few i le h);
       sound = λ i h p. subst (λ k. IsPast (tree_at t k)) (sym (alone i h)) p;
@@ -55,6 +58,7 @@ passed t root k marks is none =
       long = is.long;
       within = omega (arith, is.within);
       top = is.top;
+      under = is.under;
       past = λ i node le h at. is.past i node (above i le h) h at;
       closed = λ i node child le h at has. is.closed i node child (above i le h) h at has;
       sound = is.sound;
@@ -120,6 +124,10 @@ marked t root k marks new node is mark at fine tree past long each =
       long = long ∙ is.long;
       within = omega (arith, is.within);
       top = still root is.top;
+      under = λ i h. elim (or_cases (value_at marks i) (has_child i node) (sym (each i) ∙ h)) [
+        | inl e ↦ is.under i e
+        | inr e ↦ Below k i node (is.under k mark) at e
+      ];
       past = λ i n le h e. elim (cases_lt k i) [
         | inl lt ↦ is.past i n (omega arith) (was i le h) e
         | inr ge ↦ let eq : i ≡ k = omega arith in subst IsPastNode (only n (subst (λ j. slice_get t.nodes j ≡ Some n) eq e)) past
@@ -140,6 +148,12 @@ pub all_marked : (t : Table) (root : ℕ) (marks : List Bool) → IsMarking t ro
 all_marked t root marks is = record {
   long = is.long;
   top = is.top;
+  under = is.under;
   past = λ i node h at. is.past i node (omega arith) h at;
   closed = λ i node child h at has. is.closed i node child (omega arith) h at has;
 }
+
+-- each node under the root is marked
+pub under_marked : (t : Table) (root : ℕ) (marks : List Bool) → AreMarked t root marks → (i : ℕ) → IsUnder t root i → value_at marks i ≡ true
+under_marked t root marks is i (Here number e) = ap (value_at marks) e ∙ is.top
+under_marked t root marks is i (Below parent number node above at has) = is.closed parent node number (under_marked t root marks is parent above) at has

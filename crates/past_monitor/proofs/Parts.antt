@@ -22,7 +22,7 @@ use Rattle.past_monitor.specs.Past.{IsPast}
 use Rattle.past_monitor.specs.Kept.{AreKept, reach₁, reach₂, watched₁}
 use Rattle.past_monitor.specs.Monitor.{MonitorValue, formula_at, StandAbove, AreAll, StandsFor, IsStep}
 use Rattle.past_monitor.specs.Ring.{RingValue, taken}
-use Rattle.past_monitor.specs.Part.{no_ring, ring₁, ring₂, ring_of, value₁, value₂, value_at, IsValue, joining₁, joining, IsNamed, IsPart, part_at, nodes_of, kept_of, formulas_of, AreParts, HaveChildrenBelow, part_after, AreSteppedTo, AreStepped, IsMonitor}
+use Rattle.past_monitor.specs.Part.{no_ring, ring₁, ring₂, ring_of, value₁, value₂, value_at, IsValue, joining₁, joining, IsNamed, IsPart, part_at, nodes_of, kept_of, rooms_of, formulas_of, AreParts, HaveChildrenBelow, part_after, AreSteppedTo, AreStepped, IsMonitor}
 use Rattle.past_monitor.proofs.Trees.{made_at, length-formulas}
 use Rattle.past_monitor.proofs.Values.{one_right, two_right, joins_right, kept_next, past_watched}
 
@@ -317,35 +317,46 @@ module _ (names : List (List ℕ)) (parts new : List Part) (values : List Bool) 
 
 -- ---- what contracts see
 
-abbrev pub value_of : List (List ℕ) → List Part → MonitorValue
-value_of names parts = record { formulas = formulas_of names parts; kept = kept_of parts }
+abbrev pub value_of : List (List ℕ) → List Part → List ℕ → MonitorValue
+value_of names parts rooms = record { formulas = formulas_of names parts; kept = kept_of parts; rooms = rooms }
 
 kept_at : (parts : List Part) (i : ℕ) → slice_index_or (kept_of parts) i [] ≡ (part_at parts i).kept.values
 kept_at parts i = get_or-map (λ (p : Part). p.kept.values) parts i (record { node = nodes.Const false; name = []; kept = no_ring [] })
 
-pub stands_seen : (names : List (List ℕ)) (parts : List Part) (t : List Names) → ((i : ℕ) → i < length parts → AreKept t (formula_at (formulas_of names parts) i) (part_at parts i).kept.values) → StandsFor (value_of names parts) t
-stands_seen names parts t h i lt =
+pub stands_seen : (names : List (List ℕ)) (parts : List Part) (rooms : List ℕ) (t : List Names) → ((i : ℕ) → i < length parts → AreKept t (formula_at (formulas_of names parts) i) (part_at parts i).kept.values) → StandsFor (value_of names parts rooms) t
+stands_seen names parts rooms t h i lt =
     subst (AreKept t (formula_at (formulas_of names parts) i)) (sym (kept_at parts i)) (h i (omega (arith, length-formulas names parts)))
 
-pub seen_stands : (names : List (List ℕ)) (parts : List Part) (t : List Names) → StandsFor (value_of names parts) t → (i : ℕ) → i < length parts → AreKept t (formula_at (formulas_of names parts) i) (part_at parts i).kept.values
-seen_stands names parts t h i lt =
+pub seen_stands : (names : List (List ℕ)) (parts : List Part) (rooms : List ℕ) (t : List Names) → StandsFor (value_of names parts rooms) t → (i : ℕ) → i < length parts → AreKept t (formula_at (formulas_of names parts) i) (part_at parts i).kept.values
+seen_stands names parts rooms t h i lt =
     subst (AreKept t (formula_at (formulas_of names parts) i)) (kept_at parts i) (h i (omega (arith, length-formulas names parts)))
 
 -- a step of the parts is a step of the monitor, with the last value as its answer
-pub is_step : (names : List (List ℕ)) (parts new : List Part) (values : List Bool) (state : Names) (old : MonitorValue) (answer : Bool) → value_of names parts ≡ old → 0 < length parts → AreParts names parts
-    → AreStepped state parts new values → answer ≡ value_at values (length values - 1) → IsStep old state answer (value_of names new)
-is_step names parts new values state old answer seen some are is last =
-    subst (λ m. IsStep m state answer (value_of names new)) seen (record {
+pub is_step : (names : List (List ℕ)) (parts new : List Part) (rooms rooms' : List ℕ) (values : List Bool) (state : Names) (old : MonitorValue) (answer : Bool) → value_of names parts rooms ≡ old → 0 < length parts
+    → AreParts names parts → AreStepped state parts new values → answer ≡ value_at values (length values - 1) → IsStep old state answer (value_of names new rooms')
+is_step names parts new rooms rooms' values state old answer seen some are is last =
+    subst (λ m. IsStep m state answer (value_of names new rooms')) seen (record {
       formulas = same_trees names parts new values state are is;
-      stands = λ t h. stands_seen names new (t ++ state ∷ []) (still_stands names parts new values state are is t (seen_stands names parts t h));
+      stands = λ t h. stands_seen names new rooms' (t ++ state ∷ []) (still_stands names parts new values state are is t (seen_stands names parts rooms t h));
       right = λ t h.
-          let told = all_told names parts new values state are is t (seen_stands names parts t h) (length parts) (omega arith) (length parts - 1) (omega arith) in
+          let told = all_told names parts new values state are is t (seen_stands names parts rooms t h) (length parts) (omega arith) (length parts - 1) (omega arith) in
           let place : length parts - 1 ≡ length (formulas_of names parts) - 1 = omega (arith, length-formulas names parts) in
           let place' : length values - 1 ≡ length parts - 1 = omega (arith, is.long_values) in
           let answered : value_at values (length parts - 1) ≡ answer = sym (last ∙ ap (value_at values) place') in
           subst (λ k. IsTrue answer ↔ Holds (Finite (t ++ state ∷ [])) (formula_at (formulas_of names parts) k) (length t)) place
           (subst (λ v. IsTrue v ↔ Holds (Finite (t ++ state ∷ [])) (formula_at (formulas_of names parts) (length parts - 1)) (length t)) answered told);
     })
+
+-- each ring has the room that it had
+pub same_rooms : (parts new : List Part) (values : List Bool) (state : Names) → AreStepped state parts new values → rooms_of new ≡ rooms_of parts
+same_rooms parts new values state is =
+    let blank : Part = record { node = nodes.Const false; name = []; kept = no_ring [] } in
+    let m = length-map new (λ (p : Part). p.kept.room) in
+    let n = length-map parts (λ (p : Part). p.kept.room) in
+    same_lists (rooms_of new) (rooms_of parts) (omega (arith, is.long)) (λ k d lt.
+    let a = get_or-map-within (λ (p : Part). p.kept.room) new k blank d (omega arith) in
+    let b = get_or-map-within (λ (p : Part). p.kept.room) parts k blank d (omega (arith, is.long)) in
+    a ∙ (ap (λ (p : Part). p.kept.room) (is.after k (omega (arith, is.long))) ∙ sym b))
 
 pub still_monitor : (names : List (List ℕ)) (parts new : List Part) (values values' : List Bool) (state : Names) → IsMonitor names parts values → AreStepped state parts new values' → IsMonitor names new values'
 still_monitor names parts new values values' state was is = record {

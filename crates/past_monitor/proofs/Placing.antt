@@ -1,8 +1,11 @@
 -- The walk that makes a part of each marked node.
-use Rattle.std.proofs.Common.{◌≡◌, ℕ, suc, ◌+◌, ◌-◌, ◌<◌, ◌≤◌, Bool, true, false, ◌==◌, List, [], ◌∷◌, ◌++◌, length, length-append, slice_get, slice_index_or, Some, refl, sym, ◌∙◌, ap, ap₂, subst, arith, eq-eqb, true≢false, inl, inr}
+use Rattle.std.proofs.Common.{◌≡◌, ℕ, zero, suc, ◌+◌, ◌-◌, ◌<◌, ◌≤◌, Bool, true, false, ◌==◌, List, [], ◌∷◌, ◌++◌, length, length-append, take, cond, slice_get, slice_index_or, Some, refl, sym, ◌∙◌, ap, ap₂, subst, arith, eq-eqb, true≢false, inl, inr}
 use Rattle.std.proofs.Math.ListN.{get_or-append}
 use Rattle.std.proofs.Math.Seq.{get_or-append_seam}
+use Rattle.std.specs.List.{count_by}
 use Rattle.std.proofs.lemmas.Bool.{cases_lt}
+use Rattle.std.proofs.lemmas.List.{take_all}
+use Rattle.std.proofs.lemmas.List.Sums.{sum_by-cons}
 use Rattle.ltl_syntax.specs.declared.node.Node.{Node}
 use Rattle.ltl_syntax.specs.declared.node.Node.TheVariants as nodes
 use Rattle.ltl_syntax.specs.Formula.{Formula, Const, Unary, Binary}
@@ -11,14 +14,29 @@ use Rattle.ltl_syntax.specs.Roots.{HasChildrenBelow}
 use Rattle.past_monitor.specs.declared.part.Part.{Part}
 use Rattle.past_monitor.specs.Past.{IsPast}
 use Rattle.past_monitor.specs.Ring.{RingValue}
-use Rattle.past_monitor.specs.Monitor.{formula_at}
+use Rattle.past_monitor.specs.Monitor.{formula_at, AreUnder}
 use Rattle.past_monitor.specs.Part.{no_ring, ring_of, value_at, IsNamed, IsPart, IsPastNode, AreParts, AreFresh, AreMarked, formulas_of, part_at, moved}
-use Rattle.past_monitor.proofs.Marking.{or_left, or_right}
+use Rattle.past_monitor.proofs.Marking.{or_left, or_right, under_marked}
 use Rattle.past_monitor.proofs.Parts.{no_values₁, no_values₂}
 use Rattle.past_monitor.proofs.Trees.{formulas_of-push, length-formulas}
 
 abbrev pub place_at : List ℕ → ℕ → ℕ
 place_at places i = slice_index_or places i 0
+
+-- how many marks there are
+abbrev pub marked_in : List Bool → ℕ
+marked_in marks = count_by (λ mark. mark) marks
+
+-- one place more
+abbrev weight : Bool → ℕ
+weight mark = cond mark 1 0
+
+marked_more : (marks : List Bool) (n : ℕ) → marked_in (take (suc n) marks) ≡ marked_in (take n marks) + weight (value_at marks n)
+marked_more [] zero = omega arith
+marked_more [] (suc n) = omega arith
+marked_more (x ∷ xs) zero = omega (arith, sum_by-cons weight x [])
+marked_more (x ∷ xs) (suc n) =
+    omega (arith, sum_by-cons weight x (take (suc n) xs), sum_by-cons weight x (take n xs), marked_more xs n)
 
 -- the node's formula stands at this place among the formulas
 abbrev pub IsAt : Table → List Formula → ℕ → ℕ → Type 0
@@ -28,6 +46,7 @@ IsAt t formulas place i = (place < length formulas) × (formula_at formulas plac
 pub record ArePlaced (t : Table) (marks : List Bool) (number : ℕ) (places : List ℕ) (parts : List Part) : Type 0 where
   pub long : length places ≡ number
   pub few : length parts ≤ number
+  pub count : length parts ≡ marked_in (take number marks)
   pub are : AreParts t.names parts
   pub fresh : AreFresh parts
   pub placed : (i : ℕ) → i < number → value_at marks i ≡ true → IsAt t (formulas_of t.names parts) (place_at places i) i
@@ -37,6 +56,7 @@ pub begun : (t : Table) (marks : List Bool) → ArePlaced t marks 0 [] []
 begun t marks = record {
   long = refl;
   few = omega arith;
+  count = refl;
   are = record { each = λ i lt. absurd (omega arith); past = λ i lt. absurd (omega arith) };
   fresh = λ i lt. absurd (omega arith);
   placed = λ i lt. absurd (omega arith);
@@ -90,6 +110,7 @@ module _ (t : Table) (marks : List Bool) (number : ℕ) (places places' : List �
   passed none = record {
     long = longer;
     few = omega (arith, is.few);
+    count = omega (arith, is.count, marked_more marks number, ap weight none);
     are = is.are;
     fresh = is.fresh;
     placed = λ i lt mark. elim (cases_lt i number) [
@@ -129,6 +150,7 @@ module _ (t : Table) (marks : List Bool) (number : ℕ) (places places' : List �
       record {
         long = longer;
         few = omega (arith, is.few, long');
+        count = omega (arith, is.count, marked_more marks number, ap weight mark, long');
         are = record {
           each = λ i lt. elim (cases_lt i (length parts)) [
             | inl less ↦ subst (IsPart t.names i) (sym (old_part i less)) (is.are.each i less)
@@ -169,3 +191,11 @@ module _ (t : Table) (root : ℕ) (marks : List Bool) (places : List ℕ) (parts
       let w = is.placed root (omega (arith, end)) are.top in
       let e : place_at places root ≡ length parts - 1 = omega arith in
       ap (formula_at (formulas_of t.names parts)) (sym e) ∙ w.1
+
+  -- and there are as many as nodes under the root
+  pub all_under : AreUnder t root (length parts)
+  all_under = record {
+    marks = marks;
+    each = λ i. (are.under i, under_marked t root marks are i);
+    count = is.count ∙ ap marked_in (take_all number marks (omega (arith, end, are.long)));
+  }

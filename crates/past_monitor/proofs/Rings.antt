@@ -112,6 +112,6 @@ module _ (room first : ℕ) (sought : Bool) (found : ℕ) (values : List Bool) (
         few = is.few;
         early = is.early;
         within = let n = length-take room (x ∷ values) in subst (λ xs. length xs ≤ room) (sym is_now) (omega arith);
-        reserved = omega (arith, is.reserved, same_room);
+        reserved = same_room ∙ is.reserved;
         counted = counted ∙ ap (found_in sought first) (sym is_now);
       }

@@ -12,6 +12,7 @@ use Rattle.ltl_syntax.specs.Roots.{HasChildrenBelow}
 use Rattle.ltl_word.specs.Trace.{Names}
 use Rattle.ltl_word.specs.Holds.{name_of}
 use Rattle.past_monitor.specs.declared.part.Part.{Part}
+use Rattle.lasso_eval.specs.Under.{IsUnder}
 use Rattle.past_monitor.specs.Past.{IsPast, IsPast₁, IsPast₂}
 use Rattle.past_monitor.specs.Monitor.{formula_at}
 use Rattle.past_monitor.specs.Ring.{RingValue, value_back, shows, taken}
@@ -180,6 +181,10 @@ last_of names parts = formula_at (formulas_of names parts) (length parts - 1)
 abbrev pub kept_of : List Part → List (List Bool)
 kept_of parts = map (λ p. p.kept.values) parts
 
+-- for how many kept values of each part there is memory
+abbrev pub rooms_of : List Part → List ℕ
+rooms_of parts = map (λ p. p.kept.room) parts
+
 -- nothing is kept yet for any part
 abbrev pub AreFresh : List Part → Type 0
 AreFresh parts = (i : ℕ) → i < length parts → (part_at parts i).kept.values ≡ []
@@ -216,10 +221,11 @@ AreStepped state old new values = AreSteppedTo (length old) state old new values
 
 -- ---- the nodes under a root
 
--- the root is marked, each child of a marked node is, and no marked node looks ahead
+-- the root is marked, each child of a marked node is, and no others, and no marked node looks ahead
 pub record AreMarked (t : Table) (root : ℕ) (marks : List Bool) : Type 0 where
   pub long : length marks ≡ root + 1
   pub top : value_at marks root ≡ true
+  pub under : (i : ℕ) → value_at marks i ≡ true → IsUnder t root i
   pub past : (i : ℕ) (node : Node) → value_at marks i ≡ true → slice_get t.nodes i ≡ Some node → IsPastNode node
   pub closed : (i : ℕ) (node : Node) (child : ℕ) → value_at marks i ≡ true → slice_get t.nodes i ≡ Some node → has_child child node ≡ true → value_at marks child ≡ true
 

@@ -8,7 +8,7 @@ abbrev pub same : Bool → Bool → Bool
 same true b = b
 same false b = not b
 
--- for how many values it has room, from which place on it counts, which value it counts, and the values, the last first
+-- for how many values it has memory, from which place on it counts, which value it counts, and the values, the last first
 pub record RingValue : Type 0 where
   pub room : ℕ
   pub first : ℕ
@@ -29,7 +29,7 @@ pub record IsRing (room first : ℕ) (sought : Bool) (found : ℕ) (values : Lis
   pub few : room ≤ 255
   pub early : first ≤ room
   pub within : length values ≤ room
-  pub reserved : room ≤ capacity
+  pub reserved : capacity ≡ room
   pub counted : found ≡ found_in sought first values
 
 -- the value so many positions back, where 0 is the position of the present value; one that is not there is not the one that is sought

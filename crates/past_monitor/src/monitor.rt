@@ -1,9 +1,9 @@
 // The monitor of a formula.
-ghost use Rattle.std.specs.Prelude.{◌≡◌, ◌<◌, [], length, IfOk, OnOk, Err};
+ghost use Rattle.std.specs.Prelude.{◌≡◌, ◌<◌, [], length, vec_capacity, IfOk, OnOk, Err};
 ghost use Rattle.ltl_syntax.specs.Table.{tree_at};
 ghost use Rattle.past_monitor.specs.declared.refused.MonitorRefused.TheVariants.{Future};
 ghost use Rattle.past_monitor.specs.Past.{IsPast};
-ghost use Rattle.past_monitor.specs.Monitor.{formula_of, AreAll, StandsFor, IsStep};
+ghost use Rattle.past_monitor.specs.Monitor.{formula_of, AreAll, AreUnder, StandsFor, IsStep};
 ghost use Rattle.past_monitor.specs.Part.{HaveChildrenBelow, AreStepped};
 
 use crate::MonitorRefused;
@@ -17,7 +17,8 @@ use std::marker::Model;
 /// A monitor of the formula under a node. It takes one state after the other, and tells whether the formula
 /// holds at the last one.
 ///
-/// Contracts see the formulas under the node and the values that are kept for each.
+/// Contracts see the formulas under the node, the values that are kept for each, and for how many there is
+/// memory.
 #[derive(Drop)]
 pub struct Monitor<'t> {
     table: &'t FormulaTable,
@@ -26,18 +27,19 @@ pub struct Monitor<'t> {
 }
 
 impl<'t> Model for Monitor<'t> {
-    ghost use Rattle.std.specs.Prelude.{map};
+    ghost use Rattle.std.specs.Prelude.{map, ◌∷◌, vec_capacity};
     ghost use Rattle.past_monitor.specs.Monitor.{MonitorValue, coded_monitor};
 
     ghost Value = { MonitorValue };
 
     ghost coded = { coded_monitor };
 
-    ghost use Rattle.past_monitor.specs.Part.{IsMonitor, formulas_of, kept_of};
+    ghost use Rattle.past_monitor.specs.Part.{IsMonitor, formulas_of, kept_of, rooms_of};
 
     ghost view = { λ m. record {
       formulas = formulas_of m.table.now.names m.parts.items;
       kept = kept_of m.parts.items;
+      rooms = vec_capacity m.parts ∷ vec_capacity m.values ∷ rooms_of m.parts.items;
     } };
 
     ghost invariant = { λ m. IsMonitor m.table.now.names m.parts.items m.values.items };
@@ -54,6 +56,7 @@ impl<'t> Monitor<'t> {
         requires { root < length table.now.nodes }
         ensures formula { IfOk result (λ m. formula_of m ≡ tree_at table.now root) }
         ensures all { IfOk result (λ m. AreAll m.formulas) }
+        ensures nodes { IfOk result (λ m. AreUnder table.now root (length m.formulas)) }
         ensures start { IfOk result (λ m. StandsFor m []) }
 
         // it is refused for an operator that looks ahead where there is one, and only there
@@ -69,9 +72,11 @@ impl<'t> Monitor<'t> {
         })
     }
 
-    /// Takes a state, and answers whether the formula holds at it, the last position so far. Takes no memory.
+    /// Takes a state, and answers whether the formula holds at it, the last position so far.
     pub fn step(&mut self, state: &StateSet) -> bool
-        ensures { IsStep self.old state.now result self.new }
+        ensures step { IsStep self.old state.now result self.new }
+        // It takes no memory.
+        ensures rooms { self.new.rooms ≡ self.old.rooms }
     {
         step_parts(&mut self.parts, &mut self.values, state);
         self.values[self.values.len() - 1]
@@ -82,7 +87,9 @@ impl<'t> Monitor<'t> {
 fn step_parts(parts: &mut Vec<Part>, values: &mut Vec<bool>, state: &StateSet)
     requires long { length values.old.items ≡ length parts.old.items }
     requires below { HaveChildrenBelow parts.old.items }
-    ensures { AreStepped state.now parts.old.items parts.new.items values.new.items }
+    ensures stepped { AreStepped state.now parts.old.items parts.new.items values.new.items }
+    ensures parts { vec_capacity parts.new ≡ vec_capacity parts.old }
+    ensures values { vec_capacity values.new ≡ vec_capacity values.old }
 {
     for place in 0..parts.len() {
         let value = parts[place].take(state, values);

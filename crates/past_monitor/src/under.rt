@@ -8,6 +8,7 @@ ghost use Rattle.ltl_syntax.specs.Table.{tree_at, has_child};
 ghost use Rattle.ltl_syntax.specs.Roots.{HasChildrenBelow};
 ghost use Rattle.past_monitor.specs.declared.refused.MonitorRefused.TheVariants.{Future};
 ghost use Rattle.past_monitor.specs.Past.{IsPast};
+ghost use Rattle.past_monitor.specs.Monitor.{AreUnder};
 ghost use Rattle.past_monitor.specs.Part.{AreParts, AreMarked, AreFresh, last_of, value_at, moved};
 
 use crate::MonitorRefused;
@@ -25,6 +26,7 @@ pub fn parts_under(
     ensures parts { IfOk result (λ parts. AreParts table.now.names parts.items) }
     ensures fresh { IfOk result (λ parts. AreFresh parts.items) }
     ensures some { IfOk result (λ parts. 0 < length parts.items) }
+    ensures nodes { IfOk result (λ parts. AreUnder table.now root (length parts.items)) }
     ensures formula { IfOk result (λ parts. last_of table.now.names parts.items ≡ tree_at table.now root) }
     ensures future { result ≡ Err Future → IsPast (tree_at table.now root) → ⊥ }
 {
@@ -82,6 +84,7 @@ fn parts_of(
     ensures parts { IfOk result (λ parts. AreParts table.now.names parts.items) }
     ensures fresh { IfOk result (λ parts. AreFresh parts.items) }
     ensures some { IfOk result (λ parts. 0 < length parts.items) }
+    ensures nodes { IfOk result (λ parts. AreUnder table.now root (length parts.items)) }
     ensures formula { IfOk result (λ parts. last_of table.now.names parts.items ≡ tree_at table.now root) }
 {
     let _nodes = table.len();

@@ -1,8 +1,15 @@
-use Rattle.std.proofs.Common.{◌≡◌, suc, ◌-◌, subst, true, false, sym, ◌∙◌, arith}
-use Rattle.std.proofs.lemmas.List.{get_or_default}
+use Rattle.std.proofs.Common.{◌≡◌, suc, ◌+◌, ◌-◌, length, set, subst, true, false, refl, sym, ap, ◌∙◌, arith}
+use Rattle.std.proofs.lemmas.List.{get_or_default, length-replicate}
 use Rattle.past_monitor.specs.Part.{value_at}
-use Rattle.past_monitor.proofs.Marking.{IsMarking, marked, passed, all_marked}
+use Rattle.past_monitor.proofs.Marking.{IsMarking, unmarked, begun, marked, passed, all_marked}
 use Rattle.past_monitor.proofs.under.marks_under.Goals as goal
+
+pub loop-number-init : goal.loop-number-init
+loop-number-init c =
+    let root = c.args.root in
+    let marks = c.in_ok-marks.marks.items in
+    let e = c.in_ok-marks.ensures.items_if_clones_equal (λ y h. h) in
+    begun c.args.table.now root marks (set marks root true) (ap length e ∙ length-replicate (root + 1) false) (λ i. subst (λ ms. value_at ms i ≡ false) (sym e) (unmarked (root + 1) i)) refl
 
 pub loop-number-preserved-then-index : goal.loop-number-preserved-then-index
 loop-number-preserved-then-index c =

@@ -1,7 +1,7 @@
 use Rattle.std.proofs.Common.{◌≡◌, suc, ◌+◌, ◌++◌, ◌∷◌, [], length, Vec, Global, sym, ◌∙◌, ap, subst, arith}
 use Rattle.past_monitor.specs.declared.part.Part.{Part}
 use Rattle.past_monitor.specs.Part.{moved, IsNamed, ring_of}
-use Rattle.past_monitor.proofs.Placing.{ArePlaced, passed, added}
+use Rattle.past_monitor.proofs.Placing.{ArePlaced, passed, added, all_under}
 use Rattle.past_monitor.proofs.under.parts_of.Goals.{then-marks-number+in_ok-new+in_ok-push-2, else-marks-number}
 use Rattle.past_monitor.proofs.under.parts_of.Goals as goal
 
@@ -30,3 +30,8 @@ loop-number-preserved c =
           subst (λ (ps : Vec Part Global). ArePlaced t marks (number + 1) places' ps.items) (sym w.parts-is)
           (subst (λ k. ArePlaced t marks k places' parts) one (passed t marks number places places' parts is more w.if-marks-number.false))
     ]
+
+pub returns-clause-nodes : goal.returns-clause-nodes
+returns-clause-nodes c =
+    let end : c.loop-number.number ≡ c.args.root + 1 = omega (arith, c.loop-number-test.false, c.loop-number.auto.number-end) in
+    all_under c.args.table.now c.args.root c.args.marks.now c.loop-number.places.items c.loop-number.parts.items c.loop-number.number end c.requires.marks c.loop-number.invariant
