@@ -16,6 +16,7 @@ use Rattle.black_top.specs.Solve.{number_of}
 use Rattle.black_top.specs.Batch.{IsBatched, too_many, answered, PrintsAnswers, PrintsVerdicts, PrintsRefusals, PrintsLimit, BatchPromise}
 use Rattle.black_top.specs.Run.{IsAnswered}
 use Rattle.black_top.proofs.Asking.{command_given}
+use Rattle.black_top.proofs.Statuses.{answer_no_fault}
 use Rattle.black_top.proofs.Promising.{told_left, IsBroken, broken_not}
 
 -- the answers to the lines are one
@@ -81,13 +82,14 @@ answers_from {words} {rest} {before} {after} {s} settings bytes asks told small 
 -- ---- the promise
 
 pub batch_broken : (settings : List Setting) (IsQuiet : Type 0) (rest left before after : Option (List ℕ)) (status : Status) → IsBroken IsQuiet status → LosesAtMost 16842752 rest left
-    → (IsTrue (has_read status) → IsTakenUpTo 16777216 rest left) → BatchPromise settings IsQuiet rest left before after status
-batch_broken settings IsQuiet rest left before after status broken most taken = record {
+    → (status ≡ statuses.ReadFault → LosesAtMost 16777216 rest left) → (IsTrue (has_read status) → IsTakenUpTo 16777216 rest left) → BatchPromise settings IsQuiet rest left before after status
+batch_broken settings IsQuiet rest left before after status broken most fault taken = record {
   when_verdicts = λ e. absurd (broken_not status statuses.Good broken.none refl e);
   when_refusals = λ e. absurd (broken_not status statuses.Text broken.none refl e);
   when_limit = λ e. absurd (broken_not status statuses.Limit broken.none refl e);
   answers = λ bytes told small quiet. inl (broken.cause quiet);
   most = most;
+  before_fault = fault;
   taken = taken;
 }
 
@@ -104,5 +106,6 @@ batch_kept settings IsQuiet words rest left before after status asks answer most
       when_limit = λ e. (bytes, answer.given.left, limit_of kind wanted bytes before after answer.answer is (sym e ∙ answer.own) answer.printed);
       answers = λ b told small quiet. inr (answers_from settings b asks told small answer);
       most = most;
+      before_fault = λ e. absurd (answer_no_fault answer.answer (sym e ∙ answer.own));
       taken = λ read. taken;
     }

@@ -1,5 +1,5 @@
 -- The certificate that `solve` prints is verified by `check` behind the text of its formula.
-use Rattle.std.proofs.Common.{◌≡◌, ℕ, ◌≤◌, Bool, true, false, List, Option, Some, None, Result, Ok, Err, IfOk, refl, sym, subst}
+use Rattle.std.proofs.Common.{◌≡◌, ℕ, ◌≤◌, Bool, true, false, List, Option, Some, None, Result, Ok, Err, IfOk, is_some, refl, sym, ap, subst, ◌∙◌}
 use Rattle.ltl_syntax.specs.declared.node.Kind.{Kind}
 use Rattle.ltl_syntax.specs.Formula.{Formula}
 use Rattle.ltl_parser.specs.Text.{IsAccepted}
@@ -9,7 +9,7 @@ use Rattle.cert_check.specs.Answer.{Verified}
 use Rattle.cert_check.specs.Lawful.{CertOk, IsLawfulAt}
 use Rattle.black_top.specs.Answer.{Answer, unsat, checked}
 use Rattle.black_top.specs.Reading.{IsParted, accepted}
-use Rattle.black_top.specs.Solve.{number_of, Certifies, IsDecided, satisfiable, unsatisfiable, undecided_yet, IsSettled, too_deep, decided, IsSolved, unreadable, settled}
+use Rattle.black_top.specs.Solve.{number_of, IsWritten, Certifies, IsDecided, satisfiable, unsatisfiable, undecided_yet, IsSettled, too_deep, decided, IsSolved, unreadable, settled}
 use Rattle.black_top.specs.Check.{IsChecked, with_certificate, IsVerified}
 use Rattle.black_top.proofs.Unseparated.{joined_cut}
 
@@ -19,7 +19,7 @@ verified_behind kind f part text read ok =
 
 pub certificate_verified : (cert : Bool) (f : Formula) (kind : Kind) (k : ℕ) (part : List ℕ) (certificate : Option (List ℕ)) → IsAccepted part f → Certifies cert f kind k certificate → IsVerified kind part certificate
 certificate_verified false f kind k part certificate read none = subst (IsVerified kind part) (sym none) tt
-certificate_verified true f kind k part certificate read (text, is, (c, said, lawful, depth)) = subst (IsVerified kind part) (sym is) (verified_behind kind f part text read (c, said, lawful))
+certificate_verified true f kind k part certificate read (text, is, (c, said, lawful, depth), how) = subst (IsVerified kind part) (sym is) (verified_behind kind f part text read (c, said, lawful))
 
 -- the depth of UNSAT is not above the limit
 pub unsat_shallow : (f : Formula) (kind : Kind) (limit k : ℕ) → IsVerdict f kind limit (Unsat k) → k ≤ limit
@@ -30,14 +30,19 @@ unsat_shallow f kind limit k (all_pruned low before none pruned) = low
 pub uncertified : (cert : Bool) (f : Formula) (kind : Kind) (k : ℕ) → cert ≡ false → Certifies cert f kind k None
 uncertified cert f kind k e = subst (λ b. Certifies b f kind k None) (sym e) refl
 
--- where one is asked for, a lawful text is one
-pub certified : (cert : Bool) (f : Formula) (kind : Kind) (k : ℕ) (text shown : List ℕ) → cert ≡ true → shown ≡ text → IsLawfulAt f kind k text → Certifies cert f kind k (Some shown)
-certified cert f kind k text shown e same lawful = subst (λ b. Certifies b f kind k (Some shown)) (sym e) (shown, refl, subst (IsLawfulAt f kind k) (sym same) lawful)
+-- where one is asked for, a lawful text that is written of a log is one
+pub certified : (cert : Bool) (f : Formula) (kind : Kind) (k : ℕ) (text : List ℕ) → cert ≡ true → IsLawfulAt f kind k text → IsWritten f kind k text → Certifies cert f kind k (Some text)
+certified cert f kind k text e lawful how = subst (λ b. Certifies b f kind k (Some text)) (sym e) (text, refl, lawful, how)
 
--- a text that is the one that is lawful
-pub lawful_text : {A E : Type 0} (items : A → List ℕ) (r : Result A E) (f : Formula) (kind : Kind) (k : ℕ) (text : List ℕ) → IsLawfulAt f kind k text → IfOk r (λ x. items x ≡ text) → IfOk r (λ x. IsLawfulAt f kind k (items x))
-lawful_text items (Ok x) f kind k text lawful e = subst (IsLawfulAt f kind k) (sym e) lawful
-lawful_text items (Err e) f kind k text lawful h = tt
+-- what is claimed of the text that was given
+pub text_so : {A E : Type 0} (items : A → List ℕ) (r : Result A E) (Claim : List ℕ → Type 0) (text : List ℕ) → Claim text → IfOk r (λ x. items x ≡ text) → IfOk r (λ x. Claim (items x))
+text_so items (Ok x) Claim text so e = subst Claim (sym e) so
+text_so items (Err e) Claim text so h = tt
+
+-- two certificates are both shown, or neither
+pub both_certified : (cert : Bool) (f : Formula) (kind : Kind) (j k : ℕ) (a b : Option (List ℕ)) → Certifies cert f kind j a → Certifies cert f kind k b → is_some a ≡ is_some b
+both_certified false f kind j k a b none none' = ap is_some none ∙ sym (ap is_some none')
+both_certified true f kind j k a b (text, is, lawful, how) (text', is', lawful', how') = ap is_some is ∙ sym (ap is_some is')
 
 -- an answer that is UNSAT with a certificate
 same_certificate : (j k : ℕ) (core other one : Option (List ℕ)) (text : List ℕ) → unsat j core one ≡ unsat k other (Some text) → one ≡ Some text
@@ -47,7 +52,7 @@ decided_verifies : (f : Formula) (kind : Kind) (asked limit : ℕ) (core cert : 
     → IsVerified kind part (Some text)
 decided_verifies f kind asked limit core cert part depth shown text a read (unsatisfiable k conflict certificate h is certifies) e =
     subst (IsVerified kind part) (same_certificate k depth conflict shown certificate text e) (certificate_verified cert f kind k part certificate read certifies)
-decided_verifies f kind asked limit core cert part depth shown text a read (satisfiable k t h r) e = absurd (cc)
+decided_verifies f kind asked limit core cert part depth shown text a read (satisfiable k t h r b) e = absurd (cc)
 decided_verifies f kind asked limit core cert part depth shown text a read (undecided_yet k h) e = absurd (cc)
 
 settled_verifies : (kind : Kind) (wanted : Option ℕ) (core cert : Bool) (f : Formula) (part : List ℕ) (depth : ℕ) (shown : Option (List ℕ)) (text : List ℕ) (a : Answer) → IsAccepted part f → IsSettled kind wanted core cert f a → a ≡ unsat depth shown (Some text)

@@ -1,7 +1,6 @@
 -- The cut of an input at its first separator line.
 use Rattle.std.proofs.Common.{◌≡◌, ◌≢◌, ◌∙◌, ℕ, suc, ◌+◌, ◌-◌, ◌<◌, ◌≤◌, ◌⊎◌, inl, inr, true, false, List, [], ◌∷◌, ◌++◌, length, take, drop, get_or, codes, refl, sym, ap, ap₂, subst, arith, length-append, length-drop, append_assoc, nat_eq, Option, Some, None, MatchOption}
 use Rattle.std.specs.Cmp.Lexicographic.{pointwise, same_text, other_text}
-use Rattle.std.proofs.lemmas.Bool.{cases_lt}
 use Rattle.std.proofs.lemmas.List.{append_cancel_left, append_cancel_right, length-take-le, take-append-drop}
 use Rattle.std.proofs.Math.Seq.{take-append_seam, drop-append_seam, take-suc, take-length}
 use Rattle.black_top.specs.Parts.{newline, IsSeparator, EndsLine, BeginsLine, IsLine, HasNoSeparator, IsCut}
@@ -110,7 +109,7 @@ first_cut bytes start formula second below h e =
 
 -- ---- a separator line at a place
 
-opens_drop : (bytes : List ℕ) (start : ℕ) (second : List ℕ) (h : OpensSecond bytes start second) → drop start bytes ≡ h.line ++ h.after
+pub opens_drop : (bytes : List ℕ) (start : ℕ) (second : List ℕ) (h : OpensSecond bytes start second) → drop start bytes ≡ h.line ++ h.after
 opens_drop bytes start second h =
     ap (λ n. drop n bytes) (sym h.place) ∙ ap (λ x. drop (length h.before) x) (h.whole ∙ append_assoc h.before h.line h.after) ∙ drop-append_seam h.before (h.line ++ h.after)
 
@@ -178,61 +177,3 @@ pub told_second_return : {A : Type 0} (now : A → List ℕ) (r : Option A) (byt
     → MatchOption r ((text : List ℕ) → ¬ (BeginsLine behind text)) (λ text. BeginsLine behind (now text)) → MatchOption r (OpensNothing bytes start) (λ second. OpensSecond bytes start (now second))
 told_second_return now None bytes start behind low at e h = no_end_return bytes start behind e h
 told_second_return now (Some x) bytes start behind low at e h = return_opens bytes start behind (now x) low at e h
-
--- ---- more bytes behind a cut
-
--- a front that is no longer than another front of the same bytes is a front of it
-front_of : (short back long more : List ℕ) → short ++ back ≡ long ++ more → length short ≤ length long → (between : List ℕ) × (long ≡ short ++ between) × (back ≡ between ++ more)
-front_of [] back long more e low = (long, refl, e)
-front_of (x ∷ xs) back [] more e low = absurd (omega (arith, low))
-front_of (x ∷ xs) back (y ∷ ys) more e low =
-    let r = front_of xs back ys more (cc) (omega (arith, low)) in
-    let h : y ≡ x = cc in (r.0, ap₂ (λ v vs. v ∷ vs) h r.1, r.2)
-
-line_short : (line : List ℕ) → IsSeparator line → length line ≤ 4
-line_short line (inl e) = let k = ap length e in omega (arith, k)
-line_short line (inr e) = let k = ap length e in omega (arith, k)
-
--- a line that ends before the more bytes ends there without them
-begins_inside : (a s more : List ℕ) → 0 < length a → BeginsLine (a ++ more) s → (t : List ℕ) × BeginsLine a t
-begins_inside [] s more some h = absurd (omega (arith, some))
-begins_inside (x ∷ xs) s more some (inl (e, f)) = absurd (cc)
-begins_inside (x ∷ xs) s more some (inr e) = let h : x ≡ 10 = cc in (xs, inr (ap (λ v. v ∷ xs) h))
-
-begins_longer : (a s more : List ℕ) → 0 < length s → BeginsLine a s → BeginsLine (a ++ more) (s ++ more)
-begins_longer a s more some (inl (e, f)) = let n = ap length f in absurd (omega (arith, n, some))
-begins_longer a s more some (inr e) = inr (ap (λ x. x ++ more) e)
-
-begins_some : (a s : List ℕ) → 0 < length s → BeginsLine a s → 0 < length a
-begins_some a s some (inl (e, f)) = let n = ap length f in absurd (omega (arith, n, some))
-begins_some a s some (inr e) = let n = ap length e in omega (arith, n)
-
--- a separator line before the first one would be one without the more bytes too: its end is among those that were there
-not_earlier : (bytes formula second more : List ℕ) (h : IsCut bytes formula second) → 0 < length second → (b l a : List ℕ) → IsLine (bytes ++ more) b l a → length b < length h.before → ⊥
-not_earlier bytes formula second more h some b l a k low =
-    let behind = begins_some h.after second some h.ends in
-    let long = separator_long h.line h.separator in
-    let short = line_short l k.separator in
-    let size = ap length h.whole ∙ length-append (h.before ++ h.line) h.after in
-    let ends : length (b ++ l) < length bytes = omega (arith, low, behind, long, short, size, length-append h.before h.line, length-append b l) in
-    let (between, inside, rest) = front_of (b ++ l) a bytes more (sym k.whole) (omega (arith, ends)) in
-    let left : 0 < length between = omega (arith, ends, ap length inside, length-append (b ++ l) between) in
-    let (text, begins) = begins_inside between k.second more left (subst (λ x. BeginsLine x k.second) rest k.ends) in
-    let first = h.first b l between (record { text = k.text; second = text; whole = inside; separator = k.separator; begins = k.begins; ends = begins }) in
-    omega (arith, first, low)
-
--- what stands behind a separator line that something follows does not move it
-pub cut_longer : (bytes formula second more : List ℕ) → IsCut bytes formula second → 0 < length second → IsCut (bytes ++ more) formula (second ++ more)
-cut_longer bytes formula second more h some = record {
-  before = h.before;
-  line = h.line;
-  after = h.after ++ more;
-  whole = ap (λ x. x ++ more) h.whole ∙ append_assoc (h.before ++ h.line) h.after more;
-  separator = h.separator;
-  begins = h.begins;
-  ends = begins_longer h.after second more some h.ends;
-  first = λ b l a k. elim (cases_lt (length b) (length h.before)) [
-    | inl low ↦ absurd (not_earlier bytes formula second more h some b l a k low)
-    | inr later ↦ later
-  ];
-}

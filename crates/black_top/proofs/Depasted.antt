@@ -19,7 +19,7 @@ use Rattle.black_top.specs.declared.status.Status.TheVariants as statuses
 use Rattle.black_top.specs.Status.{has_read}
 use Rattle.black_top.specs.Taking.{AreLeft, IsTakenWhole}
 use Rattle.black_top.specs.Answer.{Answer, refused, depasted, lifted, status_of, text_of}
-use Rattle.black_top.specs.Depast.{IsSplit, IsRaised, not_json, not_trace, empty_loop, empty_states, many_cells, raised, IsShownBy, IsWithout, too_large, small, IsPartAnswer, unread, accepted, IsDepasted, IsSound, KeepsTruth, PrintsLifted, Prints, PrintsWithoutPast, OfFormula, DepastPromise}
+use Rattle.black_top.specs.Depast.{IsSplit, IsRaised, not_json, not_trace, empty_loop, empty_states, many_cells, raised, IsShownBy, IsWithout, too_large, small, IsPartAnswer, unread, accepted, IsDepasted, IsReadAgain, IsSound, KeepsTruth, PrintsLifted, Prints, PrintsWithoutPast, OfFormula, DepastPromise}
 use Rattle.black_top.specs.declared.output.Output.{Output}
 use Rattle.black_top.specs.Inner.{Shows}
 use Rattle.black_top.specs.Run.{IsAnswered}
@@ -92,9 +92,9 @@ one_without one f second a b (small a' few h) (small b' few' k) = one_shown one 
 
 one_part : IsOneReading → (part : List ℕ) (second : Option (List ℕ)) → TextLaws → (a b : Answer) → IsPartAnswer part second a → IsPartAnswer part second b → a ≡ b
 one_part one part second laws a b (unread x h) (unread y k) = ap refused (one_fault part laws x y h k)
-one_part one part second laws a b (unread x h) (accepted g b' read k) = absurd (refused_not_accepted part laws x g h read)
-one_part one part second laws a b (accepted f a' read h) (unread y k) = absurd (refused_not_accepted part laws y f k read)
-one_part one part second laws a b (accepted f a' read h) (accepted g b' read' k) =
+one_part one part second laws a b (unread x h) (accepted g b' read again k) = absurd (refused_not_accepted part laws x g h read)
+one_part one part second laws a b (accepted f a' read again h) (unread y k) = absurd (refused_not_accepted part laws y f k read)
+one_part one part second laws a b (accepted f a' read again h) (accepted g b' read' again' k) =
     let tree : g ≡ f = laws.one_formula part g f read'.reads read.reads in
     one_without one f second a b h (subst (λ x. IsWithout x second b) tree k)
 
@@ -124,7 +124,7 @@ raised_shown f g text t u (Err e) same read few is shows reads = tt
 -- ---- what was printed
 
 raised_prints : PastLaws → (f : Formula) (text : List ℕ) (before after : Option (List ℕ)) (a : Answer) → IsRaised f text a → statuses.Good ≡ status_of a → Grows (text_of a) before after → PrintsLifted f text before after
-raised_prints laws f text before after a (raised t u read few is reads) e g = record { given = t; read = read; shown = u; is = is; kept = laws.kept f t u (read_trace text t read) is; printed = g }
+raised_prints laws f text before after a (raised t u read few is reads) e g = record { given = t; read = read; shown = u; is = is; reads = reads; kept = laws.kept f t u (read_trace text t read) is; printed = g }
 raised_prints laws f text before after a (not_json h) e g = absurd (cc)
 raised_prints laws f text before after a (not_trace h) e g = absurd (cc)
 raised_prints laws f text before after a (empty_loop h) e g = absurd (cc)
@@ -135,14 +135,14 @@ shown_prints : PastLaws → (f : Formula) (second before after : Option (List �
 shown_prints laws f None before after a h e g = subst (λ x. Grows (text_of x) before after) h g
 shown_prints laws f (Some text) before after a h e g = raised_prints laws f text before after a h e g
 
-prints_of : PastLaws → (f : Formula) (second before after : Option (List ℕ)) (a : Answer) → IsWithout f second a → statuses.Good ≡ status_of a → Grows (text_of a) before after → PrintsWithoutPast f second before after
-prints_of laws f second before after a (too_large count h) e g = absurd (cc)
-prints_of laws f second before after a (small answer few h) e g = record { sound = laws.sound f few; prints = shown_prints laws f second before after a h e g }
+prints_of : PastLaws → (f : Formula) (second before after : Option (List ℕ)) (a : Answer) → IsReadAgain f → IsWithout f second a → statuses.Good ≡ status_of a → Grows (text_of a) before after → PrintsWithoutPast f second before after
+prints_of laws f second before after a again (too_large count h) e g = absurd (cc)
+prints_of laws f second before after a again (small answer few h) e g = record { sound = laws.sound f few; reads = again; prints = shown_prints laws f second before after a h e g }
 
 part_prints : PastLaws → (rest : Option (List ℕ)) (bytes part : List ℕ) (second before after : Option (List ℕ)) (a : Answer) → AreLeft rest bytes → IsSplit bytes part second → IsPartAnswer part second a → statuses.Good ≡ status_of a → Grows (text_of a) before after
     → OfFormula rest (λ f second. PrintsWithoutPast f second before after)
 part_prints laws rest bytes part second before after a left split (unread fault h) e g = absurd (not_refused statuses.Good fault refl e)
-part_prints laws rest bytes part second before after a left split (accepted f answer read h) e g = record {
+part_prints laws rest bytes part second before after a left split (accepted f answer read again h) e g = record {
   bytes = bytes;
   left = left;
   part = part;
@@ -150,7 +150,7 @@ part_prints laws rest bytes part second before after a left split (accepted f an
   split = split;
   formula = f;
   accepted = read;
-  claim = prints_of laws f second before after a h e g;
+  claim = prints_of laws f second before after a again h e g;
 }
 
 good_from : {words : List (List ℕ)} {rest before after : Option (List ℕ)} → PastLaws → Asks words Depast → IsAnswered words rest before after statuses.Good

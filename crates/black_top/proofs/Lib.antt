@@ -7,7 +7,6 @@ pub mod Asking
 pub mod Promising
 pub mod Refusing
 pub mod Showing
-pub mod Coming
 pub mod Settling
 pub mod Certified
 pub mod Conflicting
@@ -29,8 +28,21 @@ pub mod Summing
 pub mod Summarized
 pub mod Batched
 pub mod OneLifted
+pub mod NewNames
 pub mod Depasted
 pub mod OneAnswer
+pub mod Listed
+pub mod Ordered
+pub mod ReadAgain
+pub mod RunTraces
+pub mod SomeParts
+pub mod SomeSolved
+pub mod SomeSystem
+pub mod SomeMonitored
+pub mod FewEntries
+pub mod SomeBatched
+pub mod SomeChecked
+pub mod SomeAnswer
 pub mod Working
 pub mod Leaving
 mod RingExamples

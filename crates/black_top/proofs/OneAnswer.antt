@@ -1,4 +1,4 @@
--- Words and bytes have one answer, but for the trace that is shown with SAT and the certificate with UNSAT.
+-- Words and bytes have one answer, but for the trace and the text of the certificate.
 use Rattle.std.proofs.Common.{◌≡◌, ℕ, List, refl, subst}
 use Rattle.ltl_word.specs.Laws.{IsOneReading}
 use Rattle.ltl_run.specs.Laws.{VerdictIsOne}
@@ -37,7 +37,7 @@ pub record Laws : Type 0 where
 alike_itself : (a : Answer) → AreAlike a a
 alike_itself (refused fault) = refl
 alike_itself (sat depth trace) = refl
-alike_itself (unsat depth core certificate) = (refl, refl)
+alike_itself (unsat depth core certificate) = (refl, refl, refl)
 alike_itself (undecided depth) = refl
 alike_itself holds = refl
 alike_itself fails = refl
@@ -45,7 +45,7 @@ alike_itself (checked verdict) = refl
 alike_itself (summary s) = refl
 alike_itself (batched answers) = refl
 alike_itself (no_path depth) = refl
-alike_itself (paths_hold depth proof) = refl
+alike_itself (paths_hold depth proof) = (refl, refl)
 alike_itself (path_fails depth trace) = refl
 alike_itself (watched answers) = refl
 alike_itself (depasted f) = refl

@@ -1,5 +1,5 @@
 -- `system`: its answer is one, but for what shows it.
-use Rattle.std.proofs.Common.{◌≡◌, ◌∙◌, ℕ, ◌+◌, ◌-◌, Bool, List, length, Option, Some, refl, sym, ap, subst, arith}
+use Rattle.std.proofs.Common.{◌≡◌, ◌∙◌, ℕ, ◌+◌, ◌-◌, Bool, true, false, List, length, Option, Some, refl, sym, ap, subst, arith}
 use Rattle.ltl_syntax.specs.declared.node.Kind.TheVariants as kinds
 use Rattle.ltl_syntax.specs.Formula.{Formula}
 use Rattle.ltl_parser.specs.Text.{ReadsText}
@@ -9,12 +9,18 @@ use Rattle.enc_layout.specs.Limit.{IsInForce}
 use Rattle.system_check.specs.System.{whole_of}
 use Rattle.report.specs.declared.fault.Fault.{Fault}
 use Rattle.report.specs.declared.fault.Fault.TheVariants as faults
-use Rattle.black_top.specs.Answer.{Answer, refused, no_path, undecided, AreAlike}
+use Rattle.report.specs.Texts.{Proof}
+use Rattle.black_top.specs.Answer.{Answer, refused, no_path, undecided, shown_formula, AreAlike}
 use Rattle.black_top.specs.Solve.{number_of}
-use Rattle.black_top.specs.System.{AreParts, part_bytes, IsFaulty, lexical, grammar, HasFault, in_start, in_step, in_goal, IsDecided, pathless, kept, broken, undecided_yet, IsSettled, too_large, no_start, no_step, too_deep, decided, IsSystemAnswer, unparted, too_long, faulty, settled}
+use Rattle.black_top.specs.System.{AreParts, part_bytes, IsFaulty, lexical, grammar, HasFault, in_start, in_step, in_goal, ProvesWhole, IsDecided, pathless, kept, broken, undecided_yet, IsSettled, too_large, no_start, no_step, too_deep, decided, IsSystemAnswer, unparted, too_long, faulty, settled}
 use Rattle.black_top.proofs.OneText.{TextLaws}
 use Rattle.black_top.proofs.Solved.{one_limit, not_too_deep, sat_depth, unsat_depth, undecided_depth}
 use Rattle.black_top.proofs.ThreeParts.{AreSame, same_parts, parts_or_few}
+
+-- the formula that is printed with a certificate is one
+one_formula : (cert : Bool) (whole : Formula) (j k : ℕ) (a b : Option Proof) → ProvesWhole cert whole j a → ProvesWhole cert whole k b → shown_formula a ≡ shown_formula b
+one_formula false whole j k a b none none' = ap shown_formula none ∙ sym (ap shown_formula none')
+one_formula true whole j k a b (text, is, lawful, how) (text', is', lawful', how') = ap shown_formula is ∙ sym (ap shown_formula is')
 
 -- ---- at a limit
 
@@ -23,18 +29,18 @@ module _ (start step goal : Formula) (limit : ℕ) (cert : Bool) (one : VerdictI
   one_decided a b (pathless i h) (pathless i' h') = ap no_path (unsat_depth i i' (one _ kinds.Infinite limit (Unsat i) (Unsat i') h h'))
   one_decided a b (pathless i h) (kept i' p' u' h' l') = absurd (u' i h)
   one_decided a b (kept i p u h l) (pathless i' h') = absurd (u i' h')
-  one_decided a b (pathless i h) (broken i' p' u' h' l') = absurd (u' i h)
-  one_decided a b (broken i p u h l) (pathless i' h') = absurd (u i' h')
+  one_decided a b (pathless i h) (broken i' p' u' h' l' r') = absurd (u' i h)
+  one_decided a b (broken i p u h l r) (pathless i' h') = absurd (u i' h')
   one_decided a b (pathless i h) (undecided_yet i' u' h') = absurd (u' i h)
   one_decided a b (undecided_yet i u h) (pathless i' h') = absurd (u i' h')
-  one_decided a b (kept i p u h l) (kept i' p' u' h' l') = unsat_depth i i' (one _ kinds.Infinite limit (Unsat i) (Unsat i') h h')
-  one_decided a b (kept i p u h l) (broken i' p' u' h' l') = let e = one _ kinds.Infinite limit (Unsat i) (Sat i') h h' in absurd (cc)
+  one_decided a b (kept i p u h l) (kept i' p' u' h' l') = (unsat_depth i i' (one _ kinds.Infinite limit (Unsat i) (Unsat i') h h'), one_formula cert (whole_of start step goal) i i' p p' l l')
+  one_decided a b (kept i p u h l) (broken i' p' u' h' l' r') = let e = one _ kinds.Infinite limit (Unsat i) (Sat i') h h' in absurd (cc)
   one_decided a b (kept i p u h l) (undecided_yet i' u' h') = let e = one _ kinds.Infinite limit (Unsat i) (Undecided i') h h' in absurd (cc)
-  one_decided a b (broken i p u h l) (kept i' p' u' h' l') = let e = one _ kinds.Infinite limit (Sat i) (Unsat i') h h' in absurd (cc)
-  one_decided a b (broken i p u h l) (broken i' p' u' h' l') = sat_depth i i' (one _ kinds.Infinite limit (Sat i) (Sat i') h h')
-  one_decided a b (broken i p u h l) (undecided_yet i' u' h') = let e = one _ kinds.Infinite limit (Sat i) (Undecided i') h h' in absurd (cc)
+  one_decided a b (broken i p u h l r) (kept i' p' u' h' l') = let e = one _ kinds.Infinite limit (Sat i) (Unsat i') h h' in absurd (cc)
+  one_decided a b (broken i p u h l r) (broken i' p' u' h' l' r') = sat_depth i i' (one _ kinds.Infinite limit (Sat i) (Sat i') h h')
+  one_decided a b (broken i p u h l r) (undecided_yet i' u' h') = let e = one _ kinds.Infinite limit (Sat i) (Undecided i') h h' in absurd (cc)
   one_decided a b (undecided_yet i u h) (kept i' p' u' h' l') = let e = one _ kinds.Infinite limit (Undecided i) (Unsat i') h h' in absurd (cc)
-  one_decided a b (undecided_yet i u h) (broken i' p' u' h' l') = let e = one _ kinds.Infinite limit (Undecided i) (Sat i') h h' in absurd (cc)
+  one_decided a b (undecided_yet i u h) (broken i' p' u' h' l' r') = let e = one _ kinds.Infinite limit (Undecided i) (Sat i') h h' in absurd (cc)
   one_decided a b (undecided_yet i u h) (undecided_yet i' u' h') = ap undecided (undecided_depth i i' (one _ kinds.Infinite limit (Undecided i) (Undecided i') h h'))
 
 -- ---- three formulas

@@ -21,9 +21,9 @@ use Rattle.black_top.specs.Solve.{IsReached, number_of, IsDecided, satisfiable, 
 use Rattle.black_top.specs.Run.{IsAnswered}
 use Rattle.black_top.proofs.OneText.{TextLaws, one_fault, refused_not_accepted}
 use Rattle.black_top.proofs.Asking.{command_given}
-use Rattle.black_top.proofs.Statuses.{is_refusal, not_refused}
+use Rattle.black_top.proofs.Statuses.{is_refusal, not_refused, answer_no_fault}
 use Rattle.black_top.proofs.Promising.{told_left, IsBroken, broken_not}
-use Rattle.black_top.proofs.Certified.{certificate_verified}
+use Rattle.black_top.proofs.Certified.{certificate_verified, both_certified}
 use Rattle.black_top.proofs.Conflicting.{CoreLaws, one_core, tells_conflict}
 use Rattle.core_extract.specs.Laws.{CoreIsOne}
 
@@ -45,13 +45,14 @@ pub undecided_depth : (i j : ℕ) → Undecided i ≡ Undecided j → i ≡ j
 undecided_depth i j e = cc
 
 one_decided : (f : Formula) (kind : Kind) (asked limit : ℕ) (core cert : Bool) → VerdictIsOne → CoreIsOne → (a b : Answer) → IsDecided f kind asked limit core cert a → IsDecided f kind asked limit core cert b → AreAlike a b
-one_decided f kind asked limit core cert one cores a b (satisfiable i t h r) (satisfiable j u k r') = sat_depth i j (one f kind limit (Sat i) (Sat j) h k)
-one_decided f kind asked limit core cert one cores a b (satisfiable i t h r) (unsatisfiable j conflict text k c l) = let e = one f kind limit (Sat i) (Unsat j) h k in absurd (cc)
-one_decided f kind asked limit core cert one cores a b (satisfiable i t h r) (undecided_yet j k) = let e = one f kind limit (Sat i) (Undecided j) h k in absurd (cc)
-one_decided f kind asked limit core cert one cores a b (unsatisfiable i conflict text h c l) (satisfiable j u k r) = let e = one f kind limit (Unsat i) (Sat j) h k in absurd (cc)
-one_decided f kind asked limit core cert one cores a b (unsatisfiable i conflict text h c l) (unsatisfiable j conflict' text' k c' l') = (unsat_depth i j (one f kind limit (Unsat i) (Unsat j) h k), one_core core f kind asked conflict conflict' cores c c')
+one_decided f kind asked limit core cert one cores a b (satisfiable i t h r b') (satisfiable j u k r' b'') = sat_depth i j (one f kind limit (Sat i) (Sat j) h k)
+one_decided f kind asked limit core cert one cores a b (satisfiable i t h r b') (unsatisfiable j conflict text k c l) = let e = one f kind limit (Sat i) (Unsat j) h k in absurd (cc)
+one_decided f kind asked limit core cert one cores a b (satisfiable i t h r b') (undecided_yet j k) = let e = one f kind limit (Sat i) (Undecided j) h k in absurd (cc)
+one_decided f kind asked limit core cert one cores a b (unsatisfiable i conflict text h c l) (satisfiable j u k r b'') = let e = one f kind limit (Unsat i) (Sat j) h k in absurd (cc)
+one_decided f kind asked limit core cert one cores a b (unsatisfiable i conflict text h c l) (unsatisfiable j conflict' text' k c' l') =
+    (unsat_depth i j (one f kind limit (Unsat i) (Unsat j) h k), one_core core f kind asked conflict conflict' cores c c', both_certified cert f kind i j text text' l l')
 one_decided f kind asked limit core cert one cores a b (unsatisfiable i conflict text h c l) (undecided_yet j k) = let e = one f kind limit (Unsat i) (Undecided j) h k in absurd (cc)
-one_decided f kind asked limit core cert one cores a b (undecided_yet i h) (satisfiable j u k r) = let e = one f kind limit (Undecided i) (Sat j) h k in absurd (cc)
+one_decided f kind asked limit core cert one cores a b (undecided_yet i h) (satisfiable j u k r b'') = let e = one f kind limit (Undecided i) (Sat j) h k in absurd (cc)
 one_decided f kind asked limit core cert one cores a b (undecided_yet i h) (unsatisfiable j conflict text k c l) = let e = one f kind limit (Undecided i) (Unsat j) h k in absurd (cc)
 one_decided f kind asked limit core cert one cores a b (undecided_yet i h) (undecided_yet j k) = ap undecided (undecided_depth i j (one f kind limit (Undecided i) (Undecided j) h k))
 
@@ -95,7 +96,7 @@ model_of satisfy f kind k t (r, run, close, accepts, gives) = satisfy f kind k r
 
 sat_decided : (f : Formula) (kind : Kind) (asked limit : ℕ) (core cert : Bool) (before after : Option (List ℕ)) → RunsSatisfy → (a : Answer) → IsDecided f kind asked limit core cert a → statuses.Sat ≡ status_of a → Grows (text_of a) before after
     → PrintsModel kind f before after
-sat_decided f kind asked limit core cert before after satisfy a (satisfiable k t h r) e g = record { depth = k; trace = t; model = model_of satisfy f kind k t r; printed = g }
+sat_decided f kind asked limit core cert before after satisfy a (satisfiable k t h r b) e g = record { depth = k; trace = t; model = model_of satisfy f kind k t r; reads = b; printed = g }
 sat_decided f kind asked limit core cert before after satisfy a (unsatisfiable k conflict text h c l) e g = absurd (cc)
 sat_decided f kind asked limit core cert before after satisfy a (undecided_yet k h) e g = absurd (cc)
 
@@ -111,7 +112,7 @@ unsat_decided f kind wanted limit core cert part before after sound laws read fo
   verified = certificate_verified cert f kind k part text read l;
   printed = g;
 }
-unsat_decided f kind wanted limit core cert part before after sound laws read force a (satisfiable k t h r) e g = absurd (cc)
+unsat_decided f kind wanted limit core cert part before after sound laws read force a (satisfiable k t h r b) e g = absurd (cc)
 unsat_decided f kind wanted limit core cert part before after sound laws read force a (undecided_yet k h) e g = absurd (cc)
 
 -- an undecided verdict has the limit as its depth
@@ -133,7 +134,7 @@ undecided_decided f kind wanted limit core cert before after settles force a (un
       below_bound = low;
       printed = subst (λ d. Grows (text_of (undecided d)) before after) same g;
     }
-undecided_decided f kind wanted limit core cert before after settles force a (satisfiable k t h r) e g = absurd (cc)
+undecided_decided f kind wanted limit core cert before after settles force a (satisfiable k t h r b) e g = absurd (cc)
 undecided_decided f kind wanted limit core cert before after settles force a (unsatisfiable k conflict text h c l) e g = absurd (cc)
 
 -- an answer that is no refusal is a verdict at the limit in force
@@ -195,13 +196,14 @@ verdict_from {words} {rest} {before} {after} {s} laws settings bytes f asks told
 -- ---- the promise
 
 pub solve_broken : (settings : List Setting) (IsQuiet : Type 0) (rest left before after : Option (List ℕ)) (status : Status) → IsBroken IsQuiet status → LosesAtMost 1114112 rest left
-    → (IsTrue (has_read status) → IsTakenUpTo 1048576 rest left) → SolvePromise settings IsQuiet rest left before after status
-solve_broken settings IsQuiet rest left before after status broken most taken = record {
+    → (status ≡ statuses.ReadFault → LosesAtMost 1048576 rest left) → (IsTrue (has_read status) → IsTakenUpTo 1048576 rest left) → SolvePromise settings IsQuiet rest left before after status
+solve_broken settings IsQuiet rest left before after status broken most fault taken = record {
   when_sat = λ e. absurd (broken_not status statuses.Sat broken.none refl e);
   when_unsat = λ e. absurd (broken_not status statuses.Unsat broken.none refl e);
   when_undecided = λ e. absurd (broken_not status statuses.Undecided broken.none refl e);
   verdict = λ bytes f told read few quiet. inl (broken.cause quiet);
   most = most;
+  before_fault = fault;
   taken = taken;
 }
 
@@ -213,5 +215,6 @@ solve_kept settings IsQuiet words rest left before after status satisfy sound se
   when_undecided = λ e. undecided_from settles settings asks (subst (IsAnswered words rest before after) e answer);
   verdict = λ bytes f told read few quiet. inr (verdict_from laws settings bytes f asks told read few answer);
   most = most;
+  before_fault = λ e. absurd (answer_no_fault answer.answer (sym e ∙ answer.own));
   taken = λ read. taken;
 }

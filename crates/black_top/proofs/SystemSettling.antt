@@ -1,5 +1,5 @@
 -- From the limit, and from the answer on the formulas of a table, to the answer of `system`.
-use Rattle.std.proofs.Common.{◌≡◌, ◌∙◌, ℕ, ◌+◌, ◌<◌, ◌≤◌, ◌⊎◌, inl, inr, Bool, true, false, Option, Some, None, is_some, unwrap_or, Result, Ok, Err, IfOk, refl, sym, subst, arith}
+use Rattle.std.proofs.Common.{◌≡◌, ◌∙◌, ℕ, ◌+◌, ◌<◌, ◌≤◌, ◌⊎◌, inl, inr, Bool, true, false, Option, Some, None, is_some, unwrap_or, Result, Ok, Err, IfOk, OnOk, refl, sym, subst, arith}
 use Rattle.ltl_syntax.specs.declared.node.Kind.TheVariants as kinds
 use Rattle.ltl_syntax.specs.Formula.{Formula}
 use Rattle.ltl_syntax.specs.Size.{formula_size}
@@ -41,6 +41,12 @@ pub shown_for : {E : Type 0} (Are : Formula → Formula → Formula → Type 0) 
     → IfOk r (λ out. Shows out answer) → IfOk r (λ out. (f g h : Formula) → Are f g h → (a : Answer) × Comes f g h a × Shows out a)
 shown_for Are Comes answer (Ok out) comes shows = λ f g h are. (answer, comes f g h are, shows)
 shown_for Are Comes answer (Err e) comes shows = tt
+
+-- the same where it comes by what an output says that is there
+pub shown_for_where : {E : Type 0} (Are : Formula → Formula → Formula → Type 0) (Comes : Formula → Formula → Formula → Answer → Type 0) (Fact : Type 0) (answer : Answer) (r : Result Output E)
+    → (Fact → (f g h : Formula) → Are f g h → Comes f g h answer) → OnOk r Fact → IfOk r (λ out. Shows out answer) → IfOk r (λ out. (f g h : Formula) → Are f g h → (a : Answer) × Comes f g h a × Shows out a)
+shown_for_where Are Comes Fact answer (Ok out) comes fact shows = λ f g h are. (answer, comes fact f g h are, shows)
+shown_for_where Are Comes Fact answer (Err e) comes fact shows = tt
 
 -- where no certificate is asked for, none is shown, and where one is, the lawful text is
 pub unproved : (cert : Bool) (f : Formula) (k : ℕ) → cert ≡ false → ProvesWhole cert f k None

@@ -21,7 +21,7 @@ use Rattle.black_top.specs.declared.status.Status.{Status}
 use Rattle.black_top.specs.declared.status.Status.TheVariants as statuses
 use Rattle.black_top.specs.Status.{has_read}
 use Rattle.black_top.specs.Taking.{IsTakenWhole}
-use Rattle.black_top.specs.Answer.{Answer, undecided, checked, status_of, text_of}
+use Rattle.black_top.specs.Answer.{Answer, undecided, paths_hold, checked, status_of, text_of}
 use Rattle.black_top.specs.Reading.{IsParted}
 use Rattle.black_top.specs.Solve.{number_of, IsReached, AreFewLetters}
 use Rattle.black_top.specs.Check.{IsChecked, with_certificate}
@@ -46,7 +46,7 @@ printed_accepted bytes f g h are short =
 proof_verified : (cert : Bool) (bytes : List ℕ) (f g h : Formula) (k : ℕ) (proof : Option Proof) → AreSystem bytes f g h → ProvesWhole cert (whole_of f g h) k proof → (shown : Proof) → proof ≡ Some shown → length shown.formula ≤ 1048576
     → IsParted (IsChecked kinds.Infinite) (with_certificate shown.formula shown.certificate) (checked verdicts.Verified)
 proof_verified false bytes f g h k proof are none shown e short = let no : None ≡ Some shown = sym none ∙ e in absurd (cc)
-proof_verified true bytes f g h k proof are (text, is, (c, said, lawful, depth)) shown e short =
+proof_verified true bytes f g h k proof are (text, is, (c, said, lawful, depth), how) shown e short =
     let same : record { formula = printed (whole_of f g h); certificate = text } ≡ shown = some_same (record { formula = printed (whole_of f g h); certificate = text }) shown (sym is ∙ e) in
     subst (λ (p : Proof). IsParted (IsChecked kinds.Infinite) (with_certificate p.formula p.certificate) (checked verdicts.Verified)) same
     (verified_behind kinds.Infinite (whole_of f g h) (printed (whole_of f g h)) text (printed_accepted bytes f g h are (subst (λ (p : Proof). length p.formula ≤ 1048576) (sym same) short)) (c, said, lawful))
@@ -67,13 +67,13 @@ module _ (wanted : Option ℕ) (cert : Bool) (bytes : List ℕ) (f g h : Formula
     shows = grows;
   }
   holds_decided a (pathless k unsat) e grows = absurd (cc)
-  holds_decided a (broken k t unrefuted sat run) e grows = absurd (cc)
+  holds_decided a (broken k t unrefuted sat run reads) e grows = absurd (cc)
   holds_decided a (undecided_yet k unrefuted open_still) e grows = absurd (cc)
 
   fails_decided : (a : Answer) → IsDecided f g h limit cert a → statuses.Negative ≡ status_of a → Grows (text_of a) before after → PrintsFails f g h before after
-  fails_decided a (broken k t unrefuted sat run) e grows =
+  fails_decided a (broken k t unrefuted sat run reads) e grows =
       let fails = fails_on f g h limit are.forms k t run in
-      record { depth = k; trace = t; path = fails.0; fails = fails.1; shows = grows }
+      record { depth = k; trace = t; path = fails.0; fails = fails.1; reads = reads; shows = grows }
   fails_decided a (pathless k unsat) e grows = absurd (cc)
   fails_decided a (kept k proof unrefuted unsat proves) e grows = absurd (cc)
   fails_decided a (undecided_yet k unrefuted open_still) e grows = absurd (cc)
@@ -81,7 +81,7 @@ module _ (wanted : Option ℕ) (cert : Bool) (bytes : List ℕ) (f g h : Formula
   pathless_decided : (a : Answer) → IsDecided f g h limit cert a → statuses.Unsat ≡ status_of a → Grows (text_of a) before after → PrintsNoPath f g before after
   pathless_decided a (pathless k unsat) e grows = record { depth = k; none = λ t. no_path f g h limit are.forms k t unsat; shows = grows }
   pathless_decided a (kept k proof unrefuted unsat proves) e grows = absurd (cc)
-  pathless_decided a (broken k t unrefuted sat run) e grows = absurd (cc)
+  pathless_decided a (broken k t unrefuted sat run reads) e grows = absurd (cc)
   pathless_decided a (undecided_yet k unrefuted open_still) e grows = absurd (cc)
 
   undecided_decided : (a : Answer) → IsInForce (whole_of f g h) kinds.Infinite (number_of wanted) limit → IsDecided f g h limit cert a → statuses.Undecided ≡ status_of a → Grows (text_of a) before after → PrintsUndecided wanted f g h before after
@@ -97,7 +97,7 @@ module _ (wanted : Option ℕ) (cert : Bool) (bytes : List ℕ) (f g h : Formula
       }
   undecided_decided a force (pathless k unsat) e grows = absurd (cc)
   undecided_decided a force (kept k proof unrefuted unsat proves) e grows = absurd (cc)
-  undecided_decided a force (broken k t unrefuted sat run) e grows = absurd (cc)
+  undecided_decided a force (broken k t unrefuted sat run reads) e grows = absurd (cc)
 
 -- ---- an answer that is no refusal
 
@@ -131,6 +131,23 @@ of_limit wanted cert bytes s a not (settled start step goal f g h answer parts s
 
 systems : {words : List (List ℕ)} {rest before after : Option (List ℕ)} {s : Status} (settings : List Setting) → Asks words (System settings) → (a : IsAnswered words rest before after s) → IsSystemAnswer (depth_of settings) (cert_of settings) a.given.bytes a.answer
 systems {words} settings asks a = command_given words a.given.bytes (System settings) a.answer asks a.given.lawful
+
+-- what is printed with HOLDS
+decided_verifies : (cert : Bool) (bytes : List ℕ) (f g h : Formula) (limit k : ℕ) (shown : Proof) (a : Answer) → AreSystem bytes f g h → IsDecided f g h limit cert a → a ≡ paths_hold k (Some shown) → length shown.formula ≤ 1048576
+    → IsParted (IsChecked kinds.Infinite) (with_certificate shown.formula shown.certificate) (checked verdicts.Verified)
+decided_verifies cert bytes f g h limit k shown a are (kept j proof unrefuted unsat proves) e short = proof_verified cert bytes f g h j proof are proves shown (same_proof j k proof shown e) short
+  where
+    same_proof : (j k : ℕ) (proof : Option Proof) (shown : Proof) → paths_hold j proof ≡ paths_hold k (Some shown) → proof ≡ Some shown
+    same_proof j k proof shown e = cc
+decided_verifies cert bytes f g h limit k shown a are (pathless j unsat) e short = absurd (cc)
+decided_verifies cert bytes f g h limit k shown a are (broken j t unrefuted sat run reads) e short = absurd (cc)
+decided_verifies cert bytes f g h limit k shown a are (undecided_yet j unrefuted open_still) e short = absurd (cc)
+
+pub printed_system_verifies : (wanted : Option ℕ) (cert : Bool) (bytes : List ℕ) (k : ℕ) (shown : Proof) → IsSystemAnswer wanted cert bytes (paths_hold k (Some shown)) → length shown.formula ≤ 1048576
+    → IsParted (IsChecked kinds.Infinite) (with_certificate shown.formula shown.certificate) (checked verdicts.Verified)
+printed_system_verifies wanted cert bytes k shown is short =
+    let w = of_limit wanted cert bytes statuses.Good (paths_hold k (Some shown)) refl is refl in
+    decided_verifies cert bytes w.f w.g w.h w.limit k shown (paths_hold k (Some shown)) w.are w.decided_there refl short
 
 holds_from : {words : List (List ℕ)} {rest before after : Option (List ℕ)} → (settings : List Setting) → Asks words (System settings) → IsAnswered words rest before after statuses.Good → OfSystem rest (λ f g h. PrintsHolds (cert_of settings) f g h before after)
 holds_from {words} {rest} {before} {after} settings asks a =

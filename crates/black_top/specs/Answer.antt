@@ -1,5 +1,5 @@
 -- The answers, each with its status and its text.
-use Rattle.std.specs.Prelude.{◌≡◌, ℕ, List, Option, true, false, if◌then◌else◌, Bool}
+use Rattle.std.specs.Prelude.{◌≡◌, ℕ, List, Option, Some, None, is_some, true, false, if◌then◌else◌, Bool}
 use Rattle.std.specs.List.{list_all}
 use Rattle.ltl_syntax.specs.Formula.{Formula}
 use Rattle.ltl_syntax.specs.Print.{text_of as formula_text}
@@ -120,10 +120,16 @@ text_of (watched answers) = answers_text answers
 text_of (depasted f) = depasted_text (formula_text f)
 text_of (lifted f trace) = lifted_text (formula_text f) trace
 
--- the answers are the same, but for the trace and the certificate
+-- the formula that is printed with its certificate, where one is
+abbrev pub shown_formula : Option Proof → Option (List ℕ)
+shown_formula None = None
+shown_formula (Some proof) = Some proof.formula
+
+-- the answers are the same, but for the trace and the text of the certificate, which both have or neither has
 abbrev pub AreAlike : Answer → Answer → Type 0
 AreAlike (sat depth trace) (sat depth' trace') = depth ≡ depth'
-AreAlike (unsat depth core certificate) (unsat depth' core' certificate') = (depth ≡ depth') × (core ≡ core')
-AreAlike (paths_hold depth proof) (paths_hold depth' proof') = depth ≡ depth'
+AreAlike (unsat depth core certificate) (unsat depth' core' certificate') =
+    (depth ≡ depth') × (core ≡ core') × (is_some certificate ≡ is_some certificate')
+AreAlike (paths_hold depth proof) (paths_hold depth' proof') = (depth ≡ depth') × (shown_formula proof ≡ shown_formula proof')
 AreAlike (path_fails depth trace) (path_fails depth' trace') = depth ≡ depth'
 AreAlike one other = one ≡ other

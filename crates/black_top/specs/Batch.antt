@@ -68,5 +68,7 @@ pub record BatchPromise (settings : List Setting) (IsQuiet : Type 0) (rest left 
       → (status ≡ statuses.NoMemory) ⊎ PrintsAnswers (kind_of settings) (depth_of settings) bytes before after status
   -- the source is untouched past the first read that brings what was taken above the limit
   pub most : LosesAtMost 16842752 rest left
+  -- where a read failed, no more than the limit was taken before
+  pub before_fault : status ≡ statuses.ReadFault → LosesAtMost max_batch rest left
   -- and it is read until then, or to its end
   pub taken : IsTrue (has_read status) → IsTakenUpTo max_batch rest left

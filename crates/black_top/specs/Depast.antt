@@ -5,11 +5,11 @@ use Rattle.ltl_syntax.specs.declared.node.Kind.{Kind}
 use Rattle.ltl_syntax.specs.Formula.{Formula}
 use Rattle.ltl_syntax.specs.Print.{text_of}
 use Rattle.ltl_syntax.specs.Size.{formula_size}
-use Rattle.ltl_parser.specs.Text.{IsAccepted}
+use Rattle.ltl_parser.specs.Text.{ReadsText, IsAccepted}
 use Rattle.ltl_word.specs.declared.trace.Trace.{Trace}
 use Rattle.ltl_word.specs.Trace.{IsTrace, IsPosition}
 use Rattle.ltl_word.specs.Holds.{Holds, Satisfies}
-use Rattle.ltl_word.specs.Json.{IsReading, trace_text}
+use Rattle.ltl_word.specs.Json.{IsReading}
 use Rattle.ltl_word.specs.declared.json.TraceFault.TheVariants as trace_faults
 use Rattle.ltl_run.specs.Laws.{IsSatisfiable}
 use Rattle.lasso_eval.specs.Cells.{cells, max_cells, AreTooMany}
@@ -27,7 +27,7 @@ use Rattle.black_top.specs.Status.{has_read}
 use Rattle.black_top.specs.Parts.{IsCut, HasNoSeparator}
 use Rattle.black_top.specs.Taking.{AreLeft, IsTakenWhole}
 use Rattle.black_top.specs.Answer.{Answer, refused, depasted, lifted}
-use Rattle.black_top.specs.Reading.{RefusesPart}
+use Rattle.black_top.specs.Reading.{RefusesPart, ReadsBack}
 
 -- the input is a formula part alone, or one with a second part behind a separator line
 abbrev pub IsSplit : List ℕ → List ℕ → Option (List ℕ) → Type 0
@@ -35,14 +35,14 @@ IsSplit bytes part None = HasNoSeparator bytes × (part ≡ bytes)
 IsSplit bytes part (Some second) = IsCut bytes part second
 
 -- the answer to the text of a trace: the text is refused, the cells are too many, or the formula without past operators comes and a lifted trace.
--- Its text reads back as it, so names stand in its states in ascending order
+-- It reads back
 pub data IsRaised (f : Formula) (text : List ℕ) : Answer → Type 0 where
   not_json : IsReading text (Err trace_faults.NotJson) → IsRaised f text (refused faults.NotJson)
   not_trace : IsReading text (Err trace_faults.NotTrace) → IsRaised f text (refused faults.NotTrace)
   empty_loop : IsReading text (Err trace_faults.EmptyLoop) → IsRaised f text (refused faults.EmptyLoop)
   empty_states : IsReading text (Err trace_faults.EmptyStates) → IsRaised f text (refused faults.EmptyStates)
   many_cells : (t : Trace) (count : ℕ) → IsReading text (Ok t) → AreTooMany t f count → IsRaised f text (refused (faults.Cells count))
-  raised : (t u : Trace) → IsReading text (Ok t) → cells t f ≤ max_cells → IsLifted f t u → IsReading (trace_text u) (Ok u) → IsRaised f text (lifted (depast f) u)
+  raised : (t u : Trace) → IsReading text (Ok t) → cells t f ≤ max_cells → IsLifted f t u → ReadsBack u → IsRaised f text (lifted (depast f) u)
 
 -- and without such a text the formula without past operators comes
 abbrev pub IsShownBy : Formula → Option (List ℕ) → Answer → Type 0
@@ -54,10 +54,14 @@ pub data IsWithout (f : Formula) (second : Option (List ℕ)) : Answer → Type 
   too_large : (count : ℕ) → IsTooLarge f count → IsWithout f second (refused (faults.PastNodes count))
   small : (answer : Answer) → formula_size (depast f) ≤ 16384 → IsShownBy f second answer → IsWithout f second answer
 
+-- the printed formula without past operators reads as itself: each new name is one of a formula
+abbrev pub IsReadAgain : Formula → Type 0
+IsReadAgain f = ReadsText (text_of (depast f)) (depast f)
+
 -- the answer to a formula part, and to a second part where one is there
 pub data IsPartAnswer (part : List ℕ) (second : Option (List ℕ)) : Answer → Type 0 where
   unread : (fault : Fault) → RefusesPart part fault → IsPartAnswer part second (refused fault)
-  accepted : (f : Formula) (answer : Answer) → IsAccepted part f → IsWithout f second answer → IsPartAnswer part second answer
+  accepted : (f : Formula) (answer : Answer) → IsAccepted part f → IsReadAgain f → IsWithout f second answer → IsPartAnswer part second answer
 
 -- the answer of `depast` to the input
 abbrev pub IsDepasted : List ℕ → Answer → Type 0
@@ -83,6 +87,7 @@ pub record PrintsLifted (f : Formula) (text : List ℕ) (before after : Option (
   pub read : IsReading text (Ok given)
   pub shown : Trace
   pub is : IsLifted f given shown
+  pub reads : ReadsBack shown
   pub kept : KeepsTruth f given shown
   pub printed : Grows (lifted_text (text_of (depast f)) shown) before after
 
@@ -91,8 +96,10 @@ abbrev pub Prints : Formula → Option (List ℕ) → Option (List ℕ) → Opti
 Prints f None before after = Grows (depasted_text (text_of (depast f))) before after
 Prints f (Some text) before after = PrintsLifted f text before after
 
+-- it was so, the formula without past operators is as good as the formula, and its line reads as it
 pub record PrintsWithoutPast (f : Formula) (second before after : Option (List ℕ)) : Type 0 where
   pub sound : IsSound f
+  pub reads : IsReadAgain f
   pub prints : Prints f second before after
 
 -- what is claimed of the accepted formula, and of the second part that the source had left behind it

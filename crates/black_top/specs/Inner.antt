@@ -1,18 +1,16 @@
 -- What the private calls give. No public contract cites this file.
 use Rattle.std.specs.Prelude.{◌≡◌, ◌<◌, ◌≤◌, ℕ, List, ◌++◌, length, Option, Some, None}
-use Rattle.std.specs.Option.{unwrap_or}
 use Rattle.ltl_syntax.specs.Formula.{nodes_in}
 use Rattle.ltl_syntax.specs.Size.{sizes, formula_size}
 use Rattle.ltl_syntax.specs.Table.{tree_at}
 use Rattle.ltl_parser.specs.Text.{IsAccepted}
 use Rattle.black_top.specs.declared.output.Output.{Output}
-use Rattle.black_top.specs.declared.commands.coming.Front.{Front}
 use Rattle.black_top.specs.declared.reading.Reading.{Reading}
 use Rattle.black_top.specs.declared.reading.Reading.TheVariants as readings
 use Rattle.command_words.specs.declared.asked.Asked.{Asked}
 use Rattle.command_words.specs.declared.asked.Asked.TheVariants as asked
 use Rattle.command_words.specs.Asked.{IsDepth, AreWorkers}
-use Rattle.black_top.specs.Parts.{IsSeparator, EndsLine, BeginsLine, IsCut}
+use Rattle.black_top.specs.Parts.{IsSeparator, EndsLine, BeginsLine}
 use Rattle.black_top.specs.Taking.{AreLeft}
 use Rattle.black_top.specs.Answer.{Answer, status_of, text_of}
 use Rattle.black_top.specs.Reading.{RefusesPart, IsParted}
@@ -35,10 +33,6 @@ IsInBounds (asked.Batch options) = IsDepth options.depth × AreWorkers options.w
 IsInBounds (asked.System options) = IsDepth options.depth
 IsInBounds asked.Monitor = Unit {0}
 IsInBounds asked.Depast = Unit {0}
-
--- more than one worker is asked for
-abbrev pub AreSeveral : Option ℕ → Type 0
-AreSeveral workers = 1 < unwrap_or workers 1
 
 -- the command's answer to the bytes
 abbrev pub Gives : Asked → List ℕ → Answer → Type 0
@@ -67,14 +61,6 @@ abbrev pub IsPartReading : List ℕ → Reading → Type 0
 IsPartReading text (readings.Formula table root) =
     (root < length table.nodes) × IsAccepted text (tree_at table root) × (length table.nodes ≡ nodes_in (tree_at table root)) × (sizes table.nodes ≡ formula_size (tree_at table root))
 IsPartReading text (readings.Refused fault) = RefusesPart text fault
-
--- the bytes are cut into a text that is accepted, of which the table has the tree, and into one that is not empty
-pub record IsFront (bytes : List ℕ) (front : Front) : Type 0 where
-  pub part : List ℕ
-  pub cut : IsCut bytes part front.text.items
-  pub root : front.root < length front.table.nodes
-  pub accepted : IsAccepted part (tree_at front.table front.root)
-  pub some : 0 < length front.text.items
 
 -- a separator line begins so many bytes from the start, and this stands behind it
 pub record OpensSecond (bytes : List ℕ) (start : ℕ) (second : List ℕ) : Type 0 where

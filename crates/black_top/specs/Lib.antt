@@ -17,3 +17,4 @@ pub mod SystemInner
 pub mod Inner
 pub mod Run
 pub mod Workers
+pub mod Laws

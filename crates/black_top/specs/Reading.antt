@@ -1,9 +1,11 @@
--- The formula part of an input: its refusals, and the answer to an input of two parts.
-use Rattle.std.specs.Prelude.{◌≡◌, ◌≤◌, ◌<◌, ℕ, List, length}
+-- The formula part of an input: its refusals, the answer to an input of two parts, and the printed text of a trace.
+use Rattle.std.specs.Prelude.{◌≡◌, ◌≤◌, ◌<◌, ℕ, List, length, Ok}
 use Rattle.ltl_lexer.specs.Tokens.{IsLexicalFault}
 use Rattle.ltl_parser.specs.Text.{ReadsText, IsGrammarFault, IsAccepted}
 use Rattle.ltl_syntax.specs.Formula.{Formula}
 use Rattle.ltl_syntax.specs.Size.{formula_size}
+use Rattle.ltl_word.specs.declared.trace.Trace.{Trace}
+use Rattle.ltl_word.specs.Json.{IsReading, trace_text}
 use Rattle.report.specs.declared.fault.Fault.{Fault}
 use Rattle.report.specs.declared.fault.Fault.TheVariants as faults
 use Rattle.black_top.specs.Answer.{Answer, refused}
@@ -26,3 +28,7 @@ pub data IsParted (Claim : Formula → List ℕ → Answer → Type 0) (bytes : 
   uncut : HasNoSeparator bytes → IsParted Claim bytes (refused faults.NoSeparator)
   unread : (part second : List ℕ) (fault : Fault) → IsCut bytes part second → RefusesPart part fault → IsParted Claim bytes (refused fault)
   accepted : (part second : List ℕ) (f : Formula) (answer : Answer) → IsCut bytes part second → IsAccepted part f → Claim f second answer → IsParted Claim bytes answer
+
+-- the text that is printed of the trace reads back as it, so the names of a state stand in it in ascending order, each once
+abbrev pub ReadsBack : Trace → Type 0
+ReadsBack t = IsReading (trace_text t) (Ok t)

@@ -7,8 +7,13 @@ use Rattle.ltl_parser.specs.Text.{IsAccepted}
 use Rattle.ltl_word.specs.declared.trace.Trace.{Trace}
 use Rattle.ltl_closure.specs.Run.{IsVerdict, Sat, Unsat, Undecided, bound}
 use Rattle.enc_layout.specs.Letters.{Fits}
-use Rattle.unravel.specs.Decision.{IsTraceOfRun, IsModel, HasNoTrace}
+use Rattle.clause_log.specs.LogValue.{LogValue, IsLog}
+use Rattle.log_trim.specs.Kept.{Marks}
+use Rattle.log_trim.specs.Trimmed.{IsTrimmed}
+use Rattle.unravel.specs.Decision.{IsTraceOfRun, IsModel, HasNoTrace, IsRefutation}
 use Rattle.enc_layout.specs.Limit.{layout, IsInForce}
+use Rattle.cert_text.specs.Text.{text_of as certificate_text}
+use Rattle.cert_text.specs.Writing.{written}
 use Rattle.cert_check.specs.Lawful.{IsLawfulAt}
 use Rattle.report.specs.declared.fault.Fault.{Fault}
 use Rattle.report.specs.declared.fault.Fault.TheVariants as faults
@@ -19,7 +24,7 @@ use Rattle.black_top.specs.Status.{has_read}
 use Rattle.command_words.specs.Words.{Setting, kind_of, depth_of, core_of, cert_of}
 use Rattle.black_top.specs.Taking.{AreLeft, IsTakenUpTo}
 use Rattle.black_top.specs.Answer.{Answer, refused, sat, unsat, undecided, status_of, text_of}
-use Rattle.black_top.specs.Reading.{RefusesPart}
+use Rattle.black_top.specs.Reading.{RefusesPart, ReadsBack}
 use Rattle.black_top.specs.Check.{IsVerified}
 use Rattle.black_top.specs.Conflict.{ShowsCore, TellsConflict}
 
@@ -33,15 +38,28 @@ abbrev pub IsReached : Option ℕ → ℕ → Type 0
 IsReached (Some n) d = d ≡ n
 IsReached None d = Unit {0}
 
--- a certificate is shown exactly where one is asked for, and it is lawful for the formula and the kind, and of this depth
+-- the text is written of a log that refutes the formula at this depth: its version is 2, it has just the lines that the targets of the log stand on, and
+-- each of them is deleted behind its last use
+pub record IsWritten (f : Formula) (kind : Kind) (k : ℕ) (text : List ℕ) : Type 0 where
+  pub log : LogValue
+  pub closing : List ℕ
+  pub steps : IsLog log
+  pub refutes : IsRefutation f kind k log closing
+  pub needed : LogValue
+  pub targets : List ℕ
+  pub marks : Marks
+  pub trimmed : IsTrimmed log closing needed targets marks
+  pub spelled : text ≡ certificate_text (written kind k needed.lines needed.hints targets)
+
+-- a certificate is shown exactly where one is asked for. It is lawful for the formula and the kind, and of this depth, and it is written of a log
 abbrev pub Certifies : Bool → Formula → Kind → ℕ → Option (List ℕ) → Type 0
 Certifies false f kind k certificate = certificate ≡ None
-Certifies true f kind k certificate = (text : List ℕ) × (certificate ≡ Some text) × IsLawfulAt f kind k text
+Certifies true f kind k certificate = (text : List ℕ) × (certificate ≡ Some text) × IsLawfulAt f kind k text × IsWritten f kind k text
 
--- the answer is the tableau's verdict at the limit, its trace is that of an accepted run, its core the formula's for the asked number, and its
--- certificate is lawful and of the verdict's depth
+-- the answer is the tableau's verdict at the limit, its trace is that of an accepted run and reads back, its core is the formula's for the asked number,
+-- and its certificate is lawful and of the verdict's depth
 pub data IsDecided (f : Formula) (kind : Kind) (asked limit : ℕ) (core cert : Bool) : Answer → Type 0 where
-  satisfiable : (k : ℕ) (t : Trace) → IsVerdict f kind limit (Sat k) → IsTraceOfRun f kind k t → IsDecided f kind asked limit core cert (sat k t)
+  satisfiable : (k : ℕ) (t : Trace) → IsVerdict f kind limit (Sat k) → IsTraceOfRun f kind k t → ReadsBack t → IsDecided f kind asked limit core cert (sat k t)
   unsatisfiable : (k : ℕ) (conflict certificate : Option (List ℕ)) → IsVerdict f kind limit (Unsat k) → ShowsCore core f kind asked conflict
       → Certifies cert f kind k certificate → IsDecided f kind asked limit core cert (unsat k conflict certificate)
   undecided_yet : (k : ℕ) → IsVerdict f kind limit (Undecided k) → IsDecided f kind asked limit core cert (undecided k)
@@ -57,15 +75,17 @@ pub data IsSolved (kind : Kind) (wanted : Option ℕ) (core cert : Bool) (part :
   unreadable : (fault : Fault) → RefusesPart part fault → IsSolved kind wanted core cert part (refused fault)
   settled : (f : Formula) (answer : Answer) → IsAccepted part f → IsSettled kind wanted core cert f answer → IsSolved kind wanted core cert part answer
 
--- SAT was printed with a trace of the kind that satisfies the formula
+-- SAT was printed with a trace of the kind that satisfies the formula, and what was printed reads back as that trace
 pub record PrintsModel (kind : Kind) (f : Formula) (before after : Option (List ℕ)) : Type 0 where
   pub depth : ℕ
   pub trace : Trace
   pub model : IsModel f kind trace
+  pub reads : ReadsBack trace
   pub printed : Grows (sat_text depth trace) before after
 
 -- UNSAT was printed, and no trace of the kind satisfies the formula. Where a core is asked for, the formula's was printed, which is locally minimal.
--- Where a certificate is asked for, one was printed that is lawful and of the printed depth, and `check` verifies it behind the text of the formula
+-- Where a certificate is asked for, one was printed that is lawful, of the printed depth and written of a log, and `check` verifies it behind the text of
+-- the formula
 pub record PrintsNone (kind : Kind) (wanted : Option ℕ) (core cert : Bool) (part : List ℕ) (f : Formula) (before after : Option (List ℕ)) : Type 0 where
   pub depth : ℕ
   pub conflict : Option (List ℕ)
@@ -119,5 +139,7 @@ pub record SolvePromise (settings : List Setting) (IsQuiet : Type 0) (rest left 
       → (status ≡ statuses.NoMemory) ⊎ PrintsVerdict (kind_of settings) (depth_of settings) (core_of settings) (cert_of settings) f before after status
   -- the source is untouched past the first read that brings what was taken above the limit of a text
   pub most : LosesAtMost 1114112 rest left
+  -- where a read failed, no more than that limit was taken before
+  pub before_fault : status ≡ statuses.ReadFault → LosesAtMost 1048576 rest left
   -- and it is read until then, or to its end
   pub taken : IsTrue (has_read status) → IsTakenUpTo 1048576 rest left

@@ -28,8 +28,8 @@ use Rattle.black_top.specs.Status.{has_read}
 use Rattle.black_top.specs.Parts.{IsCut, HasNoSeparator}
 use Rattle.black_top.specs.Taking.{AreLeft, IsTakenWhole}
 use Rattle.black_top.specs.Answer.{Answer, refused, no_path, paths_hold, path_fails, undecided, status_of, text_of, checked}
-use Rattle.black_top.specs.Reading.{IsParted}
-use Rattle.black_top.specs.Solve.{number_of, IsReached, AreFewLetters}
+use Rattle.black_top.specs.Reading.{IsParted, ReadsBack}
+use Rattle.black_top.specs.Solve.{number_of, IsReached, AreFewLetters, IsWritten}
 use Rattle.black_top.specs.Check.{IsChecked, with_certificate}
 
 -- ---- the three parts
@@ -61,19 +61,20 @@ pub data HasFault (bytes behind start step goal : List ℕ) (fault : Fault) : Ty
 
 -- ---- the answer
 
--- where a certificate is asked for, the whole formula is printed with one that is lawful and of the depth
+-- where a certificate is asked for, the whole formula is printed with one that is lawful, of the depth, and written of a log
 abbrev pub ProvesWhole : Bool → Formula → ℕ → Option Proof → Type 0
 ProvesWhole false whole k proof = proof ≡ None
-ProvesWhole true whole k proof = (text : List ℕ) × (proof ≡ Some (record { formula = printed whole; certificate = text })) × IsLawfulAt whole kinds.Infinite k text
+ProvesWhole true whole k proof = (text : List ℕ) × (proof ≡ Some (record { formula = printed whole; certificate = text }))
+    × IsLawfulAt whole kinds.Infinite k text × IsWritten whole kinds.Infinite k text
 
--- NO PATH where the system formula is refuted. Else HOLDS where the whole formula is refuted, FAILS where it has an accepted run, and UNDECIDED where
--- its verdict is so
+-- NO PATH where the system formula is refuted. Else HOLDS where the whole formula is refuted, FAILS where it has an accepted run, with a trace of the run
+-- that reads back, and UNDECIDED where its verdict is so
 pub data IsDecided (start step goal : Formula) (limit : ℕ) (cert : Bool) : Answer → Type 0 where
   pathless : (k : ℕ) → Says (system_of start step) limit (Unsat k) → IsDecided start step goal limit cert (no_path k)
   kept : (k : ℕ) (proof : Option Proof) → IsNotRefuted (system_of start step) limit → Says (whole_of start step goal) limit (Unsat k) → ProvesWhole cert (whole_of start step goal) k proof
       → IsDecided start step goal limit cert (paths_hold k proof)
   broken : (k : ℕ) (t : Trace) → IsNotRefuted (system_of start step) limit → Says (whole_of start step goal) limit (Sat k) → IsTraceOfRun (whole_of start step goal) kinds.Infinite k t
-      → IsDecided start step goal limit cert (path_fails k t)
+      → ReadsBack t → IsDecided start step goal limit cert (path_fails k t)
   undecided_yet : (d : ℕ) → IsNotRefuted (system_of start step) limit → Says (whole_of start step goal) limit (Undecided d) → IsDecided start step goal limit cert (undecided d)
 
 -- the answer to three formulas: the whole formula is too large, the start or else the step misses its form, the depth that was asked for has too
@@ -97,8 +98,8 @@ pub data IsSystemAnswer (wanted : Option ℕ) (cert : Bool) (bytes : List ℕ) :
 
 -- ---- what is promised
 
--- HOLDS was printed, and each path satisfies the goal. Where a certificate is asked for, the whole formula is printed with one that is lawful, and
--- `check` verifies it behind the printed formula, unless that is longer than a formula's text may be
+-- HOLDS was printed, and each path satisfies the goal. Where a certificate is asked for, the whole formula is printed with one that is lawful and written
+-- of a log, and `check` verifies it behind the printed formula, unless that is longer than a formula's text may be
 pub record PrintsHolds (cert : Bool) (start step goal : Formula) (before after : Option (List ℕ)) : Type 0 where
   pub depth : ℕ
   pub proof : Option Proof
@@ -107,12 +108,13 @@ pub record PrintsHolds (cert : Bool) (start step goal : Formula) (before after :
   pub verified : (shown : Proof) → proof ≡ Some shown → length shown.formula ≤ 1048576 → IsParted (IsChecked kinds.Infinite) (with_certificate shown.formula shown.certificate) (checked verdicts.Verified)
   pub shows : Grows (paths_hold_text depth proof) before after
 
--- FAILS was printed with a path that does not satisfy the goal
+-- FAILS was printed with a path that does not satisfy the goal, and what was printed reads back as that path
 pub record PrintsFails (start step goal : Formula) (before after : Option (List ℕ)) : Type 0 where
   pub depth : ℕ
   pub trace : Trace
   pub path : IsPath start step trace
   pub fails : ¬ Satisfies trace goal
+  pub reads : ReadsBack trace
   pub shows : Grows (path_fails_text depth trace) before after
 
 -- NO PATH was printed, and no trace is a path

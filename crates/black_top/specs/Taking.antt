@@ -27,8 +27,14 @@ Takes (System settings) before after = IsTakenWhole before after
 Takes Monitor before after = IsTakenWhole before after
 Takes Depast before after = IsTakenWhole before after
 
--- and what it takes at most, wherever a read fails
+-- and what it takes at most, whatever fails
 abbrev pub TakesAtMost : Command → Option (List ℕ) → Option (List ℕ) → Type 0
 TakesAtMost (Solve settings) before after = LosesAtMost 1114112 before after
 TakesAtMost (Batch settings) before after = LosesAtMost 16842752 before after
 TakesAtMost command before after = Unit {0}
+
+-- where a read fails, no more than the limit was taken before
+abbrev pub TakesBeforeFault : Command → Option (List ℕ) → Option (List ℕ) → Type 0
+TakesBeforeFault (Solve settings) before after = LosesAtMost 1048576 before after
+TakesBeforeFault (Batch settings) before after = LosesAtMost 16777216 before after
+TakesBeforeFault command before after = Unit {0}

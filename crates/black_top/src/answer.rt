@@ -1,6 +1,5 @@
 // The answer to words and a source. The source is read once, as far as the command goes, and not at all where
-// the words ask for no command, or for one that needs nothing of it. Bytes are answered when all are there,
-// but for a certificate that several workers check.
+// the words ask for no command, or for one that needs nothing of it. Bytes are answered when all are there.
 ghost use Rattle.std.specs.Prelude.{◌≡◌, map, string_bytes, IfOk, OnOk, IsErrOf};
 ghost use Rattle.ltl_io.specs.Count.{Rose, Counts};
 ghost use Rattle.ltl_io.specs.declared.source.ReadRefused.TheVariants as read_refused;
@@ -8,10 +7,9 @@ ghost use Rattle.command_words.specs.Words.{Command, Asks};
 ghost use Rattle.black_top.specs.Answer.{Answer};
 ghost use Rattle.black_top.specs.Inner.{Shows};
 ghost use Rattle.black_top.specs.Run.{IsGiven, NeedsNothing};
-ghost use Rattle.black_top.specs.Taking.{Takes, TakesAtMost};
+ghost use Rattle.black_top.specs.Taking.{Takes, TakesAtMost, TakesBeforeFault};
 
-use crate::commands::coming::check_source;
-use crate::commands::{by_several, output, stop_after};
+use crate::commands::{output, stop_after};
 use crate::output::{Output, refusal};
 use command_words::asked_command;
 use ltl_io::{Gate, ReadRefused, Source, read_whole};
@@ -36,15 +34,15 @@ pub fn answer<R: Threads + Sync, S: Source, G: Gate + Sync>(
     ensures unread { NeedsNothing (map string_bytes words.now) → source.new ≡ source.old }
     ensures most { (command : Command) → Asks (map string_bytes words.now) command
         → TakesAtMost command (S.rest source.old) (S.rest source.new) }
+    ensures before_fault { IsErrOf result read_refused.Fault → (command : Command)
+        → Asks (map string_bytes words.now) command
+        → TakesBeforeFault command (S.rest source.old) (S.rest source.new) }
     ensures left { (command : Command) → Asks (map string_bytes words.now) command
         → OnOk result (Takes command (S.rest source.old) (S.rest source.new)) }
 {
     let Some(asked) = asked_command(alloc, words)? else {
         return Ok(refusal(alloc, Fault::Usage)?);
     };
-    if let Some(options) = by_several(asked) {
-        return check_source(rt, alloc, options, source, gate);
-    }
     let Some(most) = stop_after(asked) else {
         return Ok(output(rt, alloc, asked, b"", gate)?);
     };

@@ -1,12 +1,10 @@
 // The commands. Each is one call, from what its words say and the bytes that were read to what is shown.
-ghost use Rattle.std.specs.Prelude.{◌≡◌, IfOk, IfSome};
+ghost use Rattle.std.specs.Prelude.{◌≡◌, IfOk};
 ghost use Rattle.black_top.specs.Answer.{Answer};
-ghost use Rattle.black_top.specs.Inner.{Shows, Gives, AreSeveral, IsInBounds, stop_after};
-ghost use Rattle.command_words.specs.declared.asked.Asked.TheVariants as commands;
+ghost use Rattle.black_top.specs.Inner.{Shows, Gives, IsInBounds, stop_after};
 
 mod batch;
-pub mod check;
-pub mod coming;
+mod check;
 mod conflict;
 mod demo;
 mod monitor;
@@ -15,23 +13,12 @@ mod solve;
 mod system;
 mod trace;
 
-use crate::commands::check::DEFAULT_WORKERS;
 use crate::output::Output;
 use crate::reading::MAX_TEXT;
-use command_words::{Asked, Options};
+use command_words::Asked;
 use ltl_io::Gate;
 use std::alloc::{AllocError, Global};
 use std::thread::Threads;
-
-/// The options of a check by several workers, which need not wait until all of the source is read.
-pub fn by_several(asked: Asked) -> Option<Options>
-    ensures { IfSome result (λ options. (asked ≡ commands.Check options) × AreSeveral options.workers) }
-{
-    match asked {
-        Asked::Check(options) if options.workers.unwrap_or(DEFAULT_WORKERS) > 1 => Some(options),
-        _ => None,
-    }
-}
 
 /// After how many bytes the source is read no further. None where it is not read.
 pub fn stop_after(asked: Asked) -> Option<usize>

@@ -1,10 +1,12 @@
 // The text and the status of each answer.
-ghost use Rattle.std.specs.Prelude.{◌≡◌, true, false, IfOk, Some, None};
+ghost use Rattle.std.specs.Prelude.{◌≡◌, true, false, IfOk, OnOk, Some, None};
 ghost use Rattle.std.specs.Option.{option_copied};
+ghost use Rattle.ltl_word.specs.Trace.{IsTrace};
 ghost use Rattle.black_top.specs.Answer.{refused, sat, unsat, undecided, holds, fails, checked, summary};
 ghost use Rattle.black_top.specs.Answer.{batched, no_path, paths_hold, path_fails, watched};
 ghost use Rattle.black_top.specs.Answer.{fault_status, shown_status, are_true, watched_status};
 ghost use Rattle.black_top.specs.Inner.{Shows};
+ghost use Rattle.black_top.specs.Reading.{ReadsBack};
 
 use crate::Status;
 use batch_run::{Answer, all_verdicts, batch_text};
@@ -22,7 +24,8 @@ pub struct Output {
 
 /// SAT at the depth, and the trace.
 pub fn sat(alloc: Global, depth: u32, trace: &Trace) -> Result<Output, AllocError>
-    ensures { IfOk result (λ out. Shows out (sat depth trace.now)) }
+    ensures shows { IfOk result (λ out. Shows out (sat depth trace.now)) }
+    ensures reads { OnOk result (IsTrace trace.now → ReadsBack trace.now) }
 {
     Ok(Output {
         status: Status::Sat,
@@ -163,7 +166,8 @@ pub fn paths_hold_by(
 
 /// FAILS at the depth, and the path.
 pub fn path_fails(alloc: Global, depth: u32, path: &Trace) -> Result<Output, AllocError>
-    ensures { IfOk result (λ out. Shows out (path_fails depth path.now)) }
+    ensures shows { IfOk result (λ out. Shows out (path_fails depth path.now)) }
+    ensures reads { OnOk result (IsTrace path.now → ReadsBack path.now) }
 {
     Ok(Output {
         status: Status::Negative,

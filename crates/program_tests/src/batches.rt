@@ -1,5 +1,5 @@
 // Batches that were worked by hand.
-use crate::meeting::Meeting;
+use crate::gates::{Meeting, Roll};
 use batch_run::{all_verdicts, answers, batch_text, laws};
 use ltl_io::NoGate;
 use ltl_syntax::Kind;
@@ -79,5 +79,27 @@ fn two_lines_at_once(rt: HostRuntime) -> Result<(), Fail> {
     let gate = Meeting::new();
     answers(&rt, rt.alloc(), b"p\np\n", Kind::Infinite, 64, 2, &gate)?;
     assert!(rt; gate.met());
+    Ok(())
+}
+
+/// The gate is told once of each line, and the numbers go on from group to group: over fifty lines, which are
+/// more than three groups of the workers, and over three times as many lines as are decided at once.
+#[test]
+fn lines_are_told_once(rt: HostRuntime) -> Result<(), Fail> {
+    let alloc = rt.alloc();
+    for (workers, lines) in [(1u32, 50u64), (2, 50), (16, 50), (1, 131_080)] {
+        let mut text = Vec::new(alloc);
+        for _line in 0..lines {
+            text.extend_from_slice(b"$\n")?;
+        }
+        assert!(rt; text.len() <= 16_777_216);
+        let gate = Roll::new(alloc)?;
+        let found = answers(&rt, alloc, &text, Kind::Infinite, 64, workers, &gate)?;
+        assert!(rt; found.len() as u64 == lines);
+        for piece in 0..64u32 {
+            assert!(rt; gate.count(piece) == ((piece as u64) < lines) as u64);
+        }
+        assert!(rt; gate.count(64) == lines.saturating_sub(64));
+    }
     Ok(())
 }

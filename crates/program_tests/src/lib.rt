@@ -4,7 +4,7 @@
 #[cfg(test)]
 mod batches;
 #[cfg(test)]
-mod meeting;
+mod gates;
 #[cfg(test)]
 mod reports;
 #[cfg(test)]

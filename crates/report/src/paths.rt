@@ -1,5 +1,7 @@
 // The texts of the answers on a system: about all of its paths, or one of them.
-ghost use Rattle.std.specs.Prelude.{◌≡◌, IfOk, Some, None};
+ghost use Rattle.std.specs.Prelude.{◌≡◌, Ok, IfOk, OnOk, Some, None};
+ghost use Rattle.ltl_word.specs.Trace.{IsTrace};
+ghost use Rattle.ltl_word.specs.Json.{IsReading, trace_text};
 ghost use Rattle.report.specs.Texts.{numbered, no_path_text, paths_hold_text, path_fails_text};
 
 use crate::line::{line, numbered};
@@ -40,7 +42,9 @@ pub fn paths_hold_by(
 
 /// FAILS at the depth, and the path.
 pub fn path_fails(alloc: Global, depth: u32, path: &Trace) -> Result<Vec<u8>, AllocError>
-    ensures { IfOk result (λ text. text.items ≡ path_fails_text depth path.now) }
+    ensures text { IfOk result (λ text. text.items ≡ path_fails_text depth path.now) }
+    // What stands behind the depth reads back as the path.
+    ensures reads { OnOk result (IsTrace path.now → IsReading (trace_text path.now) (Ok path.now)) }
 {
     let json = path.to_json(alloc)?;
     let mut text = numbered(alloc, b"FAILS ", depth.into())?;

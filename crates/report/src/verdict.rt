@@ -1,6 +1,8 @@
 // The texts of the verdicts, and of the truth of a formula on a trace.
-ghost use Rattle.std.specs.Prelude.{◌≡◌, ◌++◌, IfOk};
+ghost use Rattle.std.specs.Prelude.{◌≡◌, ◌++◌, Ok, IfOk, OnOk};
 ghost use Rattle.std.specs.Option.{option_copied};
+ghost use Rattle.ltl_word.specs.Trace.{IsTrace};
+ghost use Rattle.ltl_word.specs.Json.{IsReading, trace_text};
 ghost use Rattle.report.specs.Texts.{numbered, core_text, sat_text, unsat_text, undecided_text};
 ghost use Rattle.report.specs.Texts.{traced_text, checked_text};
 
@@ -11,7 +13,9 @@ use std::alloc::{AllocError, Global};
 
 /// SAT at the depth, and the trace.
 pub fn sat(alloc: Global, depth: u32, trace: &Trace) -> Result<Vec<u8>, AllocError>
-    ensures { IfOk result (λ text. text.items ≡ sat_text depth trace.now) }
+    ensures text { IfOk result (λ text. text.items ≡ sat_text depth trace.now) }
+    // What stands behind the depth reads back as the trace.
+    ensures reads { OnOk result (IsTrace trace.now → IsReading (trace_text trace.now) (Ok trace.now)) }
 {
     let json = trace.to_json(alloc)?;
     let mut text = numbered(alloc, b"SAT ", depth.into())?;

@@ -1,10 +1,7 @@
 // `check`: whether a certificate shows that no trace of the kind satisfies a formula. The input is both, with
 // a separator line between. Nothing is decided here: only the certificate counts.
-ghost use Rattle.std.specs.Prelude.{◌<◌, ◌≤◌, ℕ, List, length, IfOk};
-ghost use Rattle.ltl_syntax.specs.declared.node.Kind.{Kind};
-ghost use Rattle.ltl_syntax.specs.Formula.{Formula};
+ghost use Rattle.std.specs.Prelude.{◌<◌, ◌≤◌, length, IfOk};
 ghost use Rattle.ltl_syntax.specs.Table.{tree_at};
-ghost use Rattle.cert_check.specs.Coming.{IsSaidOf};
 ghost use Rattle.command_words.specs.Asked.{AreWorkers};
 ghost use Rattle.black_top.specs.Answer.{Answer};
 ghost use Rattle.black_top.specs.Reading.{IsParted};
@@ -14,7 +11,7 @@ ghost use Rattle.black_top.specs.Inner.{Shows};
 use crate::output::{Output, checked, refusal};
 use crate::parts::cut;
 use crate::reading::{Reading, read_formula};
-use cert_check::{CheckRefused, Verdict};
+use cert_check::CheckRefused;
 use command_words::Options;
 use ltl_io::Gate;
 use ltl_syntax::{FormulaTable, Kind};
@@ -58,7 +55,7 @@ pub fn check<R: Threads + Sync, G: Gate + Sync>(
     }
 }
 
-/// What is shown of a text by itself. Its lines are checked by so many workers.
+/// VERIFIED or REJECTED, or why the text is not checked. Its lines are checked by so many workers.
 fn judge<R: Threads + Sync, G: Gate + Sync>(
     rt: &R,
     alloc: Global,
@@ -75,16 +72,7 @@ fn judge<R: Threads + Sync, G: Gate + Sync>(
     ensures { IfOk result (λ out. (a : Answer)
         × IsChecked kind (tree_at table.now root) text.now a × Shows out a) }
 {
-    let said = cert_check::check(rt, alloc, table, root, kind, text, workers, gate);
-    shown(alloc, said)
-}
-
-/// VERIFIED or REJECTED, or why the text is not checked.
-pub fn shown(alloc: Global, said: Result<Verdict, CheckRefused>) -> Result<Output, AllocError>
-    ensures { (f : Formula) (kind : Kind) (text : List ℕ) → IsSaidOf f kind text said
-        → IfOk result (λ out. (a : Answer) × IsChecked kind f text a × Shows out a) }
-{
-    match said {
+    match cert_check::check(rt, alloc, table, root, kind, text, workers, gate) {
         Ok(verdict) => checked(alloc, verdict),
         Err(CheckRefused::Form(byte)) => refusal(alloc, Fault::Certificate(byte)),
         Err(CheckRefused::Letters(depth)) => refusal(alloc, Fault::Letters(depth)),

@@ -1,5 +1,6 @@
 // `solve --core`: which parts of a formula conflict, where no trace of the kind satisfies it.
 ghost use Rattle.std.specs.Prelude.{◌≤◌, ◌<◌, option_map, vec_items, IfOk};
+ghost use Rattle.ltl_syntax.specs.Formula.{HasNoFresh};
 ghost use Rattle.command_words.specs.Asked.{AreWorkers};
 ghost use Rattle.core_extract.specs.Core.{IsRefuted};
 ghost use Rattle.black_top.specs.Conflict.{ShowsCore};
@@ -24,6 +25,7 @@ pub fn shown_core<R: Threads + Sync, G: Gate + Sync>(
 ) -> Result<Option<Vec<u8>>, AllocError>
     requires asked { asked ≤ 1000 }
     requires workers { AreWorkers options.workers }
+    requires given { HasNoFresh closure.now.formula }
     requires refuted { IsRefuted closure.now.kind asked closure.now.formula }
     ensures { IfOk result (λ shown. ShowsCore options.core closure.now.formula closure.now.kind asked
         (option_map vec_items shown)) }

@@ -1,5 +1,6 @@
 // `solve`: whether a formula has a trace of the kind, by the tableau's verdict at the limit in force.
 ghost use Rattle.std.specs.Prelude.{◌<◌, ◌≤◌, length, option_map, vec_items, IfOk};
+ghost use Rattle.ltl_syntax.specs.Formula.{HasNoFresh};
 ghost use Rattle.ltl_syntax.specs.Table.{tree_at};
 ghost use Rattle.enc_layout.specs.Letters.{Fits};
 ghost use Rattle.enc_layout.specs.Clauses.{layout_of};
@@ -8,7 +9,7 @@ ghost use Rattle.unravel.specs.Decision.{IsRefutation};
 ghost use Rattle.cert_check.specs.Lawful.{IsLawfulAt};
 ghost use Rattle.command_words.specs.Asked.{IsDepth, AreWorkers};
 ghost use Rattle.black_top.specs.Answer.{Answer};
-ghost use Rattle.black_top.specs.Solve.{Certifies, IsSolved, IsSettled, IsDecided};
+ghost use Rattle.black_top.specs.Solve.{Certifies, IsWritten, IsSolved, IsSettled, IsDecided};
 ghost use Rattle.black_top.specs.Inner.{Shows};
 
 use super::conflict::shown_core;
@@ -42,6 +43,7 @@ pub fn solve<R: Threads + Sync, G: Gate + Sync>(
     ensures { IfOk result (λ out. (a : Answer)
         × IsSolved options.kind options.depth options.core options.cert text.now a × Shows out a) }
 {
+    ltl_parser::laws::no_fresh();
     match read_formula(alloc, text)? {
         Reading::Refused(fault) => refusal(alloc, fault),
         Reading::Formula { table, root } => settle(rt, alloc, &table, root, options, gate),
@@ -58,6 +60,7 @@ fn settle<R: Threads + Sync, G: Gate + Sync>(
     gate: &G,
 ) -> Result<Output, AllocError>
     requires root { root < length table.now.nodes }
+    requires given { HasNoFresh (tree_at table.now root) }
     requires depth { IsDepth options.depth }
     requires workers { AreWorkers options.workers }
     ensures { IfOk result (λ out. (a : Answer)
@@ -87,6 +90,7 @@ fn decide<R: Threads + Sync, G: Gate + Sync>(
 ) -> Result<Output, AllocError>
     requires asked { asked ≤ 1000 }
     requires workers { AreWorkers options.workers }
+    requires given { HasNoFresh closure.now.formula }
     requires force { IsInForce closure.now.formula closure.now.kind asked limit }
     requires fits { Fits (layout_of closure.now) limit }
     ensures { IfOk result (λ out. (a : Answer)
@@ -142,7 +146,10 @@ pub fn certificate(
     requires few { depth ≤ 1000 }
     requires fits { Fits (layout_of closure.now) depth }
     requires refutes { IsRefutation closure.now.formula closure.now.kind depth log targets.now }
-    ensures { IfOk result (λ text. IsLawfulAt closure.now.formula closure.now.kind depth text.items) }
+    ensures lawful { IfOk result (λ text.
+        IsLawfulAt closure.now.formula closure.now.kind depth text.items) }
+    ensures written { IfOk result (λ text.
+        IsWritten closure.now.formula closure.now.kind depth text.items) }
 {
     cert_check::laws::trimmed();
     // The view says that each line is a hinted step.

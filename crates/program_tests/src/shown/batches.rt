@@ -1,6 +1,6 @@
 // `batch` on texts that were worked by hand.
 use super::{Row, list, show_rows};
-use crate::meeting::Meeting;
+use crate::gates::Meeting;
 use black_top::{Status, run};
 use ltl_io::{MemorySink, MemorySource};
 use std::process::Abort;

@@ -1,8 +1,8 @@
 // `check` on certificates that were worked by hand, and on those that `solve --cert` prints.
 use super::{NINE, RECURRING, answer, list, repeated, shows};
-use crate::meeting::Meeting;
+use crate::gates::{Meeting, Roll};
 use black_top::{Status, run};
-use ltl_io::{MemorySink, MemorySource};
+use ltl_io::{Gate, MemorySink, MemorySource};
 use std::alloc::{AllocError, Global};
 use std::process::Abort;
 use std::test::Fail;
@@ -204,22 +204,18 @@ const ON_LAST: &[Row] = &[
     ),
 ];
 
-/// What stands behind 1,800,000 good lines of a certificate of `false`, and what is shown.
+/// What stands behind 50,000 good lines of a certificate of `false`, and what is shown.
 const LONG_ENDS: &[Row] = &[
-    (b"close 1 1800000\n", VERIFIED, Status::Good),
+    (b"close 1 50000\n", VERIFIED, Status::Good),
     (
         b"-2 0 2 0\nclose 1 1\n",
-        b"REJECTED line 1800001\n",
+        b"REJECTED line 50001\n",
         Status::Negative,
     ),
-    (
-        b"close 1 1800001\n",
-        b"REJECTED target 2\n",
-        Status::Negative,
-    ),
+    (b"close 1 50001\n", b"REJECTED target 2\n", Status::Negative),
     (
         b"close 1 1",
-        b"certificate fault at byte 19800030\n",
+        b"certificate fault at byte 550030\n",
         Status::Text,
     ),
 ];
@@ -263,18 +259,17 @@ fn worked_certificates(rt: HostRuntime) -> Result<(), Fail> {
     Ok(())
 }
 
-/// `false` with a certificate of 1,800,000 good lines and this end: longer than what is read before lines are
-/// judged.
+/// `false` with a certificate of 50,000 good lines and this end.
 fn long_input(alloc: Global, last: &[u8]) -> Result<Vec<u8>, AllocError> {
-    let lines = repeated(alloc, b"-2 0 2 1 0\n", 1_800_000, last)?;
+    let lines = repeated(alloc, b"-2 0 2 1 0\n", 50_000, last)?;
     let mut text = b"ltlcert 1 infinite 0\n".to_vec(alloc)?;
     text.extend_from_slice(&lines)?;
     joined(alloc, b"false", &text)
 }
 
-/// Inputs whose lines are judged while later ones are being read.
+/// Inputs of many reads, each worker with many lines.
 #[test]
-fn judged_while_read(rt: HostRuntime) -> Result<(), Fail> {
+fn long_certificates(rt: HostRuntime) -> Result<(), Fail> {
     let alloc = rt.alloc();
     for (last, output, status) in LONG_ENDS {
         let input = long_input(alloc, last)?;
@@ -359,22 +354,58 @@ fn printed_certificates_verify(rt: HostRuntime) -> Result<(), Fail> {
     Ok(())
 }
 
-/// `check` by two workers verifies the input, and both are at work at once.
-fn meet<R: Threads + Abort + Sync>(rt: &R, alloc: Global, input: Vec<u8>) -> Result<(), Fail> {
-    let gate = Meeting::new();
-    let words = list(alloc, "check --workers 2")?;
+/// `check` in these words, before a gate, shows this of the input.
+fn watched<R: Threads + Abort + Sync, G: Gate + Sync>(
+    rt: &R,
+    alloc: Global,
+    words: &str,
+    input: Vec<u8>,
+    shown: &[u8],
+    gate: &G,
+) -> Result<(), Fail> {
+    let words = list(alloc, words)?;
     let mut source = MemorySource::new(input, 65536, Vec::new(alloc));
     let mut sink = MemorySink::new(alloc, 64, 64, Vec::new(alloc))?;
-    let status = run(rt, alloc, &words, &mut source, &mut sink, &gate);
-    assert!(rt; status == Status::Good && sink.content() == VERIFIED);
-    assert!(rt; gate.met());
+    let _ = run(rt, alloc, &words, &mut source, &mut sink, gate);
+    assert!(rt; *sink.content() == *shown);
     Ok(())
 }
 
-/// On an input that is read whole first, and on a longer one, which is judged while it is read.
+/// Two workers are at work at once, on few lines and on many.
 #[test]
 fn workers_meet(rt: HostRuntime) -> Result<(), Fail> {
     let alloc = rt.alloc();
-    meet(&rt, alloc, joined(alloc, b"wX false", LAST)?)?;
-    meet(&rt, alloc, long_input(alloc, b"close 1 1800000\n")?)
+    for input in [
+        joined(alloc, b"wX false", LAST)?,
+        long_input(alloc, b"close 1 50000\n")?,
+    ] {
+        let gate = Meeting::new();
+        watched(&rt, alloc, "check --workers 2", input, VERIFIED, &gate)?;
+        assert!(rt; gate.met());
+    }
+    Ok(())
+}
+
+/// The gate is told of each worker's piece once, and of no other, however few lines there are.
+#[test]
+fn pieces_are_told_once(rt: HostRuntime) -> Result<(), Fail> {
+    let alloc = rt.alloc();
+    let none: &[u8] = b"ltlcert 1 infinite 0\nclose 1 1\n";
+    for (words, workers) in [
+        ("check", 1u32),
+        ("check --workers 1", 1),
+        ("check --workers 2", 2),
+        ("check --workers 16", 16),
+    ] {
+        for (input, shown) in [
+            (joined(alloc, b"false", none)?, TARGET_ONE),
+            (joined(alloc, b"wX false", LAST)?, VERIFIED),
+            (long_input(alloc, b"close 1 50000\n")?, VERIFIED),
+        ] {
+            let gate = Roll::new(alloc)?;
+            watched(&rt, alloc, words, input, shown, &gate)?;
+            assert!(rt; gate.each_once(workers));
+        }
+    }
+    Ok(())
 }

@@ -1,6 +1,6 @@
 // `solve --core` on formulas that were worked by hand.
 use super::{list, shows};
-use crate::meeting::Meeting;
+use crate::gates::{Meeting, Roll};
 use black_top::{Status, run};
 use ltl_io::{MemorySink, MemorySource};
 use std::process::Abort;
@@ -85,5 +85,34 @@ fn tests_meet(rt: HostRuntime) -> Result<(), Fail> {
     let status = run(&rt, alloc, &words, &mut source, &mut sink, &gate);
     assert!(rt; status == Status::Unsat && sink.content() == CONFLICT_SHOWN);
     assert!(rt; gate.met());
+    Ok(())
+}
+
+/// Workers, and how often each number of a test is told for the conflict: its seven occurrences are tested in
+/// turn until the sixth is replaced, and then the five that are kept once more. Each group of as many tests as
+/// there are workers is a phase of its own, numbered from 0.
+const TOLD: &[(u32, [u64; 7])] = &[
+    (1, [11, 0, 0, 0, 0, 0, 0]),
+    (2, [6, 5, 0, 0, 0, 0, 0]),
+    (16, [2, 2, 2, 2, 2, 1, 1]),
+];
+
+#[test]
+fn tests_are_told_once(rt: HostRuntime) -> Result<(), Fail> {
+    let alloc = rt.alloc();
+    for (workers, told) in TOLD {
+        let gate = Roll::new(alloc)?;
+        let words = list(
+            alloc,
+            &format!(in alloc; "solve --core --workers {workers}")?,
+        )?;
+        let mut source = MemorySource::new(CONFLICT.to_vec(alloc)?, 1000, Vec::new(alloc));
+        let mut sink = MemorySink::new(alloc, 64, 64, Vec::new(alloc))?;
+        let status = run(&rt, alloc, &words, &mut source, &mut sink, &gate);
+        assert!(rt; status == Status::Unsat && sink.content() == CONFLICT_SHOWN);
+        for piece in 0..65u32 {
+            assert!(rt; gate.count(piece) == *told.get(piece as usize).unwrap_or(&0));
+        }
+    }
     Ok(())
 }

@@ -1,14 +1,11 @@
-use Rattle.std.proofs.Common.{◌∙◌, ◌≤◌, [], List, ℕ, length, map, string_bytes, refl, sym, subst, arith}
+use Rattle.std.proofs.Common.{rules, ◌∙◌, ◌≤◌, [], List, ℕ, length, map, string_bytes, sym, subst, arith}
+use Rattle.ltl_io.specs.Outside.{LosesAtMost}
 use Rattle.report.specs.declared.fault.Fault.TheVariants as faults
-use Rattle.command_words.specs.declared.asked.Asked.TheVariants as commands
 use Rattle.black_top.specs.Answer.{refused}
-use Rattle.black_top.specs.Run.{IsGiven, not_taken}
+use Rattle.black_top.specs.Run.{not_taken}
 use Rattle.command_words.specs.Asked.{IsAsked}
-use Rattle.black_top.specs.Reading.{IsParted}
-use Rattle.black_top.specs.Check.{IsChecked}
-use Rattle.black_top.specs.Inner.{IsLeft, Gives}
-use Rattle.black_top.proofs.Leaving.{some_left, given_left, given_checked, given_unread, stops, takes, takes_none, reads}
-use Rattle.black_top.proofs.Showing.{shown_as}
+use Rattle.black_top.specs.Inner.{Gives}
+use Rattle.black_top.proofs.Leaving.{some_left, given_left, given_unread, stops, takes, takes_none, lost_before_fault, reads}
 use Rattle.black_top.proofs.answer.answer.Goals as goal
 
 pub returns-in_default-clause-given : goal.returns-in_default-clause-given
@@ -19,23 +16,6 @@ returns-in_default-clause-given g c =
 
 pub returns-in_default-clause-left : goal.returns-in_default-clause-left
 returns-in_default-clause-left g c command asks = let none = rw c.in_default.is at c.in_ok-asked.ensures in absurd (none command asks)
-
-pub returns-in-Some-by_several-clause-given : goal.returns-in-Some-by_several-clause-given
-returns-in-Some-by_several-clause-given g c =
-    let words = map string_bytes c.args.words.now in
-    let rest = g.S.Source.rest c.args.source.now in
-    let options = c.in-Some-by_several.options in
-    let asked : IsAsked words c.in-Some.asked = rw c.in-Some.is at c.in_ok-asked.ensures in
-    let is : IsAsked words (commands.Check options) = subst (IsAsked words) c.in-Some-by_several.ensures.0 asked in
-    shown_as (IsLeft (IsParted (IsChecked options.kind)) rest) (IsGiven words rest) c.check_source.result (λ a h. given_checked words rest options a is h) c.check_source.ensures.given
-
-pub returns-in-Some-by_several-clause-unread : goal.returns-in-Some-by_several-clause-unread
-returns-in-Some-by_several-clause-unread g c nothing =
-    let words = map string_bytes c.args.words.now in
-    let options = c.in-Some-by_several.options in
-    let asked : IsAsked words c.in-Some.asked = rw c.in-Some.is at c.in_ok-asked.ensures in
-    let is : IsAsked words (commands.Check options) = subst (IsAsked words) c.in-Some-by_several.ensures.0 asked in
-    absurd (reads words (commands.Check options) 18446744073709551615 is refl nothing)
 
 pub returns-in_default-stop_after-clause-given : goal.returns-in_default-stop_after-clause-given
 returns-in_default-stop_after-clause-given g c =
@@ -82,3 +62,11 @@ returns-clause-left g c command asks =
     let is : IsAsked (map string_bytes c.args.words.now) c.in-Some.asked = rw c.in-Some.is at c.in_ok-asked.ensures in
     let fits : length text ≤ 18446744073709551615 = omega (arith, c.in_ok-bytes.bytes.ok, c.in_ok-bytes.bytes.small, c.deref.ensures.len) in
     takes command c.in-Some-stop_after.most text rest after (stops (map string_bytes c.args.words.now) c.in-Some.asked command is asks ∙ sym c.in-Some-stop_after.ensures) c.in_ok-bytes.ensures.bytes fits c.in_ok-bytes.ensures.bounded
+
+pub returns-in_err-bytes-clause-before_fault : goal.returns-in_err-bytes-clause-before_fault
+returns-in_err-bytes-clause-before_fault g c fault command asks =
+    let rest = g.S.Source.rest c.args.source.now in
+    let after = g.S.Source.rest c.read_whole.new.source in
+    let is : IsAsked (map string_bytes c.args.words.now) c.in-Some.asked = rw c.in-Some.is at c.in_ok-asked.ensures in
+    let lost : LosesAtMost c.in-Some-stop_after.most rest after = search (rules, fault) in
+    lost_before_fault command c.in-Some-stop_after.most rest after (stops (map string_bytes c.args.words.now) c.in-Some.asked command is asks ∙ sym c.in-Some-stop_after.ensures) lost

@@ -1,3 +1,4 @@
+use Rattle.black_top.proofs.NewNames.{read_again}
 use Rattle.black_top.proofs.laws.past_removed.Goals as goal
 
 pub returns-clause-sound : goal.returns-clause-sound
@@ -15,3 +16,6 @@ returns-clause-kept c f t u good is = record {
   each_axiom = λ x among. c.lifting.ensures.axioms f x t u good is among;
   satisfies = c.lifting.ensures.satisfies f t u good is;
 }
+
+pub returns-clause-reads : goal.returns-clause-reads
+returns-clause-reads c part f read = read_again part f read

@@ -1,10 +1,11 @@
-use Rattle.std.proofs.Common.{ℕ, ◌≤◌, List, length, sym, subst, arith}
+use Rattle.std.proofs.Common.{ℕ, ◌≤◌, List, length, refl, sym, subst, arith}
 use Rattle.ltl_syntax.specs.declared.node.Kind.{Kind}
 use Rattle.clause_log.specs.LogValue.{LogValue}
 use Rattle.cert_text.specs.Text.{text_of}
 use Rattle.cert_text.specs.Writing.{written}
 use Rattle.cert_check.specs.Lawful.{IsLawfulAt}
-use Rattle.black_top.proofs.Certified.{lawful_text}
+use Rattle.black_top.specs.Solve.{IsWritten}
+use Rattle.black_top.proofs.Certified.{text_so}
 use Rattle.black_top.proofs.commands.solve.certificate.Goals as goal
 
 pub trim-requires : goal.trim-requires
@@ -12,8 +13,8 @@ trim-requires c =
     let value = c.args.closure.now in
     c.trimmed.ensures.lines value.formula value.kind c.args.depth c.args.log c.args.targets.now c.requires.refutes.closed
 
-pub returns : goal.returns
-returns c =
+pub returns-clause-lawful : goal.returns-clause-lawful
+returns-clause-lawful c =
     let value = c.args.closure.now in
     let f = value.formula in
     let kind = value.kind in
@@ -30,4 +31,30 @@ returns c =
     let said = subst (λ (ns : List ℕ). IsLawfulAt f kind depth (text_of (written kind depth new.lines new.hints ns))) (sym c.deref.ensures.value) lawful in
     let seen = subst (λ (log : LogValue). IsLawfulAt f kind depth (text_of (written kind depth log.lines log.hints c.deref.result.now))) (sym c.view-view-2.ensures.same) said in
     let named = subst (λ (k : Kind). IsLawfulAt f kind depth (text_of (written k depth view.lines view.hints c.deref.result.now))) (sym c.kind.ensures) seen in
-    lawful_text (λ v. v.items) c.write.result f kind depth (text_of (written c.kind.result depth view.lines view.hints c.deref.result.now)) named c.write.ensures
+    text_so (λ v. v.items) c.write.result (IsLawfulAt f kind depth) (text_of (written c.kind.result depth view.lines view.hints c.deref.result.now)) named c.write.ensures
+
+pub returns-clause-written : goal.returns-clause-written
+returns-clause-written c =
+    let value = c.args.closure.now in
+    let f = value.formula in
+    let kind = value.kind in
+    let depth = c.args.depth in
+    let new = c.in_ok-needed.needed in
+    let numbers = c.in_ok-needed.numbers.items in
+    let (M, kept) = c.in_ok-needed.ensures in
+    let view = c.view-view-2.result in
+    let how : IsWritten f kind depth (text_of (written kind depth new.lines new.hints numbers)) = record {
+      log = c.args.log;
+      closing = c.args.targets.now;
+      steps = c.view-view.ensures.steps;
+      refutes = c.requires.refutes;
+      needed = new;
+      targets = numbers;
+      marks = M;
+      trimmed = kept;
+      spelled = refl;
+    } in
+    let said = subst (λ (ns : List ℕ). IsWritten f kind depth (text_of (written kind depth new.lines new.hints ns))) (sym c.deref.ensures.value) how in
+    let seen = subst (λ (log : LogValue). IsWritten f kind depth (text_of (written kind depth log.lines log.hints c.deref.result.now))) (sym c.view-view-2.ensures.same) said in
+    let named = subst (λ (k : Kind). IsWritten f kind depth (text_of (written k depth view.lines view.hints c.deref.result.now))) (sym c.kind.ensures) seen in
+    text_so (λ v. v.items) c.write.result (IsWritten f kind depth) (text_of (written c.kind.result depth view.lines view.hints c.deref.result.now)) named c.write.ensures

@@ -1,9 +1,11 @@
 use Rattle.std.proofs.Common.{arith}
 use Rattle.std.specs.Prelude.{option_map, option_copied, vec_items}
 use Rattle.enc_layout.specs.Clauses.{layout_of}
+use Rattle.ltl_word.specs.Trace.{IsTrace}
 use Rattle.black_top.specs.Answer.{sat, undecided}
+use Rattle.black_top.specs.Reading.{ReadsBack}
 use Rattle.black_top.specs.Solve.{IsDecided, satisfiable, undecided_yet}
-use Rattle.black_top.proofs.Showing.{shown}
+use Rattle.black_top.proofs.Showing.{shown, shown_where}
 use Rattle.black_top.proofs.Certified.{unsat_shallow}
 use Rattle.black_top.proofs.Conflicting.{unsat_shown}
 use Rattle.black_top.proofs.commands.solve.decide.Goals as goal
@@ -11,8 +13,9 @@ use Rattle.black_top.proofs.commands.solve.decide.Goals as goal
 pub returns-in-Sat : goal.returns-in-Sat
 returns-in-Sat g c =
     let decision = rw c.in-Sat.is at c.in_ok-depth.ensures.decision in
-    shown (IsDecided c.args.closure.now.formula c.args.closure.now.kind c.args.asked c.args.limit c.args.options.core c.args.options.cert) (sat c.in-Sat.depth c.in-Sat.trace) c.sat.result
-    (satisfiable c.in-Sat.depth c.in-Sat.trace decision.0 decision.1) c.sat.ensures
+    shown_where (IsDecided c.args.closure.now.formula c.args.closure.now.kind c.args.asked c.args.limit c.args.options.core c.args.options.cert)
+    (IsTrace c.in-Sat.trace → ReadsBack c.in-Sat.trace) (sat c.in-Sat.depth c.in-Sat.trace) c.sat.result
+    (λ reads. satisfiable c.in-Sat.depth c.in-Sat.trace decision.0 decision.1 (reads decision.2.0)) c.sat.ensures.reads c.sat.ensures.shows
 
 pub shown_core-requires-clause-refuted : goal.shown_core-requires-clause-refuted
 shown_core-requires-clause-refuted g c κs lives =

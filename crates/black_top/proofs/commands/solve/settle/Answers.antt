@@ -1,4 +1,5 @@
-use Rattle.std.proofs.Common.{◌≡◌, ◌∙◌, ◌≤◌, ◌⊎◌, inl, inr, false, is_some, refl, sym}
+use Rattle.std.proofs.Common.{◌≡◌, ◌∙◌, ◌≤◌, ◌⊎◌, inl, inr, false, is_some, refl, sym, subst}
+use Rattle.ltl_syntax.specs.Formula.{HasNoFresh}
 use Rattle.ltl_syntax.specs.Table.{tree_at}
 use Rattle.report.specs.declared.fault.Fault.TheVariants as faults
 use Rattle.black_top.specs.Answer.{refused}
@@ -51,3 +52,6 @@ decide-requires-clause-force g c κs lives =
     let greatest = c.greatest_depth-limit.ensures in
     let value = c.in_ok-closure.closure in
     in_force value value.formula value.kind c.of-layout.result c.unwrap_or-number.result c.greatest_depth-limit.result refl refl c.of-layout.ensures.layout greatest.below greatest.fits greatest.greatest
+
+pub decide-requires-clause-given : goal.decide-requires-clause-given
+decide-requires-clause-given g c κs lives = subst HasNoFresh (sym c.in_ok-closure.ensures.formula) c.requires.given

@@ -1,4 +1,3 @@
-use Rattle.std.proofs.Common.{refl}
 use Rattle.black_top.proofs.Certified.{uncertified, certified}
 use Rattle.black_top.proofs.commands.solve.shown_certificate.Goals as goal
 
@@ -9,4 +8,4 @@ pub returns : goal.returns
 returns c =
     let value = c.args.closure.now in
     let text = c.in_ok-text.text.items in
-    certified c.args.cert value.formula value.kind c.args.depth text text c.if-not-cert.false refl c.in_ok-text.ensures
+    certified c.args.cert value.formula value.kind c.args.depth text c.if-not-cert.false c.in_ok-text.ensures.lawful c.in_ok-text.ensures.written

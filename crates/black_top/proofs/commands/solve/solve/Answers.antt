@@ -14,3 +14,8 @@ returns-in-Formula g c =
     let f = tree_at c.in-Formula.table c.in-Formula.root in
     let reading = rw c.in-Formula.is at c.in_ok-fault.ensures in
     shown_as (IsSettled c.args.options.kind c.args.options.depth c.args.options.core c.args.options.cert f) (IsSolved c.args.options.kind c.args.options.depth c.args.options.core c.args.options.cert c.args.text.now) c.settle.result (λ a h. settled f a reading.1 h) c.settle.ensures
+
+pub settle-requires-clause-given : goal.settle-requires-clause-given
+settle-requires-clause-given g c κs lives =
+    let reading = rw c.in-Formula.is at c.in_ok-fault.ensures in
+    c.no_fresh.ensures c.args.text.now (tree_at c.in-Formula.table c.in-Formula.root) reading.1.reads

@@ -4,9 +4,12 @@ use Rattle.enc_layout.specs.Clauses.{layout_of}
 use Rattle.unravel.specs.Decision.{IsRefutation}
 use Rattle.system_check.specs.System.{whole_of}
 use Rattle.system_check.specs.Joining.{IsJoined}
+use Rattle.ltl_word.specs.Trace.{IsTrace}
+use Rattle.system_check.proofs.AnswerLaws.{fails_on}
+use Rattle.black_top.specs.Reading.{ReadsBack}
 use Rattle.black_top.specs.Answer.{no_path, paths_hold, path_fails, undecided}
 use Rattle.black_top.specs.System.{ProvesWhole, IsDecided, pathless, kept, broken, undecided_yet}
-use Rattle.black_top.proofs.SystemSettling.{shown_for, shown_by, unproved, proved_so}
+use Rattle.black_top.proofs.SystemSettling.{shown_for, shown_for_where, shown_by, unproved, proved_so}
 use Rattle.black_top.proofs.SystemDeciding.{kept_shallow, kept_refuted}
 use Rattle.black_top.proofs.commands.system.decide.Goals as goal
 
@@ -19,8 +22,12 @@ returns-in-NoPath c =
 pub returns-in-Fails : goal.returns-in-Fails
 returns-in-Fails c =
     let answer = rw c.in-Fails.is at c.in_ok-depth.ensures in
-    shown_for (λ f g h. IsJoined f g h c.args.joined.now) (λ f g h. IsDecided f g h c.args.limit c.args.cert) (path_fails c.in-Fails.depth c.in-Fails.trace) c.path_fails.result
-    (λ f g h is. let a = answer f g h is in broken c.in-Fails.depth c.in-Fails.trace a.0 a.1 a.2) c.path_fails.ensures
+    let depth = c.in-Fails.depth in
+    let path = c.in-Fails.trace in
+    shown_for_where (λ f g h. IsJoined f g h c.args.joined.now) (λ f g h. IsDecided f g h c.args.limit c.args.cert) (IsTrace path → ReadsBack path) (path_fails depth path) c.path_fails.result
+    (λ reads f g h is.
+    let a = answer f g h is in
+    broken depth path a.0 a.1 a.2 (reads (fails_on f g h c.args.limit is.forms depth path a.2).0.trace)) c.path_fails.ensures.reads c.path_fails.ensures.shows
 
 pub returns-in-Undecided : goal.returns-in-Undecided
 returns-in-Undecided c =

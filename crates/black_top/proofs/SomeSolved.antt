@@ -1,0 +1,109 @@
+-- `solve` has an answer, where no certificate is asked for, and `trace` has one.
+use Rattle.std.proofs.Common.{◌≡◌, ◌≢◌, ℕ, ◌<◌, ◌⊎◌, inl, inr, Bool, true, false, List, Option, Some, None, Result, Ok, Err, refl, arith}
+use Rattle.std.proofs.lemmas.Bool.{cases_lt}
+use Rattle.ltl_syntax.specs.declared.node.Kind.{Kind}
+use Rattle.ltl_syntax.specs.Formula.{Formula}
+use Rattle.ltl_syntax.specs.Print.{text_of as formula_text}
+use Rattle.ltl_parser.specs.Text.{ReadsText, IsAccepted, IsPrintable}
+use Rattle.ltl_word.specs.declared.trace.Trace.{Trace}
+use Rattle.ltl_word.specs.declared.trace.Trace.TheVariants.{Infinite, Finite}
+use Rattle.ltl_word.specs.declared.json.TraceFault.{TraceFault}
+use Rattle.ltl_word.specs.declared.json.TraceFault.TheVariants as trace_faults
+use Rattle.ltl_word.specs.Trace.{IsTrace}
+use Rattle.ltl_word.specs.Json.{IsReading, IsTraceOf}
+use Rattle.ltl_word.specs.Laws.{EachIsDecided, EachIsRead}
+use Rattle.ltl_closure.specs.Run.{Verdict, IsVerdict, accepted, Sat, Unsat, Undecided, HasAccepted}
+use Rattle.lasso_eval.specs.Cells.{cells, max_cells}
+use Rattle.enc_layout.specs.Limit.{IsInForce}
+use Rattle.unravel.specs.Laws.{VerdictIsThere}
+use Rattle.core_extract.specs.Laws.{LimitIsThere, CoreIsThere}
+use Rattle.report.specs.declared.fault.Fault.TheVariants as faults
+use Rattle.black_top.specs.Answer.{Answer, refused, sat, unsat, undecided, holds, fails}
+use Rattle.black_top.specs.Conflict.{ShowsCore}
+use Rattle.black_top.specs.Solve.{IsReached, number_of, IsDecided, satisfiable, unsatisfiable, undecided_yet, IsSettled, too_deep, decided, IsSolved, unreadable, settled}
+use Rattle.black_top.specs.Trace.{IsJudged, not_json, not_trace, empty_loop, empty_states, many_cells, satisfied, violated}
+use Rattle.black_top.proofs.Ordered.{sets_length}
+use Rattle.black_top.proofs.RunTraces.{RunLaws, run_trace}
+use Rattle.black_top.proofs.SomeParts.{EachHasOutcome, HasSome, accepted_or_refused}
+
+-- ---- `solve`
+
+-- that there are verdicts, limits and cores
+pub record SearchLaws : Type 0 where
+  pub verdict : VerdictIsThere
+  pub limit : LimitIsThere
+  pub core : CoreIsThere
+  pub runs : RunLaws
+  pub printable : (text : List ℕ) (f : Formula) → ReadsText text f → IsPrintable f
+
+-- where the verdict is SAT, there is an accepted run
+pub run_of : (f : Formula) (kind : Kind) (limit k : ℕ) → IsVerdict f kind limit (Sat k) → HasAccepted f kind k
+run_of f kind limit k (accepted low each has) = has
+
+-- the limit in force is below the depth that was asked for, or that depth is reached
+pub reached_or_below : (f : Formula) (kind : Kind) (wanted : Option ℕ) (d : ℕ) → IsInForce f kind (number_of wanted) d → IsReached wanted d ⊎ ((n : ℕ) × (wanted ≡ Some n) × IsInForce f kind n d × (d < n))
+reached_or_below f kind None d force = inl tt
+reached_or_below f kind (Some n) d force = elim (cases_lt d n) [
+  | inl less ↦ inr (n, refl, force, less)
+  | inr more ↦ let low = force.below in inl (omega arith)
+]
+
+module _ (laws : SearchLaws) (part : List ℕ) (f : Formula) (read : IsAccepted part f) (kind : Kind) (asked : ℕ) (core : Bool) where
+  shown_core : (b : Bool) → (shown : Option (List ℕ)) × ShowsCore b f kind asked shown
+  shown_core false = (None, refl)
+  shown_core true = let w = laws.core kind asked f read.few in (Some (formula_text w.0), (w.0, w.1, refl))
+
+  some_decided : (limit : ℕ) (v : Verdict) → IsVerdict f kind limit v → (a : Answer) × IsDecided f kind asked limit core false a
+  some_decided limit (Sat k) h =
+      let w = run_trace laws.runs f kind k (laws.printable part f read.reads) (run_of f kind limit k h) in
+      (sat k w.0, satisfiable k w.0 h w.1 w.2)
+  some_decided limit (Unsat k) h = let w = shown_core core in (unsat k w.0 None, unsatisfiable k w.0 None h w.1 refl)
+  some_decided limit (Undecided k) h = (undecided k, undecided_yet k h)
+
+some_settled : SearchLaws → (part : List ℕ) (f : Formula) → IsAccepted part f → (kind : Kind) (wanted : Option ℕ) (core : Bool) → (a : Answer) × IsSettled kind wanted core false f a
+some_settled laws part f read kind wanted core =
+    let limit = laws.limit f kind (number_of wanted) read.few in
+    elim (reached_or_below f kind wanted limit.0 limit.1) [
+      | inr (n, is, force, less) ↦ (refused (faults.Letters limit.0), too_deep n limit.0 is force less)
+      | inl is ↦
+          let v = laws.verdict f kind limit.0 in
+          let w = some_decided laws part f read kind (number_of wanted) core limit.0 v.0 v.1 in
+          (w.0, decided limit.0 w.0 limit.1 is w.1)
+    ]
+
+pub some_solved : EachHasOutcome → SearchLaws → (kind : Kind) (wanted : Option ℕ) (core : Bool) (part : List ℕ) → (a : Answer) × IsSolved kind wanted core false part a
+some_solved outcome laws kind wanted core part = elim (accepted_or_refused outcome part) [
+  | inl (f, read) ↦ let w = some_settled laws part f read kind wanted core in (w.0, settled f w.0 read w.1)
+  | inr (fault, h) ↦ (refused fault, unreadable fault h)
+]
+
+-- ---- `trace`
+
+pub read_is_trace : (text : List ℕ) (t : Trace) → IsReading text (Ok t) → IsTrace t
+read_is_trace text t (written, json, is, of) = by written t is of
+  where
+    by : (w u : Trace) → IsTrace w → IsTraceOf w u → IsTrace u
+    by (Infinite stem again) (Infinite stem' again') is of = let n = sets_length again again' of.1 in omega arith
+    by (Infinite stem again) (Finite states) is of = absurd of
+    by (Finite states) (Infinite stem again) is of = absurd of
+    by (Finite states) (Finite states') is of = let n = sets_length states states' of in omega arith
+
+pub some_judged : EachIsRead → EachIsDecided → HasSome IsJudged
+some_judged reads decides part second f accepted_part = let w = reads second in by w.0 w.1 w.2
+  where
+    told : (t : Trace) → IsReading second (Ok t) → (a : Answer) × IsJudged f second a
+    told t h = elim (cases_lt max_cells (cells t f)) [
+      | inl many ↦ (refused (faults.Cells (cells t f)), many_cells t (cells t f) h (refl, many))
+      | inr few ↦ elim (decides t f 0 (read_is_trace second t h)) [
+        | inl yes' ↦ (holds, satisfied t h few yes')
+        | inr no' ↦ (fails, violated t h few no')
+      ]
+    ]
+
+    by : (r : Result Trace TraceFault) → r ≢ Err trace_faults.NoMemory → IsReading second r → (a : Answer) × IsJudged f second a
+    by (Ok t) some h = told t h
+    by (Err trace_faults.NotJson) some h = (refused faults.NotJson, not_json h)
+    by (Err trace_faults.NotTrace) some h = (refused faults.NotTrace, not_trace h)
+    by (Err trace_faults.EmptyLoop) some h = (refused faults.EmptyLoop, empty_loop h)
+    by (Err trace_faults.EmptyStates) some h = (refused faults.EmptyStates, empty_states h)
+    by (Err trace_faults.NoMemory) some h = absurd (some refl)
