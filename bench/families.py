@@ -2,11 +2,12 @@
 """Families of formulas that grow with a size.
 
     families.py                  the names, one a line
-    families.py NAME SIZE        the formula of a family
+    families.py NAME SIZE        the formula of a family, of a size from 1 on, and of `period` and `deadlines` from 2 on
     families.py --write FOLDER   the fixed set: a file for each row of SET, with `.finite.` in the name where it is asked
                                  over finite traces
 """
 import os
+import signal
 import sys
 
 
@@ -25,7 +26,10 @@ def times(n, operator, formula):
 
 def chain(n, join, operator, formula):
     """The formula now, and joined with it n times over at the operator's place."""
-    return formula if n == 0 else "%s %s %s (%s)" % (formula, join, operator, chain(n - 1, join, operator, formula))
+    text = formula
+    for _ in range(n):
+        text = "%s %s %s (%s)" % (formula, join, operator, text)
+    return text
 
 
 def ring(n):
@@ -169,19 +173,33 @@ SET = [
     ("pigeons", 6), ("deadlines", 5), ("deadlines", 20)]
 
 
+LEAST = {"period": 2, "deadlines": 2}
+
+
+def write_set(folder):
+    os.makedirs(folder, exist_ok=True)
+    for name, size in SET:
+        file = name.replace(".", "-%d." % size) + "." if "." in name else "%s-%d" % (name, size)
+        with open("%s/%s" % (folder, file), "w") as out:
+            out.write(FAMILIES[name.split(".")[0]](size))
+
+
 def main(words):
     if not words:
         print("\n".join(FAMILIES))
-    elif len(words) != 2 or words[0] != "--write" and (words[0] not in FAMILIES or not words[1].isdecimal()):
-        sys.exit(__doc__)
-    elif words[0] == "--write":
-        os.makedirs(words[1], exist_ok=True)
-        for name, size in SET:
-            with open("%s/%s" % (words[1], name.replace(".", "-%d." % size) + "." if "." in name else "%s-%d" % (name, size)), "w") as out:
-                out.write(FAMILIES[name.split(".")[0]](size))
-    else:
+    elif len(words) == 2 and words[0] == "--write":
+        try:
+            write_set(words[1])
+        except OSError as error:
+            sys.exit("families.py: %s" % error)
+    elif len(words) == 2 and words[0] in FAMILIES and words[1].isdecimal() and int(words[1]) >= LEAST.get(words[0], 1):
         print(FAMILIES[words[0]](int(words[1])))
+    else:
+        print(__doc__, file=sys.stderr)
+        return 2
+    return 0
 
 
 if __name__ == "__main__":
-    main(sys.argv[1:])
+    signal.signal(signal.SIGPIPE, signal.SIG_DFL)
+    sys.exit(main(sys.argv[1:]))

@@ -145,6 +145,9 @@ def findings(folder, command):
 
 
 def main():
+    if len(sys.argv) < 2 or not sys.argv[1].isdecimal() or not all(it in WORDS for it in sys.argv[2:]):
+        print(__doc__, file=sys.stderr)
+        return 2
     minutes, commands = int(sys.argv[1]), sys.argv[2:] or list(WORDS)
     folder = tempfile.mkdtemp(prefix="black-fuzz-")
     print(f"work in {folder}", flush=True)

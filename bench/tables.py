@@ -8,7 +8,7 @@
     tables.py check       certificates: how fast `black check` reads and judges them, by one worker and by four
 
 Seconds are of processor time, and in the last table of the clock. The program `black_bench`, or `black`, is built first where it is
-not there yet, and only a proved program is built. LIMIT is the number of seconds after which a run is given up (120).
+not there yet or a source is newer, as `./black` does. LIMIT is the number of seconds after which a run is given up (120).
 """
 import os
 import shutil
@@ -21,20 +21,15 @@ import clauses
 import families
 
 TOP = os.path.dirname(os.path.dirname(os.path.abspath(__file__)))
-CRATE = TOP + "/crates/black_bench"
-BENCH = CRATE + "/out/black_bench"
+BENCH = TOP + "/crates/black_bench/out/black_bench"
 PROGRAM = TOP + "/crates/black_main/out/black_main"
 LIMIT = os.environ.get("LIMIT", "120")
 
 
-def build(program, word):
-    """Builds the program, if it is not there, by running it with the word on nothing."""
-    if os.path.exists(program):
-        return
-    crate = os.path.dirname(os.path.dirname(program))
-    made = subprocess.run(["rt", "run", "--", word], cwd=crate, stdin=subprocess.DEVNULL, capture_output=True, text=True)
-    if not os.path.exists(program):
-        sys.exit((made.stdout + made.stderr)[-2000:] + "\nthere is no build of " + program)
+def build(crate, word):
+    """Builds the program of the crate, if it is not there or is older than a source. What `build` does it says on standard error."""
+    if subprocess.run([TOP + "/build", crate, word], stdin=subprocess.DEVNULL).returncode != 0:
+        sys.exit(125)
 
 
 def measured(words, text):
@@ -165,10 +160,18 @@ def check_table():
 TABLES = {"closure": closure_table, "clauses": clauses_table, "tableau": tableau_table, "solver": solver_table,
           "check": check_table}
 
-if len(sys.argv) != 2 or sys.argv[1] not in TABLES:
-    sys.exit(__doc__)
-if sys.argv[1] == "check":
-    build(PROGRAM, "words")
-else:
-    build(BENCH, "closure")
-TABLES[sys.argv[1]]()
+
+def main(words):
+    if len(words) != 1 or words[0] not in TABLES or not LIMIT.isdecimal():
+        print(__doc__, file=sys.stderr)
+        return 2
+    if words[0] == "check":
+        build("black_main", "words")
+    else:
+        build("black_bench", "closure")
+    TABLES[words[0]]()
+    return 0
+
+
+if __name__ == "__main__":
+    sys.exit(main(sys.argv[1:]))
