@@ -1,0 +1,12 @@
+pub mod Values
+pub mod Gating
+pub mod Stepping
+pub mod Showing
+pub mod Ranging
+pub mod Knowing
+pub mod Sequences
+pub mod Growing
+pub mod Following
+pub mod Layers
+pub mod Refuting
+pub mod Judging
