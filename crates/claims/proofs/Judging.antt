@@ -29,10 +29,10 @@ each_below test (suc n) = test n && each_below test n
 Decides-each : (test : ℕ → Bool) (P : ℕ → Type 0) → ((k : ℕ) → Decides (test k) (P k)) → (n : ℕ) → Decides (each_below test n) ((k : ℕ) → k < n → P k)
 Decides-each test P each n = Decides-below_and test P (each_below test) each refl (λ _. refl) n
 
-Decides-all : {X : Type 0} (test : X → Bool) (P : X → Type 0) → ((x : X) → Decides (test x) (P x)) → (xs : List X) → Decides (list_all test xs) (All P xs)
+pub Decides-all : {X : Type 0} (test : X → Bool) (P : X → Type 0) → ((x : X) → Decides (test x) (P x)) → (xs : List X) → Decides (list_all test xs) (All P xs)
 Decides-all test P each xs = Decides-by_and test P (list_all test) each refl (λ _ _. refl) xs
 
-abbrev same : Literal → Literal → Bool
+abbrev pub same : Literal → Literal → Bool
 same a b = (a.letter.0 == b.letter.0) && beq a.negated b.negated
 
 Decides-same : (a b : Literal) → Decides (same a b) (a ≡ b)
@@ -41,10 +41,10 @@ Decides-same a b =
     let parts = Decides-and (a.letter.0 == b.letter.0) (beq a.negated b.negated) (Decides-eqb a.letter.0 b.letter.0) (booleans_Decides a.negated b.negated) in
     (λ e. ap₂ make (parts.0 e).0 (parts.0 e).1, λ e. parts.1 (ap (λ (l : Literal). l.letter.0) e, ap (λ (l : Literal). l.negated) e))
 
-abbrev is_known : ℕ → Literal → Bool
+abbrev pub is_known : ℕ → Literal → Bool
 is_known w l = ltb 0 l.letter.0 && ltb l.letter.0 (suc w)
 
-Decides-known : (w : ℕ) (l : Literal) → Decides (is_known w l) (IsKnown w l)
+pub Decides-known : (w : ℕ) (l : Literal) → Decides (is_known w l) (IsKnown w l)
 Decides-known w l =
     let both = Decides-and (ltb 0 l.letter.0) (ltb l.letter.0 (suc w)) (Decides-ltb 0 l.letter.0) (Decides-ltb l.letter.0 (suc w)) in (
       λ e. let p = both.0 e in record { from_one = omega (arith, p.0); within = omega (arith, p.1) },
@@ -57,14 +57,14 @@ are_known w claims = list_all (list_all (is_known w)) claims
 Decides-are_known : (w : ℕ) (claims : List (List Literal)) → Decides (are_known w claims) (AreKnown w claims)
 Decides-are_known w claims = Decides-all (list_all (is_known w)) (All (IsKnown w)) (Decides-all (is_known w) (IsKnown w) (Decides-known w)) claims
 
-abbrev are_among : List Literal → Option (List Literal) → Bool
+abbrev pub are_among : List Literal → Option (List Literal) → Bool
 are_among literals None = false
 are_among literals (Some line) = list_all (λ l. is_member same literals l) line
 
-abbrev is_target : List (List Literal) → List ℕ → ℕ → List Literal → Bool
+abbrev pub is_target : List (List Literal) → List ℕ → ℕ → List Literal → Bool
 is_target lines targets i literals = are_among literals (numbered lines (get_or targets i 0))
 
-Decides-target : (lines : List (List Literal)) (targets : List ℕ) (i : ℕ) (literals : List Literal)
+pub Decides-target : (lines : List (List Literal)) (targets : List ℕ) (i : ℕ) (literals : List Literal)
     → Decides (is_target lines targets i literals) (IsTarget lines targets i literals)
 Decides-target lines targets i literals = go (numbered lines (get_or targets i 0))
   where

@@ -1,0 +1,11 @@
+mod Parts
+mod Judged
+mod TakenLines
+mod Naming
+mod Layered
+mod Checked
+mod Eventual
+mod Finding
+mod Faults
+mod OneVerdict
+mod SomeVerdict
