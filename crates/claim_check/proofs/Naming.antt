@@ -1,5 +1,5 @@
 -- A target that names a line.
-use Rattle.std.proofs.Common.{◌≡◌, ◌↔◌, ℕ, zero, suc, ◌+◌, ◌-◌, ◌<◌, ◌≤◌, Bool, IsTrue, List, [], ◌∷◌, length, get_or, Some, None, slice_get, All, Contains, refl, sym, ap, subst, ◌∙◌, arith}
+use Rattle.std.proofs.Common.{◌≡◌, ◌↔◌, ◌⊎◌, ℕ, zero, suc, ◌+◌, ◌-◌, ◌<◌, ◌≤◌, Bool, IsTrue, List, [], ◌∷◌, length, get_or, Some, None, slice_get, All, Contains, refl, sym, ap, subst, ◌∙◌, arith}
 use Rattle.std.proofs.lemmas.List.{get_or_past}
 use Rattle.cnf_base.specs.declared.literal.Literal.{Literal}
 use Rattle.cnf_base.specs.Step.{numbered, clause_at}
@@ -10,9 +10,18 @@ there [] m lt = absurd (omega arith)
 there (line ∷ lines) zero lt = refl
 there (line ∷ lines) (suc m) lt = there lines m (omega arith)
 
-named : (lines : List (List Literal)) (n : ℕ) → 1 ≤ n → n ≤ length lines → numbered lines n ≡ Some (clause_at lines n)
+pub named : (lines : List (List Literal)) (n : ℕ) → 1 ≤ n → n ≤ length lines → numbered lines n ≡ Some (clause_at lines n)
 named lines zero one most = absurd (omega arith)
 named lines (suc m) one most = let e : m ≡ suc m - 1 = omega arith in there lines m (omega arith) ∙ ap (λ k. Some (get_or lines k [])) e
+
+pub not_named : (lines : List (List Literal)) (n : ℕ) → (n < 1) ⊎ (length lines < n) → numbered lines n ≡ None
+not_named lines zero out = refl
+not_named lines (suc m) out = none lines m (omega (arith, out))
+  where
+    none : (ls : List (List Literal)) (k : ℕ) → length ls ≤ k → slice_get ls k ≡ None
+    none [] k most = refl
+    none (l ∷ ls) zero most = absurd (omega arith)
+    none (l ∷ ls) (suc k) most = none ls k (omega arith)
 
 pub names_target : (lines : List (List Literal)) (targets : List ℕ) (i : ℕ) (literals : List Literal) (b : Bool) → 1 ≤ get_or targets i 0 → get_or targets i 0 ≤ length lines
     → (IsTrue b ↔ All (Contains literals) (clause_at lines (get_or targets i 0))) → IsTrue b ↔ IsTarget lines targets i literals

@@ -1,110 +1,56 @@
-// Whether one line is a hinted step: as in `log_checker`, over literals and hints that lie there as slices, and
-// over lines that are all kept, whose letters are known.
-ghost use Rattle.std.specs.Prelude.{◌≡◌, ◌+◌, ◌<◌, ◌↔◌, IsTrue, [], drop, length};
+// One line over the clauses and all lines so far, each of which it may name.
+ghost use Rattle.std.specs.Prelude.{◌≡◌, ◌↔◌, IsTrue, length};
 ghost use Rattle.cnf_base.specs.Known.{AreKnown};
-ghost use Rattle.cnf_base.specs.Step.{numbered, IsHintedStep};
-ghost use Rattle.cnf_base.specs.Among.{RefutesAmong};
-ghost use Rattle.log_checker.specs.Values.{letters_in, falses_in};
-ghost use Rattle.log_checker.specs.Judging.{IsHintOutcome, IsAssumed};
+ghost use Rattle.cnf_base.specs.Step.{IsHintedStep};
+ghost use Rattle.log_checker.specs.Values.{letters_in};
 
 use cnf_base::{ClauseList, Clauses, Hint, Literal};
-use log_checker::{Assignment, NamedClauses, Outcome, with_literal};
+use log_checker::judge::judge;
+use log_checker::{Assignment, NamedLines, Rest};
+
+/// The lines so far.
+#[derive(Drop)]
+struct AllLines<'l> {
+    lines: &'l ClauseList,
+}
+
+impl<'l> NamedLines for AllLines<'l> {
+    ghost use Rattle.cnf_base.specs.Step.{numbered};
+
+    type Found = Rest<'l, Literal>;
+
+    ghost lines = { λ all number. numbered all.lines.now number };
+
+    fn find(&self, number: u64) -> Option<Rest<'l, Literal>> {
+        if number < 1 {
+            return None;
+        }
+        if number > self.lines.count() {
+            return None;
+        }
+        Some(Rest::new(self.lines.clause(number)))
+    }
+}
 
 /// Whether the line with these literals and hints is a hinted step over the clauses and the lines.
-pub fn judge(
+pub fn is_step(
     assignment: &mut Assignment,
     clauses: &ClauseList,
     lines: &ClauseList,
     literals: &[Literal],
     hints: &[Hint],
 ) -> bool
-    requires clauses { AreKnown (letters_in assignment.old) clauses.now }
-    requires lines { AreKnown (letters_in assignment.old) lines.now }
+    requires { AreKnown (letters_in assignment.old) clauses.now }
     ensures judged { IsTrue result
         ↔ IsHintedStep clauses.now lines.now (letters_in assignment.old) literals.now hints.now }
     ensures size { length assignment.new ≡ length assignment.old }
 {
-    assignment.clear();
-    if !assume(assignment, literals) {
-        return false;
-    }
-    refute(assignment, clauses, lines, hints)
-}
-
-/// Makes the literals false, unless there is a complementary pair or a letter that is not known.
-fn assume(assignment: &mut Assignment, literals: &[Literal]) -> bool
-    requires { falses_in assignment.old ≡ [] }
-    ensures assumed { IsAssumed (letters_in assignment.old) literals.now (falses_in assignment.new) result }
-    ensures size { length assignment.new ≡ length assignment.old }
-{
-    'literals: for k in 0..literals.len() {
-        let literal = literals[k];
-        if !assignment.knows(literal) {
-            return false;
-        }
-        match with_literal(assignment, Outcome::AllFalse, literal) {
-            Outcome::Neither => return false,
-            Outcome::AllFalse => {}
-            Outcome::Forces(_) => assignment.falsify(literal),
-        }
-    }
-    true
-}
-
-/// Whether the hints lead to a false clause.
-fn refute(
-    assignment: &mut Assignment,
-    clauses: &ClauseList,
-    lines: &ClauseList,
-    hints: &[Hint],
-) -> bool
-    requires clauses { AreKnown (letters_in assignment.old) clauses.now }
-    requires lines { AreKnown (letters_in assignment.old) lines.now }
-    ensures refuted { IsTrue result ↔ RefutesAmong clauses.now (numbered lines.now)
-        (letters_in assignment.old) (falses_in assignment.old) hints.now }
-    ensures size { length assignment.new ≡ length assignment.old }
-{
-    'hints: for k in 0..hints.len() {
-        let hint = hints[k];
-        match of_hint(assignment, clauses, lines, hint) {
-            Outcome::AllFalse => return is_last(k, hints),
-            Outcome::Forces(literal) => assignment.falsify(literal.opposite()),
-            Outcome::Neither => return false,
-        }
-    }
-    false
-}
-
-/// Whether no hint comes behind this place.
-fn is_last(place: usize, hints: &[Hint]) -> bool
-    requires { place < length hints.now }
-    ensures { IsTrue result ↔ (drop (place + 1) hints.now ≡ []) }
-{
-    if place + 1 == hints.len() {
-        return true;
-    }
-    false
-}
-
-/// What the clause is that the hint names.
-fn of_hint(assignment: &Assignment, clauses: &ClauseList, lines: &ClauseList, hint: Hint) -> Outcome
-    requires clauses { AreKnown (letters_in assignment.now) clauses.now }
-    requires lines { AreKnown (letters_in assignment.now) lines.now }
-    ensures { IsHintOutcome clauses.now (numbered lines.now) (letters_in assignment.now)
-        (falses_in assignment.now) hint result }
-{
-    match hint {
-        Hint::Clause(number) => {
-            if number < 1 || number > clauses.count() {
-                return Outcome::Neither;
-            }
-            clauses.outcome(assignment, number)
-        }
-        Hint::Line(number) => {
-            if number < 1 || number > lines.count() {
-                return Outcome::Neither;
-            }
-            lines.outcome(assignment, number)
-        }
-    }
+    let lines = AllLines { lines };
+    judge(
+        assignment,
+        clauses,
+        &lines,
+        Rest::new(literals),
+        Rest::new(hints),
+    )
 }

@@ -7,7 +7,7 @@ ghost use Rattle.claim_check.specs.Data.{lines_in, IsGoodStep};
 ghost use Rattle.claim_check.specs.Bases.{IsFound};
 
 use crate::certificate::HintedLines;
-use crate::judging::judge;
+use crate::judging::is_step;
 use cnf_base::{ClauseList, Clauses};
 use log_checker::Assignment;
 use std::alloc::AllocError;
@@ -33,7 +33,7 @@ pub fn take_lines(
         let _length = hinted.literals.len(k + 1);
         let literals = hinted.literals.clause(k + 1);
         let hints = hinted.hints_at(k as usize);
-        if !judge(assignment, clauses, lines, literals, hints) {
+        if !is_step(assignment, clauses, lines, literals, hints) {
             return Ok(Some(k + 1));
         }
         lines.push(literals)?;

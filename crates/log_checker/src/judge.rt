@@ -11,7 +11,7 @@ ghost use Rattle.log_checker.specs.Judging.{IsOutcome, IsLineOutcome, IsHintOutc
 
 use crate::Outcome;
 use crate::assignment::{Assignment, Truth};
-use cert_text::{Hints, Literals};
+use crate::listed::Listed;
 use cnf_base::{Clauses, Hint, Literal};
 
 /// The clauses that hints may name, numbered from 1. Each is asked for once at a hint, so that whoever works
@@ -55,26 +55,28 @@ pub trait NamedLines {
     ghost use Rattle.std.specs.Prelude.{◌≡◌, ℕ, List, Option, Some, None, MatchOption};
     ghost use Rattle.cnf_base.specs.declared.literal.Literal.{Literal};
 
+    type Found: Listed<Literal> + Drop;
+
     ghost lines: { Self → ℕ → Option (List Literal) };
 
     /// The literals of the line of this number, where it may be named.
-    fn find(&self, number: u64) -> Option<Literals<'_>>
+    fn find(&self, number: u64) -> Option<Self::Found>
         ensures { MatchOption result (lines self.now number ≡ None)
-            (λ literals. lines self.now number ≡ Some literals) };
+            (λ found. lines self.now number ≡ Some (Self.Found.items found)) };
 }
 
 /// Whether the line with these literals and hints is a hinted step. Nothing is asked of the values before,
 /// and they are no answer behind; no memory is taken.
-pub fn judge<C: NamedClauses, L: NamedLines>(
+pub fn judge<C: NamedClauses, L: NamedLines, I: Listed<Literal> + Drop, H: Listed<Hint> + Drop>(
     assignment: &mut Assignment,
     clauses: &C,
     lines: &L,
-    literals: Literals<'_>,
-    hints: Hints<'_>,
+    literals: I,
+    hints: H,
 ) -> bool
     requires { AreKnown (letters_in assignment.old) (C.clauses clauses.now) }
     ensures judged { IsTrue result ↔ IsStepAmong (C.clauses clauses.now) (L.lines lines.now)
-        (letters_in assignment.old) literals.entry hints.entry }
+        (letters_in assignment.old) (I.items literals) (H.items hints) }
     ensures size { length assignment.new ≡ length assignment.old }
 {
     assignment.clear();
@@ -85,13 +87,14 @@ pub fn judge<C: NamedClauses, L: NamedLines>(
 }
 
 /// Makes the literals false, unless there is a complementary pair or a letter that is not known.
-fn assume(assignment: &mut Assignment, literals: Literals<'_>) -> bool
+fn assume<I: Listed<Literal> + Drop>(assignment: &mut Assignment, literals: I) -> bool
     requires { falses_in assignment.old ≡ [] }
-    ensures assumed { IsAssumed (letters_in assignment.old) literals.entry (falses_in assignment.new) result }
+    ensures assumed { IsAssumed (letters_in assignment.old) (I.items literals)
+        (falses_in assignment.new) result }
     ensures size { length assignment.new ≡ length assignment.old }
 {
     let mut rest = literals;
-    'literals: while let Some(literal) = rest.next() {
+    'literals: while let Some(literal) = rest.take() {
         if !assignment.knows(literal) {
             return false;
         }
@@ -105,21 +108,21 @@ fn assume(assignment: &mut Assignment, literals: Literals<'_>) -> bool
 }
 
 /// Whether the hints lead to a false clause.
-fn refute<C: NamedClauses, L: NamedLines>(
+fn refute<C: NamedClauses, L: NamedLines, H: Listed<Hint> + Drop>(
     assignment: &mut Assignment,
     clauses: &C,
     lines: &L,
-    hints: Hints<'_>,
+    hints: H,
 ) -> bool
     requires { AreKnown (letters_in assignment.old) (C.clauses clauses.now) }
     ensures refuted { IsTrue result ↔ RefutesAmong (C.clauses clauses.now) (L.lines lines.now)
-        (letters_in assignment.old) (falses_in assignment.old) hints.entry }
+        (letters_in assignment.old) (falses_in assignment.old) (H.items hints) }
     ensures size { length assignment.new ≡ length assignment.old }
 {
     let mut rest = hints;
-    'hints: while let Some(hint) = rest.next() {
+    'hints: while let Some(hint) = rest.take() {
         match of_hint(assignment, clauses, lines, hint) {
-            Outcome::AllFalse => return rest.next().is_none(),
+            Outcome::AllFalse => return rest.take().is_none(),
             Outcome::Forces(literal) => assignment.falsify(literal.opposite()),
             Outcome::Neither => return false,
         }
@@ -170,12 +173,13 @@ pub(crate) fn of_clause<C: Clauses>(assignment: &Assignment, clauses: &C, number
 }
 
 /// What a named line is, whose letters are not known yet to be within the greatest.
-fn of_line(assignment: &Assignment, literals: Literals<'_>) -> Outcome
-    ensures { IsLineOutcome (letters_in assignment.now) (falses_in assignment.now) literals.entry result }
+fn of_line<I: Listed<Literal> + Drop>(assignment: &Assignment, literals: I) -> Outcome
+    ensures { IsLineOutcome (letters_in assignment.now) (falses_in assignment.now)
+        (I.items literals) result }
 {
     let mut outcome = Outcome::AllFalse;
     let mut rest = literals;
-    'literals: while let Some(literal) = rest.next() {
+    'literals: while let Some(literal) = rest.take() {
         if !assignment.knows(literal) {
             return Outcome::Neither;
         }

@@ -233,9 +233,11 @@ impl<'t> Kept<'t> {
 impl<'t> NamedLines for Kept<'t> {
     ghost use Rattle.log_checker.specs.Judging.{found};
 
+    type Found = Literals<'t>;
+
     ghost lines = { λ kept number. found kept.live number };
 
-    fn find(&self, number: u64) -> Option<Literals<'_>> {
+    fn find(&self, number: u64) -> Option<Literals<'t>> {
         self.line(number)
     }
 }

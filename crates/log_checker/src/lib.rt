@@ -3,10 +3,11 @@
 
 mod assignment;
 mod cuts;
-mod judge;
+pub mod judge;
 mod kept;
 pub mod laws;
 pub mod lines;
+mod listed;
 pub mod live;
 mod outcome;
 mod shared;
@@ -14,8 +15,9 @@ pub mod stored;
 mod worker;
 
 pub use assignment::Assignment;
-pub use judge::{NamedClauses, with_literal};
+pub use judge::{NamedClauses, NamedLines, with_literal};
 pub use lines::{Lines, Scratch, check_lines};
+pub use listed::{Listed, Rest};
 pub use live::LiveChecker;
 pub use outcome::Outcome;
 pub use stored::StoredClauses;

@@ -37,9 +37,11 @@ impl<'v, 't> NamedLines for LinesAt<'v, 't> {
     ghost use Rattle.std.specs.Prelude.{◌-◌};
     ghost use Rattle.cert_text.specs.Live.{live_at};
 
+    type Found = Literals<'t>;
+
     ghost lines = { λ at number. live_at at.view.now.parts (at.line - 1) number };
 
-    fn find(&self, number: u64) -> Option<Literals<'_>> {
+    fn find(&self, number: u64) -> Option<Literals<'t>> {
         if number < 1 {
             return None;
         }

@@ -15,5 +15,5 @@ pub returns-in-Some : goal.returns-in-Some
 returns-in-Some g c =
     let clauses = g.C.NamedClauses.clauses c.args.clauses.now in
     let lines = g.L.NamedLines.lines c.args.lines.now in
-    let is = named_line clauses lines (letters_in c.args.assignment.now) (falses_in c.args.assignment.now) c.in-Line.number c.in-Some.literals _ c.in-Some.ensures c.of_line.ensures in
+    let is = named_line clauses lines (letters_in c.args.assignment.now) (falses_in c.args.assignment.now) c.in-Line.number _ _ c.in-Some.ensures c.of_line.ensures in
     subst (λ h. IsHintOutcome clauses lines (letters_in c.args.assignment.now) (falses_in c.args.assignment.now) h c.of_line.result) (sym c.in-Line.is) is
