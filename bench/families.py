@@ -2,9 +2,11 @@
 """Families of formulas that grow with a size.
 
     families.py                  the names, one a line
-    families.py NAME SIZE        the formula of a family, of a size from 1 on, and of `period` and `deadlines` from 2 on
+    families.py NAME SIZE        the formula of a family, of a size from 1 on; `period`, `deadlines`, `broken_lift` and `broken_buffer`
+                                 begin with 2, `clocks` and `clash` end with 10
     families.py --write FOLDER   the fixed set: a file for each row of SET, with `.finite.` in the name where it is asked
                                  over finite traces
+    families.py --refuted FOLDER the same for each row of REFUTED: formulas that no trace satisfies, for `black-refute`
 """
 import os
 import signal
@@ -158,9 +160,67 @@ def deadlines(n):
     return all_of(parts + ["G (r -> X (%s))" % chain(n - 2, "&", "X", "!r")])
 
 
+def broken_lift(n):
+    """A lift of n floors with doors and buttons, whose door never opens at the top, where somebody calls again and again."""
+    top = n - 1
+    parts = ["(%s)" % some_of("f%d" % i for i in range(n)), "G (%s)" % some_of("f%d" % i for i in range(n))]
+    parts += ["G !(f%d & f%d)" % (i, j) for i in range(n) for j in range(i + 1, n)]
+    parts += ["G (f%d -> X (%s))" % (i, some_of("f%d" % j for j in range(max(0, i - 1), min(n, i + 2)))) for i in range(n)]
+    parts += ["G ((f%d & open) -> X f%d)" % (i, i) for i in range(n)]
+    parts += ["G (b%d -> (b%d W (f%d & open)))" % (i, i, i) for i in range(n)]
+    parts += ["G (b%d -> F (f%d & open))" % (i, i) for i in range(n)] + ["G ((b%d & Y !b%d) -> !open)" % (i, i) for i in range(n)]
+    return all_of(parts + ["G (f%d -> !open)" % top, "G F b%d" % top, "f0", "!open"])
+
+
+def broken_arbiter(n):
+    """The arbiter of n clients, where the last one is granted only right behind a grant of its own."""
+    return all_of([arbiter(n), "G (g%d -> Y g%d)" % (n - 1, n - 1)])
+
+
+def broken_buffer(n):
+    """The buffer of n places, from 2 on, where what is in the last one was not in the one before it two steps ago."""
+    return all_of([buffer(n), "G (f%d -> Y Y !f%d)" % (n - 1, n - 2)])
+
+
+PERIODS = (2, 3, 5, 7, 11, 13, 17, 19, 23, 29)
+
+
+def clock(name, period):
+    """A letter that comes back after so many steps exactly, from 2 on, for ever."""
+    between = chain(period - 2, "&", "X", "!%s" % name)
+    return all_of([name, "G (%s -> %s)" % (name, times(period, "X", name)), "G (%s -> X (%s))" % (name, between)])
+
+
+def clocks(n):
+    """n clocks, 10 at most, with coprime periods, beside a letter that recurs and that is false from some point on."""
+    return all_of([clock("c%d" % i, PERIODS[i]) for i in range(n)] + ["G F a", "F G !a"])
+
+
+def unrelated(n):
+    """n rings of 3, 4, .. letters that share no letter, and a small one that conflicts."""
+    rings = [ring(i + 3).replace("p", "q%dx" % i) for i in range(n)]
+    return all_of(rings + [ring(3), "G !p2"])
+
+
+def beside(n):
+    """n requests that recur are answered, beside a letter that recurs and that is false from some point on."""
+    return all_of([responses(n), "G F a", "F G !a"])
+
+
+def clash(n):
+    """n clocks, 10 at most, which a trace with an end can't have."""
+    return all_of([clock("c%d" % i, PERIODS[i]) for i in range(n)])
+
+
+def tight(n):
+    """An answer comes within n steps, and once it does not."""
+    return "G (p -> (%s)) & F (p & (%s))" % (chain(n, "|", "X", "s"), chain(n, "&", "X", "!s"))
+
+
 FAMILIES = {f.__name__: f for f in (
     ring, counter, stuck, period, responses, exclusive, arbiter, buffer, starved, sinces, yesterdays, history,
-    alternation, declare, conflict, untils, pigeons, deadlines)}
+    alternation, declare, conflict, untils, pigeons, deadlines, broken_lift, broken_arbiter, broken_buffer, clocks,
+    unrelated, beside, clash, tight)}
 
 SET = [
     ("ring", 8), ("ring", 16), ("ring", 32), ("counter", 4), ("counter", 5), ("stuck", 3), ("stuck", 4), ("stuck", 5),
@@ -173,12 +233,26 @@ SET = [
     ("pigeons", 6), ("deadlines", 5), ("deadlines", 20)]
 
 
-LEAST = {"period": 2, "deadlines": 2}
+REFUTED = [
+    ("stuck", 4), ("stuck", 5), ("stuck", 6), ("starved", 2), ("starved", 4), ("starved", 6), ("declare.finite", 12),
+    ("declare.finite", 24), ("declare.finite", 32), ("conflict", 4), ("conflict", 6), ("conflict", 8), ("untils", 6),
+    ("untils", 12), ("pigeons", 4), ("pigeons", 5), ("pigeons", 6), ("broken_lift", 3), ("broken_lift", 4),
+    ("broken_lift", 6), ("broken_lift", 8), ("broken_arbiter", 2), ("broken_arbiter", 4), ("broken_arbiter", 8),
+    ("broken_buffer", 3), ("broken_buffer", 5), ("broken_buffer", 8), ("clocks", 3), ("clocks", 5), ("clocks", 8),
+    ("unrelated", 1), ("unrelated", 3), ("unrelated", 5), ("beside", 2), ("beside", 4), ("beside", 8), ("clash.finite", 3),
+    ("clash.finite", 5), ("clash.finite", 8), ("tight", 50), ("tight", 200)]
+
+LEAST = {"period": 2, "deadlines": 2, "broken_lift": 2, "broken_buffer": 2}
+MOST = {"clocks": 10, "clash": 10}
 
 
-def write_set(folder):
+def is_size(name, size):
+    return size.isdecimal() and LEAST.get(name, 1) <= int(size) <= MOST.get(name, int(size))
+
+
+def write_set(rows, folder):
     os.makedirs(folder, exist_ok=True)
-    for name, size in SET:
+    for name, size in rows:
         file = name.replace(".", "-%d." % size) + "." if "." in name else "%s-%d" % (name, size)
         with open("%s/%s" % (folder, file), "w") as out:
             out.write(FAMILIES[name.split(".")[0]](size))
@@ -187,12 +261,12 @@ def write_set(folder):
 def main(words):
     if not words:
         print("\n".join(FAMILIES))
-    elif len(words) == 2 and words[0] == "--write":
+    elif len(words) == 2 and words[0] in ("--write", "--refuted"):
         try:
-            write_set(words[1])
+            write_set(SET if words[0] == "--write" else REFUTED, words[1])
         except OSError as error:
             sys.exit("families.py: %s" % error)
-    elif len(words) == 2 and words[0] in FAMILIES and words[1].isdecimal() and int(words[1]) >= LEAST.get(words[0], 1):
+    elif len(words) == 2 and words[0] in FAMILIES and is_size(words[0], words[1]):
         print(FAMILIES[words[0]](int(words[1])))
     else:
         print(__doc__, file=sys.stderr)

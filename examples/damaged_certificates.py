@@ -146,16 +146,17 @@ def damaged(sets, turn, draw):
 class Count:
     """How many inputs of a sort the program and the checker answer alike."""
 
-    def __init__(self, program, sort):
-        self.program, self.sort, self.passed, self.failed, self.answers = program, sort, 0, 0, {}
+    def __init__(self, program, sort, command="check", checker=check_certificate):
+        self.program, self.sort, self.command, self.checker = program, sort, command, checker
+        self.passed, self.failed, self.answers = 0, 0, {}
 
     def compare(self, data, finite=False, words=(), by_itself=False):
         kind = ["--finite"] * finite
-        said = run([self.program], ["check", *kind, *words], data)
+        said = run([self.program], [self.command, *kind, *words], data)
         if by_itself:
-            wanted = run([sys.executable, check_certificate.__file__], kind, data)
+            wanted = run([sys.executable, self.checker.__file__], kind, data)
         else:
-            line, status = check_certificate.answer(data, finite)
+            line, status = self.checker.answer(data, finite)
             wanted = (line + "\n").encode(), status
         if said == wanted:
             self.passed += 1
@@ -191,8 +192,8 @@ def inputs(program):
         count.compare(data, False, by_itself=True)
         count.compare(data, True)
     for example in sorted(here.glob("*.out")):
-        words = example.read_text().splitlines()[0].split()[2:]
-        if words[0] == "check":
+        caller, *words = example.read_text().splitlines()[0].split()[1:]
+        if caller == "black" and words[:1] == ["check"]:
             count.compare(example.with_suffix(".in").read_bytes(), "--finite" in words, by_itself=True)
     return count
 

@@ -7,17 +7,18 @@ use Rattle.batch_run.specs.Laws.{AnswersAreOne}
 use Rattle.batch_run.specs.Outcomes.{AreAnswers}
 use Rattle.batch_run.specs.Texts.{is_clean}
 use Rattle.command_words.specs.Words.{Setting, Batch, Asks, kind_of, depth_of}
-use Rattle.black_top.specs.declared.status.Status.{Status}
-use Rattle.black_top.specs.declared.status.Status.TheVariants as statuses
-use Rattle.black_top.specs.Status.{has_read}
-use Rattle.black_top.specs.Taking.{IsTakenUpTo}
+use Rattle.report.specs.declared.status.Status.{Status}
+use Rattle.report.specs.declared.status.Status.TheVariants as statuses
+use Rattle.report.specs.Status.{has_read}
+use Rattle.program_input.specs.Taking.{IsTakenUpTo}
 use Rattle.black_top.specs.Answer.{Answer, batched, status_of, text_of}
 use Rattle.black_top.specs.Solve.{number_of}
 use Rattle.black_top.specs.Batch.{IsBatched, too_many, answered, PrintsAnswers, PrintsVerdicts, PrintsRefusals, PrintsLimit, BatchPromise}
 use Rattle.black_top.specs.Run.{IsAnswered}
 use Rattle.black_top.proofs.Asking.{command_given}
 use Rattle.black_top.proofs.Statuses.{answer_no_fault}
-use Rattle.black_top.proofs.Promising.{told_left, IsBroken, broken_not}
+use Rattle.program_input.proofs.Leaving.{told_left}
+use Rattle.black_top.proofs.Promising.{IsBroken, broken_not}
 
 -- the answers to the lines are one
 pub one_batched : (kind : Kind) (wanted : Option ℕ) (bytes : List ℕ) → AnswersAreOne → (a b : Answer) → IsBatched kind wanted bytes a → IsBatched kind wanted bytes b → a ≡ b

@@ -8,10 +8,11 @@ use Rattle.cert_check.specs.declared.verdict.Verdict.TheVariants as verdicts
 use Rattle.cert_check.specs.Answer.{Verified}
 use Rattle.cert_check.specs.Lawful.{CertOk, IsLawfulAt}
 use Rattle.black_top.specs.Answer.{Answer, unsat, checked}
-use Rattle.black_top.specs.Reading.{IsParted, accepted}
+use Rattle.black_top.specs.Reading.{IsParted}
+use Rattle.program_input.specs.Reading.{accepted}
 use Rattle.black_top.specs.Solve.{number_of, IsWritten, Certifies, IsDecided, satisfiable, unsatisfiable, undecided_yet, IsSettled, too_deep, decided, IsSolved, unreadable, settled}
 use Rattle.black_top.specs.Check.{IsChecked, with_certificate, IsVerified}
-use Rattle.black_top.proofs.Unseparated.{joined_cut}
+use Rattle.program_input.proofs.Unseparated.{joined_cut}
 
 pub verified_behind : (kind : Kind) (f : Formula) (part text : List ℕ) → IsAccepted part f → CertOk f kind text → IsParted (IsChecked kind) (with_certificate part text) (checked verdicts.Verified)
 verified_behind kind f part text read ok =

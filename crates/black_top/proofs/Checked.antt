@@ -10,20 +10,23 @@ use Rattle.cert_check.specs.Answer.{Answer as CheckAnswer, IsAnswer, FormFault, 
 use Rattle.cert_check.specs.Lawful.{CertOk, LawfulHasNoTrace}
 use Rattle.report.specs.Texts.{checked_text}
 use Rattle.command_words.specs.Words.{Setting, Check, Asks, kind_of}
-use Rattle.black_top.specs.declared.status.Status.{Status}
-use Rattle.black_top.specs.declared.status.Status.TheVariants as statuses
-use Rattle.black_top.specs.Status.{has_read}
-use Rattle.black_top.specs.Parts.{IsCut}
-use Rattle.black_top.specs.Taking.{IsTakenWhole}
+use Rattle.report.specs.declared.status.Status.{Status}
+use Rattle.report.specs.declared.status.Status.TheVariants as statuses
+use Rattle.report.specs.Status.{has_read}
+use Rattle.program_input.specs.Parts.{IsCut}
+use Rattle.program_input.specs.Taking.{IsTakenWhole}
+use Rattle.program_input.specs.Claims.{OfParts}
 use Rattle.black_top.specs.Answer.{Answer, status_of, text_of}
-use Rattle.black_top.specs.Reading.{RefusesPart, IsParted, uncut, unread, accepted}
-use Rattle.black_top.specs.Check.{IsChecked, shown_of, PrintsVerified, PrintsRejected, PrintsFound, OfParts, CheckPromise}
+use Rattle.program_input.specs.Reading.{RefusesPart, uncut, unread, accepted}
+use Rattle.black_top.specs.Reading.{IsParted}
+use Rattle.black_top.specs.Check.{IsChecked, shown_of, PrintsVerified, PrintsRejected, PrintsFound, CheckPromise}
 use Rattle.black_top.specs.Run.{IsAnswered}
-use Rattle.black_top.proofs.Cutting.{cut_one, cut_or_none}
-use Rattle.black_top.proofs.OneText.{TextLaws, refused_not_accepted}
+use Rattle.program_input.proofs.Cutting.{cut_one, cut_or_none}
+use Rattle.program_input.proofs.OneText.{TextLaws, refused_not_accepted}
 use Rattle.black_top.proofs.Asking.{command_given}
-use Rattle.black_top.proofs.TwoParts.{HasOne, parted}
-use Rattle.black_top.proofs.Promising.{told_left, IsBroken, broken_not}
+use Rattle.black_top.proofs.Parted.{HasOne, parted}
+use Rattle.program_input.proofs.Leaving.{told_left}
+use Rattle.black_top.proofs.Promising.{IsBroken, broken_not}
 
 -- what is found of a certificate is one
 pub one_check : (kind : Kind) → AnswersAreOne → HasOne (IsChecked kind)

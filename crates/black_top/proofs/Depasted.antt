@@ -14,19 +14,19 @@ use Rattle.depast.specs.Depast.{depast}
 use Rattle.depast.specs.Lifting.{IsLifted}
 use Rattle.report.specs.declared.fault.Fault.TheVariants as faults
 use Rattle.command_words.specs.Words.{Depast, Asks}
-use Rattle.black_top.specs.declared.status.Status.{Status}
-use Rattle.black_top.specs.declared.status.Status.TheVariants as statuses
-use Rattle.black_top.specs.Status.{has_read}
-use Rattle.black_top.specs.Taking.{AreLeft, IsTakenWhole}
+use Rattle.report.specs.declared.status.Status.{Status}
+use Rattle.report.specs.declared.status.Status.TheVariants as statuses
+use Rattle.report.specs.Status.{has_read}
+use Rattle.program_input.specs.Taking.{AreLeft, IsTakenWhole}
 use Rattle.black_top.specs.Answer.{Answer, refused, depasted, lifted, status_of, text_of}
 use Rattle.black_top.specs.Depast.{IsSplit, IsRaised, not_json, not_trace, empty_loop, empty_states, many_cells, raised, IsShownBy, IsWithout, too_large, small, IsPartAnswer, unread, accepted, IsDepasted, IsReadAgain, IsSound, KeepsTruth, PrintsLifted, Prints, PrintsWithoutPast, OfFormula, DepastPromise}
 use Rattle.black_top.specs.declared.output.Output.{Output}
 use Rattle.black_top.specs.Inner.{Shows}
 use Rattle.black_top.specs.Run.{IsAnswered}
 use Rattle.black_top.proofs.Asking.{command_given}
-use Rattle.black_top.proofs.Cutting.{cut_one, cut_or_none}
-use Rattle.black_top.proofs.OneText.{TextLaws, one_fault, refused_not_accepted}
-use Rattle.black_top.proofs.Statuses.{not_refused}
+use Rattle.program_input.proofs.Cutting.{cut_one, cut_or_none}
+use Rattle.program_input.proofs.OneText.{TextLaws, one_fault, refused_not_accepted}
+use Rattle.report.proofs.Statuses.{not_refused}
 use Rattle.black_top.proofs.Promising.{IsBroken, broken_not}
 use Rattle.black_top.proofs.Written.{read_trace}
 use Rattle.black_top.proofs.OneLifted.{one_lifted}

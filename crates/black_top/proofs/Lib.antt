@@ -1,11 +1,7 @@
 pub mod Statuses
-pub mod Cutting
-pub mod Unseparated
-pub mod OneText
-pub mod TwoParts
+pub mod Parted
 pub mod Asking
 pub mod Promising
-pub mod Refusing
 pub mod Showing
 pub mod Settling
 pub mod Certified
@@ -35,7 +31,6 @@ pub mod Listed
 pub mod Ordered
 pub mod ReadAgain
 pub mod RunTraces
-pub mod SomeParts
 pub mod SomeSolved
 pub mod SomeSystem
 pub mod SomeMonitored

@@ -1,5 +1,5 @@
 -- A formula without past operators reads again: its new names are words that are not reserved, and so it can be printed where the formula can.
-use Rattle.std.proofs.Common.{◌≡◌, ◌∙◌, ℕ, zero, suc, ◌+◌, ◌-◌, ◌%◌, ◌/◌, ◌<◌, Bool, true, false, ◌&&◌, ◌||◌, ◌==◌, if◌then◌else◌, List, [], ◌∷◌, ◌++◌, decimal, codes, refl, sym, ap, ap₂, arith}
+use Rattle.std.proofs.Common.{◌≡◌, ℕ, zero, suc, ◌+◌, ◌-◌, ◌%◌, ◌/◌, ◌<◌, Bool, true, false, ◌&&◌, ◌||◌, ◌==◌, if◌then◌else◌, List, [], ◌∷◌, ◌++◌, decimal, refl, ap₂, arith}
 use Rattle.std.specs.Fmt.{digit_glyph, digits_onto, digits}
 use Rattle.std.specs.List.{list_all}
 use Rattle.std.proofs.lemmas.Bool.Decides.{nat_tests}
@@ -8,13 +8,12 @@ use Rattle.ltl_syntax.specs.declared.node.BinaryOp.{BinaryOp}
 use Rattle.ltl_syntax.specs.declared.node.UnaryOp.TheVariants.{Always, AlwaysIn, Eventually, EventuallyIn, Historically, HistoricallyIn, Next, NextTimes, Not, Once, OnceIn, WeakNext, WeakYesterday, Yesterday, YesterdayTimes}
 use Rattle.ltl_syntax.specs.declared.node.BinaryOp.TheVariants.{And, Iff, Implies, Or, Release, Since, StrongRelease, Trigger, Until, WeakUntil}
 use Rattle.ltl_syntax.specs.Formula.{Formula, Const, Name, Fresh, Letter, Unary, Binary}
-use Rattle.ltl_lexer.specs.declared.token.TokenKind.TheVariants as kinds
-use Rattle.ltl_lexer.specs.Tokens.{IsWord, word_kind}
+use Rattle.ltl_lexer.specs.Tokens.{IsWord}
 use Rattle.ltl_lexer.proofs.Words.{is_word_byte, ascii_others}
 use Rattle.ltl_parser.specs.Text.{IsWithin, IsPrintable, IsAccepted}
 use Rattle.ltl_parser.proofs.Readings.{read_is_printable}
 use Rattle.ltl_parser.proofs.Printing.{printed_reads}
-use Rattle.depast.specs.Names.{most_leading, underscores, new_name, new_letter}
+use Rattle.depast.specs.Names.{most_leading, underscores, new_letter}
 use Rattle.depast.specs.Depast.{taken, step_back, joined_back, residue, residue₁, residue₂, yesterday_axiom, weak_yesterday_axiom, since_axiom, trigger_axiom, back_axioms, axioms, axioms₁, axioms₂, conjoined, letter_for, depast}
 use Rattle.black_top.specs.Depast.{IsReadAgain}
 

@@ -12,9 +12,9 @@ use Rattle.black_top.specs.Trace.{IsJudged}
 use Rattle.black_top.specs.Check.{IsChecked}
 use Rattle.black_top.specs.Monitor.{IsMonitored}
 use Rattle.black_top.specs.Run.{Answers, IsAnswer, not_taken, taken}
-use Rattle.black_top.proofs.OneText.{TextLaws}
+use Rattle.program_input.proofs.OneText.{TextLaws}
 use Rattle.black_top.proofs.Asking.{command_given}
-use Rattle.black_top.proofs.TwoParts.{one_parted}
+use Rattle.black_top.proofs.Parted.{one_parted}
 use Rattle.black_top.proofs.Solved.{one_solved}
 use Rattle.black_top.proofs.Checked.{one_check}
 use Rattle.black_top.proofs.Traced.{one_judgement}

@@ -13,7 +13,7 @@ use Rattle.report.specs.Texts.{Proof}
 use Rattle.black_top.specs.Answer.{Answer, refused, no_path, undecided, shown_formula, AreAlike}
 use Rattle.black_top.specs.Solve.{number_of}
 use Rattle.black_top.specs.System.{AreParts, part_bytes, IsFaulty, lexical, grammar, HasFault, in_start, in_step, in_goal, ProvesWhole, IsDecided, pathless, kept, broken, undecided_yet, IsSettled, too_large, no_start, no_step, too_deep, decided, IsSystemAnswer, unparted, too_long, faulty, settled}
-use Rattle.black_top.proofs.OneText.{TextLaws}
+use Rattle.program_input.proofs.OneText.{TextLaws}
 use Rattle.black_top.proofs.Solved.{one_limit, not_too_deep, sat_depth, unsat_depth, undecided_depth}
 use Rattle.black_top.proofs.ThreeParts.{AreSame, same_parts, parts_or_few}
 

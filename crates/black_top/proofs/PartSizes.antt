@@ -15,7 +15,7 @@ use Rattle.ltl_parser.specs.Grammar.{weight, node_count, fault}
 use Rattle.ltl_parser.specs.Text.{symbol, symbols, byte_of, byte_at, ReadsText, IsGrammarFault}
 use Rattle.ltl_parser.proofs.Readings.{nodes_of_text}
 use Rattle.report.specs.declared.fault.Fault.{Fault}
-use Rattle.black_top.specs.Reading.{RefusesPart, too_long, lexical, grammar, many_nodes}
+use Rattle.program_input.specs.Reading.{RefusesPart, too_long, lexical, grammar, many_nodes}
 use Rattle.black_top.specs.System as systems
 use Rattle.black_top.specs.SystemInner.{HasSmallByte, IsPartRead, refused_part}
 

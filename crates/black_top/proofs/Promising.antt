@@ -1,11 +1,10 @@
 -- What all promises share: an answer that was printed whole, and a call that gave none.
-use Rattle.std.proofs.Common.{◌≡◌, ◌∙◌, ℕ, true, false, List, Option, Some, None, sym, ap, subst}
+use Rattle.std.proofs.Common.{◌≡◌, ◌∙◌, ℕ, true, false, List, Option, sym, ap, subst}
 use Rattle.ltl_io.specs.Outside.{Grows}
-use Rattle.black_top.specs.declared.status.Status.{Status}
-use Rattle.black_top.specs.declared.status.Status.TheVariants as statuses
+use Rattle.report.specs.declared.status.Status.{Status}
+use Rattle.report.specs.declared.status.Status.TheVariants as statuses
 use Rattle.black_top.specs.declared.output.Output.{Output}
-use Rattle.black_top.specs.Status.{is_answer}
-use Rattle.black_top.specs.Taking.{AreLeft}
+use Rattle.report.specs.Status.{is_answer}
 use Rattle.black_top.specs.Answer.{Answer}
 use Rattle.black_top.specs.Inner.{Shows}
 use Rattle.black_top.specs.Run.{IsGiven, IsAnswered}
@@ -19,11 +18,6 @@ answered {words} {rest} {before} {after} {s} out text (a, given, shows) same gro
   own = sym is ∙ shows.status;
   printed = subst (λ (bytes : List ℕ). Grows bytes before after) (same ∙ shows.text) grown;
 }
-
--- what the source is told to have left is what it had left
-pub told_left : (rest : Option (List ℕ)) (bytes left : List ℕ) → rest ≡ Some bytes → AreLeft rest left → bytes ≡ left
-told_left (Some told) bytes left e is = let same : bytes ≡ told = cc in same ∙ is
-told_left None bytes left e is = absurd (cc)
 
 -- a call that gave no answer was not quiet, or there was no memory
 pub record IsBroken (IsQuiet : Type 0) (status : Status) : Type 0 where

@@ -20,7 +20,7 @@ use Rattle.ltl_run.specs.Laws.{AcceptedRunsHaveTraces, RunsSatisfy, RulesAccept}
 use Rattle.ltl_run.proofs.PlainNames.{closure_letter}
 use Rattle.ltl_run.proofs.Closed.{shown_gives}
 use Rattle.unravel.specs.Decision.{IsTraceOfRun}
-use Rattle.black_top.specs.Reading.{ReadsBack}
+use Rattle.report.specs.Texts.{ReadsBack}
 use Rattle.black_top.proofs.Listed.{listed}
 use Rattle.black_top.proofs.Ordered.{none_ascends, set_of}
 use Rattle.black_top.proofs.ReadAgain.{AreTexts, AreGood, IsGood, reads_back}

@@ -12,17 +12,20 @@ use Rattle.enc_layout.specs.Limit.{IsInForce}
 use Rattle.unravel.specs.Decision.{IsTraceOfRun, IsModel}
 use Rattle.report.specs.declared.fault.Fault.TheVariants as faults
 use Rattle.command_words.specs.Words.{Setting, Solve, Asks, kind_of, depth_of, core_of, cert_of}
-use Rattle.black_top.specs.declared.status.Status.{Status}
-use Rattle.black_top.specs.declared.status.Status.TheVariants as statuses
-use Rattle.black_top.specs.Status.{has_read}
-use Rattle.black_top.specs.Taking.{IsTakenUpTo}
+use Rattle.report.specs.declared.status.Status.{Status}
+use Rattle.report.specs.declared.status.Status.TheVariants as statuses
+use Rattle.report.specs.Status.{has_read}
+use Rattle.program_input.specs.Taking.{IsTakenUpTo}
+use Rattle.program_input.specs.Claims.{OfFormula}
 use Rattle.black_top.specs.Answer.{Answer, refused, undecided, status_of, text_of, AreAlike}
-use Rattle.black_top.specs.Solve.{IsReached, number_of, IsDecided, satisfiable, unsatisfiable, undecided_yet, IsSettled, too_deep, decided, IsSolved, unreadable, settled, PrintsModel, PrintsNone, PrintsUndecided, AreFewLetters, PrintsVerdict, OfFormula, SolvePromise}
+use Rattle.black_top.specs.Solve.{IsReached, number_of, IsDecided, satisfiable, unsatisfiable, undecided_yet, IsSettled, too_deep, decided, IsSolved, unreadable, settled, PrintsModel, PrintsNone, PrintsUndecided, AreFewLetters, PrintsVerdict, SolvePromise}
 use Rattle.black_top.specs.Run.{IsAnswered}
-use Rattle.black_top.proofs.OneText.{TextLaws, one_fault, refused_not_accepted}
+use Rattle.program_input.proofs.OneText.{TextLaws, one_fault, refused_not_accepted}
 use Rattle.black_top.proofs.Asking.{command_given}
-use Rattle.black_top.proofs.Statuses.{is_refusal, not_refused, answer_no_fault}
-use Rattle.black_top.proofs.Promising.{told_left, IsBroken, broken_not}
+use Rattle.report.proofs.Statuses.{is_refusal, not_refused}
+use Rattle.black_top.proofs.Statuses.{answer_no_fault}
+use Rattle.program_input.proofs.Leaving.{told_left}
+use Rattle.black_top.proofs.Promising.{IsBroken, broken_not}
 use Rattle.black_top.proofs.Certified.{certificate_verified, both_certified}
 use Rattle.black_top.proofs.Conflicting.{CoreLaws, one_core, tells_conflict}
 use Rattle.core_extract.specs.Laws.{CoreIsOne}

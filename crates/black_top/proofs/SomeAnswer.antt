@@ -19,12 +19,13 @@ use Rattle.black_top.specs.Check.{IsChecked}
 use Rattle.black_top.specs.Monitor.{IsMonitored}
 use Rattle.black_top.specs.Demo.{ring, summary_of, IsShown, shown}
 use Rattle.black_top.specs.Depast.{IsWithout, too_large, small, IsPartAnswer, unread, accepted, IsDepasted}
-use Rattle.black_top.specs.Parts.{HasNoSeparator}
+use Rattle.program_input.specs.Parts.{HasNoSeparator}
 use Rattle.black_top.specs.Run.{Answers, IsAnswer, not_taken, taken}
 use Rattle.black_top.specs.Laws.{IsCovered}
 use Rattle.black_top.proofs.NewNames.{read_again}
 use Rattle.black_top.proofs.RingFormula.{ring_accepted}
-use Rattle.black_top.proofs.SomeParts.{EachHasOutcome, accepted_or_refused, some_parted}
+use Rattle.program_input.proofs.SomeParts.{EachHasOutcome, accepted_or_refused}
+use Rattle.black_top.proofs.Parted.{some_parted}
 use Rattle.black_top.proofs.SomeSolved.{SearchLaws, some_solved, some_judged}
 use Rattle.black_top.proofs.SomeSystem.{some_system}
 use Rattle.black_top.proofs.SomeMonitored.{some_monitored}

@@ -21,10 +21,10 @@ use Rattle.report.specs.declared.fault.Fault.{Fault}
 use Rattle.report.specs.declared.fault.Fault.TheVariants as faults
 use Rattle.black_top.specs.Answer.{Answer, refused, batched}
 use Rattle.black_top.specs.Batch.{max_batch, IsBatched, too_many, answered}
-use Rattle.black_top.specs.Reading.{RefusesPart, too_long, lexical, grammar, many_nodes}
+use Rattle.program_input.specs.Reading.{RefusesPart, too_long, lexical, grammar, many_nodes}
 use Rattle.black_top.specs.Solve.{number_of}
 use Rattle.black_top.proofs.FewEntries.{small_closure}
-use Rattle.black_top.proofs.SomeParts.{EachHasOutcome, accepted_or_refused}
+use Rattle.program_input.proofs.SomeParts.{EachHasOutcome, accepted_or_refused}
 
 -- ---- lines
 

@@ -21,7 +21,7 @@ use Rattle.cert_check.specs.Answer.{Answer as CheckAnswer, FormFault, OtherKind,
 use Rattle.core_extract.specs.Laws.{LimitIsThere}
 use Rattle.black_top.specs.Check.{shown_of, IsChecked}
 use Rattle.black_top.proofs.SomeBatched.{same_number}
-use Rattle.black_top.proofs.SomeParts.{HasSome}
+use Rattle.black_top.proofs.Parted.{HasSome}
 
 -- ---- the first bad place
 

@@ -24,7 +24,8 @@ use Rattle.black_top.specs.Solve.{IsReached, number_of, IsDecided, satisfiable, 
 use Rattle.black_top.specs.Trace.{IsJudged, not_json, not_trace, empty_loop, empty_states, many_cells, satisfied, violated}
 use Rattle.black_top.proofs.Ordered.{sets_length}
 use Rattle.black_top.proofs.RunTraces.{RunLaws, run_trace}
-use Rattle.black_top.proofs.SomeParts.{EachHasOutcome, HasSome, accepted_or_refused}
+use Rattle.program_input.proofs.SomeParts.{EachHasOutcome, accepted_or_refused}
+use Rattle.black_top.proofs.Parted.{HasSome}
 
 -- ---- `solve`
 

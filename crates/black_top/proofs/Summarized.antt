@@ -1,7 +1,7 @@
 -- `demo` keeps what it promises.
 use Rattle.std.proofs.Common.{◌≡◌, ℕ, inl, inr, List, Option, refl, subst}
 use Rattle.command_words.specs.Words.{Demo, Asks, ReadsNothing}
-use Rattle.black_top.specs.declared.status.Status.{Status}
+use Rattle.report.specs.declared.status.Status.{Status}
 use Rattle.black_top.specs.Demo.{PrintsSummary, DemoPromise}
 use Rattle.black_top.specs.Run.{IsAnswered, NeedsNothing}
 use Rattle.black_top.proofs.Asking.{same_command, command_given}

@@ -14,10 +14,10 @@ use Rattle.report.specs.declared.fault.Fault.{Fault}
 use Rattle.report.specs.declared.summary.Shown.{Shown}
 use Rattle.report.specs.declared.summary.Summary.{Summary}
 use Rattle.black_top.specs.Answer.{Answer, summary}
-use Rattle.black_top.specs.Reading.{RefusesPart}
+use Rattle.program_input.specs.Reading.{RefusesPart}
 use Rattle.enc_layout.specs.Limit.{layout, IsInForce}
 use Rattle.black_top.specs.Demo.{ring, shown_verdict, summary_of, IsShown, shown}
-use Rattle.black_top.proofs.OneText.{TextLaws, refused_not_accepted}
+use Rattle.program_input.proofs.OneText.{TextLaws, refused_not_accepted}
 
 -- ---- the text
 

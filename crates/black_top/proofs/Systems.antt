@@ -17,20 +17,21 @@ use Rattle.system_check.proofs.AnswerLaws.{no_path, refuted_holds, fails_on, unk
 use Rattle.report.specs.declared.fault.Fault.TheVariants as faults
 use Rattle.report.specs.Texts.{Proof}
 use Rattle.command_words.specs.Words.{Setting, System, Asks, depth_of, cert_of}
-use Rattle.black_top.specs.declared.status.Status.{Status}
-use Rattle.black_top.specs.declared.status.Status.TheVariants as statuses
-use Rattle.black_top.specs.Status.{has_read}
-use Rattle.black_top.specs.Taking.{IsTakenWhole}
+use Rattle.report.specs.declared.status.Status.{Status}
+use Rattle.report.specs.declared.status.Status.TheVariants as statuses
+use Rattle.report.specs.Status.{has_read}
+use Rattle.program_input.specs.Taking.{IsTakenWhole}
 use Rattle.black_top.specs.Answer.{Answer, undecided, paths_hold, checked, status_of, text_of}
 use Rattle.black_top.specs.Reading.{IsParted}
 use Rattle.black_top.specs.Solve.{number_of, IsReached, AreFewLetters}
 use Rattle.black_top.specs.Check.{IsChecked, with_certificate}
 use Rattle.black_top.specs.System.{ProvesWhole, IsDecided, pathless, kept, broken, undecided_yet, IsSettled, too_large, no_start, no_step, too_deep, decided, IsSystemAnswer, unparted, too_long, faulty, settled, PrintsHolds, PrintsFails, PrintsNoPath, PrintsUndecided, PrintsAnswer, AreSystem, OfSystem, SystemPromise}
 use Rattle.black_top.specs.Run.{IsAnswered}
-use Rattle.black_top.proofs.OneText.{TextLaws}
+use Rattle.program_input.proofs.OneText.{TextLaws}
 use Rattle.black_top.proofs.Asking.{command_given}
-use Rattle.black_top.proofs.Statuses.{is_refusal, not_refused}
-use Rattle.black_top.proofs.Promising.{told_left, IsBroken, broken_not}
+use Rattle.report.proofs.Statuses.{is_refusal, not_refused}
+use Rattle.program_input.proofs.Leaving.{told_left}
+use Rattle.black_top.proofs.Promising.{IsBroken, broken_not}
 use Rattle.black_top.proofs.Certified.{verified_behind}
 use Rattle.black_top.proofs.Solved.{not_deep}
 use Rattle.black_top.proofs.ThreeParts.{parts_or_few}

@@ -1,10 +1,10 @@
 -- An input of three parts: it is cut in one way, and how long its parts are.
 use Rattle.std.proofs.Common.{◌≡◌, ◌∙◌, ℕ, ◌+◌, ◌≤◌, inl, inr, List, [], ◌∷◌, ◌++◌, length, sym, ap, subst, arith, length-append}
-use Rattle.black_top.specs.Parts.{IsSeparator, EndsLine, BeginsLine, IsCut, HasNoSeparator}
+use Rattle.program_input.specs.Parts.{IsSeparator, EndsLine, BeginsLine, IsCut, HasNoSeparator}
 use Rattle.black_top.specs.System.{AreParts, HasFewSeparators, part_bytes}
 use Rattle.black_top.specs.SystemInner.{AreCut}
 use Rattle.black_top.specs.declared.parts.ThreeParts.{ThreeParts as Three}
-use Rattle.black_top.proofs.Cutting.{cut_one, cut_or_none}
+use Rattle.program_input.proofs.Cutting.{cut_one, cut_or_none}
 
 -- ---- lengths
 

@@ -11,16 +11,16 @@ use Rattle.ltl_word.specs.Laws.{IsOneReading}
 use Rattle.lasso_eval.specs.Cells.{cells, max_cells, AreTooMany}
 use Rattle.report.specs.declared.fault.Fault.TheVariants as faults
 use Rattle.command_words.specs.Words.{Trace as TraceWord, Asks}
-use Rattle.black_top.specs.declared.status.Status.{Status}
-use Rattle.black_top.specs.declared.status.Status.TheVariants as statuses
-use Rattle.black_top.specs.Status.{has_read}
-use Rattle.black_top.specs.Taking.{IsTakenWhole}
+use Rattle.report.specs.declared.status.Status.{Status}
+use Rattle.report.specs.declared.status.Status.TheVariants as statuses
+use Rattle.report.specs.Status.{has_read}
+use Rattle.program_input.specs.Taking.{IsTakenWhole}
 use Rattle.black_top.specs.Answer.{Answer, refused, holds, fails, status_of, text_of}
 use Rattle.black_top.specs.Reading.{IsParted}
 use Rattle.black_top.specs.Trace.{IsJudged, not_json, not_trace, empty_loop, empty_states, many_cells, satisfied, violated, PrintsHolds, PrintsFails, OfTrace, TracePromise}
 use Rattle.black_top.specs.Run.{IsAnswered}
 use Rattle.black_top.proofs.Asking.{command_given}
-use Rattle.black_top.proofs.TwoParts.{HasOne, parted}
+use Rattle.black_top.proofs.Parted.{HasOne, parted}
 use Rattle.black_top.proofs.Promising.{IsBroken, broken_not}
 
 -- the answer by what the text of the trace is read as

@@ -10,18 +10,18 @@ use Rattle.past_monitor.specs.Text.{AreAnswers, IsWatched}
 use Rattle.past_monitor.specs.Laws.{HasOneAnswer}
 use Rattle.report.specs.declared.fault.Fault.TheVariants as faults
 use Rattle.command_words.specs.Words.{Monitor, Asks}
-use Rattle.black_top.specs.declared.status.Status.{Status}
-use Rattle.black_top.specs.declared.status.Status.TheVariants as statuses
-use Rattle.black_top.specs.Status.{has_read}
-use Rattle.black_top.specs.Taking.{IsTakenWhole}
+use Rattle.report.specs.declared.status.Status.{Status}
+use Rattle.report.specs.declared.status.Status.TheVariants as statuses
+use Rattle.report.specs.Status.{has_read}
+use Rattle.program_input.specs.Taking.{IsTakenWhole}
+use Rattle.program_input.specs.Claims.{OfParts}
 use Rattle.black_top.specs.Answer.{Answer, refused, watched, status_of, text_of}
 use Rattle.black_top.specs.Reading.{IsParted}
-use Rattle.black_top.specs.Check.{OfParts}
 use Rattle.black_top.specs.Monitor.{IsMonitored, looks_ahead, no_state, answered, PrintsAnswers, HoldsAtEach, FailsAtOne, MonitorPromise}
 use Rattle.black_top.specs.Run.{IsAnswered}
 use Rattle.black_top.proofs.Asking.{command_given}
 use Rattle.black_top.proofs.Promising.{IsBroken, broken_not}
-use Rattle.black_top.proofs.TwoParts.{HasOne, parted}
+use Rattle.black_top.proofs.Parted.{HasOne, parted}
 
 -- what is shown of what is answered to a text
 shown_of : Result (List Bool) WatchRefused → Answer

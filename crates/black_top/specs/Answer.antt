@@ -9,14 +9,14 @@ use Rattle.cert_check.specs.declared.verdict.Verdict.TheVariants as checks
 use Rattle.batch_run.specs.declared.answer.Answer.{Answer as LineAnswer}
 use Rattle.batch_run.specs.Texts.{batch_text, is_clean}
 use Rattle.report.specs.declared.fault.Fault.{Fault}
-use Rattle.report.specs.declared.fault.Fault.TheVariants as faults
 use Rattle.report.specs.declared.summary.Summary.{Summary}
 use Rattle.report.specs.declared.summary.Shown.{Shown}
 use Rattle.report.specs.declared.summary.Shown.TheVariants as verdicts
 use Rattle.report.specs.Texts.{Proof, no_path_text, paths_hold_text, path_fails_text, sat_text, unsat_text, undecided_text, traced_text, checked_text, refused_text, answers_text, depasted_text, lifted_text}
+use Rattle.report.specs.Status.{fault_status}
 use Rattle.report.specs.Summary.{summary_text}
-use Rattle.black_top.specs.declared.status.Status.{Status}
-use Rattle.black_top.specs.declared.status.Status.TheVariants as statuses
+use Rattle.report.specs.declared.status.Status.{Status}
+use Rattle.report.specs.declared.status.Status.TheVariants as statuses
 
 -- a refusal; SAT at a depth with a trace; UNSAT at a depth, with the texts of a core and of a certificate where they are shown; UNDECIDED up to a depth; HOLDS;
 -- FAILS; VERIFIED or REJECTED; the summary of a demo; the answers to the lines of a batch; of a system NO PATH at a depth, HOLDS at a depth, with a
@@ -38,28 +38,6 @@ pub data Answer : Type 0 where
   watched : List Bool → Answer
   depasted : Formula → Answer
   lifted : Formula → Trace → Answer
-
--- the status of a refusal
-abbrev pub fault_status : Fault → Status
-fault_status faults.Usage = statuses.Usage
-fault_status faults.Text = statuses.Limit
-fault_status faults.Batch = statuses.Limit
-fault_status (faults.Lexical byte) = statuses.Text
-fault_status (faults.Grammar byte) = statuses.Text
-fault_status (faults.Nodes count) = statuses.Limit
-fault_status (faults.PastNodes count) = statuses.Limit
-fault_status (faults.Letters depth) = statuses.Limit
-fault_status faults.NoSeparator = statuses.Text
-fault_status faults.NotJson = statuses.Text
-fault_status faults.NotTrace = statuses.Text
-fault_status faults.EmptyLoop = statuses.Text
-fault_status faults.EmptyStates = statuses.Text
-fault_status (faults.Cells count) = statuses.Limit
-fault_status (faults.Certificate byte) = statuses.Text
-fault_status faults.SystemStart = statuses.Text
-fault_status faults.SystemStep = statuses.Text
-fault_status faults.LooksAhead = statuses.Text
-fault_status (faults.State number) = statuses.Text
 
 -- the status of a verdict that is shown without a trace
 abbrev pub shown_status : Shown → Status

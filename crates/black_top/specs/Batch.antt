@@ -8,10 +8,10 @@ use Rattle.batch_run.specs.Texts.{batch_text, is_clean}
 use Rattle.report.specs.declared.fault.Fault.TheVariants as faults
 use Rattle.report.specs.Texts.{refused_text}
 use Rattle.command_words.specs.Words.{Setting, kind_of, depth_of}
-use Rattle.black_top.specs.declared.status.Status.{Status}
-use Rattle.black_top.specs.declared.status.Status.TheVariants as statuses
-use Rattle.black_top.specs.Status.{has_read}
-use Rattle.black_top.specs.Taking.{AreLeft, IsTakenUpTo}
+use Rattle.report.specs.declared.status.Status.{Status}
+use Rattle.report.specs.declared.status.Status.TheVariants as statuses
+use Rattle.report.specs.Status.{has_read}
+use Rattle.program_input.specs.Taking.{AreLeft, IsTakenUpTo}
 use Rattle.black_top.specs.Answer.{Answer, refused, batched, batch_status}
 use Rattle.black_top.specs.Solve.{number_of}
 

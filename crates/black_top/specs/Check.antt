@@ -12,12 +12,13 @@ use Rattle.cert_check.specs.Answer.{Answer as CheckAnswer, IsAnswer, FormFault, 
 use Rattle.cert_check.specs.Lawful.{CertOk}
 use Rattle.report.specs.declared.fault.Fault.TheVariants as faults
 use Rattle.report.specs.Texts.{checked_text}
-use Rattle.black_top.specs.declared.status.Status.{Status}
-use Rattle.black_top.specs.declared.status.Status.TheVariants as statuses
-use Rattle.black_top.specs.Status.{has_read}
+use Rattle.report.specs.declared.status.Status.{Status}
+use Rattle.report.specs.declared.status.Status.TheVariants as statuses
+use Rattle.report.specs.Status.{has_read}
 use Rattle.command_words.specs.Words.{Setting, kind_of}
-use Rattle.black_top.specs.Parts.{IsCut}
-use Rattle.black_top.specs.Taking.{AreLeft, IsTakenWhole}
+use Rattle.program_input.specs.Parts.{IsCut}
+use Rattle.program_input.specs.Claims.{OfParts}
+use Rattle.program_input.specs.Taking.{IsTakenWhole}
 use Rattle.black_top.specs.Answer.{Answer, refused, checked, status_of, text_of}
 use Rattle.black_top.specs.Reading.{IsParted}
 
@@ -64,17 +65,6 @@ pub record PrintsFound (kind : Kind) (f : Formula) (text : List ℕ) (before aft
   pub is : IsAnswer f kind text found
   pub own : status ≡ status_of (shown_of found)
   pub printed : Grows (text_of (shown_of found)) before after
-
--- what is claimed of the accepted formula and of the second part of what the source had left
-pub record OfParts (rest : Option (List ℕ)) (Claim : Formula → List ℕ → Type 0) : Type 0 where
-  pub bytes : List ℕ
-  pub left : AreLeft rest bytes
-  pub part : List ℕ
-  pub second : List ℕ
-  pub cut : IsCut bytes part second
-  pub formula : Formula
-  pub accepted : IsAccepted part formula
-  pub claim : Claim formula second
 
 -- what `check` promises of a call: of the rest of the source and the content of the sink, before and after, and of its status.
 -- A call is quiet where neither count of faults rose

@@ -13,9 +13,9 @@ use Rattle.enc_layout.specs.Clauses.{counts}
 use Rattle.report.specs.declared.summary.Shown.{Shown}
 use Rattle.report.specs.declared.summary.Shown.TheVariants as verdicts
 use Rattle.report.specs.declared.summary.Summary.{Summary}
-use Rattle.black_top.specs.declared.status.Status.{Status}
-use Rattle.black_top.specs.declared.status.Status.TheVariants as statuses
-use Rattle.black_top.specs.Status.{is_answer}
+use Rattle.report.specs.declared.status.Status.{Status}
+use Rattle.report.specs.declared.status.Status.TheVariants as statuses
+use Rattle.report.specs.Status.{is_answer}
 use Rattle.black_top.specs.Answer.{Answer, summary, status_of, text_of}
 use Rattle.enc_layout.specs.Limit.{IsInForce}
 

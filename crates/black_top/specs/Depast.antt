@@ -20,14 +20,14 @@ use Rattle.depast.specs.Laws.{IsPart}
 use Rattle.depast.specs.Removal.{IsTooLarge}
 use Rattle.report.specs.declared.fault.Fault.{Fault}
 use Rattle.report.specs.declared.fault.Fault.TheVariants as faults
-use Rattle.report.specs.Texts.{depasted_text, lifted_text}
-use Rattle.black_top.specs.declared.status.Status.{Status}
-use Rattle.black_top.specs.declared.status.Status.TheVariants as statuses
-use Rattle.black_top.specs.Status.{has_read}
-use Rattle.black_top.specs.Parts.{IsCut, HasNoSeparator}
-use Rattle.black_top.specs.Taking.{AreLeft, IsTakenWhole}
+use Rattle.report.specs.Texts.{depasted_text, lifted_text, ReadsBack}
+use Rattle.report.specs.declared.status.Status.{Status}
+use Rattle.report.specs.declared.status.Status.TheVariants as statuses
+use Rattle.report.specs.Status.{has_read}
+use Rattle.program_input.specs.Parts.{IsCut, HasNoSeparator}
+use Rattle.program_input.specs.Taking.{AreLeft, IsTakenWhole}
 use Rattle.black_top.specs.Answer.{Answer, refused, depasted, lifted}
-use Rattle.black_top.specs.Reading.{RefusesPart, ReadsBack}
+use Rattle.program_input.specs.Reading.{RefusesPart}
 
 -- the input is a formula part alone, or one with a second part behind a separator line
 abbrev pub IsSplit : List ℕ → List ℕ → Option (List ℕ) → Type 0

@@ -1,19 +1,12 @@
 -- What the private calls give. No public contract cites this file.
-use Rattle.std.specs.Prelude.{◌≡◌, ◌<◌, ◌≤◌, ℕ, List, ◌++◌, length, Option, Some, None}
-use Rattle.ltl_syntax.specs.Formula.{nodes_in}
-use Rattle.ltl_syntax.specs.Size.{sizes, formula_size}
-use Rattle.ltl_syntax.specs.Table.{tree_at}
-use Rattle.ltl_parser.specs.Text.{IsAccepted}
+use Rattle.std.specs.Prelude.{◌≡◌, ◌≤◌, ℕ, List, Option, Some, None}
 use Rattle.black_top.specs.declared.output.Output.{Output}
-use Rattle.black_top.specs.declared.reading.Reading.{Reading}
-use Rattle.black_top.specs.declared.reading.Reading.TheVariants as readings
 use Rattle.command_words.specs.declared.asked.Asked.{Asked}
 use Rattle.command_words.specs.declared.asked.Asked.TheVariants as asked
 use Rattle.command_words.specs.Asked.{IsDepth, AreWorkers}
-use Rattle.black_top.specs.Parts.{IsSeparator, EndsLine, BeginsLine}
-use Rattle.black_top.specs.Taking.{AreLeft}
+use Rattle.program_input.specs.Claims.{IsLeft as IsLeftOf}
 use Rattle.black_top.specs.Answer.{Answer, status_of, text_of}
-use Rattle.black_top.specs.Reading.{RefusesPart, IsParted}
+use Rattle.black_top.specs.Reading.{IsParted}
 use Rattle.black_top.specs.Solve.{IsSolved}
 use Rattle.black_top.specs.Trace.{IsJudged}
 use Rattle.black_top.specs.Check.{IsChecked}
@@ -56,33 +49,9 @@ stop_after (asked.System options) = Some 18446744073709551615
 stop_after asked.Monitor = Some 18446744073709551615
 stop_after asked.Depast = Some 18446744073709551615
 
--- the text is read as a formula, of which the table has the nodes and no others, or refused
-abbrev pub IsPartReading : List ℕ → Reading → Type 0
-IsPartReading text (readings.Formula table root) =
-    (root < length table.nodes) × IsAccepted text (tree_at table root) × (length table.nodes ≡ nodes_in (tree_at table root)) × (sizes table.nodes ≡ formula_size (tree_at table root))
-IsPartReading text (readings.Refused fault) = RefusesPart text fault
-
--- a separator line begins so many bytes from the start, and this stands behind it
-pub record OpensSecond (bytes : List ℕ) (start : ℕ) (second : List ℕ) : Type 0 where
-  pub before : List ℕ
-  pub line : List ℕ
-  pub after : List ℕ
-  pub text : List ℕ
-  pub place : length before ≡ start
-  pub whole : bytes ≡ before ++ line ++ after
-  pub separator : IsSeparator line
-  pub begins : EndsLine before text
-  pub ends : BeginsLine after second
-
--- no separator line begins there
-abbrev pub OpensNothing : List ℕ → ℕ → Type 0
-OpensNothing bytes start = (second : List ℕ) → ¬ (OpensSecond bytes start second)
-
 -- the answer comes of what the source had left
-pub record IsLeft (Comes : List ℕ → Answer → Type 0) (rest : Option (List ℕ)) (answer : Answer) : Type 0 where
-  pub bytes : List ℕ
-  pub left : AreLeft rest bytes
-  pub lawful : Comes bytes answer
+abbrev pub IsLeft : (List ℕ → Answer → Type 0) → Option (List ℕ) → Answer → Type 0
+IsLeft Comes rest answer = IsLeftOf Answer Comes rest answer
 
 -- the output has the answer's status and its text
 pub record Shows (output : Output) (answer : Answer) : Type 0 where

@@ -1,7 +1,7 @@
 -- What the law says by which there is an answer.
 use Rattle.std.specs.Prelude.{◌≡◌, ℕ, false, List, ⊤}
 use Rattle.command_words.specs.Words.{Command, Solve, Check, Trace, Demo, Batch, System, Monitor, Depast, Asks, cert_of}
-use Rattle.black_top.specs.Parts.{HasNoSeparator}
+use Rattle.program_input.specs.Parts.{HasNoSeparator}
 use Rattle.black_top.specs.Answer.{Answer}
 use Rattle.black_top.specs.Run.{IsAnswer}
 

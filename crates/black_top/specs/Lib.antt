@@ -1,5 +1,3 @@
-pub mod Status
-pub mod Parts
 pub mod Taking
 pub mod Answer
 pub mod Reading

@@ -10,12 +10,12 @@ use Rattle.past_monitor.specs.Past.{IsPast}
 use Rattle.past_monitor.specs.Text.{lines_of, AreStates, AreAnswers, IsWatched}
 use Rattle.report.specs.declared.fault.Fault.TheVariants as faults
 use Rattle.report.specs.Texts.{answers_text}
-use Rattle.black_top.specs.declared.status.Status.{Status}
-use Rattle.black_top.specs.declared.status.Status.TheVariants as statuses
-use Rattle.black_top.specs.Status.{has_read}
-use Rattle.black_top.specs.Taking.{IsTakenWhole}
+use Rattle.report.specs.declared.status.Status.{Status}
+use Rattle.report.specs.declared.status.Status.TheVariants as statuses
+use Rattle.report.specs.Status.{has_read}
+use Rattle.program_input.specs.Taking.{IsTakenWhole}
+use Rattle.program_input.specs.Claims.{OfParts}
 use Rattle.black_top.specs.Answer.{Answer, refused, watched}
-use Rattle.black_top.specs.Check.{OfParts}
 
 -- the answer to a formula and the text of states: the formula looks ahead, a line is neither white space nor a state, or each state
 -- has its answer

@@ -17,14 +17,15 @@ use Rattle.cert_text.specs.Writing.{written}
 use Rattle.cert_check.specs.Lawful.{IsLawfulAt}
 use Rattle.report.specs.declared.fault.Fault.{Fault}
 use Rattle.report.specs.declared.fault.Fault.TheVariants as faults
-use Rattle.report.specs.Texts.{sat_text, unsat_text, undecided_text}
-use Rattle.black_top.specs.declared.status.Status.{Status}
-use Rattle.black_top.specs.declared.status.Status.TheVariants as statuses
-use Rattle.black_top.specs.Status.{has_read}
+use Rattle.report.specs.Texts.{sat_text, unsat_text, undecided_text, ReadsBack}
+use Rattle.report.specs.declared.status.Status.{Status}
+use Rattle.report.specs.declared.status.Status.TheVariants as statuses
+use Rattle.report.specs.Status.{has_read}
 use Rattle.command_words.specs.Words.{Setting, kind_of, depth_of, core_of, cert_of}
-use Rattle.black_top.specs.Taking.{AreLeft, IsTakenUpTo}
+use Rattle.program_input.specs.Claims.{OfFormula}
+use Rattle.program_input.specs.Taking.{IsTakenUpTo}
 use Rattle.black_top.specs.Answer.{Answer, refused, sat, unsat, undecided, status_of, text_of}
-use Rattle.black_top.specs.Reading.{RefusesPart, ReadsBack}
+use Rattle.program_input.specs.Reading.{RefusesPart}
 use Rattle.black_top.specs.Check.{IsVerified}
 use Rattle.black_top.specs.Conflict.{ShowsCore, TellsConflict}
 
@@ -118,10 +119,6 @@ pub record PrintsVerdict (kind : Kind) (wanted : Option ℕ) (core cert : Bool) 
   pub decided : IsDecided f kind (number_of wanted) limit core cert answer
   pub own : status ≡ status_of answer
   pub printed : Grows (text_of answer) before after
-
--- what is claimed of the text that the source had left and of the accepted formula that it reads as
-abbrev pub OfFormula : Option (List ℕ) → (List ℕ → Formula → Type 0) → Type 0
-OfFormula rest Claim = (bytes : List ℕ) × AreLeft rest bytes × (f : Formula) × IsAccepted bytes f × Claim bytes f
 
 -- what `solve` promises of a call: of the rest of the source and the content of the sink, before and after, and of its status.
 -- A call is quiet where neither count of faults rose

@@ -20,15 +20,15 @@ use Rattle.system_check.specs.Joining.{whole_size}
 use Rattle.system_check.specs.Answer.{Says, IsNotRefuted}
 use Rattle.report.specs.declared.fault.Fault.{Fault}
 use Rattle.report.specs.declared.fault.Fault.TheVariants as faults
-use Rattle.report.specs.Texts.{Proof, no_path_text, paths_hold_text, path_fails_text, undecided_text}
+use Rattle.report.specs.Texts.{Proof, no_path_text, paths_hold_text, path_fails_text, undecided_text, ReadsBack}
 use Rattle.command_words.specs.Words.{Setting, depth_of, cert_of}
-use Rattle.black_top.specs.declared.status.Status.{Status}
-use Rattle.black_top.specs.declared.status.Status.TheVariants as statuses
-use Rattle.black_top.specs.Status.{has_read}
-use Rattle.black_top.specs.Parts.{IsCut, HasNoSeparator}
-use Rattle.black_top.specs.Taking.{AreLeft, IsTakenWhole}
+use Rattle.report.specs.declared.status.Status.{Status}
+use Rattle.report.specs.declared.status.Status.TheVariants as statuses
+use Rattle.report.specs.Status.{has_read}
+use Rattle.program_input.specs.Parts.{IsCut, HasNoSeparator}
+use Rattle.program_input.specs.Taking.{AreLeft, IsTakenWhole}
 use Rattle.black_top.specs.Answer.{Answer, refused, no_path, paths_hold, path_fails, undecided, status_of, text_of, checked}
-use Rattle.black_top.specs.Reading.{IsParted, ReadsBack}
+use Rattle.black_top.specs.Reading.{IsParted}
 use Rattle.black_top.specs.Solve.{number_of, IsReached, AreFewLetters, IsWritten}
 use Rattle.black_top.specs.Check.{IsChecked, with_certificate}
 

@@ -11,7 +11,7 @@ use Rattle.black_top.specs.declared.commands.system.TableRoot.{TableRoot}
 use Rattle.black_top.specs.declared.commands.system.ReadPart.{ReadPart}
 use Rattle.black_top.specs.declared.commands.system.PartRead.{PartRead}
 use Rattle.black_top.specs.declared.commands.system.PartRead.TheVariants as reads
-use Rattle.black_top.specs.Parts.{IsCut}
+use Rattle.program_input.specs.Parts.{IsCut}
 use Rattle.black_top.specs.System.{IsFaulty}
 
 -- the bytes are cut into these parts, and the step and the goal begin at these places

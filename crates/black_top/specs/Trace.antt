@@ -10,11 +10,11 @@ use Rattle.ltl_word.specs.declared.json.TraceFault.TheVariants as trace_faults
 use Rattle.lasso_eval.specs.Cells.{cells, max_cells, AreTooMany}
 use Rattle.report.specs.declared.fault.Fault.TheVariants as faults
 use Rattle.report.specs.Texts.{traced_text}
-use Rattle.black_top.specs.declared.status.Status.{Status}
-use Rattle.black_top.specs.declared.status.Status.TheVariants as statuses
-use Rattle.black_top.specs.Status.{has_read}
-use Rattle.black_top.specs.Parts.{IsCut}
-use Rattle.black_top.specs.Taking.{AreLeft, IsTakenWhole}
+use Rattle.report.specs.declared.status.Status.{Status}
+use Rattle.report.specs.declared.status.Status.TheVariants as statuses
+use Rattle.report.specs.Status.{has_read}
+use Rattle.program_input.specs.Parts.{IsCut}
+use Rattle.program_input.specs.Taking.{AreLeft, IsTakenWhole}
 use Rattle.black_top.specs.Answer.{Answer, refused, holds, fails}
 
 -- the answer to a formula and the text of a trace: the text is refused, the cells are too many, the formula holds or fails

@@ -14,9 +14,9 @@ mod system;
 mod trace;
 
 use crate::output::Output;
-use crate::reading::MAX_TEXT;
 use command_words::Asked;
 use ltl_io::Gate;
+use program_input::MAX_TEXT;
 use std::alloc::{AllocError, Global};
 use std::thread::Threads;
 

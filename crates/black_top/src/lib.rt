@@ -6,11 +6,9 @@ mod commands;
 pub mod laws;
 mod output;
 mod parts;
-mod reading;
 mod ring;
-mod status;
 mod top;
 
+pub use report::Status;
 pub use ring::demo_text;
-pub use status::Status;
 pub use top::run;

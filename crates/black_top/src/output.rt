@@ -2,11 +2,11 @@
 ghost use Rattle.std.specs.Prelude.{◌≡◌, true, false, IfOk, OnOk, Some, None};
 ghost use Rattle.std.specs.Option.{option_copied};
 ghost use Rattle.ltl_word.specs.Trace.{IsTrace};
+ghost use Rattle.report.specs.Texts.{ReadsBack};
 ghost use Rattle.black_top.specs.Answer.{refused, sat, unsat, undecided, holds, fails, checked, summary};
 ghost use Rattle.black_top.specs.Answer.{batched, no_path, paths_hold, path_fails, watched};
-ghost use Rattle.black_top.specs.Answer.{fault_status, shown_status, are_true, watched_status};
+ghost use Rattle.black_top.specs.Answer.{shown_status, are_true, watched_status};
 ghost use Rattle.black_top.specs.Inner.{Shows};
-ghost use Rattle.black_top.specs.Reading.{ReadsBack};
 
 use crate::Status;
 use batch_run::{Answer, all_verdicts, batch_text};
@@ -206,30 +206,7 @@ pub fn refusal(alloc: Global, fault: Fault) -> Result<Output, AllocError>
     ensures { IfOk result (λ out. Shows out (refused fault)) }
 {
     Ok(Output {
-        status: fault_status(fault),
+        status: fault.status(),
         text: report::refused(alloc, &fault)?,
     })
-}
-
-fn fault_status(fault: Fault) -> Status
-    ensures { result ≡ fault_status fault }
-{
-    match fault {
-        Fault::Usage => Status::Usage,
-        Fault::Text | Fault::Batch | Fault::Nodes(_) | Fault::Letters(_) | Fault::Cells(_) =>
-            Status::Limit,
-        Fault::PastNodes(_) => Status::Limit,
-        Fault::NoSeparator
-        | Fault::Lexical(_)
-        | Fault::Grammar(_)
-        | Fault::Certificate(_)
-        | Fault::NotJson
-        | Fault::NotTrace
-        | Fault::EmptyLoop
-        | Fault::EmptyStates
-        | Fault::SystemStart
-        | Fault::SystemStep
-        | Fault::LooksAhead
-        | Fault::State(_) => Status::Text,
-    }
 }

@@ -1,8 +1,8 @@
 // The top call. What it ensures is all that a user is promised: first of every call, then command by command.
 ghost use Rattle.std.specs.Prelude.{◌≡◌, ◌⊎◌, ◌<◌, ℕ, List, map, string_bytes, IsTrue};
 ghost use Rattle.ltl_io.specs.Count.{Rose};
-ghost use Rattle.black_top.specs.declared.status.Status.TheVariants as statuses;
-ghost use Rattle.black_top.specs.Status.{is_answer};
+ghost use Rattle.report.specs.declared.status.Status.TheVariants as statuses;
+ghost use Rattle.report.specs.Status.{is_answer};
 ghost use Rattle.command_words.specs.Words.{Setting, Solve, Check, Trace as TraceWord, Demo, Batch};
 ghost use Rattle.command_words.specs.Words.{System, Monitor, Depast, Asks};
 ghost use Rattle.black_top.specs.Run.{IsAnswered, IsCutOff, NeedsNothing};

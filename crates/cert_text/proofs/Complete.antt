@@ -1,10 +1,9 @@
 -- The scan reads every certificate text to its end.
-use Rattle.std.proofs.Common.{◌≡◌, ℕ, suc, ◌+◌, ◌-◌, ◌*◌, ◌/◌, ◌%◌, ◌<◌, ◌≤◌, ◌==◌, ◌&&◌, ◌⊎◌, inl, inr, Bool, true, false, ltb, List, [], ◌∷◌, ◌++◌, length, All, Some, refl, sym, ap, ◌∙◌, subst, arith, append_assoc}
+use Rattle.std.proofs.Common.{◌≡◌, ℕ, suc, ◌+◌, ◌-◌, ◌<◌, ◌≤◌, ◌==◌, ◌⊎◌, inl, inr, Bool, true, false, List, [], ◌∷◌, ◌++◌, length, All, Some, refl, sym, ap, ◌∙◌, subst, arith, append_assoc}
 use Rattle.std.specs.Prelude.{codes, decimal}
-use Rattle.std.specs.Option.{option_and_then}
 use Rattle.std.specs.List.{flat_map}
-use Rattle.std.proofs.lemmas.Bool.{cond-true, cond-false, and_from, lt-ltb, le-ltb, eq-eqb, ne_eqb, cases_eq}
-use Rattle.std.proofs.lemmas.Fmt.{decimal_digit, decimal_by_steps}
+use Rattle.std.proofs.lemmas.Bool.{cond-true, cond-false, eq-eqb, ne_eqb, cases_eq}
+use Rattle.std.proofs.lemmas.Fmt.{decimal_digit}
 use Rattle.std.proofs.lemmas.List.{append-nil, length_push}
 use Rattle.std.proofs.lemmas.List.Elements.{All-head, All-tail}
 use Rattle.ltl_syntax.specs.declared.node.Kind.{Kind}
@@ -13,43 +12,21 @@ use Rattle.cnf_base.specs.declared.literal.Literal.{Literal}
 use Rattle.cnf_base.specs.declared.literal.Hint.{Hint}
 use Rattle.cnf_base.specs.declared.literal.Hint.TheVariants as hints
 use Rattle.cert_text.specs.Text.{Part, Line, Delete, Certificate, IsLiteral, IsNumber, IsHint, IsPart, IsCertificate, kind_text, literal_text, hint_text, target_text, part_text, close_text, text_of}
-use Rattle.cert_text.specs.Scan.{Role, OfDepth, OfLiteral, OfHint, OfTarget, OfDelete, Place, AtVersion, AtKind, AtNumber, InNumber, AtPart, AtLiteral, AtHint, AtEnd, Scan, start, greatest, literal, with_part, with_target, header, first_digit, literal_step, place_step, step, run}
-use Rattle.cert_text.proofs.Places.{greatest_fits, header_is}
+use Rattle.cert_text.specs.Scan.{Role, OfDepth, OfLiteral, OfHint, OfTarget, OfDelete, Place, AtVersion, AtKind, AtNumber, InNumber, AtPart, AtLiteral, AtHint, AtEnd, Scan, start, greatest, literal, with_part, with_target, header, end_number, first_digit, literal_step, place_step, step, run}
+use Rattle.cert_text.proofs.Machine.{run_step}
+use Rattle.cert_text.proofs.Digits.{first_read, digit_read, digits_read}
+use Rattle.cert_text.proofs.Places.{number_at, greatest_fits, header_is}
 use Rattle.cert_text.proofs.Sound.{line_text, delete_text}
 
--- the first byte is read
-pub run_step : (s t : Scan) (b : ℕ) (rest : List ℕ) → step s b ≡ Some t → run s (b ∷ rest) ≡ run t rest
-run_step s t b rest e = ap (option_and_then (λ u. run u rest)) e
-
--- a digit from 1 to 9
-pub first_read : (role : Role) (b : ℕ) → 48 < b → b < 58 → first_digit role b ≡ Some ([], InNumber role (b - 48))
-first_read role b low high = cond-true (ltb 48 b && ltb b 58) _ _ (and_from (ltb 48 b) (ltb b 58) (lt-ltb 48 b low) (lt-ltb b 58 high))
-
-digit_read : (role : Role) (n b : ℕ) → 47 < b → b < 58 → 10 * n + (b - 48) ≤ greatest role → place_step (InNumber role n) b ≡ Some ([], InNumber role (10 * n + (b - 48)))
-digit_read role n b low high few =
-    cond-true (ltb 47 b && ltb b 58) _ _ (and_from (ltb 47 b) (ltb b 58) (lt-ltb 47 b low) (lt-ltb b 58 high))
-    ∙ cond-false (ltb (greatest role) (10 * n + (b - 48))) _ _ (le-ltb (greatest role) (10 * n + (b - 48)) few)
-
 -- a number is read, where its first digit is
+first_is : (role : Role) (b : ℕ) → 48 < b → b < 58 → first_digit role b ≡ Some ([], InNumber role (b - 48))
+first_is role = first_read (number_at role)
+
 number_read : (s : Scan) (role : Role) → ((b : ℕ) → 48 < b → b < 58 → step s b ≡ Some ([], InNumber role (b - 48)))
     → (n : ℕ) → 1 ≤ n → n ≤ greatest role → (rest : List ℕ) → run s (decimal n ++ rest) ≡ run ([], InNumber role n) rest
-number_read s role first n low high = decimal_by_steps P one more n (omega (arith, high, greatest_fits role)) low high
-  where
-    P : ℕ → List ℕ → Type 0
-    P n ds = 1 ≤ n → n ≤ greatest role → (rest : List ℕ) → run s (ds ++ rest) ≡ run ([], InNumber role n) rest
-
-    one : (n : ℕ) → n < 10 → P n ((48 + n) ∷ [])
-    one n small low high rest =
-        let e : 48 + n - 48 ≡ n = omega arith in
-        run_step s ([], InNumber role (48 + n - 48)) (48 + n) rest (first (48 + n) (omega arith) (omega arith)) ∙ ap (λ m. run ([], InNumber role m) rest) e
-
-    more : (n : ℕ) (ds : List ℕ) → 10 ≤ n → P (n / 10) ds → P n (ds ++ ((48 + n % 10) ∷ []))
-    more n ds big before low high rest =
-        let e : 10 * (n / 10) + (48 + n % 10 - 48) ≡ n = omega arith in
-        ap (run s) (append_assoc ds ((48 + n % 10) ∷ []) rest)
-        ∙ before (omega arith) (omega arith) ((48 + n % 10) ∷ rest)
-        ∙ run_step ([], InNumber role (n / 10)) ([], InNumber role (10 * (n / 10) + (48 + n % 10 - 48))) (48 + n % 10) rest (digit_read role (n / 10) (48 + n % 10) (omega arith) (omega arith) (omega arith))
-        ∙ ap (λ m. run ([], InNumber role m) rest) e
+number_read s role first =
+    digits_read step s (number_at role) (greatest role) (greatest_fits role) first
+    (λ n b. digit_read (number_at role) (greatest role) n b (end_number role n b))
 
 -- the place reads a literal or the 0 behind the literals
 abbrev AsLiteral : Place → Certificate → List Literal → Type 0
@@ -59,21 +36,21 @@ pub literal_read : (p : Place) (c : Certificate) (literals : List Literal) (nega
     → run ([], p) (literal_text (literal negated n) ++ rest) ≡ run ([], AtLiteral c (literals ++ literal negated n ∷ [])) rest
 literal_read p c literals true n rest reads low high =
     ap (λ x. run ([], p) (45 ∷ x)) (append_assoc (decimal n) (codes " ") rest)
-    ∙ run_step ([], p) ([], AtNumber (OfLiteral c literals true)) 45 (decimal n ++ (32 ∷ rest)) (reads 45 (omega arith))
-    ∙ number_read ([], AtNumber (OfLiteral c literals true)) (OfLiteral c literals true) (first_read (OfLiteral c literals true)) n low high (32 ∷ rest)
+    ∙ run_step step ([], p) ([], AtNumber (OfLiteral c literals true)) 45 (decimal n ++ (32 ∷ rest)) (reads 45 (omega arith))
+    ∙ number_read ([], AtNumber (OfLiteral c literals true)) (OfLiteral c literals true) (first_is (OfLiteral c literals true)) n low high (32 ∷ rest)
 literal_read p c literals false n rest reads low high =
     ap (run ([], p)) (append_assoc (decimal n) (codes " ") rest)
     ∙ number_read ([], p) (OfLiteral c literals false)
     (λ b l h. reads b h
     ∙ cond-false (b == 48) _ _ (ne_eqb b 48 (λ e. omega arith))
     ∙ cond-false (b == 45) _ _ (ne_eqb b 45 (λ e. omega arith))
-    ∙ first_read (OfLiteral c literals false) b l h)
+    ∙ first_is (OfLiteral c literals false) b l h)
     n low high (32 ∷ rest)
 
 literals_read : (more : List Literal) (p : Place) (c : Certificate) (literals : List Literal) (rest : List ℕ) → AsLiteral p c literals → All IsLiteral more
     → run ([], p) (flat_map literal_text more ++ (48 ∷ 32 ∷ rest)) ≡ run ([], AtHint c (literals ++ more) []) rest
 literals_read [] p c literals rest reads all =
-    run_step ([], p) (codes " ", AtHint c literals []) 48 (32 ∷ rest) (reads 48 (omega arith)) ∙ ap (λ ls. run ([], AtHint c ls []) rest) (sym (append-nil literals))
+    run_step step ([], p) (codes " ", AtHint c literals []) 48 (32 ∷ rest) (reads 48 (omega arith)) ∙ ap (λ ls. run ([], AtHint c ls []) rest) (sym (append-nil literals))
 literals_read (l ∷ more) p c literals rest reads all =
     let here = All-head IsLiteral l more all in
     ap (run ([], p)) (append_assoc (literal_text l) (flat_map literal_text more) (48 ∷ 32 ∷ rest))
@@ -85,13 +62,13 @@ pub hint_read : (c : Certificate) (literals : List Literal) (hs : List Hint) (h 
     → run ([], AtHint c literals hs) (hint_text h ++ rest) ≡ run ([], AtHint c literals (hs ++ h ∷ [])) rest
 hint_read c literals hs (hints.Line n) rest is =
     ap (λ x. run ([], AtHint c literals hs) (45 ∷ x)) (append_assoc (decimal n) (codes " ") rest)
-    ∙ number_read ([], AtNumber (OfHint c literals hs true)) (OfHint c literals hs true) (first_read (OfHint c literals hs true)) n is.0 is.1 (32 ∷ rest)
+    ∙ number_read ([], AtNumber (OfHint c literals hs true)) (OfHint c literals hs true) (first_is (OfHint c literals hs true)) n is.0 is.1 (32 ∷ rest)
 hint_read c literals hs (hints.Clause n) rest is =
     ap (run ([], AtHint c literals hs)) (append_assoc (decimal n) (codes " ") rest)
     ∙ number_read ([], AtHint c literals hs) (OfHint c literals hs false)
     (λ b l h. cond-false (b == 48) _ _ (ne_eqb b 48 (λ e. omega arith))
     ∙ cond-false (b == 45) _ _ (ne_eqb b 45 (λ e. omega arith))
-    ∙ first_read (OfHint c literals hs false) b l h)
+    ∙ first_is (OfHint c literals hs false) b l h)
     n is.0 is.1 (32 ∷ rest)
 
 hints_read : (more : List Hint) (c : Certificate) (literals : List Literal) (hs : List Hint) (rest : List ℕ) → All IsHint more
@@ -108,7 +85,7 @@ delete_read : (c : Certificate) (lines more : List ℕ) (n : ℕ) (rest : List �
     → run (codes " ", AtNumber (OfDelete c lines)) (flat_map target_text (n ∷ more) ++ rest) ≡ run ([], InNumber (OfDelete c lines) n) (flat_map target_text more ++ rest)
 delete_read c lines more n rest is =
     ap (λ x. run ([], AtNumber (OfDelete c lines)) x) (append_assoc (decimal n) (flat_map target_text more) rest)
-    ∙ number_read ([], AtNumber (OfDelete c lines)) (OfDelete c lines) (first_read (OfDelete c lines)) n is.0 is.1 (flat_map target_text more ++ rest)
+    ∙ number_read ([], AtNumber (OfDelete c lines)) (OfDelete c lines) (first_is (OfDelete c lines)) n is.0 is.1 (flat_map target_text more ++ rest)
 
 pub deletes_read : (more : List ℕ) (c : Certificate) (lines : List ℕ) (n : ℕ) (rest : List ℕ) → IsNumber n → All IsNumber more
     → run (codes " ", AtNumber (OfDelete c lines)) (flat_map target_text (n ∷ more) ++ (10 ∷ rest)) ≡ run ([], AtPart (with_part c (Delete (lines ++ n ∷ more)))) rest
@@ -128,7 +105,7 @@ part_read (Line literals hs) c rest is =
 part_read (Delete []) c rest is = absurd (omega (arith, is.1))
 part_read (Delete (n ∷ lines)) c rest is =
     ap (run ([], AtPart c)) (sym (delete_text (n ∷ lines) rest))
-    ∙ run_step ([], AtPart c) (codes " ", AtNumber (OfDelete c [])) 100 (flat_map target_text (n ∷ lines) ++ (10 ∷ rest)) (cond-true (c.version == 2) _ _ (eq-eqb c.version 2 is.0))
+    ∙ run_step step ([], AtPart c) (codes " ", AtNumber (OfDelete c [])) 100 (flat_map target_text (n ∷ lines) ++ (10 ∷ rest)) (cond-true (c.version == 2) _ _ (eq-eqb c.version 2 is.0))
     ∙ deletes_read lines c [] n rest (All-head IsNumber n lines is.2) (All-tail IsNumber n lines is.2)
 
 abbrev with_parts : Certificate → List Part → Certificate
@@ -152,19 +129,19 @@ target_read : (c : Certificate) (more : List ℕ) (n : ℕ) (rest : List ℕ) �
     → run (codes " ", AtNumber (OfTarget c)) (flat_map target_text (n ∷ more) ++ rest) ≡ run ([], InNumber (OfTarget c) n) (flat_map target_text more ++ rest)
 target_read c more n rest is =
     ap (λ x. run ([], AtNumber (OfTarget c)) x) (append_assoc (decimal n) (flat_map target_text more) rest)
-    ∙ number_read ([], AtNumber (OfTarget c)) (OfTarget c) (first_read (OfTarget c)) n is.0 is.1 (flat_map target_text more ++ rest)
+    ∙ number_read ([], AtNumber (OfTarget c)) (OfTarget c) (first_is (OfTarget c)) n is.0 is.1 (flat_map target_text more ++ rest)
 
 -- the last target has the close behind it, each other one has a target
 targets_read : (more : List ℕ) (c : Certificate) (n : ℕ) → length c.targets + suc (length more) ≡ c.depth + 2 → IsNumber n → All IsNumber more
     → run (codes " ", AtNumber (OfTarget c)) (flat_map target_text (n ∷ more) ++ codes "\n") ≡ Some ([], AtEnd (with_targets c (n ∷ more)))
 targets_read [] c n count is all =
     target_read c [] n (codes "\n") is
-    ∙ run_step ([], InNumber (OfTarget c) n) ([], AtEnd (with_target c n)) 10 [] (cond-true (length c.targets == c.depth + 1) _ _ (eq-eqb (length c.targets) (c.depth + 1) (omega (arith, count))))
+    ∙ run_step step ([], InNumber (OfTarget c) n) ([], AtEnd (with_target c n)) 10 [] (cond-true (length c.targets == c.depth + 1) _ _ (eq-eqb (length c.targets) (c.depth + 1) (omega (arith, count))))
 targets_read (m ∷ more) c n count is all =
     let make : List ℕ → Certificate = λ ts. record { version = c.version; kind = c.kind; depth = c.depth; parts = c.parts; targets = ts } in
     let e : length (c.targets ++ n ∷ []) + suc (length more) ≡ c.depth + 2 = omega (arith, count, length_push c.targets n) in
     target_read c (m ∷ more) n (codes "\n") is
-    ∙ run_step ([], InNumber (OfTarget c) n) ([], AtNumber (OfTarget (with_target c n))) 32 ((decimal m ++ flat_map target_text more) ++ codes "\n")
+    ∙ run_step step ([], InNumber (OfTarget c) n) ([], AtNumber (OfTarget (with_target c n))) 32 ((decimal m ++ flat_map target_text more) ++ codes "\n")
     (cond-false (length c.targets == c.depth + 1) _ _ (ne_eqb (length c.targets) (c.depth + 1) (λ h. omega (arith, h, count))))
     ∙ targets_read more (with_target c n) m e (All-head IsNumber m more all) (All-tail IsNumber m more all)
     ∙ ap (λ ts. let s : Scan = ([], AtEnd (make ts)) in Some s) (append_assoc c.targets (n ∷ []) (m ∷ more))
@@ -180,7 +157,7 @@ depth_read version kind depth rest few = elim (cases_eq depth 0) [
   | inl none ↦ subst (λ d. run ([], AtNumber (OfDepth version kind)) (decimal d ++ (10 ∷ rest)) ≡ run ([], AtPart (header version kind d)) rest) (sym none)
       (ap (λ ds. run ([], AtNumber (OfDepth version kind)) (ds ++ (10 ∷ rest))) (decimal_digit 0 (omega arith)))
   | inr some ↦ number_read ([], AtNumber (OfDepth version kind)) (OfDepth version kind)
-      (λ b l h. cond-false (b == 48) _ _ (ne_eqb b 48 (λ e. omega arith)) ∙ first_read (OfDepth version kind) b l h) depth (omega (arith, some)) few (10 ∷ rest)
+      (λ b l h. cond-false (b == 48) _ _ (ne_eqb b 48 (λ e. omega arith)) ∙ first_is (OfDepth version kind) b l h) depth (omega (arith, some)) few (10 ∷ rest)
 ]
 
 kind_read : (version : ℕ) (kind : Kind) (rest : List ℕ) → run ([], AtKind version) (kind_text kind ++ (32 ∷ rest)) ≡ run ([], AtNumber (OfDepth version kind)) rest

@@ -1,176 +1,66 @@
 -- Where bytes stop to be the beginning of a certificate text.
-use Rattle.std.proofs.Common.{◌≡◌, ℕ, suc, ◌+◌, ◌<◌, ◌≤◌, ◌==◌, ◌⊎◌, inl, inr, ◌&&◌, Bool, true, false, not, is_some, ltb, List, [], ◌∷◌, ◌++◌, length, take, drop, get_or, Option, Some, None, refl, sym, ap, ◌∙◌, subst, arith, append_assoc}
-use Rattle.std.specs.Option.{option_and_then}
-use Rattle.std.proofs.lemmas.Bool.{cond-true, eq-eqb, ltb-true, and_parts, cases_eq, cases_order}
-use Rattle.std.proofs.lemmas.Option.{option_and_then_some}
-use Rattle.std.proofs.lemmas.List.{append-nil, take-append-drop, take-take, take_all, length-drop, get_or-drop}
-use Rattle.std.proofs.Math.Seq.{take-suc}
-use mathlib.Core.Bool.{false≢true}
-use Rattle.cert_text.specs.Text.{Certificate, IsTextOf, BeginsText, IsFormFault}
-use Rattle.cert_text.specs.Scan.{Place, AtEnd, AtPart, AtVersion, AtKind, AtNumber, InNumber, AtLiteral, AtHint, Scan, start, step, run}
+use Rattle.std.proofs.Common.{◌≡◌, ℕ, ◌==◌, ◌++◌, List, [], ◌∷◌, Option, Some, None, refl, ap, ◌∙◌}
+use Rattle.std.proofs.lemmas.Bool.{cond-true, eq-eqb}
+use Rattle.cert_text.specs.Text.{Certificate, IsTextOf}
+use Rattle.cert_text.specs.Scan.{Place, AtVersion, AtKind, AtNumber, InNumber, AtPart, AtLiteral, AtHint, AtEnd, Scan, start, step, run}
 use Rattle.cert_text.specs.Laws.{TextsSayOne, FaultsAreOne, TextsHaveNone, OthersHaveOne, ScansRead, ScansBegin, ScansStop, ScansEnd}
+use Rattle.cert_text.proofs.Machine.{Machine, begins_from, begins_to, says_one, one_fault, no_fault, fault_at, fault_end, text_or_fault}
+use Rattle.cert_text.proofs.Leading.{run_left}
 use Rattle.cert_text.proofs.Sound.{reads, read_whole}
-use Rattle.cert_text.proofs.Complete.{run_step, whole_read}
+use Rattle.cert_text.proofs.Complete.{whole_read}
 use Rattle.cert_text.proofs.Viable.{viable}
-
--- the bytes behind others
-pub run_on : (xs ys : List ℕ) (s t : Scan) → run s xs ≡ Some t → run s (xs ++ ys) ≡ run t ys
-run_on [] ys s t e = let same : s ≡ t = cc in ap (λ u. run u ys) same
-run_on (x ∷ xs) ys s t e = option_and_then_some (λ u. run u xs) (step s x) t e (λ u is again. run_step s u x (xs ++ ys) is ∙ run_on xs ys u t again)
-
-pub run_front : (xs ys : List ℕ) (s t : Scan) → run s (xs ++ ys) ≡ Some t → (u : Scan) × (run s xs ≡ Some u)
-run_front [] ys s t e = (s, refl)
-run_front (x ∷ xs) ys s t e =
-    option_and_then_some (λ u. run u (xs ++ ys)) (step s x) t e (λ u is again. let found = run_front xs ys u t again in (found.0, run_step s u x xs is ∙ found.1))
-
--- the bytes that must come
-run_left : (left rest : List ℕ) (p : Place) → run (left, p) (left ++ rest) ≡ run ([], p) rest
-run_left [] rest p = refl
-run_left (x ∷ left) rest p = run_step (x ∷ left, p) (left, p) x (left ++ rest) (cond-true (x == x) _ _ (eq-eqb x x refl)) ∙ run_left left rest p
 
 pub scan_text : (bytes : List ℕ) (c : Certificate) → IsTextOf bytes c → run start bytes ≡ Some ([], AtEnd c)
 scan_text bytes c is = ap (run start) is.spelled ∙ whole_read c is.lawful
 
-pub begins_from : (bytes : List ℕ) (s : Scan) → run start bytes ≡ Some s → BeginsText bytes
-begins_from bytes s e =
-    let way = viable s.1 (reads bytes s e).place in
-    record {
-      rest = s.0 ++ way.0;
-      whole = way.1;
-      is = read_whole (bytes ++ (s.0 ++ way.0)) way.1 (run_on bytes (s.0 ++ way.0) start s e ∙ run_left s.0 way.0 s.1 ∙ way.2);
-    }
+-- the certificate at whose end a scan is
+abbrev pub said : Scan → Option Certificate
+said ([], AtEnd c) = Some c
+said (left, p) = None
 
-pub begins_to : (bytes : List ℕ) → BeginsText bytes → (s : Scan) × (run start bytes ≡ Some s)
-begins_to bytes begins = run_front bytes begins.rest start ([], AtEnd begins.whole) (scan_text (bytes ++ begins.rest) begins.whole begins.is)
+at_end : (s : Scan) (c : Certificate) → said s ≡ Some c → s ≡ ([], AtEnd c)
+at_end ([], AtEnd d) c e = let same : d ≡ c = cc in ap (λ k. let s : Scan = ([], AtEnd k) in s) same
+at_end ([], AtVersion) c e = cc
+at_end ([], AtKind v) c e = cc
+at_end ([], AtNumber r) c e = cc
+at_end ([], InNumber r n) c e = cc
+at_end ([], AtPart d) c e = cc
+at_end ([], AtLiteral d ls) c e = cc
+at_end ([], AtHint d ls hs) c e = cc
+at_end (x ∷ xs, p) c e = cc
+
+left_read : (left rest : List ℕ) (p : Place) → run (left, p) (left ++ rest) ≡ run ([], p) rest
+left_read left rest p = run_left step (λ l. (l, p)) (λ x xs. cond-true (x == x) _ _ (eq-eqb x x refl)) left rest
+
+pub machine : Machine IsTextOf step start said
+machine = record {
+  reads = λ bytes c is. (([], AtEnd c), scan_text bytes c is, refl);
+  whole = λ bytes s c e end. read_whole bytes c (e ∙ ap (λ t. Some t) (at_end s c end));
+  viable = λ bytes s e.
+      let way = viable s.1 (reads bytes s e).place in
+      (s.0 ++ way.0, ([], AtEnd way.1), way.1, left_read s.0 way.0 s.1 ∙ way.2, refl);
+}
 
 pub texts_say_one : TextsSayOne
-texts_say_one bytes c d a b =
-    ap (certificate_of c) (sym (scan_text bytes c a) ∙ scan_text bytes d b)
-  where
-    certificate_of : Certificate → Option Scan → Certificate
-    certificate_of d None = d
-    certificate_of d (Some (left, AtEnd c)) = c
-    certificate_of d (Some (left, p)) = d
-
--- the beginning of a beginning
-pub begins_front : (xs ys : List ℕ) → BeginsText (xs ++ ys) → BeginsText xs
-begins_front xs ys begins = record {
-  rest = ys ++ begins.rest;
-  whole = begins.whole;
-  is = subst (λ w. IsTextOf w begins.whole) (append_assoc xs ys begins.rest) begins.is;
-}
-
-begins_take : (bytes : List ℕ) (k b : ℕ) → k ≤ b → BeginsText (take b bytes) → BeginsText (take k bytes)
-begins_take bytes k b le begins =
-    subst BeginsText (take-take k b bytes le) (begins_front (take k (take b bytes)) (drop k (take b bytes)) (subst BeginsText (sym (take-append-drop k (take b bytes))) begins))
-
-text_begins : (bytes : List ℕ) (c : Certificate) → IsTextOf bytes c → BeginsText bytes
-text_begins bytes c is = record { rest = []; whole = c; is = subst (λ w. IsTextOf w c) (sym (append-nil bytes)) is }
-
-pub scans_stop : ScansStop
-scans_stop bytes b s below e stopped = record {
-  within = omega (arith, below);
-  begins = λ k le. begins_take bytes k b le (begins_from (take b bytes) s e);
-  stops = λ _ begins.
-      let found = begins_to (take (suc b) bytes) begins in
-      let split : take (suc b) bytes ≡ take b bytes ++ get_or bytes b 0 ∷ [] = take-suc bytes b 0 below in
-      let one : run s (get_or bytes b 0 ∷ []) ≡ Some found.0 = sym (run_on (take b bytes) (get_or bytes b 0 ∷ []) start s e) ∙ sym (ap (run start) split) ∙ found.1 in
-      let none : run s (get_or bytes b 0 ∷ []) ≡ None = ap (option_and_then (λ u. run u [])) stopped in
-      let clash : None ≡ Some found.0 = sym none ∙ one in
-      cc;
-  none = λ at. absurd (omega (arith, at, below));
-}
-
-pub scans_end : ScansEnd
-scans_end bytes s e other = record {
-  within = omega arith;
-  begins = λ k le. begins_take bytes k (length bytes) le (subst BeginsText (sym (take_all (length bytes) bytes (omega arith))) (begins_from bytes s e));
-  stops = λ below. absurd (omega (arith, below));
-  none = λ _ c is. other c (let same : Some s ≡ Some ([], AtEnd c) = sym e ∙ scan_text bytes c is in cc);
-}
+texts_say_one = says_one machine
 
 pub faults_are_one : FaultsAreOne
-faults_are_one bytes b d one two = elim (cases_order b d) [
-  | inl same ↦ same
-  | inr (inl less) ↦ absurd (one.stops (omega (arith, less, two.within)) (two.begins (suc b) (omega (arith, less))))
-  | inr (inr more) ↦ absurd (two.stops (omega (arith, more, one.within)) (one.begins (suc d) (omega (arith, more))))
-]
+faults_are_one = one_fault IsTextOf
 
 pub texts_have_none : TextsHaveNone
-texts_have_none bytes c b is fault = elim (cases_eq b (length bytes)) [
-  | inl at ↦ fault.none at c is
-  | inr before ↦ fault.stops (omega (arith, before, fault.within))
-      (begins_take bytes (suc b) (length bytes) (omega (arith, before, fault.within)) (subst BeginsText (sym (take_all (length bytes) bytes (omega arith))) (text_begins bytes c is)))
-]
-
--- how the scan of some bytes ends
-stopped : (bytes : List ℕ) (s : Scan) → ((t : Scan) × (run s bytes ≡ Some t)) ⊎ ((b : ℕ) × (t : Scan) × (b < length bytes) × (run s (take b bytes) ≡ Some t) × (step t (get_or bytes b 0) ≡ None))
-stopped [] s = inl (s, refl)
-stopped (x ∷ bytes) s = go (step s x) refl (λ t. stopped bytes t)
-  where
-    go : (o : Option Scan) → step s x ≡ o
-        → ((t : Scan) → ((u : Scan) × (run t bytes ≡ Some u)) ⊎ ((b : ℕ) × (u : Scan) × (b < length bytes) × (run t (take b bytes) ≡ Some u) × (step u (get_or bytes b 0) ≡ None)))
-        → ((t : Scan) × (run s (x ∷ bytes) ≡ Some t)) ⊎ ((b : ℕ) × (t : Scan) × (b < length (x ∷ bytes)) × (run s (take b (x ∷ bytes)) ≡ Some t) × (step t (get_or (x ∷ bytes) b 0) ≡ None))
-    go None is again = inr (0, s, omega arith, refl, is)
-    go (Some t) is again = elim (again t) [
-      | inl on ↦ inl (on.0, run_step s t x bytes is ∙ on.1)
-      | inr off ↦ inr (suc off.0, off.1, omega (arith, off.2), run_step s t x (take off.0 bytes) is ∙ off.3, off.4)
-    ]
-
--- whether a scan is at the end of a certificate
-abbrev is_end : Scan → Bool
-is_end ([], AtEnd c) = true
-is_end ([], p) = false
-is_end (x ∷ xs, p) = false
-
-at_end : (s : Scan) → ((c : Certificate) × (s ≡ ([], AtEnd c))) ⊎ ((c : Certificate) → s ≡ ([], AtEnd c) → ⊥)
-at_end ([], AtEnd c) = inl (c, refl)
-at_end ([], AtVersion) = inr (λ c e. false≢true (ap is_end e))
-at_end ([], AtKind v) = inr (λ c e. false≢true (ap is_end e))
-at_end ([], AtNumber r) = inr (λ c e. false≢true (ap is_end e))
-at_end ([], InNumber r n) = inr (λ c e. false≢true (ap is_end e))
-at_end ([], AtPart d) = inr (λ c e. false≢true (ap is_end e))
-at_end ([], AtLiteral d ls) = inr (λ c e. false≢true (ap is_end e))
-at_end ([], AtHint d ls hs) = inr (λ c e. false≢true (ap is_end e))
-at_end (x ∷ xs, p) = inr (λ c e. false≢true (ap is_end e))
+texts_have_none = no_fault IsTextOf
 
 pub others_have_one : OthersHaveOne
-others_have_one bytes = elim (stopped bytes start) [
-  | inl on ↦ elim (at_end on.0) [
-    | inl end ↦ inl (end.0, read_whole bytes end.0 (on.1 ∙ ap (λ s. Some s) end.1))
-    | inr other ↦ inr (length bytes, scans_end bytes on.0 on.1 other)
-  ]
-  | inr off ↦ inr (off.0, scans_stop bytes off.0 off.1 off.2 off.3 off.4)
-]
+others_have_one = text_or_fault machine
 
 pub scans_read : ScansRead
 scans_read bytes c = (scan_text bytes c, read_whole bytes c)
 
 pub scans_begin : ScansBegin
-scans_begin bytes = (begins_to bytes, λ s. begins_from bytes s.0 s.1)
+scans_begin bytes = (begins_to machine bytes, λ s. begins_from machine bytes s.0 s.1)
 
--- whether the bytes lead to this place and no further, computed
-abbrev stops_at : Option Scan → List ℕ → Bool
-stops_at None rest = false
-stops_at (Some s) [] = not (is_end s)
-stops_at (Some s) (b ∷ rest) = not (is_some (step s b))
+pub scans_stop : ScansStop
+scans_stop = fault_at machine
 
-pub fault_is : (bytes : List ℕ) (b : ℕ) → (ltb b (length bytes + 1) && stops_at (run start (take b bytes)) (drop b bytes)) ≡ true → IsFormFault bytes b
-fault_is bytes b e =
-    let parts = and_parts (ltb b (length bytes + 1)) (stops_at (run start (take b bytes)) (drop b bytes)) e in
-    go (run start (take b bytes)) (drop b bytes) refl refl (ltb-true b (length bytes + 1) parts.0) parts.1
-  where
-    none : (o : Option Scan) → not (is_some o) ≡ true → o ≡ None
-    none None e = refl
-    none (Some t) e = absurd (false≢true e)
-
-    go : (o : Option Scan) (rest : List ℕ) → run start (take b bytes) ≡ o → drop b bytes ≡ rest → b < length bytes + 1 → stops_at o rest ≡ true → IsFormFault bytes b
-    go None rest is left low e = absurd (false≢true e)
-    go (Some s) [] is left low e =
-        let at : length bytes ≡ b = omega (arith, length-drop b bytes, ap length left, low) in
-        let whole : run start bytes ≡ Some s = sym (ap (run start) (take_all b bytes (omega (arith, at)))) ∙ is in
-        subst (IsFormFault bytes) at (scans_end bytes s whole (λ c f. false≢true (sym (ap (λ t. not (is_end t)) f) ∙ e)))
-    go (Some s) (x ∷ rest) is left low e =
-        let inside : b < length bytes = omega (arith, length-drop b bytes, ap length left) in
-        let here : get_or bytes b 0 ≡ x = ap (λ i. get_or bytes i 0) (omega arith) ∙ sym (get_or-drop b bytes 0 0) ∙ ap (λ l. get_or l 0 0) left in
-        scans_stop bytes b s inside is (ap (step s) here ∙ none (step s x) e)
+pub scans_end : ScansEnd
+scans_end bytes s e other = fault_end machine bytes s e (λ c end. other c (at_end s c end))

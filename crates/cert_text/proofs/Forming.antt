@@ -15,7 +15,8 @@ use Rattle.cert_text.specs.declared.scanning.Place.TheVariants as places
 use Rattle.cert_text.specs.Shape.{Next, head_of, role_of, place_of, small_advance, IsFew, IsInRange, lines_in, lines_at}
 use Rattle.cert_text.proofs.Places.{parts_before, role_before, before, IsRole, IsPlace}
 use Rattle.cert_text.proofs.Sound.{reads, read_whole}
-use Rattle.cert_text.proofs.Faults.{run_on, scans_stop, scans_end}
+use Rattle.cert_text.proofs.Machine.{run_on}
+use Rattle.cert_text.proofs.Faults.{scans_stop, scans_end}
 use Rattle.cert_text.proofs.Shapes.{shaped, same_greatest, place_shape}
 
 -- a line is more than no byte
@@ -112,7 +113,7 @@ at_more bytes left l place p b at e = go (step at.scan b) refl (advanced bytes l
     go None is shape = cc
     go (Some t) is shape = record {
       scan = t;
-      is = run_on bytes (b ∷ []) start at.scan at.is ∙ ap (option_and_then (λ u. run u [])) is;
+      is = run_on step bytes (b ∷ []) start at.scan at.is ∙ ap (option_and_then (λ u. run u [])) is;
       same_left = sym (ap (λ o. first_of o l) shape);
       same_place = sym (ap (λ o. second_of o p) shape);
     }

@@ -1,3 +1,6 @@
+pub mod Machine
+pub mod Leading
+pub mod Digits
 pub mod Places
 pub mod Sound
 pub mod Complete

@@ -6,7 +6,7 @@ use Rattle.std.proofs.lemmas.Fmt.{decimal_digit, decimal_step}
 use Rattle.std.proofs.lemmas.Grind.{flat_map-append}
 use Rattle.std.proofs.lemmas.List.{append-nil}
 use Rattle.cert_text.specs.Text.{Certificate, greatest_u64, IsLiteral, IsNumber, IsHint, IsBegun, IsCertificate, kind_text, sign_text, literal_text, hint_text, target_text, part_text, header_text}
-use Rattle.cert_text.specs.Scan.{Role, OfDepth, OfLiteral, OfHint, OfTarget, OfDelete, Place, AtVersion, AtKind, AtNumber, InNumber, AtPart, AtLiteral, AtHint, AtEnd, greatest}
+use Rattle.cert_text.specs.Scan.{Role, OfDepth, OfLiteral, OfHint, OfTarget, OfDelete, Place, AtVersion, AtKind, AtNumber, InNumber, AtPart, AtLiteral, AtHint, AtEnd, Scan, greatest}
 
 -- the header and the parts that are read, and the bytes behind them
 abbrev pub header_before : Certificate → List ℕ → List ℕ
@@ -14,6 +14,10 @@ header_before c rest = codes "ltlcert " ++ (decimal c.version ++ (codes " " ++ (
 
 abbrev pub parts_before : Certificate → List ℕ → List ℕ
 parts_before c rest = header_before c (flat_map part_text c.parts ++ rest)
+
+-- within a number
+abbrev pub number_at : Role → ℕ → Scan
+number_at role n = ([], InNumber role n)
 
 -- the text before a number
 abbrev pub role_before : Role → List ℕ → List ℕ

@@ -1,17 +1,18 @@
 -- What a pass over several bytes comes to, without what it has read.
-use Rattle.std.proofs.Common.{◌≡◌, ℕ, ◌+◌, ◌-◌, ◌<◌, ◌≤◌, ◌⊎◌, inl, inr, List, [], ◌∷◌, ◌++◌, length, take, get_or, All, Option, Some, None, refl, sym, ap, ap₂, ◌∙◌, subst, arith, add-one}
+use Rattle.std.proofs.Common.{◌≡◌, ℕ, ◌+◌, ◌-◌, ◌≤◌, ◌⊎◌, inl, inr, List, [], ◌∷◌, ◌++◌, length, take, All, Option, Some, None, refl, sym, ap, ◌∙◌, subst, arith}
 use Rattle.std.specs.Prelude.{codes}
 use Rattle.std.specs.List.{flat_map}
 use Rattle.std.specs.Option.{option_and_then}
-use Rattle.std.proofs.Math.Seq.{take-add, take-suc}
+use Rattle.std.proofs.Math.Seq.{take-add}
 use Rattle.cert_text.specs.Text.{hint_text}
 use Rattle.cert_text.specs.Scan.{Scan, start, step, run}
 use Rattle.cert_text.specs.Scan as scan
 use Rattle.cert_text.specs.Shape.{Next, place_of, small_advance, lines_at, IsInRange}
 use Rattle.cert_text.specs.Skipped.{between, IsShort, AreShort, digits_at}
-use Rattle.cert_text.specs.Passes.{small_run, LeadsTo}
+use Rattle.cert_text.specs.Passes.{small_move, small_run, LeadsTo}
 use Rattle.cert_text.specs.declared.scanning.Place.{Place}
 use Rattle.cert_text.specs.declared.scanning.Place.TheVariants as places
+use Rattle.cert_text.proofs.Machine.{run_on}
 use Rattle.cert_text.proofs.Shapes.{shaped}
 use Rattle.cert_text.proofs.Skips.{goes_on}
 use Rattle.cert_text.proofs.Forming.{IsAt, step_shape, first_of, second_of, at_range, at_lines}
@@ -39,25 +40,8 @@ at_led bytes left place led = go (run start bytes) refl (run_shaped bytes start 
     }
 
 -- bytes behind others
-pub run_more : (xs ys left l : List ℕ) (place p : Place) → small_run left place xs ≡ Some (l, p) → small_run left place (xs ++ ys) ≡ small_run l p ys
-run_more [] ys left l place p e = ap₂ (λ a b. small_run a b ys) (ap (λ o. first_of o left) e) (ap (λ o. second_of o place) e)
-run_more (x ∷ xs) ys left l place p e = go (small_advance left place x) e (λ k q. run_more xs ys k l q p)
-  where
-    go : (o : Next) → option_and_then (λ t. small_run t.0 t.1 xs) o ≡ Some (l, p) → ((k : List ℕ) (q : Place) → small_run k q xs ≡ Some (l, p) → small_run k q (xs ++ ys) ≡ small_run l p ys)
-        → option_and_then (λ t. small_run t.0 t.1 (xs ++ ys)) o ≡ small_run l p ys
-    go None f again = cc
-    go (Some t) f again = again t.0 t.1 f
-
 pub led_more : (before xs left l : List ℕ) (place p : Place) → LeadsTo before left place → small_run left place xs ≡ Some (l, p) → LeadsTo (before ++ xs) l p
-led_more before xs left l place p led e = run_more before xs (codes "ltlcert ") left places.Version place led ∙ e
-
--- one byte more
-pub run_byte : (bytes first left l : List ℕ) (from place p : Place) (i : ℕ) → i < length bytes → small_run first from (take i bytes) ≡ Some (left, place)
-    → small_advance left place (get_or bytes i 0) ≡ Some (l, p) → small_run first from (take (i + 1) bytes) ≡ Some (l, p)
-run_byte bytes first left l from place p i low e one =
-    ap (small_run first from) (ap (λ n. take n bytes) (add-one i) ∙ take-suc bytes i 0 low)
-    ∙ run_more (take i bytes) (get_or bytes i 0 ∷ []) first left from place e
-    ∙ ap (option_and_then (λ t. small_run t.0 t.1 [])) one
+led_more before xs left l place p led e = run_on small_move before xs (codes "ltlcert ", places.Version) (left, place) led ∙ e
 
 -- short numbers
 short_on : (place : Place) (bytes : List ℕ) (q : scan.Place) → place ≡ place_of q → AreShort (digits_at place) bytes → small_run [] place bytes ≡ Some ([], place)
@@ -75,7 +59,7 @@ run_behind bytes before first left from place i j low (inl same) led e = ap (λ 
 run_behind bytes before first left from place i j low (inr (none, short)) led e =
     let at = at_led (before ++ take i bytes) left place (led_more before (take i bytes) first left from place led e) in
     ap (small_run first from) whole
-    ∙ run_more (take i bytes) (between bytes i j) first left from place e
+    ∙ run_on small_move (take i bytes) (between bytes i j) (first, from) (left, place) e
     ∙ ap (λ l. small_run l place (between bytes i j)) none
     ∙ short_on place (between bytes i j) at.scan.1 at.same_place short
     ∙ ap (λ l. let it : Next = Some (l, place) in it) (sym none)

@@ -11,14 +11,14 @@ use Rattle.cnf_base.specs.declared.literal.Literal.{Literal}
 use Rattle.cnf_base.specs.declared.literal.Hint.{Hint}
 use Rattle.cnf_base.specs.declared.literal.Hint.TheVariants as hints
 use Rattle.cert_text.specs.Text.{Certificate, greatest_u64, IsHint, number_of, sign_text, hint_text}
-use Rattle.cert_text.specs.Scan.{OfDepth, AtVersion, AtKind, AtNumber, InNumber, AtPart, AtLiteral, AtHint, AtEnd, Scan, literal, hint, start, run}
+use Rattle.cert_text.specs.Scan.{AtVersion, AtKind, AtNumber, InNumber, AtPart, AtLiteral, AtHint, AtEnd, Scan, literal, hint, start, step, run}
 use Rattle.cert_text.specs.Scan as scan
 use Rattle.cert_text.specs.Shape.{place_of}
 use Rattle.cert_text.specs.Skipped.{between, IsDigit, IsSign, IsShort, AreShort, digits_at}
 use Rattle.cert_text.specs.declared.scanning.Place.{Place}
 use Rattle.cert_text.proofs.Places.{first_text, digit_text}
 use Rattle.cert_text.proofs.Complete.{literal_read, hint_read}
-use Rattle.cert_text.proofs.Faults.{run_on}
+use Rattle.cert_text.proofs.Machine.{run_on}
 use Rattle.cert_text.proofs.Forming.{IsAt}
 
 -- two stretches of bytes, one behind the other
@@ -178,7 +178,7 @@ at_short bytes left place i j low none short at = go at.scan at.is at.same_left 
         let on = goes_on p short.0 (subst (λ q. All (IsShort (digits_at q)) short.0) e short.1) in
         record {
           scan = ([], on.0);
-          is = ap (run start) (whole ∙ ap (λ xs. take i bytes ++ xs) short.2) ∙ run_on (take i bytes) (flat_map hint_text short.0) start ([], p) is ∙ on.2;
+          is = ap (run start) (whole ∙ ap (λ xs. take i bytes ++ xs) short.2) ∙ run_on step (take i bytes) (flat_map hint_text short.0) start ([], p) is ∙ on.2;
           same_left = none;
           same_place = e ∙ sym on.1;
         }

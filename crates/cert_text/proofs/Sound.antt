@@ -1,39 +1,19 @@
 -- What the scan has read is what stands there.
-use Rattle.std.proofs.Common.{◌≡◌, ℕ, ◌+◌, ◌-◌, ◌*◌, ◌<◌, ◌≤◌, ◌==◌, ◌&&◌, inl, inr, Bool, true, false, cond, ltb, List, [], ◌∷◌, ◌++◌, length, All, Option, Some, None, refl, sym, ap, ◌∙◌, subst, arith, append_assoc}
+use Rattle.std.proofs.Common.{◌≡◌, ℕ, ◌+◌, ◌<◌, ◌≤◌, ◌==◌, inl, inr, Bool, true, false, List, [], ◌∷◌, ◌++◌, length, All, Some, None, refl, sym, ap, ◌∙◌, subst, arith, append_assoc}
 use Rattle.std.specs.Prelude.{codes, decimal}
 use Rattle.std.specs.List.{flat_map}
-use Rattle.std.proofs.lemmas.Bool.{eqb-true, eqb-false, ltb-true, ltb-false, and_parts}
+use Rattle.std.proofs.lemmas.Bool.{eqb-true, eqb-false}
 use Rattle.std.proofs.lemmas.List.{append-nil, length_push}
 use Rattle.std.proofs.lemmas.List.Elements.{All-nil, All-push}
-use Rattle.std.proofs.lemmas.Option.{option_and_then_some}
 use Rattle.std.proofs.lemmas.Fmt.{decimal_digit}
 use Rattle.ltl_syntax.specs.declared.node.Kind.TheVariants as Kinds
 use Rattle.cnf_base.specs.declared.literal.Literal.{Literal}
 use Rattle.cnf_base.specs.declared.literal.Hint.{Hint}
 use Rattle.cert_text.specs.Text.{Part, Line, Delete, Certificate, IsLiteral, IsNumber, IsHint, IsPart, IsBegun, sign_text, literal_text, hint_text, target_text, part_text, close_text, IsTextOf}
 use Rattle.cert_text.specs.Scan.{Role, OfDepth, OfLiteral, OfHint, OfTarget, OfDelete, Place, AtVersion, AtKind, AtNumber, InNumber, AtPart, AtLiteral, AtHint, AtEnd, Scan, start, greatest, literal, hint, with_part, with_target, header, end_number, first_digit, literal_step, number_step, place_step, step, run}
-use Rattle.cert_text.proofs.Places.{header_before, parts_before, role_before, before, IsStarted, IsRole, IsPlace, flat_more, first_text, digit_text, greatest_fits, header_is}
-
-pub some_same : (s t : Scan) → Some s ≡ Some t → s ≡ t
-some_same s t e = cc
-
--- what holds of the answer, if there is one
-abbrev pub Gives : (Scan → Type 0) → Option Scan → Type 0
-Gives P o = (t : Scan) → o ≡ Some t → P t
-
-pub gives_none : (P : Scan → Type 0) → Gives P None
-gives_none P t e = cc
-
-pub gives_some : (P : Scan → Type 0) (s : Scan) → P s → Gives P (Some s)
-gives_some P s h t e = subst P (some_same s t e) h
-
-pub gives_if : (P : Scan → Type 0) (b : Bool) (x y : Option Scan) → (b ≡ true → Gives P x) → (b ≡ false → Gives P y) → Gives P (cond b x y)
-gives_if P true x y on off = on refl
-gives_if P false x y on off = off refl
-
--- at one byte, and at the others
-pub gives_at : (P : ℕ → Scan → Type 0) (b k : ℕ) (x y : Option Scan) → Gives (P k) x → Gives (P b) y → Gives (P b) (cond (b == k) x y)
-gives_at P b k x y on off = gives_if (P b) (b == k) x y (λ e. subst (λ i. Gives (P i) x) (sym (eqb-true b k e)) on) (λ e. off)
+use Rattle.cert_text.proofs.Leading.{HasRead, LeadsOn, reads_on}
+use Rattle.cert_text.proofs.Digits.{Gives, gives_none, gives_some, gives_if, gives_at, gives_first, gives_digit}
+use Rattle.cert_text.proofs.Places.{number_at, header_before, parts_before, role_before, before, IsStarted, IsRole, IsPlace, flat_more, first_text, digit_text, greatest_fits, header_is}
 
 -- the byte at the place leads to a place up to which the text is one byte longer, and what is true there
 abbrev Leads : Place → ℕ → Scan → Type 0
@@ -42,13 +22,8 @@ Leads p b t = ((rest : List ℕ) → before p (b ∷ (t.0 ++ rest)) ≡ before t
 -- the first digit of a number, where a number of this role may stand
 first_leads : (p : Place) (role : Role) (b : ℕ) → ((rest : List ℕ) → before p rest ≡ role_before role rest) → IsRole role → 9 ≤ greatest role → Gives (Leads p b) (first_digit role b)
 first_leads p role b same is room =
-    gives_if (Leads p b) (ltb 48 b && ltb b 58) (Some ([], InNumber role (b - 48))) None
-    (λ e.
-    let parts = and_parts (ltb 48 b) (ltb b 58) e in
-    let low = ltb-true 48 b parts.0 in
-    let high = ltb-true b 58 parts.1 in
-    gives_some (Leads p b) ([], InNumber role (b - 48)) (λ rest. same (b ∷ rest) ∙ ap (role_before role) (first_text b rest low high), (is, omega arith, omega arith)))
-    (λ e. gives_none (Leads p b))
+    gives_first (Leads p b) (number_at role) b
+    (λ low high. (λ rest. same (b ∷ rest) ∙ ap (role_before role) (first_text b rest low high), (is, omega arith, omega arith)))
 
 started_part : (c : Certificate) (part : Part) → IsStarted c → IsPart c.version part → IsStarted (with_part c part)
 started_part c part is fits = record {
@@ -68,17 +43,17 @@ literal_leads p c literals b same is all =
 pub apart : (a b c rest : List ℕ) → (a ++ (b ++ c)) ++ rest ≡ a ++ (b ++ (c ++ rest))
 apart a b c rest = append_assoc a (b ++ c) rest ∙ ap (λ x. a ++ x) (append_assoc b c rest)
 
-literal_more : (literals : List Literal) (negated : Bool) (n : ℕ) (rest : List ℕ)
+pub literal_more : (literals : List Literal) (negated : Bool) (n : ℕ) (rest : List ℕ)
     → flat_map literal_text literals ++ (sign_text negated ++ (decimal n ++ (32 ∷ rest))) ≡ flat_map literal_text (literals ++ literal negated n ∷ []) ++ rest
 literal_more literals negated n rest =
     sym (flat_more literal_text literals (literal negated n) rest ∙ ap (λ x. flat_map literal_text literals ++ x) (apart (sign_text negated) (decimal n) (codes " ") rest))
 
-hint_more : (hints : List Hint) (negated : Bool) (n : ℕ) (rest : List ℕ)
+pub hint_more : (hints : List Hint) (negated : Bool) (n : ℕ) (rest : List ℕ)
     → flat_map hint_text hints ++ (sign_text negated ++ (decimal n ++ (32 ∷ rest))) ≡ flat_map hint_text (hints ++ hint negated n ∷ []) ++ rest
 hint_more hints true n rest = sym (flat_more hint_text hints (hint true n) rest ∙ ap (λ x. flat_map hint_text hints ++ x) (apart (codes "-") (decimal n) (codes " ") rest))
 hint_more hints false n rest = sym (flat_more hint_text hints (hint false n) rest ∙ ap (λ x. flat_map hint_text hints ++ x) (append_assoc (decimal n) (codes " ") rest))
 
-target_more : (lines : List ℕ) (n : ℕ) (rest : List ℕ) → flat_map target_text lines ++ (32 ∷ (decimal n ++ rest)) ≡ flat_map target_text (lines ++ n ∷ []) ++ rest
+pub target_more : (lines : List ℕ) (n : ℕ) (rest : List ℕ) → flat_map target_text lines ++ (32 ∷ (decimal n ++ rest)) ≡ flat_map target_text (lines ++ n ∷ []) ++ rest
 target_more lines n rest = sym (flat_more target_text lines n rest)
 
 -- a line or a delete is put behind the parts
@@ -94,7 +69,7 @@ line_text literals hints rest =
 pub delete_text : (lines : List ℕ) (rest : List ℕ) → codes "d" ++ (flat_map target_text lines ++ (10 ∷ rest)) ≡ part_text (Delete lines) ++ rest
 delete_text lines rest = ap (λ x. 100 ∷ x) (sym (append_assoc (flat_map target_text lines) (codes "\n") rest))
 
-hint_number : (negated : Bool) (n : ℕ) → IsNumber n → IsHint (hint negated n)
+pub hint_number : (negated : Bool) (n : ℕ) → IsNumber n → IsHint (hint negated n)
 hint_number true n is = is
 hint_number false n is = is
 
@@ -165,18 +140,12 @@ place_leads (AtKind version) b is =
     (gives_none (Leads p b)))
 place_leads (AtNumber role) b is = number_leads role b is
 place_leads (InNumber role n) b is =
-    let p = InNumber role n in
-    gives_if (Leads p b) (ltb 47 b && ltb b 58) _ _
-    (λ e.
-    let parts = and_parts (ltb 47 b) (ltb b 58) e in
-    let low = ltb-true 47 b parts.0 in
-    let high = ltb-true b 58 parts.1 in
-    gives_if (Leads p b) (ltb (greatest role) (10 * n + (b - 48))) _ _ (λ f. gives_none (Leads p b))
-    (λ f.
-    let few = ltb-false (greatest role) (10 * n + (b - 48)) f in
-    gives_some (Leads p b) ([], InNumber role (10 * n + (b - 48)))
-    (λ rest. ap (role_before role) (digit_text n b rest is.1 low high (omega (arith, few, greatest_fits role))), (is.0, omega (arith, is.1), few))))
-    (λ e. end_leads role n b is.0 is.1 is.2)
+    gives_digit (Leads (InNumber role n) b) (number_at role) (greatest role) n b (end_number role n b)
+    (λ low high few. (
+      λ rest. ap (role_before role) (digit_text n b rest is.1 low high (omega (arith, few, greatest_fits role))),
+      (is.0, omega (arith, is.1), few),
+    ))
+    (end_leads role n b is.0 is.1 is.2)
 place_leads (AtPart c) b is =
     let p = AtPart c in
     gives_at (Leads p) b 99 _ _ (gives_some (Leads p 99) (codes "lose ", AtNumber (OfTarget c)) (
@@ -197,29 +166,26 @@ place_leads (AtHint c literals hints) b is =
     (first_leads p (OfHint c literals hints false) b (λ rest. refl) is (omega arith)))
 place_leads (AtEnd c) b is = gives_none (Leads (AtEnd c) b)
 
--- the bytes that are read, those that must come, and the rest are the text up to the place and the rest
-pub record HasRead (bytes : List ℕ) (s : Scan) : Type 0 where
-  pub text : (rest : List ℕ) → bytes ++ (s.0 ++ rest) ≡ before s.1 rest
-  pub place : IsPlace s.1
+-- each byte leads on
+abbrev pub left_of : Scan → List ℕ
+left_of s = s.0
 
-step_reads : (bytes : List ℕ) (s : Scan) (b : ℕ) (t : Scan) → HasRead bytes s → step s b ≡ Some t → HasRead (bytes ++ b ∷ []) t
-step_reads bytes (x ∷ xs, p) b t has e =
-    gives_at (λ i u. HasRead (bytes ++ i ∷ []) u) b x (Some (xs, p)) None
-    (gives_some (HasRead (bytes ++ x ∷ [])) (xs, p) (record { text = λ rest. append_assoc bytes (x ∷ []) (xs ++ rest) ∙ has.text rest; place = has.place }))
-    (gives_none (HasRead (bytes ++ b ∷ []))) t e
-step_reads bytes ([], p) b t has e =
-    let leads = place_leads p b has.place t e in
-    record { text = λ rest. append_assoc bytes (b ∷ []) (t.0 ++ rest) ∙ has.text (b ∷ (t.0 ++ rest)) ∙ leads.0 rest; place = leads.1 }
+abbrev pub text_before : Scan → List ℕ → List ℕ
+text_before s rest = before s.1 rest
 
-run_reads : (more bytes : List ℕ) (s t : Scan) → HasRead bytes s → run s more ≡ Some t → HasRead (bytes ++ more) t
-run_reads [] bytes s t has e = subst (λ u. HasRead (bytes ++ []) u) (some_same s t e) (subst (λ w. HasRead w s) (sym (append-nil bytes)) has)
-run_reads (b ∷ more) bytes s t has e =
-    option_and_then_some (λ u. run u more) (step s b) t e (λ u is then'.
-    subst (λ w. HasRead w t) (append_assoc bytes (b ∷ []) more) (run_reads more (bytes ++ b ∷ []) u t (step_reads bytes s b u has is) then'))
+abbrev pub IsReached : Scan → Type 0
+IsReached s = IsPlace s.1
+
+leads_on : (s : Scan) (b : ℕ) (t : Scan) → IsReached s → step s b ≡ Some t → LeadsOn left_of text_before IsReached s b t
+leads_on (x ∷ xs, p) b t is e =
+    gives_at (LeadsOn left_of text_before IsReached (x ∷ xs, p)) b x (Some (xs, p)) None
+    (gives_some (LeadsOn left_of text_before IsReached (x ∷ xs, p) x) (xs, p) (record { text = λ rest. (rest, refl, refl); place = is }))
+    (gives_none (LeadsOn left_of text_before IsReached (x ∷ xs, p) b)) t e
+leads_on ([], p) b t is e = let leads = place_leads p b is t e in record { text = λ rest. (b ∷ (t.0 ++ rest), refl, leads.0 rest); place = leads.1 }
 
 -- what the scan has read from the first byte on
-pub reads : (bytes : List ℕ) (t : Scan) → run start bytes ≡ Some t → HasRead bytes t
-reads bytes t e = run_reads bytes [] start t (record { text = λ rest. refl; place = tt }) e
+pub reads : (bytes : List ℕ) (t : Scan) → run start bytes ≡ Some t → HasRead left_of text_before IsReached bytes t
+reads bytes t e = reads_on step left_of text_before IsReached leads_on bytes [] start t (record { text = λ rest. refl; place = tt }) e
 
 -- a text that the scan reads to its end is that of the certificate
 pub read_whole : (bytes : List ℕ) (c : Certificate) → run start bytes ≡ Some ([], AtEnd c) → IsTextOf bytes c

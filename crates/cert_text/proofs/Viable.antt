@@ -5,9 +5,9 @@ use Rattle.std.proofs.lemmas.Bool.{cond-true, cond-false, eq-eqb, ne_eqb}
 use Rattle.std.proofs.lemmas.List.{length_push}
 use Rattle.ltl_syntax.specs.declared.node.Kind.TheVariants as Kinds
 use Rattle.cert_text.specs.Text.{Line, Delete, Certificate}
-use Rattle.cert_text.specs.Scan.{Role, OfDepth, OfLiteral, OfHint, OfTarget, OfDelete, Place, AtVersion, AtKind, AtNumber, InNumber, AtPart, AtLiteral, AtHint, AtEnd, literal, hint, with_part, with_target, header, run}
+use Rattle.cert_text.specs.Scan.{Role, OfDepth, OfLiteral, OfHint, OfTarget, OfDelete, Place, AtVersion, AtKind, AtNumber, InNumber, AtPart, AtLiteral, AtHint, AtEnd, literal, hint, with_part, with_target, header, step, run}
 use Rattle.cert_text.proofs.Places.{IsRole, IsPlace}
-use Rattle.cert_text.proofs.Complete.{run_step}
+use Rattle.cert_text.proofs.Machine.{run_step}
 
 -- some bytes lead from the place to the end
 abbrev pub IsViable : Place → Type 0
@@ -16,12 +16,12 @@ IsViable p = (rest : List ℕ) × (c : Certificate) × (run ([], p) rest ≡ Som
 -- so many targets are wanted behind this one
 in_target : (more : ℕ) (c : Certificate) (n : ℕ) → length c.targets + suc more ≡ c.depth + 2 → IsViable (InNumber (OfTarget c) n)
 in_target zero c n count =
-    (10 ∷ [], with_target c n, run_step ([], InNumber (OfTarget c) n) ([], AtEnd (with_target c n)) 10 [] (cond-true (length c.targets == c.depth + 1) _ _ (eq-eqb (length c.targets) (c.depth + 1) (omega (arith, count)))))
+    (10 ∷ [], with_target c n, run_step step ([], InNumber (OfTarget c) n) ([], AtEnd (with_target c n)) 10 [] (cond-true (length c.targets == c.depth + 1) _ _ (eq-eqb (length c.targets) (c.depth + 1) (omega (arith, count)))))
 in_target (suc more) c n count =
     let again = in_target more (with_target c n) 1 (omega (arith, count, length_push c.targets n)) in (
       32 ∷ 49 ∷ again.0,
       again.1,
-      run_step ([], InNumber (OfTarget c) n) ([], AtNumber (OfTarget (with_target c n))) 32 (49 ∷ again.0)
+      run_step step ([], InNumber (OfTarget c) n) ([], AtNumber (OfTarget (with_target c n))) 32 (49 ∷ again.0)
           (cond-false (length c.targets == c.depth + 1) _ _ (ne_eqb (length c.targets) (c.depth + 1) (λ h. omega (arith, h, count))))
           ∙ again.2,
     )

@@ -1,3 +1,4 @@
+pub mod Machine
 pub mod Text
 pub mod Scan
 pub mod Laws

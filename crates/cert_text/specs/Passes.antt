@@ -1,6 +1,6 @@
 -- The scan without what it has read, over several bytes and over a piece of a text.
-use Rattle.std.specs.Prelude.{◌≡◌, ℕ, List, [], ◌∷◌, codes, Some, IfSome}
-use Rattle.std.specs.Option.{option_and_then}
+use Rattle.std.specs.Prelude.{◌≡◌, ℕ, List, [], codes, Some, IfSome}
+use Rattle.cert_text.specs.Machine.{run_by}
 use Rattle.cert_text.specs.Shape.{Next, small_advance}
 use Rattle.cert_text.specs.Skipped.{between}
 use Rattle.cert_text.specs.declared.scanning.Head.{Head}
@@ -8,10 +8,12 @@ use Rattle.cert_text.specs.declared.scanning.Place.{Place}
 use Rattle.cert_text.specs.declared.scanning.Place.TheVariants as places
 use Rattle.cert_text.specs.declared.passing.Piece.{Piece}
 
--- what several bytes lead to
+-- what a byte leads to, and several bytes
+abbrev pub small_move : List ℕ × Place → ℕ → Next
+small_move t b = small_advance t.0 t.1 b
+
 abbrev pub small_run : List ℕ → Place → List ℕ → Next
-small_run left place [] = Some (left, place)
-small_run left place (b ∷ bs) = option_and_then (λ t. small_run t.0 t.1 bs) (small_advance left place b)
+small_run left place bytes = run_by small_move (left, place) bytes
 
 -- the bytes from the first one on lead here
 abbrev pub LeadsTo : List ℕ → List ℕ → Place → Type 0

@@ -1,11 +1,11 @@
 -- One pass over the bytes of a certificate: what is read so far, and what may come next.
 use Rattle.std.specs.Prelude.{ℕ, ◌+◌, ◌-◌, ◌*◌, Bool, true, false, ◌&&◌, ◌==◌, nat_lt, List, [], ◌∷◌, ◌++◌, length, codes, if◌then◌else◌, Option, Some, None}
-use Rattle.std.specs.Option.{option_and_then}
 use Rattle.ltl_syntax.specs.declared.node.Kind.{Kind}
 use Rattle.ltl_syntax.specs.declared.node.Kind.TheVariants as Kinds
 use Rattle.cnf_base.specs.declared.literal.Literal.{Literal}
 use Rattle.cnf_base.specs.declared.literal.Hint.{Hint}
 use Rattle.cnf_base.specs.declared.literal.Hint.TheVariants as hints
+use Rattle.cert_text.specs.Machine.{run_by}
 use Rattle.cert_text.specs.Text.{Part, Line, Delete, Certificate, greatest_u64}
 
 -- what a number that is being read will be; c is what is read so far, its targets are those before this one
@@ -119,5 +119,4 @@ step ([], place) b = place_step place b
 
 -- what the bytes lead to
 abbrev pub run : Scan → List ℕ → Option Scan
-run s [] = Some s
-run s (b ∷ bs) = option_and_then (λ t. run t bs) (step s b)
+run s bytes = run_by step s bytes

@@ -10,7 +10,7 @@ mod joining;
 pub mod laws;
 mod marks;
 mod passing;
-mod printing;
+pub mod printing;
 pub mod reader;
 pub mod refused;
 mod scanning;

@@ -10,7 +10,7 @@ use itoa::Buffer;
 use ltl_syntax::Kind;
 use std::alloc::AllocError;
 
-fn push_number(number: u64, out: &mut Vec<u8>) -> Result<(), AllocError>
+pub fn push_number(number: u64, out: &mut Vec<u8>) -> Result<(), AllocError>
     ensures { OnOk result (out.new.items ≡ out.old.items ++ decimal number) }
 {
     let mut buffer = Buffer::new();
@@ -42,7 +42,7 @@ fn push_hint(hint: Hint, out: &mut Vec<u8>) -> Result<(), AllocError>
     Ok(())
 }
 
-fn push_literals(literals: &[Literal], out: &mut Vec<u8>) -> Result<(), AllocError>
+pub fn push_literals(literals: &[Literal], out: &mut Vec<u8>) -> Result<(), AllocError>
     ensures { OnOk result (out.new.items ≡ out.old.items ++ flat_map literal_text literals.now) }
 {
     for literal in literals {
@@ -51,7 +51,7 @@ fn push_literals(literals: &[Literal], out: &mut Vec<u8>) -> Result<(), AllocErr
     Ok(())
 }
 
-fn push_hints(hints: &[Hint], out: &mut Vec<u8>) -> Result<(), AllocError>
+pub fn push_hints(hints: &[Hint], out: &mut Vec<u8>) -> Result<(), AllocError>
     ensures { OnOk result (out.new.items ≡ out.old.items ++ flat_map hint_text hints.now) }
 {
     for hint in hints {
@@ -67,7 +67,7 @@ fn push_target(target: u64, out: &mut Vec<u8>) -> Result<(), AllocError>
     push_number(target, out)
 }
 
-fn push_targets(targets: &[u64], out: &mut Vec<u8>) -> Result<(), AllocError>
+pub fn push_targets(targets: &[u64], out: &mut Vec<u8>) -> Result<(), AllocError>
     ensures { OnOk result (out.new.items ≡ out.old.items ++ flat_map target_text targets.now) }
 {
     for target in targets {
@@ -108,7 +108,7 @@ pub fn push_close(targets: &[u64], out: &mut Vec<u8>) -> Result<(), AllocError>
     Ok(())
 }
 
-fn kind_bytes(kind: Kind) -> &'static [u8]
+pub fn kind_bytes(kind: Kind) -> &'static [u8]
     ensures { result.now ≡ kind_text kind }
 {
     match kind {

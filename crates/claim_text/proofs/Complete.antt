@@ -1,10 +1,9 @@
 -- The pass reads every text to its end.
-use Rattle.std.proofs.Common.{◌≡◌, ℕ, suc, ◌+◌, ◌-◌, ◌*◌, ◌/◌, ◌%◌, ◌<◌, ◌≤◌, ◌==◌, ◌&&◌, Bool, true, false, ltb, List, [], ◌∷◌, ◌++◌, length, get_or, All, Option, Some, None, refl, sym, ap, ◌∙◌, arith, append_assoc}
+use Rattle.std.proofs.Common.{◌≡◌, ℕ, suc, ◌+◌, ◌-◌, ◌<◌, ◌≤◌, ◌==◌, Bool, true, false, List, [], ◌∷◌, ◌++◌, length, get_or, All, Option, Some, None, refl, sym, ap, ◌∙◌, arith, append_assoc}
 use Rattle.std.specs.Prelude.{codes, decimal}
-use Rattle.std.specs.Option.{option_and_then}
 use Rattle.std.specs.List.{flat_map}
-use Rattle.std.proofs.lemmas.Bool.{cond-true, cond-false, and_from, lt-ltb, le-ltb, eq-eqb, ne_eqb}
-use Rattle.std.proofs.lemmas.Fmt.{decimal_digit, decimal_by_steps}
+use Rattle.std.proofs.lemmas.Bool.{cond-true, cond-false, eq-eqb, ne_eqb}
+use Rattle.std.proofs.lemmas.Fmt.{decimal_digit}
 use Rattle.std.proofs.lemmas.List.{append-nil, length_push}
 use Rattle.std.proofs.lemmas.List.Elements.{All-nil, All-cons, All-head, All-tail}
 use Rattle.ltl_syntax.specs.declared.node.Kind.{Kind}
@@ -16,7 +15,7 @@ use Rattle.cert_text.specs.Text.{IsLiteral, IsNumber, IsHint, kind_text, literal
 use Rattle.cert_text.specs.Scan.{literal}
 use Rattle.claims.specs.Certificate.{HintedLine, Layer, Certificate}
 use Rattle.claim_text.specs.Text.{eventuality_number, claim_text, line_text, targets_text, layer_text, text_of, base_targets_of, base_count, IsEventuality, IsLine, IsLayer, IsWritable}
-use Rattle.claim_text.specs.Scan.{Draft, Scan, outside, within, start, opened, wanted_in, with_base, with_step, closed, acted, greatest_in, place_behind, first_in, nought_in, literal_in, decided, moved, step, run}
+use Rattle.claim_text.specs.Scan.{Draft, Scan, outside, within, start, opened, wanted_in, with_base, with_step, closed, acted, greatest_in, place_behind, end_in, first_in, nought_in, literal_in, decided, moved, step, run}
 use Rattle.claim_text.specs.declared.place.Section.{Section}
 use Rattle.claim_text.specs.declared.place.Section.TheVariants as sections
 use Rattle.claim_text.specs.declared.place.Role.{Role}
@@ -24,42 +23,20 @@ use Rattle.claim_text.specs.declared.place.Role.TheVariants as roles
 use Rattle.claim_text.specs.declared.place.Place.{Place}
 use Rattle.claim_text.specs.declared.place.Place.TheVariants as places
 use Rattle.claim_text.specs.declared.place.Act.TheVariants as acts
-use Rattle.claim_text.proofs.Places.{word, HasClaims, claim_is, line_is, layer_is}
+use Rattle.cert_text.proofs.Machine.{run_step}
+use Rattle.cert_text.proofs.Digits.{first_read, digit_read, digits_read}
+use Rattle.claim_text.proofs.Places.{number_at, digits_in, word, HasClaims, claim_is, line_is, layer_is}
 use Rattle.claim_text.proofs.Sound.{greatest_fits}
 
--- the first byte is read
-pub run_step : (s t : Scan) (b : ℕ) (rest : List ℕ) → step s b ≡ Some t → run s (b ∷ rest) ≡ run t rest
-run_step s t b rest e = ap (option_and_then (λ u. run u rest)) e
-
--- a digit from 1 to 9
-first_read : (role : Role) (d : Draft) (b : ℕ) → 48 < b → b < 58 → moved d (first_in role b) ≡ Some ([], places.More role (b - 48), d)
-first_read role d b low high = ap (moved d) (cond-true (ltb 48 b && ltb b 58) _ _ (and_from (ltb 48 b) (ltb b 58) (lt-ltb 48 b low) (lt-ltb b 58 high)))
-
-digit_read : (role : Role) (d : Draft) (n b : ℕ) → 47 < b → b < 58 → 10 * n + (b - 48) ≤ greatest_in role → step ([], places.More role n, d) b ≡ Some ([], places.More role (10 * n + (b - 48)), d)
-digit_read role d n b low high few =
-    ap (moved d) (cond-true (ltb 47 b && ltb b 58) _ _ (and_from (ltb 47 b) (ltb b 58) (lt-ltb 47 b low) (lt-ltb b 58 high))
-    ∙ cond-false (ltb (greatest_in role) (10 * n + (b - 48))) _ _ (le-ltb (greatest_in role) (10 * n + (b - 48)) few))
-
 -- a number is read, where its first digit is
-number_read : (s : Scan) (role : Role) (d : Draft) → ((b : ℕ) → 48 < b → b < 58 → step s b ≡ Some ([], places.More role (b - 48), d))
-    → (n : ℕ) → 1 ≤ n → n ≤ greatest_in role → (rest : List ℕ) → run s (decimal n ++ rest) ≡ run ([], places.More role n, d) rest
-number_read s role d first n low high = decimal_by_steps P one more n (omega (arith, high, greatest_fits role)) low high
-  where
-    P : ℕ → List ℕ → Type 0
-    P n ds = 1 ≤ n → n ≤ greatest_in role → (rest : List ℕ) → run s (ds ++ rest) ≡ run ([], places.More role n, d) rest
+first_is : (role : Role) (d : Draft) (b : ℕ) → 48 < b → b < 58 → moved d (first_in role b) ≡ Some (number_at role d (b - 48))
+first_is role d b low high = ap (moved d) (first_read (digits_in role) b low high)
 
-    one : (n : ℕ) → n < 10 → P n ((48 + n) ∷ [])
-    one n small low high rest =
-        let e : 48 + n - 48 ≡ n = omega arith in
-        run_step s ([], places.More role (48 + n - 48), d) (48 + n) rest (first (48 + n) (omega arith) (omega arith)) ∙ ap (λ m. run ([], places.More role m, d) rest) e
-
-    more : (n : ℕ) (ds : List ℕ) → 10 ≤ n → P (n / 10) ds → P n (ds ++ ((48 + n % 10) ∷ []))
-    more n ds big before low high rest =
-        let e : 10 * (n / 10) + (48 + n % 10 - 48) ≡ n = omega arith in
-        ap (run s) (append_assoc ds ((48 + n % 10) ∷ []) rest)
-        ∙ before (omega arith) (omega arith) ((48 + n % 10) ∷ rest)
-        ∙ run_step ([], places.More role (n / 10), d) ([], places.More role (10 * (n / 10) + (48 + n % 10 - 48)), d) (48 + n % 10) rest (digit_read role d (n / 10) (48 + n % 10) (omega arith) (omega arith) (omega arith))
-        ∙ ap (λ m. run ([], places.More role m, d) rest) e
+number_read : (s : Scan) (role : Role) (d : Draft) → ((b : ℕ) → 48 < b → b < 58 → step s b ≡ Some (number_at role d (b - 48)))
+    → (n : ℕ) → 1 ≤ n → n ≤ greatest_in role → (rest : List ℕ) → run s (decimal n ++ rest) ≡ run (number_at role d n) rest
+number_read s role d first =
+    digits_read step s (number_at role d) (greatest_in role) (greatest_fits role) first
+    (λ n b low high few. ap (moved d) (digit_read (digits_in role) (greatest_in role) n b (end_in role n d b) low high few))
 
 -- the place reads a literal or the 0 behind the literals
 abbrev AsLiteral : Bool → Place → Draft → Type 0
@@ -95,15 +72,15 @@ literal_read : (claim : Bool) (p : Place) (d : Draft) (negated : Bool) (n : ℕ)
     → run ([], p, d) (literal_text (literal negated n) ++ rest) ≡ run ([], places.Literal claim, with_literals d (d.literals ++ literal negated n ∷ [])) rest
 literal_read claim p d true n rest reads low high =
     ap (λ x. run ([], p, d) (45 ∷ x)) (append_assoc (decimal n) (codes " ") rest)
-    ∙ run_step ([], p, d) ([], places.First (roles.Literal claim true), d) 45 (decimal n ++ (32 ∷ rest)) (ap (moved d) (reads 45 (omega arith)))
-    ∙ number_read ([], places.First (roles.Literal claim true), d) (roles.Literal claim true) d (first_read (roles.Literal claim true) d) n low high (32 ∷ rest)
+    ∙ run_step step ([], p, d) ([], places.First (roles.Literal claim true), d) 45 (decimal n ++ (32 ∷ rest)) (ap (moved d) (reads 45 (omega arith)))
+    ∙ number_read ([], places.First (roles.Literal claim true), d) (roles.Literal claim true) d (first_is (roles.Literal claim true) d) n low high (32 ∷ rest)
 literal_read claim p d false n rest reads low high =
     ap (run ([], p, d)) (append_assoc (decimal n) (codes " ") rest)
     ∙ number_read ([], p, d) (roles.Literal claim false) d
     (λ b l h. ap (moved d) (reads b h
     ∙ cond-false (b == 48) _ _ (ne_eqb b 48 (λ e. omega arith))
     ∙ cond-false (b == 45) _ _ (ne_eqb b 45 (λ e. omega arith)))
-    ∙ first_read (roles.Literal claim false) d b l h)
+    ∙ first_is (roles.Literal claim false) d b l h)
     n low high (32 ∷ rest)
 
 -- behind the 0
@@ -118,7 +95,7 @@ nought_read false d = refl
 literals_read : (more : List Literal) (claim : Bool) (p : Place) (d : Draft) (rest : List ℕ) → AsLiteral claim p d → All IsLiteral more
     → run ([], p, d) (flat_map literal_text more ++ (48 ∷ rest)) ≡ run (behind claim (with_literals d (d.literals ++ more))) rest
 literals_read [] claim p d rest reads all =
-    run_step ([], p, d) (behind claim d) 48 rest (ap (moved d) (reads 48 (omega arith)) ∙ nought_read claim d)
+    run_step step ([], p, d) (behind claim d) 48 rest (ap (moved d) (reads 48 (omega arith)) ∙ nought_read claim d)
     ∙ ap (λ ls. run (behind claim (with_literals d ls)) rest) (sym (append-nil d.literals))
 literals_read (l ∷ more) claim p d rest reads all =
     let here = All-head IsLiteral l more all in
@@ -130,13 +107,13 @@ literals_read (l ∷ more) claim p d rest reads all =
 hint_read : (d : Draft) (h : Hint) (rest : List ℕ) → IsHint h → run ([], places.Hint, d) (hint_text h ++ rest) ≡ run ([], places.Hint, with_hints d (d.hints ++ h ∷ [])) rest
 hint_read d (hints.Line n) rest is =
     ap (λ x. run ([], places.Hint, d) (45 ∷ x)) (append_assoc (decimal n) (codes " ") rest)
-    ∙ number_read ([], places.First (roles.Hint true), d) (roles.Hint true) d (first_read (roles.Hint true) d) n is.0 is.1 (32 ∷ rest)
+    ∙ number_read ([], places.First (roles.Hint true), d) (roles.Hint true) d (first_is (roles.Hint true) d) n is.0 is.1 (32 ∷ rest)
 hint_read d (hints.Clause n) rest is =
     ap (run ([], places.Hint, d)) (append_assoc (decimal n) (codes " ") rest)
     ∙ number_read ([], places.Hint, d) (roles.Hint false) d
     (λ b l h. ap (moved d) (cond-false (b == 48) _ _ (ne_eqb b 48 (λ e. omega arith))
     ∙ cond-false (b == 45) _ _ (ne_eqb b 45 (λ e. omega arith)))
-    ∙ first_read (roles.Hint false) d b l h)
+    ∙ first_is (roles.Hint false) d b l h)
     n is.0 is.1 (32 ∷ rest)
 
 hints_read : (more : List Hint) (d : Draft) (rest : List ℕ) → All IsHint more
@@ -218,16 +195,16 @@ targets_read : (more : List ℕ) (s : Section) (kind : Kind) (layers : List Laye
 targets_read [] s kind layers l lines ts n rest count all =
     let d = holding kind layers s l lines ts in
     let last : length ts + 1 ≡ wanted_in s l = omega (arith, count) in
-    run_step ([], places.More roles.Target n, d) ([], place_behind s, closed s d n) 10 rest (ap (moved d) (cond-true (length ts + 1 == wanted_in s l) _ _ (eq-eqb (length ts + 1) (wanted_in s l) last)))
+    run_step step ([], places.More roles.Target n, d) ([], place_behind s, closed s d n) 10 rest (ap (moved d) (cond-true (length ts + 1 == wanted_in s l) _ _ (eq-eqb (length ts + 1) (wanted_in s l) last)))
     ∙ ap (λ f. run ([], place_behind s, f) rest) (last_read s kind layers l lines ts n last)
 targets_read (m ∷ more) s kind layers l lines ts n rest count all =
     let d = holding kind layers s l lines ts in
     let e = holding kind layers s l lines (ts ++ n ∷ []) in
     let m_is = All-head IsNumber m more all in
-    run_step ([], places.More roles.Target n, d) ([], places.First roles.Target, e) 32 ((decimal m ++ flat_map target_text more) ++ (10 ∷ rest))
+    run_step step ([], places.More roles.Target n, d) ([], places.First roles.Target, e) 32 ((decimal m ++ flat_map target_text more) ++ (10 ∷ rest))
     (ap (moved d) (cond-false (length ts + 1 == wanted_in s l) _ _ (ne_eqb (length ts + 1) (wanted_in s l) (λ h. omega (arith, h, count)))))
     ∙ ap (run ([], places.First roles.Target, e)) (append_assoc (decimal m) (flat_map target_text more) (10 ∷ rest))
-    ∙ number_read ([], places.First roles.Target, e) roles.Target e (first_read roles.Target e) m m_is.0 m_is.1 (flat_map target_text more ++ (10 ∷ rest))
+    ∙ number_read ([], places.First roles.Target, e) roles.Target e (first_is roles.Target e) m m_is.0 m_is.1 (flat_map target_text more ++ (10 ∷ rest))
     ∙ targets_read more s kind layers l lines (ts ++ n ∷ []) m rest (omega (arith, count, length_push ts n)) (All-tail IsNumber m more all)
     ∙ ap (λ x. run ([], place_behind s, final s kind layers l lines x) rest) (append_assoc ts (n ∷ []) (m ∷ more))
 
@@ -237,7 +214,7 @@ word_read : (s : Section) (kind : Kind) (layers : List Layer) (l : Layer) (lines
 word_read sections.Outside kind layers l lines rest has = refl
 word_read sections.Base kind layers l lines rest has =
     let d = within kind layers sections.Base l lines in
-    run_step ([], places.Item, d) (codes "ase ", places.First roles.Target, d) 98 (codes "ase " ++ rest) (ap (moved d) (cond-false (length l.claims == 0) _ _ (ne_eqb (length l.claims) 0 (λ e. omega (arith, has, e)))))
+    run_step step ([], places.Item, d) (codes "ase ", places.First roles.Target, d) 98 (codes "ase " ++ rest) (ap (moved d) (cond-false (length l.claims == 0) _ _ (ne_eqb (length l.claims) 0 (λ e. omega (arith, has, e)))))
 word_read sections.Step kind layers l lines rest has = refl
 
 close_read : (s : Section) (targets : List ℕ) (kind : Kind) (layers : List Layer) (l : Layer) (lines : List HintedLine) (rest : List ℕ) → HasClaims s l → 1 ≤ wanted_in s l → length targets ≡ wanted_in s l → All IsNumber targets
@@ -248,7 +225,7 @@ close_read s (n ∷ more) kind layers l lines rest has some count all =
     let n_is = All-head IsNumber n more all in
     ap (λ x. run ([], places.Item, d) (word s ++ (32 ∷ x))) (append_assoc (decimal n) (flat_map target_text more) (10 ∷ rest))
     ∙ word_read s kind layers l lines (decimal n ++ (flat_map target_text more ++ (10 ∷ rest))) has
-    ∙ number_read ([], places.First roles.Target, d) roles.Target d (first_read roles.Target d) n n_is.0 n_is.1 (flat_map target_text more ++ (10 ∷ rest))
+    ∙ number_read ([], places.First roles.Target, d) roles.Target d (first_is roles.Target d) n n_is.0 n_is.1 (flat_map target_text more ++ (10 ∷ rest))
     ∙ targets_read more s kind layers l lines [] n rest (omega (arith, count)) (All-tail IsNumber n more all)
 
 -- the first line of a layer
@@ -259,7 +236,7 @@ eventuality_read (Some e) kind layers rest is =
     let d = outside kind layers [] in
     let same : e + 1 - 1 ≡ e = omega arith in
     number_read ([], places.First roles.Eventuality, d) roles.Eventuality d
-    (λ b l h. ap (moved d) (cond-false (b == 48) _ _ (ne_eqb b 48 (λ f. omega arith))) ∙ first_read roles.Eventuality d b l h) (e + 1) (omega arith) (omega (arith, is)) (10 ∷ rest)
+    (λ b l h. ap (moved d) (cond-false (b == 48) _ _ (ne_eqb b 48 (λ f. omega arith))) ∙ first_is roles.Eventuality d b l h) (e + 1) (omega arith) (omega (arith, is)) (10 ∷ rest)
     ∙ ap (λ k. run ([], places.Item, within kind layers sections.Base (opened (Some k)) []) rest) same
 
 base_some : (l : Layer) → 1 ≤ length l.claims → 1 ≤ base_count l

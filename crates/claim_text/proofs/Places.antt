@@ -7,13 +7,15 @@ use Rattle.cnf_base.specs.declared.literal.Literal.{Literal}
 use Rattle.cert_text.specs.Text.{IsLiteral, IsHint, IsNumber, kind_text, sign_text, literal_text, hint_text, target_text}
 use Rattle.claims.specs.Certificate.{HintedLine, Layer}
 use Rattle.claim_text.specs.Text.{eventuality_number, claim_text, line_text, targets_text, layer_text, IsLine, IsHead, IsBased, IsLayer}
-use Rattle.claim_text.specs.Scan.{Draft, blank, greatest_in, wanted}
+use Rattle.claim_text.specs.Scan.{Draft, Scan, blank, greatest_in, wanted}
 use Rattle.claim_text.specs.declared.place.Section.{Section}
 use Rattle.claim_text.specs.declared.place.Section.TheVariants as sections
 use Rattle.claim_text.specs.declared.place.Role.{Role}
 use Rattle.claim_text.specs.declared.place.Role.TheVariants as roles
 use Rattle.claim_text.specs.declared.place.Place.{Place}
 use Rattle.claim_text.specs.declared.place.Place.TheVariants as places
+use Rattle.claim_text.specs.declared.place.Act.{Act}
+use Rattle.claim_text.specs.declared.place.Act.TheVariants as acts
 
 -- the first line of a layer with its claims
 abbrev pub claims_before : Layer → List ℕ → List ℕ
@@ -67,6 +69,13 @@ before places.Hint d rest = hints_before d rest
 before (places.First role) d rest = role_before role d rest
 before (places.More role n) d rest = role_before role d (decimal n ++ rest)
 before places.End d rest = draft_before d (codes "close " ++ (decimal d.target ++ (10 ∷ rest)))
+
+-- within a number, and a step to there
+abbrev pub number_at : Role → Draft → ℕ → Scan
+number_at role d n = ([], places.More role n, d)
+
+abbrev pub digits_in : Role → ℕ → List ℕ × Place × Act
+digits_in role n = ([], places.More role n, acts.Nothing)
 
 -- what a layer keeps to in a section
 abbrev pub IsOpen : Section → Layer → Type 0

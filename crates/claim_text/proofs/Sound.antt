@@ -1,20 +1,20 @@
 -- What the pass has read is what stands there.
-use Rattle.std.proofs.Common.{◌≡◌, ℕ, ◌+◌, ◌-◌, ◌*◌, ◌<◌, ◌≤◌, ◌==◌, ◌&&◌, inl, inr, Bool, true, false, cond, ltb, List, [], ◌∷◌, ◌++◌, length, All, Option, Some, None, refl, sym, ap, ◌∙◌, subst, arith, append_assoc}
+use Rattle.std.proofs.Common.{◌≡◌, ℕ, ◌+◌, ◌-◌, ◌<◌, ◌≤◌, ◌==◌, inl, inr, Bool, true, false, cond, List, [], ◌∷◌, ◌++◌, length, All, Option, Some, None, refl, sym, ap, ◌∙◌, subst, arith}
 use Rattle.std.specs.Prelude.{codes, decimal}
 use Rattle.std.specs.List.{flat_map}
-use Rattle.std.proofs.lemmas.Bool.{eqb-true, eqb-false, ltb-true, ltb-false, and_parts}
+use Rattle.std.proofs.lemmas.Bool.{eqb-true, eqb-false}
 use Rattle.std.proofs.lemmas.List.{append-nil, length_push}
 use Rattle.std.proofs.lemmas.List.Elements.{All-nil, All-push}
-use Rattle.std.proofs.lemmas.Option.{option_and_then_some}
 use Rattle.std.proofs.lemmas.Fmt.{decimal_digit}
 use Rattle.ltl_syntax.specs.declared.node.Kind.{Kind}
 use Rattle.ltl_syntax.specs.declared.node.Kind.TheVariants as Kinds
 use Rattle.cnf_base.specs.declared.literal.Literal.{Literal}
-use Rattle.cnf_base.specs.declared.literal.Hint.{Hint}
-use Rattle.cert_text.specs.Text.{IsLiteral, IsNumber, IsHint, greatest_u64, sign_text, kind_text, literal_text, hint_text, target_text}
+use Rattle.cert_text.specs.Text.{IsLiteral, IsNumber, IsHint, greatest_u64, kind_text, literal_text, hint_text, target_text}
 use Rattle.cert_text.specs.Scan.{literal, hint}
 use Rattle.cert_text.proofs.Places.{flat_more, first_text, digit_text}
-use Rattle.cert_text.proofs.Sound.{apart}
+use Rattle.cert_text.proofs.Leading.{HasRead, LeadsOn, reads_on}
+use Rattle.cert_text.proofs.Digits.{Gives, gives_none, gives_some, gives_if, gives_at, gives_first, gives_digit}
+use Rattle.cert_text.proofs.Sound.{literal_more, hint_more, hint_number, target_more}
 use Rattle.claims.specs.Certificate.{HintedLine, Layer}
 use Rattle.claim_text.specs.Text.{eventuality_number, claim_text, line_text, targets_text, layer_text, base_targets_of, base_count, IsEventuality, IsLine, IsHead, IsBased, IsLayer, IsTextOf}
 use Rattle.claim_text.specs.Scan.{Draft, Next, Scan, outside, start, opened, certificate_of, wanted, wanted_in, with_claim, with_base, with_step, closed, acted, greatest_in, place_behind, end_in, first_in, number_in, nought_in, literal_in, item_in, decided, moved, step, run}
@@ -26,25 +26,7 @@ use Rattle.claim_text.specs.declared.place.Place.{Place}
 use Rattle.claim_text.specs.declared.place.Place.TheVariants as places
 use Rattle.claim_text.specs.declared.place.Act.{Act}
 use Rattle.claim_text.specs.declared.place.Act.TheVariants as acts
-use Rattle.claim_text.proofs.Places.{open_before, parts_before, draft_before, word, claim_word, literals_before, targets_before, role_before, before, IsOpen, HasClaims, MayStand, AreLiterals, AreTargets, IsFresh, IsItem, IsRole, IsPlace, claim_is, line_is, layer_is}
-
--- what holds of the answer, if there is one
-abbrev pub Gives : {X : Type 0} → (X → Type 0) → Option X → Type 0
-Gives {X} P o = (t : X) → o ≡ Some t → P t
-
-gives_none : {X : Type 0} (P : X → Type 0) → Gives P None
-gives_none P t e = cc
-
-gives_some : {X : Type 0} (P : X → Type 0) (s : X) → P s → Gives P (Some s)
-gives_some P s h t e = let same : s ≡ t = cc in subst P same h
-
-gives_if : {X : Type 0} (P : X → Type 0) (b : Bool) (x y : Option X) → (b ≡ true → Gives P x) → (b ≡ false → Gives P y) → Gives P (cond b x y)
-gives_if P true x y on off = on refl
-gives_if P false x y on off = off refl
-
--- at one byte, and at the others
-gives_at : {X : Type 0} (P : ℕ → X → Type 0) (b k : ℕ) (x y : Option X) → Gives (P k) x → Gives (P b) y → Gives (P b) (cond (b == k) x y)
-gives_at P b k x y on off = gives_if (P b) (b == k) x y (λ e. subst (λ i. Gives (P i) x) (sym (eqb-true b k e)) on) (λ e. off)
+use Rattle.claim_text.proofs.Places.{digits_in, open_before, parts_before, draft_before, word, claim_word, literals_before, targets_before, role_before, before, IsOpen, HasClaims, MayStand, AreLiterals, AreTargets, IsFresh, IsItem, IsRole, IsPlace, claim_is, line_is, layer_is}
 
 -- the byte at the place leads to a place up to which the text is one byte longer, and what is true there
 abbrev Leads : Place → Draft → ℕ → (List ℕ × Place × Act) → Type 0
@@ -53,13 +35,8 @@ Leads p d b t = ((rest : List ℕ) → before p d (b ∷ (t.0 ++ rest)) ≡ befo
 -- the first digit of a number, where a number of this role may stand
 first_leads : (p : Place) (d : Draft) (role : Role) (b : ℕ) → ((rest : List ℕ) → before p d rest ≡ role_before role d rest) → IsRole role d → 9 ≤ greatest_in role → Gives (Leads p d b) (first_in role b)
 first_leads p d role b same is room =
-    gives_if (Leads p d b) (ltb 48 b && ltb b 58) (Some ([], places.More role (b - 48), acts.Nothing)) None
-    (λ e.
-    let parts = and_parts (ltb 48 b) (ltb b 58) e in
-    let low = ltb-true 48 b parts.0 in
-    let high = ltb-true b 58 parts.1 in
-    gives_some (Leads p d b) ([], places.More role (b - 48), acts.Nothing) (λ rest. same (b ∷ rest) ∙ ap (role_before role d) (first_text b rest low high), (is, omega arith, omega arith)))
-    (λ e. gives_none (Leads p d b))
+    gives_first (Leads p d b) (digits_in role) b
+    (λ low high. (λ rest. same (b ∷ rest) ∙ ap (role_before role d) (first_text b rest low high), (is, omega arith, omega arith)))
 
 -- a claim is put behind the claims
 claim_more : (kind : Kind) (layers : List Layer) (l : Layer) (ls : List Literal) (rest : List ℕ)
@@ -74,23 +51,6 @@ line_more : (kind : Kind) (layers : List Layer) (section : Section) (l : Layer) 
 line_more kind layers section l lines line rest =
     ap (λ x. codes "ltlinv 1 " ++ (kind_text kind ++ (10 ∷ (flat_map layer_text layers ++ open_before section l x))))
     (ap (λ x. flat_map line_text lines ++ x) (line_is line rest) ∙ sym (flat_more line_text lines line rest))
-
-literal_more : (literals : List Literal) (negated : Bool) (n : ℕ) (rest : List ℕ)
-    → flat_map literal_text literals ++ (sign_text negated ++ (decimal n ++ (32 ∷ rest))) ≡ flat_map literal_text (literals ++ literal negated n ∷ []) ++ rest
-literal_more literals negated n rest =
-    sym (flat_more literal_text literals (literal negated n) rest ∙ ap (λ x. flat_map literal_text literals ++ x) (apart (sign_text negated) (decimal n) (codes " ") rest))
-
-hint_more : (hints : List Hint) (negated : Bool) (n : ℕ) (rest : List ℕ)
-    → flat_map hint_text hints ++ (sign_text negated ++ (decimal n ++ (32 ∷ rest))) ≡ flat_map hint_text (hints ++ hint negated n ∷ []) ++ rest
-hint_more hints true n rest = sym (flat_more hint_text hints (hint true n) rest ∙ ap (λ x. flat_map hint_text hints ++ x) (apart (codes "-") (decimal n) (codes " ") rest))
-hint_more hints false n rest = sym (flat_more hint_text hints (hint false n) rest ∙ ap (λ x. flat_map hint_text hints ++ x) (append_assoc (decimal n) (codes " ") rest))
-
-hint_number : (negated : Bool) (n : ℕ) → IsNumber n → IsHint (hint negated n)
-hint_number true n is = is
-hint_number false n is = is
-
-target_more : (targets : List ℕ) (n : ℕ) (rest : List ℕ) → flat_map target_text targets ++ (32 ∷ (decimal n ++ rest)) ≡ flat_map target_text (targets ++ n ∷ []) ++ rest
-target_more targets n rest = sym (flat_more target_text targets n rest)
 
 -- behind the claim
 claim_leads : (p : Place) (d : Draft) → ((rest : List ℕ) → before p d rest ≡ literals_before true d rest) → AreLiterals true d → Leads p d 48 (codes "\n", places.Item, acts.Claim)
@@ -370,52 +330,45 @@ place_leads places.Hint d b is =
     (first_leads p d (roles.Hint false) b (λ rest. refl) is (omega arith)))
 place_leads (places.First role) d b is = number_leads role d b is
 place_leads (places.More role n) d b is =
-    let p = places.More role n in
-    gives_if (Leads p d b) (ltb 47 b && ltb b 58) _ _
-    (λ e.
-    let parts = and_parts (ltb 47 b) (ltb b 58) e in
-    let low = ltb-true 47 b parts.0 in
-    let high = ltb-true b 58 parts.1 in
-    gives_if (Leads p d b) (ltb (greatest_in role) (10 * n + (b - 48))) _ _ (λ f. gives_none (Leads p d b))
-    (λ f.
-    let few = ltb-false (greatest_in role) (10 * n + (b - 48)) f in
-    gives_some (Leads p d b) ([], places.More role (10 * n + (b - 48)), acts.Nothing)
-    (λ rest. ap (role_before role d) (digit_text n b rest is.1 low high (omega (arith, few, greatest_fits role))), (is.0, omega (arith, is.1), few))))
-    (λ e. end_leads role n d b is.0 is.1 is.2)
+    gives_digit (Leads (places.More role n) d b) (digits_in role) (greatest_in role) n b (end_in role n d b)
+    (λ low high few. (
+      λ rest. ap (role_before role d) (digit_text n b rest is.1 low high (omega (arith, few, greatest_fits role))),
+      (is.0, omega (arith, is.1), few),
+    ))
+    (end_leads role n d b is.0 is.1 is.2)
 place_leads places.End d b is = gives_none (Leads places.End d b)
 
--- the bytes that are read, those that must come, and the rest are the text up to the place and the rest
-pub record HasRead (bytes : List ℕ) (s : Scan) : Type 0 where
-  pub text : (rest : List ℕ) → bytes ++ (s.0 ++ rest) ≡ before s.1 s.2 rest
-  pub place : IsPlace s.1 s.2
+-- each byte leads on
+abbrev pub left_of : Scan → List ℕ
+left_of s = s.0
 
-step_reads : (bytes : List ℕ) (s : Scan) (b : ℕ) (t : Scan) → HasRead bytes s → step s b ≡ Some t → HasRead (bytes ++ b ∷ []) t
-step_reads bytes (x ∷ xs, p, d) b t has e = go (b == x) refl e
+abbrev pub text_before : Scan → List ℕ → List ℕ
+text_before s rest = before s.1 s.2 rest
+
+abbrev pub IsReached : Scan → Type 0
+IsReached s = IsPlace s.1 s.2
+
+leads_on : (s : Scan) (b : ℕ) (t : Scan) → IsReached s → step s b ≡ Some t → LeadsOn left_of text_before IsReached s b t
+leads_on (x ∷ xs, p, d) b t is e = go (b == x) refl e
   where
-    go : (same : Bool) → (b == x) ≡ same → moved d (cond same (Some (xs, p, acts.Nothing)) None) ≡ Some t → HasRead (bytes ++ b ∷ []) t
+    go : (same : Bool) → (b == x) ≡ same → moved d (cond same (Some (xs, p, acts.Nothing)) None) ≡ Some t → LeadsOn left_of text_before IsReached (x ∷ xs, p, d) b t
     go true same f =
-        let is : (xs, p, d) ≡ t = cc in
-        subst (HasRead (bytes ++ b ∷ [])) is
-        (subst (λ i. HasRead (bytes ++ i ∷ []) (xs, p, d)) (sym (eqb-true b x same)) (record { text = λ rest. append_assoc bytes (x ∷ []) (xs ++ rest) ∙ has.text rest; place = has.place }))
+        let there : (xs, p, d) ≡ t = cc in
+        subst (LeadsOn left_of text_before IsReached (x ∷ xs, p, d) b) there
+        (subst (λ i. LeadsOn left_of text_before IsReached (x ∷ xs, p, d) i (xs, p, d)) (sym (eqb-true b x same)) (record { text = λ rest. (rest, refl, refl); place = is }))
     go false same f = cc
-step_reads bytes ([], p, d) b t has e = go (decided p d b) (place_leads p d b has.place) e
+leads_on ([], p, d) b t is e = go (decided p d b) (place_leads p d b is) e
   where
-    go : (o : Next) → Gives (Leads p d b) o → moved d o ≡ Some t → HasRead (bytes ++ b ∷ []) t
+    go : (o : Next) → Gives (Leads p d b) o → moved d o ≡ Some t → LeadsOn left_of text_before IsReached ([], p, d) b t
     go None leads f = cc
     go (Some u) leads f =
-        let is : (u.0, u.1, acted u.2 d) ≡ t = cc in
-        let there = leads u refl in
-        subst (HasRead (bytes ++ b ∷ [])) is (record { text = λ rest. append_assoc bytes (b ∷ []) (u.0 ++ rest) ∙ has.text (b ∷ (u.0 ++ rest)) ∙ there.0 rest; place = there.1 })
-
-run_reads : (more bytes : List ℕ) (s t : Scan) → HasRead bytes s → run s more ≡ Some t → HasRead (bytes ++ more) t
-run_reads [] bytes s t has e = let same : s ≡ t = cc in subst (HasRead (bytes ++ [])) same (subst (λ w. HasRead w s) (sym (append-nil bytes)) has)
-run_reads (b ∷ more) bytes s t has e =
-    option_and_then_some (λ u. run u more) (step s b) t e (λ u is then'.
-    subst (λ w. HasRead w t) (append_assoc bytes (b ∷ []) more) (run_reads more (bytes ++ b ∷ []) u t (step_reads bytes s b u has is) then'))
+        let there : (u.0, u.1, acted u.2 d) ≡ t = cc in
+        let on = leads u refl in
+        subst (LeadsOn left_of text_before IsReached ([], p, d) b) there (record { text = λ rest. (b ∷ (u.0 ++ rest), refl, on.0 rest); place = on.1 })
 
 -- what is read from the first byte on
-pub reads : (bytes : List ℕ) (t : Scan) → run start bytes ≡ Some t → HasRead bytes t
-reads bytes t e = run_reads bytes [] start t (record { text = λ rest. refl; place = refl }) e
+pub reads : (bytes : List ℕ) (t : Scan) → run start bytes ≡ Some t → HasRead left_of text_before IsReached bytes t
+reads bytes t e = reads_on step left_of text_before IsReached leads_on bytes [] start t (record { text = λ rest. refl; place = refl }) e
 
 -- a text that is read to its end is that of the certificate
 pub read_whole : (bytes : List ℕ) (d : Draft) → run start bytes ≡ Some ([], places.End, d) → IsTextOf bytes (certificate_of d)

@@ -10,7 +10,7 @@ use Rattle.cnf_base.specs.declared.literal.Hint.{Hint}
 use Rattle.cert_text.specs.Scan.{literal, hint}
 use Rattle.claims.specs.Certificate.{HintedLine, Layer}
 use Rattle.claim_text.specs.Text.{base_targets_of, base_count}
-use Rattle.claim_text.specs.Scan.{Draft, opened, wanted, with_claim, with_base, with_step, closed, acted, place_behind, moved, run}
+use Rattle.claim_text.specs.Scan.{Draft, opened, wanted, with_claim, with_base, with_step, closed, acted, place_behind, moved, step, run}
 use Rattle.claim_text.specs.declared.place.Section.{Section}
 use Rattle.claim_text.specs.declared.place.Section.TheVariants as sections
 use Rattle.claim_text.specs.declared.place.Role.{Role}
@@ -20,7 +20,7 @@ use Rattle.claim_text.specs.declared.place.Place.TheVariants as places
 use Rattle.claim_text.specs.declared.place.Act.TheVariants as acts
 use Rattle.claim_text.proofs.Places.{IsOpen, HasClaims, MayStand, IsRole, IsPlace}
 use Rattle.claim_text.proofs.Sound.{same_may}
-use Rattle.claim_text.proofs.Complete.{run_step}
+use Rattle.cert_text.proofs.Machine.{run_step}
 
 -- some bytes lead from the place to the end
 abbrev pub IsViable : Place → Draft → Type 0
@@ -47,7 +47,7 @@ in_targets zero d n count on =
     let again = on d.targets n in (
       10 ∷ again.0,
       again.1,
-      run_step ([], places.More roles.Target n, d) ([], place_behind d.section, closed d.section d n) 10 again.0
+      run_step step ([], places.More roles.Target n, d) ([], place_behind d.section, closed d.section d n) 10 again.0
           (ap (moved d) (cond-true (length d.targets + 1 == wanted d) _ _ (eq-eqb (length d.targets + 1) (wanted d) (omega (arith, count)))))
           ∙ again.2,
     )
@@ -55,7 +55,7 @@ in_targets (suc more) d n count on =
     let again = in_targets more (with_targets d (d.targets ++ n ∷ [])) 1 (omega (arith, count, length_push d.targets n)) on in (
       32 ∷ 49 ∷ again.0,
       again.1,
-      run_step ([], places.More roles.Target n, d) ([], places.First roles.Target, with_targets d (d.targets ++ n ∷ [])) 32 (49 ∷ again.0)
+      run_step step ([], places.More roles.Target n, d) ([], places.First roles.Target, with_targets d (d.targets ++ n ∷ [])) 32 (49 ∷ again.0)
           (ap (moved d) (cond-false (length d.targets + 1 == wanted d) _ _ (ne_eqb (length d.targets + 1) (wanted d) (λ h. omega (arith, h, count)))))
           ∙ again.2,
     )
@@ -97,7 +97,7 @@ at_base kind layers l lines literals hints targets target none some =
     let again = in_target d 1 (omega (arith, ap length none, base_some l some)) (λ ts m. at_step kind layers (with_base l lines (ts ++ m ∷ [])) [] literals hints [] target refl some) in (
       codes "base 1" ++ again.0,
       again.1,
-      run_step ([], places.Item, d) (codes "ase ", places.First roles.Target, d) 98 (codes "ase 1" ++ again.0)
+      run_step step ([], places.Item, d) (codes "ase ", places.First roles.Target, d) 98 (codes "ase 1" ++ again.0)
           (ap (moved d) (cond-false (length l.claims == 0) _ _ (ne_eqb (length l.claims) 0 (λ e. omega (arith, some, e)))))
           ∙ again.2,
     )
@@ -110,7 +110,7 @@ at_head kind layers l lines literals hints targets target none empty =
     let again = at_base kind layers (with_claim l literals) lines [] hints targets target none (omega (arith, length_push l.claims literals)) in (
       codes "c 0\n" ++ again.0,
       again.1,
-      run_step ([], places.Item, d) (codes " ", places.Literal true, d) 99 (codes " 0\n" ++ again.0)
+      run_step step ([], places.Item, d) (codes " ", places.Literal true, d) 99 (codes " 0\n" ++ again.0)
           (ap (moved d) (cond-true (length lines == 0) _ _ (eq-eqb (length lines) 0 (ap length empty))))
           ∙ again.2,
     )

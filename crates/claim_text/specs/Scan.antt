@@ -1,10 +1,10 @@
 -- One pass over the bytes: a byte is decided upon by the place and by what is read so far, and then acted upon.
 use Rattle.std.specs.Prelude.{ℕ, ◌+◌, ◌-◌, ◌*◌, ◌≤◌, ⊤, Bool, true, false, ◌&&◌, ◌==◌, nat_lt, List, [], ◌∷◌, ◌++◌, length, codes, if◌then◌else◌, Option, Some, None}
-use Rattle.std.specs.Option.{option_and_then}
 use Rattle.ltl_syntax.specs.declared.node.Kind.{Kind}
 use Rattle.ltl_syntax.specs.declared.node.Kind.TheVariants as Kinds
 use Rattle.cnf_base.specs.declared.literal.Literal.{Literal}
 use Rattle.cnf_base.specs.declared.literal.Hint.{Hint}
+use Rattle.cert_text.specs.Machine.{run_by}
 use Rattle.cert_text.specs.Text.{greatest_u64}
 use Rattle.cert_text.specs.Scan.{literal, hint}
 use Rattle.claims.specs.Certificate.{HintedLine, Layer, Certificate}
@@ -298,8 +298,7 @@ abbrev pub step : Scan → ℕ → Option Scan
 step s b = moved s.2 (advanced s.0 s.1 s.2 b)
 
 abbrev pub run : Scan → List ℕ → Option Scan
-run s [] = Some s
-run s (b ∷ bs) = option_and_then (λ t. run t bs) (step s b)
+run s bytes = run_by step s bytes
 
 -- the number that is being read fits its role
 abbrev pub IsInRange : Place → Type 0

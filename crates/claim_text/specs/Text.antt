@@ -1,7 +1,8 @@
 -- The text of a certificate of claims.
-use Rattle.std.specs.Prelude.{◌≡◌, ℕ, suc, ◌+◌, ◌<◌, ◌≤◌, List, [], ◌∷◌, ◌++◌, length, take, All, codes, decimal, Option, Some, None, ⊤}
+use Rattle.std.specs.Prelude.{◌≡◌, ℕ, ◌+◌, ◌<◌, ◌≤◌, List, [], ◌∷◌, ◌++◌, length, All, codes, decimal, Option, Some, None, ⊤}
 use Rattle.std.specs.List.{flat_map}
 use Rattle.cnf_base.specs.declared.literal.Literal.{Literal}
+use Rattle.cert_text.specs.Machine.{Begins, IsFault as IsFaultOf}
 use Rattle.cert_text.specs.Text.{IsLiteral, IsHint, IsNumber, kind_text, literal_text, hint_text, target_text}
 use Rattle.claims.specs.Certificate.{HintedLine, Layer, Certificate}
 
@@ -81,14 +82,9 @@ pub record IsTextOf (bytes : List ℕ) (c : Certificate) : Type 0 where
   pub spelled : bytes ≡ text_of c
 
 -- some text begins with these bytes
-pub record BeginsText (bytes : List ℕ) : Type 0 where
-  pub rest : List ℕ
-  pub whole : Certificate
-  pub is : IsTextOf (bytes ++ rest) whole
+abbrev pub BeginsText : List ℕ → Type 0
+BeginsText bytes = Begins IsTextOf bytes
 
 -- the byte of the fault: the least b for which the first b + 1 bytes begin no text, or the length of bytes that begin one and are none
-pub record IsFault (bytes : List ℕ) (b : ℕ) : Type 0 where
-  pub within : b ≤ length bytes
-  pub begins : (k : ℕ) → k ≤ b → BeginsText (take k bytes)
-  pub stops : b < length bytes → ¬ BeginsText (take (suc b) bytes)
-  pub none : b ≡ length bytes → (c : Certificate) → ¬ IsTextOf bytes c
+abbrev pub IsFault : List ℕ → ℕ → Type 0
+IsFault bytes b = IsFaultOf IsTextOf bytes b

@@ -1,10 +1,8 @@
 -- Texts that were judged by hand.
-use Rattle.std.specs.Prelude.{ℕ, true, false, List, [], ◌∷◌, ◌++◌, codes, take, Some, None}
+use Rattle.std.specs.Prelude.{ℕ, List, [], ◌∷◌, ◌++◌, codes, take, Some, None}
 use Rattle.ltl_syntax.specs.declared.node.Kind.TheVariants as Kinds
-use Rattle.cnf_base.specs.declared.literal.Literal.{Literal}
 use Rattle.cnf_base.specs.declared.literal.Hint.TheVariants as hints
 use Rattle.cert_text.specs.Text.{greatest_u64}
-use Rattle.cert_text.specs.Scan.{literal}
 use Rattle.cnf_base.specs.Worked.{plus, minus}
 use Rattle.claims.specs.Certificate.{Certificate}
 use Rattle.claim_text.specs.Text.{IsTextOf, IsFault}

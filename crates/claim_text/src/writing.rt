@@ -5,76 +5,16 @@ ghost use Rattle.cert_text.specs.Text.{kind_text, literal_text, hint_text, targe
 ghost use Rattle.claim_check.specs.Data.{lines_in, layer_in, certificate_in};
 ghost use Rattle.claim_text.specs.Text.{claim_text, line_text, layer_text, text_of, targets_text, eventuality_number};
 
+use cert_text::printing;
 use claim_check::{Certificate, HintedLines, Layer};
-use cnf_base::{ClauseList, Clauses, Hint, Literal};
-use itoa::Buffer;
-use ltl_syntax::Kind;
+use cnf_base::{ClauseList, Clauses, Literal};
 use std::alloc::{AllocError, Global};
-
-fn push_number(number: u64, out: &mut Vec<u8>) -> Result<(), AllocError>
-    ensures { OnOk result (out.new.items ≡ out.old.items ++ decimal number) }
-{
-    let mut buffer = Buffer::new();
-    out.extend_from_slice(buffer.format(number).as_bytes())
-}
-
-fn push_literal(literal: Literal, out: &mut Vec<u8>) -> Result<(), AllocError>
-    ensures { OnOk result (out.new.items ≡ out.old.items ++ literal_text literal) }
-{
-    if literal.negated {
-        out.push(b'-')?;
-    }
-    push_number(literal.letter.0 as u64, out)?;
-    out.push(b' ')?;
-    Ok(())
-}
-
-fn push_hint(hint: Hint, out: &mut Vec<u8>) -> Result<(), AllocError>
-    ensures { OnOk result (out.new.items ≡ out.old.items ++ hint_text hint) }
-{
-    match hint {
-        Hint::Clause(number) => push_number(number, out)?,
-        Hint::Line(number) => {
-            out.push(b'-')?;
-            push_number(number, out)?;
-        }
-    }
-    out.push(b' ')?;
-    Ok(())
-}
-
-fn push_literals(literals: &[Literal], out: &mut Vec<u8>) -> Result<(), AllocError>
-    ensures { OnOk result (out.new.items ≡ out.old.items ++ flat_map literal_text literals.now) }
-{
-    for literal in literals {
-        push_literal(*literal, out)?;
-    }
-    Ok(())
-}
-
-fn push_hints(hints: &[Hint], out: &mut Vec<u8>) -> Result<(), AllocError>
-    ensures { OnOk result (out.new.items ≡ out.old.items ++ flat_map hint_text hints.now) }
-{
-    for hint in hints {
-        push_hint(*hint, out)?;
-    }
-    Ok(())
-}
-
-fn push_target(target: u64, out: &mut Vec<u8>) -> Result<(), AllocError>
-    ensures { OnOk result (out.new.items ≡ out.old.items ++ target_text target) }
-{
-    out.push(b' ')?;
-    push_number(target, out)
-}
 
 fn push_targets(word: &[u8], targets: &[u64], out: &mut Vec<u8>) -> Result<(), AllocError>
     ensures { OnOk result (out.new.items ≡ out.old.items ++ targets_text word.now targets.now) }
 {
     out.extend_from_slice(word)?;
-    for target in targets {
-        push_target(*target, out)?;
-    }
+    printing::push_targets(targets, out)?;
     out.push(b'\n')?;
     Ok(())
 }
@@ -83,7 +23,7 @@ fn push_claim(claim: &[Literal], out: &mut Vec<u8>) -> Result<(), AllocError>
     ensures { OnOk result (out.new.items ≡ out.old.items ++ claim_text claim.now) }
 {
     out.extend_from_slice(b"c ")?;
-    push_literals(claim, out)?;
+    printing::push_literals(claim, out)?;
     out.extend_from_slice(b"0\n")?;
     Ok(())
 }
@@ -97,22 +37,11 @@ fn push_claims(claims: &ClauseList, out: &mut Vec<u8>) -> Result<(), AllocError>
     Ok(())
 }
 
-fn push_line(literals: &[Literal], hints: &[Hint], out: &mut Vec<u8>) -> Result<(), AllocError>
-    ensures { OnOk result (out.new.items ≡ out.old.items
-        ++ line_text (record { literals = literals.now; hints = hints.now })) }
-{
-    push_literals(literals, out)?;
-    out.extend_from_slice(b"0 ")?;
-    push_hints(hints, out)?;
-    out.extend_from_slice(b"0\n")?;
-    Ok(())
-}
-
 fn push_lines(lines: &HintedLines, out: &mut Vec<u8>) -> Result<(), AllocError>
     ensures { OnOk result (out.new.items ≡ out.old.items ++ flat_map line_text (lines_in lines.now)) }
 {
     for index in 0..lines.literals.count() {
-        push_line(
+        printing::push_line(
             lines.literals.clause(index + 1),
             lines.hints_at(index as usize),
             out,
@@ -134,7 +63,7 @@ fn push_layer(layer: &Layer, out: &mut Vec<u8>) -> Result<(), AllocError>
     ensures { OnOk result (out.new.items ≡ out.old.items ++ layer_text (layer_in layer.now)) }
 {
     out.extend_from_slice(b"layer ")?;
-    push_number(number_of(layer.eventuality), out)?;
+    printing::push_number(number_of(layer.eventuality), out)?;
     out.push(b'\n')?;
     push_claims(&layer.claims, out)?;
     push_lines(&layer.base_lines, out)?;
@@ -142,15 +71,6 @@ fn push_layer(layer: &Layer, out: &mut Vec<u8>) -> Result<(), AllocError>
     push_lines(&layer.step_lines, out)?;
     push_targets(b"step", &layer.step_targets, out)?;
     Ok(())
-}
-
-fn kind_bytes(kind: Kind) -> &'static [u8]
-    ensures { result.now ≡ kind_text kind }
-{
-    match kind {
-        Kind::Infinite => b"infinite",
-        Kind::Finite => b"finite",
-    }
 }
 
 fn push_layers(layers: &[Layer], out: &mut Vec<u8>) -> Result<(), AllocError>
@@ -169,7 +89,7 @@ pub fn write(alloc: Global, certificate: &Certificate) -> Result<Vec<u8>, AllocE
 {
     let mut out = Vec::new(alloc);
     out.extend_from_slice(b"ltlinv 1 ")?;
-    out.extend_from_slice(kind_bytes(certificate.kind))?;
+    out.extend_from_slice(printing::kind_bytes(certificate.kind))?;
     out.push(b'\n')?;
     push_layers(&certificate.layers, &mut out)?;
     push_lines(&certificate.lines, &mut out)?;

@@ -8,7 +8,7 @@ use Rattle.command_words.specs.declared.table.CommandName.{CommandName}
 use Rattle.command_words.specs.declared.table.CommandName.TheVariants as commands
 use Rattle.command_words.specs.declared.asked.Asked.{Asked}
 use Rattle.command_words.specs.declared.asked.Asked.TheVariants as asked
-use Rattle.command_words.specs.Table.{Offer, CommandRow, command_row, same_option, demo_command}
+use Rattle.command_words.specs.Table.{Offer, command_row, same_option, demo_command}
 use Rattle.command_words.specs.Words.{Setting, Command, Solve, Check, Trace, Demo, Batch, System, Monitor, Depast, IsAmong, IsBuilt, name_of, command_word, settings_of, Follow, Asks}
 use Rattle.command_words.specs.Asked.{IsAsked}
 use Rattle.command_words.specs.Said.{SayOnce, NoneAreSaid, name_asked, Tell, Follows, FollowsNothing, SayNoNumber}
@@ -39,7 +39,7 @@ command_word_one a b e = let s : Some a ≡ Some b = sym (command_at_word a) ∙
 
 -- ---- what stands behind the command's word
 
--- what is built of a command is of its options
+-- what is offered and built is offered
 built_among : (offers : List Offer) (option : OptionName) → list_any (λ offer. offer.built && same_option offer.option option) offers ≡ true → list_any (λ offer. same_option offer.option option) offers ≡ true
 built_among [] option is = is
 built_among (offer ∷ offers) option is = by offer.built (same_option offer.option option) is (built_among offers option) where
@@ -50,8 +50,8 @@ built_among (offer ∷ offers) option is = by offer.built (same_option offer.opt
   by true false is rest = rest is
   by false false is rest = rest is
 
-pub all_among : (row : CommandRow) (settings : List Setting) → All (IsBuilt row) settings → All (IsAmong row) settings
-all_among row settings built k d within = built_among row.options _ (built k d within)
+pub all_among : (offers : List Offer) (settings : List Setting) → All (IsBuilt offers) settings → All (IsAmong offers) settings
+all_among offers settings built k d within = built_among offers _ (built k d within)
 
 -- the command takes options
 abbrev pub takes_options : CommandName → Bool
@@ -81,9 +81,9 @@ follow_nothing Monitor words takes follow = follow
 follow_nothing Depast words takes follow = follow
 follow_nothing c words takes follow = absurd (false_not_true takes)
 
-pub no_settings : (name : CommandName) (words : List (List ℕ)) → takes_options name ≡ true → NoneAreSaid (command_row name) words → FollowsNothing name words
+pub no_settings : (name : CommandName) (words : List (List ℕ)) → takes_options name ≡ true → NoneAreSaid (command_row name).options words → FollowsNothing name words
 no_settings name words takes none c is offered follow =
-    none (settings_of c) (follow_settings c words (ap takes_options is ∙ takes) follow) (subst (λ n. All (IsBuilt (command_row n)) (settings_of c)) is offered.1)
+    none (settings_of c) (follow_settings c words (ap takes_options is ∙ takes) follow) (subst (λ n. All (IsBuilt (command_row n).options) (settings_of c)) is offered.1)
 
 pub more_words : (name : CommandName) (words : List (List ℕ)) → takes_nothing name ≡ true → words ≢ [] → FollowsNothing name words
 more_words name words takes some c is offered follow = some (follow_nothing c words (ap takes_nothing is ∙ takes) follow)
@@ -115,8 +115,8 @@ asks_nothing words more word name whole named none c asks =
     let first = first_asks words more word c whole asks in
     none c (command_word_one (name_of c) name (sym first.0 ∙ named)) asks.1 first.1
 
-pub no_offers : (name : CommandName) → All (IsBuilt (command_row name)) []
-no_offers name = All-nil (IsBuilt (command_row name))
+pub no_offers : (name : CommandName) → All (IsBuilt (command_row name).options) []
+no_offers name = All-nil (IsBuilt (command_row name).options)
 
 -- a built command's word, and what follows it, ask for the command
 pub asks_what_follows : (words more : List (List ℕ)) (word : List ℕ) (name : CommandName) (a : Asked) → words ≡ word ∷ more → word ≡ (command_row name).word → (command_row name).built ≡ true
@@ -124,12 +124,12 @@ pub asks_what_follows : (words more : List (List ℕ)) (word : List ℕ) (name :
 asks_what_follows words more word name a whole named built (is, tell) =
     tells a (whole ∙ ap (λ w. w ∷ more) (named ∙ ap (λ n. (command_row n).word) (sym is))) (ap (λ n. (command_row n).built) is ∙ built) tell where
       tells : (a : Asked) → words ≡ (command_row (name_asked a)).word ∷ more → (command_row (name_asked a)).built ≡ true → Tell more a → IsAsked words a
-      tells (asked.Solve options) e b (settings, (say, once), offered, are) = (settings, ((more, e, (say, once, all_among (command_row commands.Solve) settings offered)), (b, offered)), are)
-      tells (asked.Check options) e b (settings, (say, once), offered, are) = (settings, ((more, e, (say, once, all_among (command_row commands.Check) settings offered)), (b, offered)), are)
+      tells (asked.Solve options) e b (settings, (say, once), offered, are) = (settings, ((more, e, (say, once, all_among (command_row commands.Solve).options settings offered)), (b, offered)), are)
+      tells (asked.Check options) e b (settings, (say, once), offered, are) = (settings, ((more, e, (say, once, all_among (command_row commands.Check).options settings offered)), (b, offered)), are)
       tells asked.Trace e b none = ((more, e, none), (b, no_offers commands.Trace))
       tells (asked.Demo n) e b number = ((more, e, number), (b, no_offers commands.Demo))
-      tells (asked.Batch options) e b (settings, (say, once), offered, are) = (settings, ((more, e, (say, once, all_among (command_row commands.Batch) settings offered)), (b, offered)), are)
-      tells (asked.System options) e b (settings, (say, once), offered, are) = (settings, ((more, e, (say, once, all_among (command_row commands.System) settings offered)), (b, offered)), are)
+      tells (asked.Batch options) e b (settings, (say, once), offered, are) = (settings, ((more, e, (say, once, all_among (command_row commands.Batch).options settings offered)), (b, offered)), are)
+      tells (asked.System options) e b (settings, (say, once), offered, are) = (settings, ((more, e, (say, once, all_among (command_row commands.System).options settings offered)), (b, offered)), are)
       tells asked.Monitor e b none = ((more, e, none), (b, no_offers commands.Monitor))
       tells asked.Depast e b none = ((more, e, none), (b, no_offers commands.Depast))
 

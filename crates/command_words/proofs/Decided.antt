@@ -13,7 +13,7 @@ use Rattle.command_words.specs.declared.table.OptionName.{OptionName}
 use Rattle.command_words.specs.declared.table.CommandName.{CommandName}
 use Rattle.command_words.specs.declared.table.CommandName.TheVariants as commands
 use Rattle.command_words.specs.declared.options.Seen.{Seen}
-use Rattle.command_words.specs.Table.{CommandRow, option_row, option_word, command_row, has_built, solve_command, check_command, demo_command, batch_command, system_command}
+use Rattle.command_words.specs.Table.{Offer, option_row, option_word, command_row, has_built, solve_command, check_command, demo_command, batch_command, system_command}
 use Rattle.command_words.specs.Words.{Setting, Command, Solve, Check, Trace, Demo, Batch, System, Monitor, Depast, IsNumberIn, IsNumberOf, Says}
 use Rattle.command_words.specs.Words.{SayNumber, IsBuilt, name_of, Follow, IsOffered, Asks}
 use Rattle.command_words.specs.Said.{SayOnce, SomeAreSaid, NoneAreSaid, is_seen, with_seen, SaysFirst, SaysNothing, GoesOn}
@@ -153,8 +153,8 @@ first_said (w ∷ more) = elim (cut w) [ inl c ↦ joined_said w more c | inr la
 
 -- ---- the settings
 
-abbrev AreDecided : CommandRow → List (List ℕ) → Type 0
-AreDecided row words = SomeAreSaid row words ⊎ NoneAreSaid row words
+abbrev AreDecided : List Offer → List (List ℕ) → Type 0
+AreDecided offers words = SomeAreSaid offers words ⊎ NoneAreSaid offers words
 
 -- what stands behind an option is shorter
 shorter : (words behind : List (List ℕ)) (option : OptionName) → SaysFirst words option behind → length behind < length words
@@ -164,27 +164,27 @@ shorter words behind option first = by first.front first.whole first.says where
   by (w ∷ ws) e says = let l = ap length e in let m = length-append ws behind in omega arith
 
 -- a first option that is built and new is read, and what stands behind it decides
-one_said : (row : CommandRow) (words rest behind : List (List ℕ)) (seen : Seen) (option : OptionName) → IsSaidBefore row words rest seen
-    → SaysFirst rest option behind → (IsSaidBefore row words behind (with_seen seen option) → AreDecided row words) → AreDecided row words
-one_said row words rest behind seen option h first further = by (has_built row option) refl (is_seen seen option) refl where
-  by : (b : Bool) → has_built row option ≡ b → (s : Bool) → is_seen seen option ≡ s → AreDecided row words
-  by false b s e = inr (unbuilt_behind row words rest behind seen option h first b)
-  by true b true e = inr (repeated_behind row words rest behind seen option h first e)
-  by true b false e = further (said_next row words rest behind seen option h first b e)
+one_said : (offers : List Offer) (words rest behind : List (List ℕ)) (seen : Seen) (option : OptionName) → IsSaidBefore offers words rest seen
+    → SaysFirst rest option behind → (IsSaidBefore offers words behind (with_seen seen option) → AreDecided offers words) → AreDecided offers words
+one_said offers words rest behind seen option h first further = by (has_built offers option) refl (is_seen seen option) refl where
+  by : (b : Bool) → has_built offers option ≡ b → (s : Bool) → is_seen seen option ≡ s → AreDecided offers words
+  by false b s e = inr (unbuilt_behind offers words rest behind seen option h first b)
+  by true b true e = inr (repeated_behind offers words rest behind seen option h first e)
+  by true b false e = further (said_next offers words rest behind seen option h first b e)
 
-said_on : (left : ℕ) (row : CommandRow) (words rest : List (List ℕ)) (seen : Seen) → length rest < left
-    → IsSaidBefore row words rest seen → AreDecided row words
-said_on zero row words rest seen less h = absurd (omega arith)
-said_on (suc left) row words [] seen less h = inl (said_at_last row words [] seen h refl)
-said_on (suc left) row words (w ∷ ws) seen less h = elim (first_said (w ∷ ws)) [
-  | inr nothing ↦ inr (none_behind row words (w ∷ ws) seen h (λ e. cc) nothing)
-  | inl f ↦ one_said row words (w ∷ ws) f.1 seen f.0 h f.2 (λ k.
+said_on : (left : ℕ) (offers : List Offer) (words rest : List (List ℕ)) (seen : Seen) → length rest < left
+    → IsSaidBefore offers words rest seen → AreDecided offers words
+said_on zero offers words rest seen less h = absurd (omega arith)
+said_on (suc left) offers words [] seen less h = inl (said_at_last offers words [] seen h refl)
+said_on (suc left) offers words (w ∷ ws) seen less h = elim (first_said (w ∷ ws)) [
+  | inr nothing ↦ inr (none_behind offers words (w ∷ ws) seen h (λ e. cc) nothing)
+  | inl f ↦ one_said offers words (w ∷ ws) f.1 seen f.0 h f.2 (λ k.
       let fewer = shorter (w ∷ ws) f.1 f.0 f.2 in
-      said_on left row words f.1 (with_seen seen f.0) (omega arith) k)
+      said_on left offers words f.1 (with_seen seen f.0) (omega arith) k)
 ]
 
-settings_said : (row : CommandRow) (words : List (List ℕ)) → AreDecided row words
-settings_said row words = said_on (suc (length words)) row words words _ (omega arith) (said_at_first row words)
+settings_said : (offers : List Offer) (words : List (List ℕ)) → AreDecided offers words
+settings_said offers words = said_on (suc (length words)) offers words words _ (omega arith) (said_at_first offers words)
 
 -- ---- the command
 
@@ -197,10 +197,10 @@ record IsFurther (name : CommandName) (words : List (List ℕ)) : Type 0 where
 
 with_options : (name : CommandName) (of : List Setting → Command) → takes_options name ≡ true
     → ((settings : List Setting) → name_of (of settings) ≡ name)
-    → ((settings : List Setting) (words : List (List ℕ)) → SayOnce settings words → All (IsBuilt (command_row name)) settings
+    → ((settings : List Setting) (words : List (List ℕ)) → SayOnce settings words → All (IsBuilt (command_row name).options) settings
     → IsOffered (of settings) × Follow (of settings) words)
     → (words : List (List ℕ)) → IsFurther name words ⊎ FollowsNothing name words
-with_options name of takes is good words = elim (settings_said (command_row name) words) [
+with_options name of takes is good words = elim (settings_said (command_row name).options words) [
   | inl s ↦ let g = good s.0 words s.1 s.2 in inl (record { command = of s.0; is = is s.0; offered = g.0; follow = g.1 })
   | inr none ↦ inr (no_settings name words takes none)
 ]
@@ -212,13 +212,13 @@ without_words name c takes is offered follow (w ∷ ws) = inr (more_words name (
 
 further : (name : CommandName) (words : List (List ℕ)) → IsFurther name words ⊎ FollowsNothing name words
 further commands.Solve = with_options commands.Solve Solve refl (λ cs. refl) (λ cs ws say built.
-    ((refl, built), (say.0, say.1, all_among solve_command cs built)))
+    ((refl, built), (say.0, say.1, all_among solve_command.options cs built)))
 further commands.Check = with_options commands.Check Check refl (λ cs. refl) (λ cs ws say built.
-    ((refl, built), (say.0, say.1, all_among check_command cs built)))
+    ((refl, built), (say.0, say.1, all_among check_command.options cs built)))
 further commands.Batch = with_options commands.Batch Batch refl (λ cs. refl) (λ cs ws say built.
-    ((refl, built), (say.0, say.1, all_among batch_command cs built)))
+    ((refl, built), (say.0, say.1, all_among batch_command.options cs built)))
 further commands.System = with_options commands.System System refl (λ cs. refl) (λ cs ws say built.
-    ((refl, built), (say.0, say.1, all_among system_command cs built)))
+    ((refl, built), (say.0, say.1, all_among system_command.options cs built)))
 further commands.Trace = without_words commands.Trace Trace refl refl (refl, no_offers commands.Trace) refl
 further commands.Monitor = without_words commands.Monitor Monitor refl refl (refl, no_offers commands.Monitor) refl
 further commands.Depast = without_words commands.Depast Depast refl refl (refl, no_offers commands.Depast) refl

@@ -5,4 +5,5 @@ mod Walking
 mod Matched
 mod Telling
 mod Asking
+mod Refuting
 mod Decided

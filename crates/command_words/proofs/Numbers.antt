@@ -31,11 +31,11 @@ value_more ds i n within is range =
     let value = digit_value_digit (get_or ds i 0) range in
     omega (arith, more, value, is, range.0)
 
--- the value of at most three digits
-pub small_value : (ds : List ℕ) (i : ℕ) → AllDigits 10 (take i ds) → length (take i ds) ≤ 3 → digits_value 10 (take i ds) < 1000
+-- the value of at most eight digits
+pub small_value : (ds : List ℕ) (i : ℕ) → AllDigits 10 (take i ds) → length (take i ds) ≤ 8 → digits_value 10 (take i ds) < 100000000
 small_value ds i all short =
     let low = digits_value-lt 10 (take i ds) all in
-    let high : 10 ^ length (take i ds) ≤ 10 ^ 3 = pow-le-pow_right (omega arith) short in
+    let high : 10 ^ length (take i ds) ≤ 10 ^ 8 = pow-le-pow_right (omega arith) short in
     omega (arith, low, high)
 
 pub no_digit : (ds : List ℕ) (most low high i n : ℕ) (tested : Bool) → i < length ds → MatchBool tested (IsAsciiDigit (get_or ds i 0)) (IsNotAsciiDigit (get_or ds i 0)) → tested ≡ false → IsNumber most low high ds n → ⊥
@@ -49,11 +49,11 @@ pub is_digit : (d : ℕ) (tested : Bool) → MatchBool tested (IsAsciiDigit d) (
 is_digit d true cases is = cases
 is_digit d false cases is = absurd (cc)
 
--- the next sum fits: at most three digits were read
-pub next_fits : (ds : List ℕ) (i n : ℕ) → i < length ds → length ds ≤ 4 → AllDigits 10 (take i ds) → n ≡ digits_value 10 (take i ds) → IsInRange 48 57 (get_or ds i 0) → (n < 1000) × (10 * n + (get_or ds i 0 - 48) < 10010)
+-- the next sum fits: at most eight digits were read
+pub next_fits : (ds : List ℕ) (i n : ℕ) → i < length ds → length ds ≤ 9 → AllDigits 10 (take i ds) → n ≡ digits_value 10 (take i ds) → IsInRange 48 57 (get_or ds i 0) → (n < 100000000) × (10 * n + (get_or ds i 0 - 48) < 1000000010)
 next_fits ds i n within short all is range =
     let size = length-take i ds in
-    let few : length (take i ds) ≤ 3 = omega (arith, size, within, short) in
+    let few : length (take i ds) ≤ 8 = omega (arith, size, within, short) in
     let small = small_value ds i all few in
-    let low : n < 1000 = omega (arith, small, is) in
+    let low : n < 100000000 = omega (arith, small, is) in
     (low, omega (arith, low, range.0, range.1))

@@ -20,7 +20,7 @@ apart a b n e = false_not_true (sym n ∙ (bytes_eq-Decides a b).1 e)
 -- ---- the words of the options
 
 abbrev pub all_options : List OptionName
-all_options = names.Finite ∷ names.Depth ∷ names.Cert ∷ names.Core ∷ names.Workers ∷ []
+all_options = names.Finite ∷ names.Depth ∷ names.Cert ∷ names.Core ∷ names.Workers ∷ names.Check ∷ names.Steps ∷ names.Progress ∷ []
 
 -- the option of a word
 abbrev pub option_at : List ℕ → Option OptionName
@@ -32,6 +32,9 @@ option_at_word names.Depth = refl
 option_at_word names.Cert = refl
 option_at_word names.Core = refl
 option_at_word names.Workers = refl
+option_at_word names.Check = refl
+option_at_word names.Steps = refl
+option_at_word names.Progress = refl
 
 -- options of one word are one
 pub word_one : (a b : OptionName) → option_word a ≡ option_word b → a ≡ b
@@ -46,6 +49,9 @@ no_equals names.Depth = refl
 no_equals names.Cert = refl
 no_equals names.Core = refl
 no_equals names.Workers = refl
+no_equals names.Check = refl
+no_equals names.Steps = refl
+no_equals names.Progress = refl
 
 -- what stands in a word before the first =
 abbrev pub before_equals : List ℕ → List ℕ

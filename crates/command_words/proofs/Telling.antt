@@ -2,7 +2,7 @@
 use Rattle.std.proofs.Common.{◌≡◌, ℕ, Bool, true, false, List, codes, Option, Some, None, if◌then◌else◌}
 use Rattle.ltl_syntax.specs.declared.node.Kind.{Kind}
 use Rattle.ltl_syntax.specs.declared.node.Kind.TheVariants as kinds
-use Rattle.command_words.specs.Asked.{IsDepth, AreWorkers}
+use Rattle.command_words.specs.Asked.{IsDepth, AreWorkers, IsSteps}
 use Rattle.command_words.specs.Matching.{flag_text, IsNumberText}
 
 -- a flag is read from its text
@@ -31,3 +31,9 @@ pub few_workers : (text : Option (List ℕ)) (workers : Option ℕ) → IsNumber
 few_workers None None is = tt
 few_workers (Some digits) (Some n) is = (is.from, is.to)
 few_workers text workers is = absurd is
+
+-- the steps that were said are counted
+pub counted_steps : (text : Option (List ℕ)) (steps : Option ℕ) → IsNumberText (record { digits = 9; low = 1; high = 999999999 }) text steps → IsSteps steps
+counted_steps None None is = tt
+counted_steps (Some digits) (Some n) is = (is.from, is.to)
+counted_steps text steps is = absurd is

@@ -15,13 +15,13 @@ use Rattle.command_words.specs.declared.table.Range.{Range}
 use Rattle.command_words.specs.declared.table.OptionName.{OptionName}
 use Rattle.command_words.specs.declared.table.OptionName.TheVariants as names
 use Rattle.command_words.specs.Table.{option_row, option_word}
-use Rattle.command_words.specs.Matching.{option_id, flag_rule, value_rule, options_app}
+use Rattle.command_words.specs.Matching.{option_id, flag_rule, value_rule, options_shape, options_app}
 use Rattle.command_words.proofs.OneCommand.{all_options}
 
 -- ---- the command as `clap` builds it
 
 abbrev top : Shape
-top = (built options_app).top
+top = (built (record { top = options_shape; subs = [] })).top
 
 abbrev pub as_flag : Rule → Rule
 as_flag rule = record rule { defaults = codes "false" ∷ []; missing = codes "true" ∷ []; parser = Some parsers.Bool; range = Some (record { start_inclusive = 0; end_inclusive = 0 }) }
@@ -41,6 +41,7 @@ abbrev rules : List Rule
 rules = map built_rule all_options
 
 pub options_simple : is_simple options_app ≡ true
+unfolding options_app
 options_simple = refl
 
 -- ---- uses of options
@@ -150,6 +151,9 @@ flag_walked names.Depth rows pending is = absurd (cc)
 flag_walked names.Cert rows pending is = refl
 flag_walked names.Core rows pending is = refl
 flag_walked names.Workers rows pending is = absurd (cc)
+flag_walked names.Check rows pending is = refl
+flag_walked names.Steps rows pending is = absurd (cc)
+flag_walked names.Progress rows pending is = refl
 
 one_walked : (o : OptionName) (digits : Text) (rows : List Row) (pending : Option (Text × List Text)) → is_flag (option_row o).number ≡ false
     → walked rules [] (walk_from (held rows pending)) (option_word o ++ codes "=" ++ digits) ≡ walk_from (held (used (built_rule o) (digits ∷ []) (settled_rows rules pending rows)) None)
@@ -159,6 +163,9 @@ one_walked names.Depth digits rows pending is = refl
 one_walked names.Cert digits rows pending is = absurd (cc)
 one_walked names.Core digits rows pending is = absurd (cc)
 one_walked names.Workers digits rows pending is = refl
+one_walked names.Check digits rows pending is = absurd (cc)
+one_walked names.Steps digits rows pending is = refl
+one_walked names.Progress digits rows pending is = absurd (cc)
 
 two_walked : (o : OptionName) (x : ℕ) (xs : Text) (rows : List Row) (pending : Option (Text × List Text)) → is_flag (option_row o).number ≡ false → (x == 45) ≡ false
     → walked rules [] (walked rules [] (walk_from (held rows pending)) (option_word o)) (x ∷ xs)
@@ -169,6 +176,9 @@ two_walked names.Depth x xs rows pending is n = rw (plain_bytes x xs n, plain_lo
 two_walked names.Cert x xs rows pending is n = absurd (cc)
 two_walked names.Core x xs rows pending is n = absurd (cc)
 two_walked names.Workers x xs rows pending is n = rw (plain_bytes x xs n, plain_long x xs n, plain_short x xs n) refl
+two_walked names.Check x xs rows pending is n = absurd (cc)
+two_walked names.Steps x xs rows pending is n = rw (plain_bytes x xs n, plain_long x xs n, plain_short x xs n) refl
+two_walked names.Progress x xs rows pending is n = absurd (cc)
 
 flag_passes : (o : OptionName) (rows : List Row) (pending : Option (Text × List Text)) → is_flag (option_row o).number ≡ true → settle_passes rules false (held rows pending) ≡ true
     → has_row (option_id o) (settled_rows rules pending rows) ≡ false → turn_passes top [] (walk_from (held rows pending)) (option_word o) ≡ true
@@ -178,6 +188,9 @@ flag_passes names.Depth rows pending is settles new = absurd (cc)
 flag_passes names.Cert rows pending is settles new = rw (settles, new) refl
 flag_passes names.Core rows pending is settles new = rw (settles, new) refl
 flag_passes names.Workers rows pending is settles new = absurd (cc)
+flag_passes names.Check rows pending is settles new = rw (settles, new) refl
+flag_passes names.Steps rows pending is settles new = absurd (cc)
+flag_passes names.Progress rows pending is settles new = rw (settles, new) refl
 
 one_passes : (o : OptionName) (digits : Text) (rows : List Row) (pending : Option (Text × List Text)) → is_flag (option_row o).number ≡ false → settle_passes rules false (held rows pending) ≡ true
     → has_row (option_id o) (settled_rows rules pending rows) ≡ false → turn_passes top [] (walk_from (held rows pending)) (option_word o ++ codes "=" ++ digits) ≡ true
@@ -187,6 +200,9 @@ one_passes names.Depth digits rows pending is settles new = rw (settles, new) re
 one_passes names.Cert digits rows pending is settles new = absurd (cc)
 one_passes names.Core digits rows pending is settles new = absurd (cc)
 one_passes names.Workers digits rows pending is settles new = rw (settles, new) refl
+one_passes names.Check digits rows pending is settles new = absurd (cc)
+one_passes names.Steps digits rows pending is settles new = rw (settles, new) refl
+one_passes names.Progress digits rows pending is settles new = absurd (cc)
 
 value_passes : (o : OptionName) (rows : List Row) (pending : Option (Text × List Text)) → is_flag (option_row o).number ≡ false → settle_passes rules false (held rows pending) ≡ true
     → turn_passes top [] (walk_from (held rows pending)) (option_word o) ≡ true
@@ -196,6 +212,9 @@ value_passes names.Depth rows pending is settles = rw settles refl
 value_passes names.Cert rows pending is settles = absurd (cc)
 value_passes names.Core rows pending is settles = absurd (cc)
 value_passes names.Workers rows pending is settles = rw settles refl
+value_passes names.Check rows pending is settles = absurd (cc)
+value_passes names.Steps rows pending is settles = rw settles refl
+value_passes names.Progress rows pending is settles = absurd (cc)
 
 digits_pass : (o : OptionName) (x : ℕ) (xs : Text) (rows : List Row) (pending : Option (Text × List Text)) → is_flag (option_row o).number ≡ false → (x == 45) ≡ false
     → turn_passes top [] (walked rules [] (walk_from (held rows pending)) (option_word o)) (x ∷ xs) ≡ true
@@ -205,6 +224,9 @@ digits_pass names.Depth x xs rows pending is n = rw (plain_bytes x xs n, plain_l
 digits_pass names.Cert x xs rows pending is n = absurd (cc)
 digits_pass names.Core x xs rows pending is n = absurd (cc)
 digits_pass names.Workers x xs rows pending is n = rw (plain_bytes x xs n, plain_long x xs n, plain_short x xs n) refl
+digits_pass names.Check x xs rows pending is n = absurd (cc)
+digits_pass names.Steps x xs rows pending is n = rw (plain_bytes x xs n, plain_long x xs n, plain_short x xs n) refl
+digits_pass names.Progress x xs rows pending is n = absurd (cc)
 
 pending_settles : (o : OptionName) (digits : Text) (rows : List Row) → is_flag (option_row o).number ≡ false → has_row (option_id o) rows ≡ false
     → settle_passes rules false (held rows (Some (option_id o, digits ∷ []))) ≡ true
@@ -213,6 +235,9 @@ pending_settles names.Depth digits rows is none = rw none refl
 pending_settles names.Cert digits rows is none = absurd (cc)
 pending_settles names.Core digits rows is none = absurd (cc)
 pending_settles names.Workers digits rows is none = rw none refl
+pending_settles names.Check digits rows is none = absurd (cc)
+pending_settles names.Steps digits rows is none = rw none refl
+pending_settles names.Progress digits rows is none = absurd (cc)
 
 pending_used : (o : OptionName) (digits : Text) (rows : List Row) → settled_rows rules (Some (option_id o, digits ∷ [])) rows ≡ used (built_rule o) (digits ∷ []) rows
 pending_used names.Finite digits rows = refl
@@ -220,6 +245,9 @@ pending_used names.Depth digits rows = refl
 pending_used names.Cert digits rows = refl
 pending_used names.Core digits rows = refl
 pending_used names.Workers digits rows = refl
+pending_used names.Check digits rows = refl
+pending_used names.Steps digits rows = refl
+pending_used names.Progress digits rows = refl
 
 -- ---- the walk over all the words
 
@@ -301,6 +329,7 @@ at_start = record { settles = refl; are = refl }
 
 parse_passes : (words : List Text) (rows : List Row) (pending : Option (Text × List Text)) → fold (walked rules []) (walk_from (held [] None)) words ≡ walk_from (held rows pending)
     → walk_passes top [] (walk_from (held [] None)) words ≡ true → settle_passes rules false (held rows pending) ≡ true → takes options_app words ≡ true
+unfolding options_app
 parse_passes words rows pending walks passes settles = rw (walks, passes, settles) refl
 
 -- the words of new options are taken
@@ -309,6 +338,7 @@ words_taken us new fit = let h = walks_over us [] [] None at_start new fit in pa
 
 matches_end : (us : List Use) (rows : List Row) (pending : Option (Text × List Text)) → fold (walked rules []) (walk_from (held [] None)) (words_of us) ≡ walk_from (held rows pending)
     → settled_rows rules pending rows ≡ rows_for us → matches_of options_app (words_of us) ≡ fold with_default (rows_for us) rules
+unfolding options_app
 matches_end us rows pending walks are = ap (λ w. finished rules w.held) walks ∙ ap (λ r. fold with_default r rules) are
 
 -- the matches are the rows of the uses, with the default of each flag that was not used
@@ -387,6 +417,9 @@ own_absent names.Depth None = refl
 own_absent names.Cert None = refl
 own_absent names.Core None = refl
 own_absent names.Workers None = refl
+own_absent names.Check None = refl
+own_absent names.Steps None = refl
+own_absent names.Progress None = refl
 
 -- the row of each option: that of its use, and else the flag's default
 pub row_matched : (us : List Use) (o : OptionName) → AreNew [] us → AreFit us → row_at (option_id o) (matches_of options_app (words_of us)) ≡ row_or (row_at (option_id o) (rows_for us)) (absent_of (option_row o).number (option_id o))

@@ -3,7 +3,7 @@ use Rattle.std.specs.Prelude.{◌≡◌, ◌≤◌, ℕ, List, Option, Some, Non
 use Rattle.command_words.specs.declared.options.Options.{Options}
 use Rattle.command_words.specs.declared.asked.Asked.{Asked}
 use Rattle.command_words.specs.declared.asked.Asked.TheVariants as asked
-use Rattle.command_words.specs.Words.{Setting, Solve, Check, Trace, Demo, Batch, System, Monitor, Depast, Asks, kind_of, depth_of, cert_of, core_of, workers_of}
+use Rattle.command_words.specs.Words.{Setting, Solve, Check, Trace, Demo, Batch, System, Monitor, Depast, Asks, kind_of, depth_of, cert_of, core_of, workers_of, check_of, steps_of, progress_of}
 
 -- a depth that is asked for is at most 1,000
 abbrev pub IsDepth : Option ℕ → Type 0
@@ -15,6 +15,11 @@ abbrev pub AreWorkers : Option ℕ → Type 0
 AreWorkers None = Unit {0}
 AreWorkers (Some n) = (1 ≤ n) × (n ≤ 16)
 
+-- the steps that are asked for are from 1 to 999,999,999
+abbrev pub IsSteps : Option ℕ → Type 0
+IsSteps None = Unit {0}
+IsSteps (Some n) = (1 ≤ n) × (n ≤ 999999999)
+
 -- the options are what the settings say
 pub record AreOptions (settings : List Setting) (options : Options) : Type 0 where
   pub kind : options.kind ≡ kind_of settings
@@ -22,8 +27,12 @@ pub record AreOptions (settings : List Setting) (options : Options) : Type 0 whe
   pub cert : options.cert ≡ cert_of settings
   pub core : options.core ≡ core_of settings
   pub workers : options.workers ≡ workers_of settings
+  pub check : options.check ≡ check_of settings
+  pub steps : options.steps ≡ steps_of settings
+  pub progress : options.progress ≡ progress_of settings
   pub small : IsDepth options.depth
   pub few : AreWorkers options.workers
+  pub counted : IsSteps options.steps
 
 -- the words ask for the command
 abbrev pub IsAsked : List (List ℕ) → Asked → Type 0

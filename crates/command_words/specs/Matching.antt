@@ -1,7 +1,7 @@
--- The options of all commands as one command of `clap`.
+-- All options as one command of `clap`.
 use Rattle.std.specs.Prelude.{◌≡◌, ℕ, Bool, true, false, List, [], ◌∷◌, codes, Option, Some, None, map, drop}
 use Rattle.clap.specs.Words.{App, Rule, new_rule, first_value, one_text, found_of}
-use Rattle.clap.specs.Simple.{new_shape}
+use Rattle.clap.specs.Simple.{Shape, new_shape}
 use Rattle.clap.specs.declared.builder.action.ArgAction.TheVariants.{Set, SetTrue}
 use Rattle.clap.specs.declared.parser.matches.ArgMatches.{ArgMatches}
 use Rattle.command_words.specs.declared.table.Range.{Range}
@@ -32,16 +32,17 @@ abbrev pub option_rule : OptionName → Rule
 option_rule option = rule_with (option_row option).number (option_id option)
 
 -- the options, behind no name of a program, with no flag of `clap`'s own
-abbrev pub options_app : App
-options_app = record {
-  top = record (new_shape (codes "black")) {
-    rules = map option_rule (names.Finite ∷ names.Depth ∷ names.Cert ∷ names.Core ∷ names.Workers ∷ []);
-    no_binary_name = true;
-    disable_help_flag = true;
-    disable_version_flag = true;
-  };
-  subs = [];
+abbrev pub options_shape : Shape
+options_shape = record (new_shape (codes "black")) {
+  rules = map option_rule (names.Finite ∷ names.Depth ∷ names.Cert ∷ names.Core ∷ names.Workers ∷ names.Check ∷ names.Steps ∷ names.Progress ∷ []);
+  no_binary_name = true;
+  disable_help_flag = true;
+  disable_version_flag = true;
 }
+
+-- closed to most proofs, since its matches written out grow with each option
+unfoldable pub options_app : App
+options_app = record { top = options_shape; subs = [] }
 
 -- the text of a flag
 abbrev pub flag_text : Bool → List ℕ

@@ -9,7 +9,7 @@ use Rattle.command_words.specs.declared.options.Options.{Options}
 use Rattle.command_words.specs.declared.options.Seen.{Seen}
 use Rattle.command_words.specs.declared.asked.Asked.{Asked}
 use Rattle.command_words.specs.declared.asked.Asked.TheVariants as asked
-use Rattle.command_words.specs.Table.{CommandRow, option_row, option_word, same_option, solve_command, check_command, demo_command, batch_command, system_command}
+use Rattle.command_words.specs.Table.{Offer, CommandRow, option_row, option_word, same_option, solve_command, check_command, demo_command, batch_command, system_command}
 use Rattle.command_words.specs.Words.{Setting, Command, IsNumberIn, IsNumberOf, Says, SayAll, Once, IsBuilt, SayNumber, name_of, Follow, IsOffered}
 use Rattle.command_words.specs.Asked.{AreOptions}
 
@@ -19,21 +19,21 @@ use Rattle.command_words.specs.Asked.{AreOptions}
 abbrev pub SayOnce : List Setting → List (List ℕ) → Type 0
 SayOnce settings words = SayAll settings words × Once settings
 
--- the words say settings of what is built of the command
-abbrev pub SomeAreSaid : CommandRow → List (List ℕ) → Type 0
-SomeAreSaid row words = (settings : List Setting) × SayOnce settings words × All (IsBuilt row) settings
+-- the words say settings of what is offered and built
+abbrev pub SomeAreSaid : List Offer → List (List ℕ) → Type 0
+SomeAreSaid offers words = (settings : List Setting) × SayOnce settings words × All (IsBuilt offers) settings
 
--- the words say no settings of what is built of the command
-abbrev pub NoneAreSaid : CommandRow → List (List ℕ) → Type 0
-NoneAreSaid row words = (settings : List Setting) → SayOnce settings words → All (IsBuilt row) settings → ⊥
+-- the words say no settings of what is offered and built
+abbrev pub NoneAreSaid : List Offer → List (List ℕ) → Type 0
+NoneAreSaid offers words = (settings : List Setting) → SayOnce settings words → All (IsBuilt offers) settings → ⊥
 
 -- the options are what the words say, whatever they are read as
 abbrev pub AreTold : List (List ℕ) → Options → Type 0
 AreTold words options = (settings : List Setting) → SayOnce settings words → AreOptions settings options
 
--- the words say settings of what is built of the command, which are these options
-abbrev pub AreSaid : CommandRow → List (List ℕ) → Options → Type 0
-AreSaid row words options = (settings : List Setting) × SayOnce settings words × All (IsBuilt row) settings × AreOptions settings options
+-- the words say settings of what is offered and built, which are these options
+abbrev pub AreSaid : List Offer → List (List ℕ) → Options → Type 0
+AreSaid offers words options = (settings : List Setting) × SayOnce settings words × All (IsBuilt offers) settings × AreOptions settings options
 
 -- ---- one option
 
@@ -44,6 +44,9 @@ is_seen seen names.Depth = seen.depth
 is_seen seen names.Cert = seen.cert
 is_seen seen names.Core = seen.core
 is_seen seen names.Workers = seen.workers
+is_seen seen names.Check = seen.check
+is_seen seen names.Steps = seen.steps
+is_seen seen names.Progress = seen.progress
 
 -- and the option too
 abbrev pub with_seen : Seen → OptionName → Seen
@@ -53,6 +56,9 @@ with_seen seen option = record {
   cert = same_option option names.Cert || seen.cert;
   core = same_option option names.Core || seen.core;
   workers = same_option option names.Workers || seen.workers;
+  check = same_option option names.Check || seen.check;
+  steps = same_option option names.Steps || seen.steps;
+  progress = same_option option names.Progress || seen.progress;
 }
 
 -- the first words say the option, and these words stand behind it
@@ -94,12 +100,12 @@ name_asked asked.Depast = commands.Depast
 
 -- the words behind the first one say the rest of what is asked for
 abbrev pub Tell : List (List ℕ) → Asked → Type 0
-Tell words (asked.Solve options) = AreSaid solve_command words options
-Tell words (asked.Check options) = AreSaid check_command words options
+Tell words (asked.Solve options) = AreSaid solve_command.options words options
+Tell words (asked.Check options) = AreSaid check_command.options words options
 Tell words asked.Trace = words ≡ []
 Tell words (asked.Demo n) = SayNumber demo_command n words
-Tell words (asked.Batch options) = AreSaid batch_command words options
-Tell words (asked.System options) = AreSaid system_command words options
+Tell words (asked.Batch options) = AreSaid batch_command.options words options
+Tell words (asked.System options) = AreSaid system_command.options words options
 Tell words asked.Monitor = words ≡ []
 Tell words asked.Depast = words ≡ []
 

@@ -1,4 +1,4 @@
--- The table of the commands and of their options, with what of it is built. The usage lines show it, and words are judged by it.
+-- The table of the commands, of the calls of the second program, and of their options, with what of it is built. The usage lines show it, and words are judged by it.
 use Rattle.std.specs.Prelude.{ℕ, Bool, true, false, ◌&&◌, List, [], ◌∷◌, codes, Option, Some, None, bytes_eq}
 use Rattle.std.specs.List.{list_any}
 use Rattle.command_words.specs.declared.table.Range.{Range}
@@ -6,13 +6,15 @@ use Rattle.command_words.specs.declared.table.OptionName.{OptionName}
 use Rattle.command_words.specs.declared.table.OptionName.TheVariants as names
 use Rattle.command_words.specs.declared.table.CommandName.{CommandName}
 use Rattle.command_words.specs.declared.table.CommandName.TheVariants as commands
+use Rattle.command_words.specs.declared.table.Offering.{Offering}
+use Rattle.command_words.specs.declared.table.Offering.TheVariants as offerings
 
 -- an option: its word, and its number where it has one
 pub record OptionRow : Type 0 where
   pub word : List ℕ
   pub number : Option Range
 
--- an option of a command, and whether it is built there
+-- an option that is offered, and whether it is built there
 pub record Offer : Type 0 where
   pub option : OptionName
   pub built : Bool
@@ -26,13 +28,17 @@ pub record CommandRow : Type 0 where
   pub built : Bool
 
 -- the row of each option. --finite asks about finite traces, --depth is the greatest depth that is gone through, --cert asks for a
--- certificate, --core for a core, and --workers says how many workers there are
+-- certificate, --core for a core, --workers says how many workers there are, --check asks whether a certificate is one, --steps says how many
+-- steps there are, and --progress asks for notes of what is done
 abbrev pub option_row : OptionName → OptionRow
 option_row names.Finite = record { word = codes "--finite"; number = None }
 option_row names.Depth = record { word = codes "--depth"; number = Some (record { digits = 4; low = 0; high = 1000 }) }
 option_row names.Cert = record { word = codes "--cert"; number = None }
 option_row names.Core = record { word = codes "--core"; number = None }
 option_row names.Workers = record { word = codes "--workers"; number = Some (record { digits = 2; low = 1; high = 16 }) }
+option_row names.Check = record { word = codes "--check"; number = None }
+option_row names.Steps = record { word = codes "--steps"; number = Some (record { digits = 9; low = 1; high = 999999999 }) }
+option_row names.Progress = record { word = codes "--progress"; number = None }
 
 -- the word of an option
 abbrev pub option_word : OptionName → List ℕ
@@ -115,14 +121,32 @@ command_row commands.System = system_command
 command_row commands.Monitor = monitor_command
 command_row commands.Depast = depast_command
 
+-- what the second program takes where it refutes a formula
+abbrev pub refute_row : List Offer
+refute_row = ready names.Finite ∷ ready names.Cert ∷ ready names.Steps ∷ ready names.Progress ∷ []
+
+-- what may stand beside --check
+abbrev pub beside_check : List Offer
+beside_check = ready names.Finite ∷ []
+
+-- what the second program takes where it judges a certificate
+abbrev pub verify_row : List Offer
+verify_row = ready names.Check ∷ beside_check
+
+-- the options of a command, or of a call of the second program
+abbrev pub offers_of : Offering → List Offer
+offers_of (offerings.Command name) = (command_row name).options
+offers_of offerings.Refute = refute_row
+offers_of offerings.Verify = verify_row
+
 -- whether two options are one: their words are
 abbrev pub same_option : OptionName → OptionName → Bool
 same_option a b = bytes_eq (option_word a) (option_word b)
 
--- whether the command has the option
-abbrev pub has_option : CommandRow → OptionName → Bool
-has_option row option = list_any (λ offer. same_option offer.option option) row.options
+-- whether the option is offered
+abbrev pub has_option : List Offer → OptionName → Bool
+has_option offers option = list_any (λ offer. same_option offer.option option) offers
 
--- whether the command has the option, and it is built
-abbrev pub has_built : CommandRow → OptionName → Bool
-has_built row option = list_any (λ offer. offer.built && same_option offer.option option) row.options
+-- whether the option is offered, and it is built
+abbrev pub has_built : List Offer → OptionName → Bool
+has_built offers option = list_any (λ offer. offer.built && same_option offer.option option) offers

@@ -1,7 +1,8 @@
 -- The usage lines.
 use Rattle.std.specs.Prelude.{ℕ, List, [], ◌∷◌, ◌++◌, codes, Option, Some, None, if◌then◌else◌}
 use Rattle.command_words.specs.declared.table.Range.{Range}
-use Rattle.command_words.specs.Table.{OptionRow, Offer, CommandRow, option_row, solve_command, check_command, trace_command, demo_command, batch_command, system_command, monitor_command, depast_command}
+use Rattle.command_words.specs.declared.table.OptionName.TheVariants as names
+use Rattle.command_words.specs.Table.{OptionRow, Offer, CommandRow, option_row, option_word, solve_command, check_command, trace_command, demo_command, batch_command, system_command, monitor_command, depast_command, refute_row, beside_check}
 
 -- a number's place, where one is taken
 abbrev pub number_text : Option Range → List ℕ
@@ -35,3 +36,11 @@ built_lines (row ∷ rows) = (if row.built then usage_line row else []) ++ built
 abbrev pub usage_text : List ℕ
 usage_text = usage_lines (solve_command ∷ check_command ∷ trace_command ∷ demo_command ∷ [])
     ++ built_lines (batch_command ∷ system_command ∷ monitor_command ∷ depast_command ∷ [])
+
+-- a usage line of the second program
+abbrev pub refuter_line : List ℕ → List ℕ
+refuter_line options = codes "usage: black_refute" ++ options ++ codes "\n"
+
+-- its usage lines: to refute a formula, and to judge a certificate, where --check has to stand
+abbrev pub refutation_usage_text : List ℕ
+refutation_usage_text = refuter_line (options_text refute_row) ++ refuter_line (codes " " ++ option_word names.Check ++ options_text beside_check)

@@ -8,7 +8,7 @@ use Rattle.command_words.specs.declared.table.OptionName.{OptionName}
 use Rattle.command_words.specs.declared.table.OptionName.TheVariants as names
 use Rattle.command_words.specs.declared.table.CommandName.{CommandName}
 use Rattle.command_words.specs.declared.table.CommandName.TheVariants as commands
-use Rattle.command_words.specs.Table.{CommandRow, option_row, option_word, command_row, same_option, has_option, has_built, solve_command, check_command, demo_command, batch_command, system_command}
+use Rattle.command_words.specs.Table.{Offer, CommandRow, option_row, option_word, command_row, same_option, has_option, has_built, solve_command, check_command, demo_command, batch_command, system_command}
 
 -- what one option says: which it is, and its number where it has one
 pub record Setting : Type 0 where
@@ -69,13 +69,13 @@ SayAll (c ∷ cs) words = (front : List (List ℕ)) × (back : List (List ℕ)) 
 abbrev pub Once : List Setting → Type 0
 Once settings = AllPairs (λ a b. name a ≢ name b) settings
 
--- the setting is of an option of the command
-abbrev pub IsAmong : CommandRow → Setting → Type 0
-IsAmong row setting = IsTrue (has_option row setting.option)
+-- the setting is of an option that is offered
+abbrev pub IsAmong : List Offer → Setting → Type 0
+IsAmong offers setting = IsTrue (has_option offers setting.option)
 
--- the setting is of an option of the command that is built
-abbrev pub IsBuilt : CommandRow → Setting → Type 0
-IsBuilt row setting = IsTrue (has_built row setting.option)
+-- the setting is of an option that is offered and built
+abbrev pub IsBuilt : List Offer → Setting → Type 0
+IsBuilt offers setting = IsTrue (has_built offers setting.option)
 
 -- which command it is
 abbrev pub name_of : Command → CommandName
@@ -107,9 +107,9 @@ settings_of (System settings) = settings
 settings_of Monitor = []
 settings_of Depast = []
 
--- the words are settings of the command's options
-abbrev pub SaySettings : CommandRow → List Setting → List (List ℕ) → Type 0
-SaySettings row settings words = SayAll settings words × Once settings × All (IsAmong row) settings
+-- the words are settings of options that are offered
+abbrev pub SaySettings : List Offer → List Setting → List (List ℕ) → Type 0
+SaySettings offers settings words = SayAll settings words × Once settings × All (IsAmong offers) settings
 
 -- the words are the command's number
 abbrev pub SayNumber : CommandRow → ℕ → List (List ℕ) → Type 0
@@ -117,12 +117,12 @@ SayNumber row n words = (digits : List ℕ) × IsNumberOf row.number digits n ×
 
 -- what stands behind the first word of each command
 abbrev pub Follow : Command → List (List ℕ) → Type 0
-Follow (Solve settings) words = SaySettings solve_command settings words
-Follow (Check settings) words = SaySettings check_command settings words
+Follow (Solve settings) words = SaySettings solve_command.options settings words
+Follow (Check settings) words = SaySettings check_command.options settings words
 Follow Trace words = words ≡ []
 Follow (Demo n) words = SayNumber demo_command n words
-Follow (Batch settings) words = SaySettings batch_command settings words
-Follow (System settings) words = SaySettings system_command settings words
+Follow (Batch settings) words = SaySettings batch_command.options settings words
+Follow (System settings) words = SaySettings system_command.options settings words
 Follow Monitor words = words ≡ []
 Follow Depast words = words ≡ []
 
@@ -132,7 +132,7 @@ Taken words command = (more : List (List ℕ)) × (words ≡ command_word comman
 
 -- the command is built, with the options that it has
 abbrev pub IsOffered : Command → Type 0
-IsOffered command = IsTrue (row_of command).built × All (IsBuilt (row_of command)) (settings_of command)
+IsOffered command = IsTrue (row_of command).built × All (IsBuilt (row_of command).options) (settings_of command)
 
 -- the words are taken as this command
 abbrev pub Asks : List (List ℕ) → Command → Type 0
@@ -169,6 +169,18 @@ core_of settings = stands names.Core settings
 -- how many workers the settings say, where a number stands there
 abbrev pub workers_of : List Setting → Option ℕ
 workers_of settings = number_of names.Workers settings
+
+-- whether the settings ask for a certificate to be judged
+abbrev pub check_of : List Setting → Bool
+check_of settings = stands names.Check settings
+
+-- how many steps the settings say, where a number stands there
+abbrev pub steps_of : List Setting → Option ℕ
+steps_of settings = number_of names.Steps settings
+
+-- whether the settings ask for notes of what is done
+abbrev pub progress_of : List Setting → Bool
+progress_of settings = stands names.Progress settings
 
 -- the command reads nothing of the source
 abbrev pub ReadsNothing : Command → Type 0

@@ -1,4 +1,4 @@
-// The words of the command line. The command and its number are read here, its options by `options`.
+// The words of `black`. The command and its number are read here, its options by `options`.
 ghost use Rattle.std.specs.Prelude.{map, string_bytes, MatchOption, IfOk};
 ghost use Rattle.command_words.specs.Table.{demo_command};
 ghost use Rattle.command_words.specs.Words.{Command, Asks, SayNumber};
@@ -6,8 +6,8 @@ ghost use Rattle.command_words.specs.Asked.{IsAsked};
 ghost use Rattle.command_words.specs.Said.{Follows, FollowsNothing, SayNoNumber};
 
 use crate::decimal::decimal_number;
-use crate::options::{Options, command_options};
-use crate::table::{CommandName, DEMO_NUMBERS, command_named, is_built};
+use crate::options::{Options, said_options};
+use crate::table::{CommandName, DEMO_NUMBERS, Offering, command_named, is_built};
 use std::alloc::{AllocError, Global};
 
 /// A command that is asked for.
@@ -49,12 +49,20 @@ fn asked_further(
         (Follows command (map string_bytes words.now))) }
 {
     let asked = match command {
-        CommandName::Solve => command_options(alloc, command, words)?.map(Asked::Solve),
-        CommandName::Check => command_options(alloc, command, words)?.map(Asked::Check),
+        CommandName::Solve => said_options(alloc, Offering::Command(command), words)?.map(
+            Asked::Solve,
+        ),
+        CommandName::Check => said_options(alloc, Offering::Command(command), words)?.map(
+            Asked::Check,
+        ),
         CommandName::Trace => words.is_empty().then_some(Asked::Trace),
         CommandName::Demo => demo_number(words).map(Asked::Demo),
-        CommandName::Batch => command_options(alloc, command, words)?.map(Asked::Batch),
-        CommandName::System => command_options(alloc, command, words)?.map(Asked::System),
+        CommandName::Batch => said_options(alloc, Offering::Command(command), words)?.map(
+            Asked::Batch,
+        ),
+        CommandName::System => said_options(alloc, Offering::Command(command), words)?.map(
+            Asked::System,
+        ),
         CommandName::Monitor => words.is_empty().then_some(Asked::Monitor),
         CommandName::Depast => words.is_empty().then_some(Asked::Depast),
     };

@@ -6,7 +6,7 @@ use crate::table::Range;
 
 /// The number of the range that the digits are.
 pub fn decimal_number(digits: &[u8], range: Range) -> Option<u32>
-    requires { range.digits ≤ 4 }
+    requires { range.digits ≤ 9 }
     ensures { MatchOption result ((n : ℕ) → ¬ (IsNumberIn range digits.now n)) (IsNumberIn range digits.now) }
 {
     if digits.is_empty() || digits.len() > range.digits {

@@ -1,4 +1,5 @@
-//! The words of the command line: which command they ask for, with which options, and the usage lines.
+//! The words of the command line of both programs: what they ask for, with which options, and the usage
+//! lines.
 #![tactic(auto)]
 
 mod asked;
@@ -7,9 +8,11 @@ pub mod laws;
 mod lines;
 mod matching;
 mod options;
+mod refutation;
 mod setting;
 mod table;
 
 pub use asked::{Asked, asked_command};
-pub use lines::usage;
+pub use lines::{refutation_usage, usage};
 pub use options::Options;
+pub use refutation::{Refutation, asked_refutation};

@@ -1,10 +1,10 @@
 // The usage lines.
 ghost use Rattle.std.specs.Prelude.{◌≡◌, IfOk};
-ghost use Rattle.command_words.specs.Usage.{usage_text};
+ghost use Rattle.command_words.specs.Usage.{usage_text, refutation_usage_text};
 
 use std::alloc::{AllocError, Global};
 
-/// The usage lines: those of `solve`, `check`, `trace` and `demo`, and behind them those of the other
+/// The usage lines of `black`: those of `solve`, `check`, `trace` and `demo`, and behind them those of the other
 /// commands that are built.
 pub fn usage(alloc: Global) -> Result<Vec<u8>, AllocError>
     ensures { IfOk result (λ text. text.items ≡ usage_text) }
@@ -20,5 +20,15 @@ pub fn usage(alloc: Global) -> Result<Vec<u8>, AllocError>
     text.extend_from_slice(b"usage: black system [--depth N] [--cert]\n")?;
     text.extend_from_slice(b"usage: black monitor\n")?;
     text.extend_from_slice(b"usage: black depast\n")?;
+    Ok(text)
+}
+
+/// The usage lines of the second program.
+pub fn refutation_usage(alloc: Global) -> Result<Vec<u8>, AllocError>
+    ensures { IfOk result (λ text. text.items ≡ refutation_usage_text) }
+{
+    let mut text = Vec::new(alloc);
+    text.extend_from_slice(b"usage: black_refute [--finite] [--cert] [--steps N] [--progress]\n")?;
+    text.extend_from_slice(b"usage: black_refute --check [--finite]\n")?;
     Ok(text)
 }

@@ -39,7 +39,10 @@ fn parsed(alloc: Global, words: &[String]) -> Result<ArgMatches<'_>, Error>
         .arg(valued(alloc, "depth"))?
         .arg(flag(alloc, "cert"))?
         .arg(flag(alloc, "core"))?
-        .arg(valued(alloc, "workers"))?;
+        .arg(valued(alloc, "workers"))?
+        .arg(flag(alloc, "check"))?
+        .arg(valued(alloc, "steps"))?
+        .arg(flag(alloc, "progress"))?;
     options.try_get_matches_from(words)
 }
 

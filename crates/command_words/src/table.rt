@@ -1,8 +1,9 @@
-// The table of the commands and of their options: their words, their numbers, and what of them is built.
+// The table of the commands, of the calls of the second program, and of their options: their words, their
+// numbers, and what of them is built.
 ghost use Rattle.std.specs.Prelude.{◌≡◌, ◌≢◌, ◌≤◌, MatchOption, IfSome};
 ghost use Rattle.command_words.specs.declared.table.OptionName.{OptionName};
 ghost use Rattle.command_words.specs.declared.table.CommandName.{CommandName};
-ghost use Rattle.command_words.specs.Table.{option_row, option_word, command_row, has_built};
+ghost use Rattle.command_words.specs.Table.{option_row, option_word, command_row, offers_of, has_built};
 
 /// A number in a word: one to `digits` decimal digits, whose value goes from `low` to `high`.
 #[derive(Clone, Copy)]
@@ -20,6 +21,9 @@ pub enum OptionName {
     Cert,
     Core,
     Workers,
+    Check,
+    Steps,
+    Progress,
 }
 
 /// A command.
@@ -35,6 +39,14 @@ pub enum CommandName {
     Depast,
 }
 
+/// What has options: a command of `black`, or one of the two calls of the second program.
+#[derive(Clone, Copy)]
+pub enum Offering {
+    Command(CommandName),
+    Refute,
+    Verify,
+}
+
 /// The number of `--depth`.
 pub const DEPTHS: Range = Range {
     digits: 4,
@@ -47,6 +59,13 @@ pub const WORKERS: Range = Range {
     digits: 2,
     low: 1,
     high: 16,
+};
+
+/// The number of `--steps`.
+pub const STEPS: Range = Range {
+    digits: 9,
+    low: 1,
+    high: 999_999_999,
 };
 
 /// The number behind `demo`.
@@ -67,6 +86,9 @@ pub fn option_named(word: &str) -> Option<OptionName>
         "--cert" => Some(OptionName::Cert),
         "--core" => Some(OptionName::Core),
         "--workers" => Some(OptionName::Workers),
+        "--check" => Some(OptionName::Check),
+        "--steps" => Some(OptionName::Steps),
+        "--progress" => Some(OptionName::Progress),
         _ => None,
     }
 }
@@ -74,12 +96,14 @@ pub fn option_named(word: &str) -> Option<OptionName>
 /// The number of the option, where it has one.
 pub fn option_range(option: OptionName) -> Option<Range>
     ensures range { result ≡ (option_row option).number }
-    ensures few { IfSome result (λ range. range.digits ≤ 4) }
+    ensures few { IfSome result (λ range. range.digits ≤ 9) }
 {
     match option {
         OptionName::Depth => Some(DEPTHS),
         OptionName::Workers => Some(WORKERS),
+        OptionName::Steps => Some(STEPS),
         OptionName::Finite | OptionName::Cert | OptionName::Core => None,
+        OptionName::Check | OptionName::Progress => None,
     }
 }
 
@@ -114,12 +138,26 @@ pub fn is_built(command: CommandName) -> bool
     }
 }
 
+/// Whether the option is offered there, and is built.
+pub fn offers_option(offering: Offering, option: OptionName) -> bool
+    ensures { result ≡ has_built (offers_of offering) option }
+{
+    match (offering, option) {
+        (Offering::Command(command), _) => command_offers(command, option),
+        (Offering::Refute, OptionName::Finite | OptionName::Cert) => true,
+        (Offering::Refute, OptionName::Steps | OptionName::Progress) => true,
+        (Offering::Verify, OptionName::Check | OptionName::Finite) => true,
+        _ => false,
+    }
+}
+
 /// Whether the command has the option, and it is built there.
-pub fn offers_option(command: CommandName, option: OptionName) -> bool
-    ensures { result ≡ has_built (command_row command) option }
+fn command_offers(command: CommandName, option: OptionName) -> bool
+    ensures { result ≡ has_built (command_row command).options option }
 {
     match (command, option) {
-        (CommandName::Solve, _) => true,
+        (CommandName::Solve, OptionName::Finite | OptionName::Depth | OptionName::Workers) => true,
+        (CommandName::Solve, OptionName::Cert | OptionName::Core) => true,
         (CommandName::Check, OptionName::Finite | OptionName::Workers) => true,
         (CommandName::Batch, OptionName::Finite | OptionName::Depth | OptionName::Workers) => true,
         (CommandName::System, OptionName::Depth | OptionName::Cert) => true,

@@ -1,23 +1,35 @@
-// The words as one table, with what they ask for: the command, the depth and the workers (9999 and 99 where
+// The words as a table for each program, with what they ask for: the command, the depth and the workers
+// (9999 and 99 where none are asked for), and the flags; of the second program the call, the steps (0 where
 // none are asked for), and the flags.
-use command_words::{Asked, Options, asked_command, usage};
+use command_words::{
+    Asked, Options, Refutation, asked_command, asked_refutation, refutation_usage, usage,
+};
 use ltl_syntax::Kind;
 use std::alloc::{AllocError, Global};
 use std::test::Fail;
 
-fn asked(alloc: Global, words: &str) -> Result<Option<Asked>, AllocError> {
+fn split(alloc: Global, words: &str) -> Result<Vec<String>, AllocError> {
     let mut all = Vec::new(alloc);
     for word in words.split_whitespace() {
         all.push(String::from_str(alloc, word)?)?;
     }
+    Ok(all)
+}
+
+fn asked(alloc: Global, words: &str) -> Result<Option<Asked>, AllocError> {
+    let all = split(alloc, words)?;
     asked_command(alloc, &all)
 }
 
-fn options(alloc: Global, command: &str, options: Options) -> Result<String, AllocError> {
-    let kind = match options.kind {
+fn kind_word(kind: Kind) -> &'static str {
+    match kind {
         Kind::Finite => " finite",
         Kind::Infinite => "",
-    };
+    }
+}
+
+fn options(alloc: Global, command: &str, options: Options) -> Result<String, AllocError> {
+    let kind = kind_word(options.kind);
     let cert = if options.cert { " cert" } else { "" };
     let core = if options.core { " core" } else { "" };
     let depth = options.depth.unwrap_or(9_999);
@@ -95,10 +107,78 @@ fn words(rt: HostRuntime) -> Result<(), Fail> {
     Ok(())
 }
 
+fn call(alloc: Global, name: &str, options: Options) -> Result<String, AllocError> {
+    let kind = kind_word(options.kind);
+    let cert = if options.cert { " cert" } else { "" };
+    let check = if options.check { " check" } else { "" };
+    let progress = if options.progress { " progress" } else { "" };
+    let steps = options.steps.unwrap_or(0);
+    format!(in alloc; "{name} {steps}{kind}{cert}{check}{progress}")
+}
+
+fn refuter_asked(alloc: Global, words: &str) -> Result<String, AllocError> {
+    let all = split(alloc, words)?;
+    match asked_refutation(alloc, &all)? {
+        None => String::from_str(alloc, "none"),
+        Some(Refutation::Refute(said)) => call(alloc, "refute", said),
+        Some(Refutation::Check(said)) => call(alloc, "judge", said),
+    }
+}
+
+#[test]
+fn words_of_the_refuter(rt: HostRuntime) -> Result<(), Fail> {
+    let alloc = rt.alloc();
+    let table = [
+        ("", "refute 0"),
+        ("--finite", "refute 0 finite"),
+        ("--steps=5", "refute 5"),
+        (
+            "--progress --steps 999999999 --cert --finite",
+            "refute 999999999 finite cert progress",
+        ),
+        ("--steps 000000001", "refute 1"),
+        ("--steps 0", "none"),
+        ("--steps 1000000000", "none"),
+        ("--steps 0000000001", "none"),
+        ("--steps", "none"),
+        ("--steps x", "none"),
+        ("--finite --finite", "none"),
+        ("--check", "judge 0 check"),
+        ("--check --finite", "judge 0 finite check"),
+        ("--finite --check", "judge 0 finite check"),
+        ("--check --cert", "none"),
+        ("--check --steps 5", "none"),
+        ("--progress --check", "none"),
+        ("--check --check", "none"),
+        ("--depth 3", "none"),
+        ("--workers 2", "none"),
+        ("--core", "none"),
+        ("solve", "none"),
+        ("--finite p", "none"),
+    ];
+    for (said, wanted) in &table {
+        let text = refuter_asked(alloc, said)?;
+        assert_eq!(rt; text.as_str(), *wanted, "at {said}");
+    }
+    Ok(())
+}
+
+#[test]
+fn words_of_the_refuter_alone(rt: HostRuntime) -> Result<(), Fail> {
+    let alloc = rt.alloc();
+    for said in &["solve --steps 5", "solve --progress", "check --check"] {
+        assert!(rt; asked(alloc, said)?.is_none(), "at {said}");
+    }
+    Ok(())
+}
+
 #[test]
 fn usage_lines(rt: HostRuntime) -> Result<(), Fail> {
     let wanted: &[u8] =
         b"usage: black solve [--finite] [--depth N] [--cert] [--core] [--workers N]\nusage: black check [--finite] [--workers N]\nusage: black trace\nusage: black demo N\nusage: black batch [--finite] [--depth N] [--workers N]\nusage: black system [--depth N] [--cert]\nusage: black monitor\nusage: black depast\n";
     assert!(rt; *usage(rt.alloc())? == *wanted);
+    let refuter: &[u8] =
+        b"usage: black_refute [--finite] [--cert] [--steps N] [--progress]\nusage: black_refute --check [--finite]\n";
+    assert!(rt; *refutation_usage(rt.alloc())? == *refuter);
     Ok(())
 }

@@ -1,9 +1,9 @@
 -- The text of each answer, line by line.
-use Rattle.std.specs.Prelude.{ℕ, Bool, true, false, List, [], ◌∷◌, ◌++◌, codes, Option, Some, None}
+use Rattle.std.specs.Prelude.{ℕ, Bool, true, false, List, [], ◌∷◌, ◌++◌, codes, Option, Some, None, Ok}
 use Rattle.std.specs.Fmt.{decimal}
 use Rattle.std.specs.List.{flat_map}
 use Rattle.ltl_word.specs.declared.trace.Trace.{Trace}
-use Rattle.ltl_word.specs.Json.{trace_text}
+use Rattle.ltl_word.specs.Json.{IsReading, trace_text}
 use Rattle.cert_check.specs.declared.verdict.Verdict.{Verdict}
 use Rattle.cert_check.specs.declared.verdict.Verdict.TheVariants as verdicts
 use Rattle.cert_check.specs.declared.verdict.Reason.{Reason}
@@ -24,6 +24,10 @@ line text = text ++ 10 ∷ []
 -- a line that ends with a number, in decimal
 abbrev pub numbered : List ℕ → ℕ → List ℕ
 numbered text n = line (text ++ decimal n)
+
+-- the text that is printed of the trace reads back as it, so the names of a state stand in it in ascending order, each once
+abbrev pub ReadsBack : Trace → Type 0
+ReadsBack t = IsReading (trace_text t) (Ok t)
 
 -- SAT at a depth, with a trace
 abbrev pub sat_text : ℕ → Trace → List ℕ

@@ -1,4 +1,8 @@
 // The refusals.
+ghost use Rattle.std.specs.Prelude.{◌≡◌};
+ghost use Rattle.report.specs.Status.{fault_status};
+
+use crate::status::Status;
 
 /// A refusal, with the number that its line shows: a byte of a part from 0, a count of nodes or of cells,
 /// or a depth.
@@ -44,4 +48,30 @@ pub enum Fault {
     LooksAhead,
     /// The line with this number, from 1, is the first of the states that is neither white space nor a state.
     State(u64),
+}
+
+impl Fault {
+    /// The status of a call that ends with the refusal.
+    pub fn status(self) -> Status
+        ensures { result ≡ fault_status self }
+    {
+        match self {
+            Fault::Usage => Status::Usage,
+            Fault::Text | Fault::Batch | Fault::Nodes(_) | Fault::Letters(_) | Fault::Cells(_) =>
+                Status::Limit,
+            Fault::PastNodes(_) => Status::Limit,
+            Fault::NoSeparator
+            | Fault::Lexical(_)
+            | Fault::Grammar(_)
+            | Fault::Certificate(_)
+            | Fault::NotJson
+            | Fault::NotTrace
+            | Fault::EmptyLoop
+            | Fault::EmptyStates
+            | Fault::SystemStart
+            | Fault::SystemStep
+            | Fault::LooksAhead
+            | Fault::State(_) => Status::Text,
+        }
+    }
 }

@@ -4,7 +4,7 @@ ghost use Rattle.ltl_word.specs.Trace.{IsTrace};
 ghost use Rattle.ltl_word.specs.Json.{IsReading, trace_text};
 ghost use Rattle.report.specs.Texts.{depasted_text, lifted_text};
 
-use crate::line::line;
+use crate::lines::line;
 use ltl_word::Trace;
 use std::alloc::{AllocError, Global};
 

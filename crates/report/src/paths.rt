@@ -4,7 +4,7 @@ ghost use Rattle.ltl_word.specs.Trace.{IsTrace};
 ghost use Rattle.ltl_word.specs.Json.{IsReading, trace_text};
 ghost use Rattle.report.specs.Texts.{numbered, no_path_text, paths_hold_text, path_fails_text};
 
-use crate::line::{line, numbered};
+use crate::lines::{line, numbered};
 use ltl_word::Trace;
 use std::alloc::{AllocError, Global};
 

@@ -3,7 +3,7 @@ ghost use Rattle.std.specs.Prelude.{◌≡◌, IfOk};
 ghost use Rattle.report.specs.Texts.{refused_text};
 
 use crate::fault::Fault;
-use crate::line::{line, numbered};
+use crate::lines::{line, numbered};
 use command_words::usage;
 use std::alloc::{AllocError, Global};
 

@@ -2,7 +2,7 @@
 ghost use Rattle.std.specs.Prelude.{◌≡◌, IfOk};
 ghost use Rattle.report.specs.Summary.{shown_text, summary_text};
 
-use crate::line::numbered;
+use crate::lines::numbered;
 use std::alloc::{AllocError, Global};
 
 /// A verdict as it is shown, with its depth and without a trace.

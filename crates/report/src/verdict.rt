@@ -6,7 +6,7 @@ ghost use Rattle.ltl_word.specs.Json.{IsReading, trace_text};
 ghost use Rattle.report.specs.Texts.{numbered, core_text, sat_text, unsat_text, undecided_text};
 ghost use Rattle.report.specs.Texts.{traced_text, checked_text};
 
-use crate::line::{line, numbered};
+use crate::lines::{line, numbered};
 use cert_check::{Reason, Verdict};
 use ltl_word::Trace;
 use std::alloc::{AllocError, Global};

@@ -1,4 +1,5 @@
-//! Tests of the tableau: closures, runs, clauses by lists and by numbers, depths, cores and systems.
+//! Tests of the tableau: closures, runs, clauses by lists and by numbers, depths, searches, cores and
+//! systems.
 #![tactic(auto)]
 
 #[cfg(test)]
@@ -13,6 +14,8 @@ mod lists;
 mod numbered;
 #[cfg(test)]
 mod runs;
+#[cfg(test)]
+mod searches;
 #[cfg(test)]
 mod steps;
 #[cfg(test)]

@@ -1,5 +1,5 @@
 -- Where a state is there, so is each state before it. So a question may assume these as well.
-use Rattle.std.proofs.Common.{◌≡◌, ℕ, zero, suc, ◌+◌, ◌<◌, ◌≤◌, Bool, true, IsTrue, inl, inr, arith, sym, subst, List, [], ◌∷◌, ◌++◌, All, Contains}
+use Rattle.std.proofs.Common.{◌≡◌, ℕ, zero, suc, ◌+◌, ◌<◌, ◌≤◌, Bool, true, IsTrue, ◌⊎◌, inl, inr, arith, sym, subst, List, [], ◌∷◌, ◌++◌, Contains}
 use Rattle.std.proofs.lemmas.Bool.{cases_lt}
 use Rattle.std.proofs.lemmas.List.Elements.{All-nil, All-cons, All-head, All-tail, All-append, All-weaker, All-contains, Contains-append_left, Contains-append_right}
 use Rattle.ltl_syntax.specs.declared.node.Kind.{Kind}
@@ -8,7 +8,7 @@ use Rattle.ltl_closure.proofs.Lists.{Contains-here}
 use Rattle.cnf_base.specs.declared.literal.Literal.{Literal as Signed}
 use Rattle.cnf_base.specs.Meaning.{Satisfies, literal_value}
 use Rattle.cdcl.specs.Solving.{AreTrue}
-use Rattle.enc_layout.specs.Letters.{Meaning, Here}
+use Rattle.enc_layout.specs.Letters.{Here}
 use Rattle.enc_layout.specs.Clauses.{number_in, part_a, part_b, part_c, part_d, part_e, part_f, step_clauses, clause_list}
 use Rattle.enc_layout.specs.Assigned.{positive_of}
 use Rattle.enc_layout.proofs.Each.{Each-left, below-Each}
@@ -60,3 +60,9 @@ one_more f kind k states items l below is more =
           (All-cons (IsStateBelow f kind (k + 1)) l [] own (All-nil (IsStateBelow f kind (k + 1)))),
       subst (Contains (states ++ l ∷ [])) is (Contains-append_right states (l ∷ []) l (Contains-here l [])),
     )
+
+-- each of the literals says that some state before n is there, also where they begin anew
+pub still_below : (f : Formula) (kind : Kind) (n : ℕ) (old new : List Signed)
+    → AreStatesBelow f kind n old → (new ≡ old) ⊎ (new ≡ []) → AreStatesBelow f kind n new
+still_below f kind n old new below (inl same) = subst (AreStatesBelow f kind n) (sym same) below
+still_below f kind n old new below (inr none) = subst (AreStatesBelow f kind n) (sym none) (All-nil (IsStateBelow f kind n))

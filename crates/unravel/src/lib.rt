@@ -5,6 +5,7 @@
 mod closing;
 mod deciding;
 mod decision;
+mod exploring;
 mod growing;
 pub mod laws;
 mod questions;
@@ -12,3 +13,4 @@ mod showing;
 
 pub use deciding::decide;
 pub use decision::Decision;
+pub use exploring::{Exploration, Explored};

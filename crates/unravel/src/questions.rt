@@ -3,7 +3,7 @@
 // besides its own letter that the states of some steps are there, the last one at least. That of each step
 // since the search was last hard stays assumed, in order, so that the solver need not go back over the
 // earlier steps. A state is there only after the one before it, so the answer is the same.
-ghost use Rattle.std.specs.Prelude.{◌≡◌, ◌≤◌, ◌+◌, ◌++◌, ◌∷◌, [], All, IfOk, OnOk};
+ghost use Rattle.std.specs.Prelude.{◌≡◌, ◌≤◌, ◌+◌, ◌++◌, ◌∷◌, ◌⊎◌, [], All, IfOk, OnOk};
 ghost use Rattle.cnf_base.specs.Known.{IsKnown};
 ghost use Rattle.cdcl.specs.Solving.{IsConsistent};
 ghost use Rattle.cdcl.specs.SolverValue.{IsAnswer};
@@ -96,8 +96,54 @@ fn is_unpruned(
     }
 }
 
+/// Puts the state of the depth behind those that are assumed.
+fn assume(closure: &Closure<'_>, states: &mut Vec<Literal>, depth: u32) -> Result<(), AllocError>
+    requires few { depth ≤ 1000 }
+    requires fits { Fits (layout_of closure.now) depth }
+    requires states { AreStatesBelow closure.now.formula closure.now.kind depth states.old.items }
+    ensures { OnOk result (AreStatesTo closure.now.formula closure.now.kind depth states.new.items) }
+{
+    let here = Layout::of(closure).positive(depth, Part::Here);
+    states.push(here)?;
+    Ok(())
+}
+
+/// Assumes no state any more where the search was hard: the log had so many lines before it, and has many
+/// more now.
+fn begin_anew(solver: &Solver, before: u64, states: &mut Vec<Literal>)
+    ensures { (states.new.items ≡ states.old.items) ⊎ (states.new.items ≡ []) }
+{
+    if solver.log().view().lines() >= before.saturating_add(MANY) {
+        states.truncate(0);
+    }
+}
+
+/// Asks the first question alone. The states that are assumed go on with that of the depth, and begin anew
+/// after a depth whose search is hard.
+pub fn ask_accepted(
+    closure: &Closure<'_>,
+    solver: &mut Solver,
+    states: &mut Vec<Literal>,
+    depth: u32,
+) -> Result<bool, AllocError>
+    requires few { depth ≤ 1000 }
+    requires fits { Fits (layout_of closure.now) depth }
+    requires through { IsThrough closure.now.formula closure.now.kind depth solver.old }
+    requires states { AreStatesBelow closure.now.formula closure.now.kind depth states.old.items }
+    ensures through { IsThrough closure.now.formula closure.now.kind depth solver.new }
+    ensures states { OnOk result (AreStatesBelow closure.now.formula closure.now.kind
+        (depth + 1) states.new.items) }
+    ensures answer { IfOk result (IsAcceptedAnswer closure.now.formula closure.now.kind depth solver.new) }
+{
+    let before = solver.log().view().lines();
+    assume(closure, states, depth)?;
+    let accepted = is_accepted(closure, solver, states, depth)?;
+    begin_anew(solver, before, states);
+    Ok(accepted)
+}
+
 /// Asks the two questions in their order, up to the first that settles the formula. The states that are
-/// assumed go on with that of the depth, and begin anew after a depth whose search is hard.
+/// assumed go on as with the first question alone.
 pub fn ask(
     closure: &Closure<'_>,
     solver: &mut Solver,
@@ -114,16 +160,13 @@ pub fn ask(
     ensures tells { IfOk result (Tells closure.now.formula closure.now.kind depth solver.new) }
 {
     let before = solver.log().view().lines();
-    let here = Layout::of(closure).positive(depth, Part::Here);
-    states.push(here)?;
+    assume(closure, states, depth)?;
     if is_accepted(closure, solver, states, depth)? {
         return Ok(Depth::Accepted);
     }
     if !is_unpruned(closure, solver, states, depth)? {
         return Ok(Depth::Pruned);
     }
-    if solver.log().view().lines() >= before.saturating_add(MANY) {
-        states.truncate(0);
-    }
+    begin_anew(solver, before, states);
     Ok(Depth::Open)
 }

@@ -9,12 +9,11 @@ ghost use Rattle.black_top.specs.Check.{IsChecked};
 ghost use Rattle.black_top.specs.Inner.{Shows};
 
 use crate::output::{Output, checked, refusal};
-use crate::parts::cut;
-use crate::reading::{Reading, read_formula};
 use cert_check::CheckRefused;
 use command_words::Options;
 use ltl_io::Gate;
 use ltl_syntax::{FormulaTable, Kind};
+use program_input::{Reading, cut, read_formula};
 use report::Fault;
 use std::alloc::{AllocError, Global};
 use std::thread::Threads;

@@ -11,11 +11,11 @@ ghost use Rattle.black_top.specs.Inner.{Shows};
 
 use super::solve::DEFAULT_DEPTH;
 use crate::output::{Output, refusal, summary};
-use crate::reading::{Reading, read_formula};
 use crate::ring::demo_text;
 use enc_layout::Layout;
 use ltl_closure::Closure;
 use ltl_syntax::{FormulaTable, Kind};
+use program_input::{Reading, read_formula};
 use report::{Shown, Summary};
 use std::alloc::{AllocError, Global};
 use unravel::Decision;

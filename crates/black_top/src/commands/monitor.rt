@@ -8,10 +8,9 @@ ghost use Rattle.black_top.specs.Monitor.{IsMonitored};
 ghost use Rattle.black_top.specs.Inner.{Shows};
 
 use crate::output::{Output, refusal, watched};
-use crate::parts::cut;
-use crate::reading::{Reading, read_formula};
 use ltl_syntax::FormulaTable;
 use past_monitor::WatchRefused;
+use program_input::{Reading, cut, read_formula};
 use report::Fault;
 use std::alloc::{AllocError, Global};
 

@@ -12,12 +12,11 @@ ghost use Rattle.black_top.specs.Inner.{Shows};
 
 use crate::Status;
 use crate::output::{Output, refusal};
-use crate::parts::cut;
-use crate::reading::{Reading, read_formula};
 use depast::{RemoveRefused, Removed, lift, remove};
 use lasso_eval::EvalRefused;
 use ltl_syntax::{FormulaTable, print};
 use ltl_word::{Trace, TraceFault};
+use program_input::{Reading, cut, read_formula};
 use report::Fault;
 use std::alloc::{AllocError, Global};
 

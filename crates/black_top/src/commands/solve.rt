@@ -14,7 +14,6 @@ ghost use Rattle.black_top.specs.Inner.{Shows};
 
 use super::conflict::shown_core;
 use crate::output::{Output, refusal, sat, undecided, unsat};
-use crate::reading::{Reading, read_formula};
 use clause_log::Log;
 use command_words::Options;
 use enc_layout::Layout;
@@ -22,6 +21,7 @@ use log_trim::trim;
 use ltl_closure::Closure;
 use ltl_io::Gate;
 use ltl_syntax::FormulaTable;
+use program_input::{Reading, read_formula};
 use report::Fault;
 use std::alloc::{AllocError, Global};
 use std::thread::Threads;

@@ -7,11 +7,10 @@ ghost use Rattle.black_top.specs.Trace.{IsJudged};
 ghost use Rattle.black_top.specs.Inner.{Shows};
 
 use crate::output::{Output, fails, holds, refusal};
-use crate::parts::cut;
-use crate::reading::{Reading, read_formula};
 use lasso_eval::EvalRefused;
 use ltl_syntax::FormulaTable;
 use ltl_word::{Trace, TraceFault};
+use program_input::{Reading, cut, read_formula};
 use report::Fault;
 use std::alloc::{AllocError, Global};
 

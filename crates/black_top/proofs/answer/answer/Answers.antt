@@ -5,7 +5,8 @@ use Rattle.black_top.specs.Answer.{refused}
 use Rattle.black_top.specs.Run.{not_taken}
 use Rattle.command_words.specs.Asked.{IsAsked}
 use Rattle.black_top.specs.Inner.{Gives}
-use Rattle.black_top.proofs.Leaving.{some_left, given_left, given_unread, stops, takes, takes_none, lost_before_fault, reads}
+use Rattle.program_input.proofs.Leaving.{some_left}
+use Rattle.black_top.proofs.Leaving.{given_left, given_unread, stops, takes, takes_none, lost_before_fault, reads}
 use Rattle.black_top.proofs.answer.answer.Goals as goal
 
 pub returns-in_default-clause-given : goal.returns-in_default-clause-given

@@ -1,9 +1,8 @@
-use Rattle.std.proofs.Common.{◌≡◌, ℕ, ◌+◌, ◌≤◌, ◌==◌, suc, Bool, true, false, List, [], ◌∷◌, length, take, refl, sym, ap, subst, ◌∙◌, arith}
-use Rattle.std.proofs.lemmas.Bool.{eq-eqb, ne_eqb}
-use mathlib.Core.Bool.{false≢true}
+use Rattle.std.proofs.Common.{ℕ, ◌+◌, ◌≤◌, List, length, take, ap, subst, arith}
 use Rattle.std.proofs.lemmas.List.{take_all, length-take-le}
 use Rattle.cert_text.specs.declared.scanning.Head.{Head}
 use Rattle.cert_text.specs.declared.scanning.Place.{Place}
+use Rattle.cert_text.proofs.Machine.{left_none, left_some}
 use Rattle.cert_text.proofs.Forming.{IsAt, at_start, at_range, at_lines, at_fault, at_byte, at_end, at_none}
 use Rattle.cert_text.proofs.Skips.{at_behind}
 use Rattle.cert_text.proofs.scanning.form.Goals as goal
@@ -33,14 +32,6 @@ bytes-preserved c =
 -- the loop has gone to the end
 all_read : (bytes left : List ℕ) (place : Place) (i : ℕ) → i ≤ length bytes → length bytes ≤ i → IsAt (take i bytes) left place → IsAt bytes left place
 all_read bytes left place i within end at = subst (λ w. IsAt w left place) (take_all i bytes end) at
-
--- nothing is left exactly where the length is 0
-left_none : (left : List ℕ) (b : Bool) → b ≡ (length left == 0) → b ≡ true → left ≡ []
-left_none [] b e f = refl
-left_none (x ∷ left) b e f = absurd (false≢true (sym (ne_eqb (suc (length left)) 0 (λ h. omega (arith, h))) ∙ sym e ∙ f))
-
-left_some : (left : List ℕ) (b : Bool) → b ≡ (length left == 0) → b ≡ false → left ≡ [] → ⊥
-left_some left b e f none = false≢true (sym f ∙ e ∙ eq-eqb (length left) 0 (ap length none))
 
 pub returns-then-not-is_empty : goal.returns-then-not-is_empty
 returns-then-not-is_empty c =

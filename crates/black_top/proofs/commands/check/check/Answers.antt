@@ -1,7 +1,8 @@
 use Rattle.ltl_syntax.specs.Table.{tree_at}
 use Rattle.report.specs.declared.fault.Fault.TheVariants as faults
 use Rattle.black_top.specs.Answer.{refused}
-use Rattle.black_top.specs.Reading.{IsParted, uncut, unread, accepted}
+use Rattle.black_top.specs.Reading.{IsParted}
+use Rattle.program_input.specs.Reading.{uncut, unread, accepted}
 use Rattle.black_top.specs.Check.{IsChecked}
 use Rattle.black_top.proofs.Showing.{shown, shown_as}
 use Rattle.black_top.proofs.commands.check.check.Goals as goal

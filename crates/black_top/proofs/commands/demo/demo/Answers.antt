@@ -1,6 +1,6 @@
 use Rattle.std.proofs.Common.{◌∙◌}
 use Rattle.ltl_syntax.specs.Table.{tree_at}
-use Rattle.black_top.proofs.OneText.{TextLaws}
+use Rattle.program_input.proofs.OneText.{TextLaws}
 use Rattle.black_top.proofs.RingFormula.{ring_accepted}
 use Rattle.black_top.proofs.Summing.{not_refused, reads_ring}
 use Rattle.black_top.proofs.commands.demo.demo.Goals as goal

@@ -2,8 +2,8 @@ use Rattle.std.proofs.Common.{arith}
 use Rattle.std.specs.Prelude.{option_map, option_copied, vec_items}
 use Rattle.enc_layout.specs.Clauses.{layout_of}
 use Rattle.ltl_word.specs.Trace.{IsTrace}
+use Rattle.report.specs.Texts.{ReadsBack}
 use Rattle.black_top.specs.Answer.{sat, undecided}
-use Rattle.black_top.specs.Reading.{ReadsBack}
 use Rattle.black_top.specs.Solve.{IsDecided, satisfiable, undecided_yet}
 use Rattle.black_top.proofs.Showing.{shown, shown_where}
 use Rattle.black_top.proofs.Certified.{unsat_shallow}

@@ -6,7 +6,7 @@ use Rattle.system_check.specs.System.{whole_of}
 use Rattle.system_check.specs.Joining.{IsJoined}
 use Rattle.ltl_word.specs.Trace.{IsTrace}
 use Rattle.system_check.proofs.AnswerLaws.{fails_on}
-use Rattle.black_top.specs.Reading.{ReadsBack}
+use Rattle.report.specs.Texts.{ReadsBack}
 use Rattle.black_top.specs.Answer.{no_path, paths_hold, path_fails, undecided}
 use Rattle.black_top.specs.System.{ProvesWhole, IsDecided, pathless, kept, broken, undecided_yet}
 use Rattle.black_top.proofs.SystemSettling.{shown_for, shown_for_where, shown_by, unproved, proved_so}

@@ -1,0 +1,100 @@
+// From the text of a formula to its answer, and from a certificate that was found to UNSAT: only what is judged
+// lawful is printed, whatever found it.
+ghost use Rattle.std.specs.Prelude.{◌≡◌, ◌<◌, true, false, length, IfOk, IfSome};
+ghost use Rattle.ltl_syntax.specs.Table.{tree_at};
+ghost use Rattle.black_refute.specs.Answer.{Answer};
+ghost use Rattle.black_refute.specs.Refuting.{IsFound, IsSettled};
+ghost use Rattle.black_refute.specs.Inner.{Shows};
+
+use crate::output::{Output, certified, refusal, unsat};
+use crate::turns::take_turns;
+use claim_check::{Certificate, Verdict, check};
+use claim_reading::never_lines;
+use claim_text::{TextRefused, read, write};
+use command_words::Options;
+use ltl_closure::Closure;
+use ltl_io::Sink;
+use ltl_syntax::FormulaTable;
+use program_input::{Reading, read_formula};
+use std::alloc::{AllocError, Global};
+
+/// The answer to the text of a formula. A text that is too long may be a front of the input.
+pub fn refute<N: Sink>(
+    alloc: Global,
+    options: Options,
+    text: &[u8],
+    notes: &mut N,
+) -> Result<Output, AllocError>
+    ensures settled { IfOk result (λ out. (a : Answer)
+        × IsSettled options.kind options.cert text.now a × Shows out a) }
+    ensures silent { options.progress ≡ false → notes.new ≡ notes.old }
+{
+    match read_formula(alloc, text)? {
+        Reading::Refused(fault) => refusal(alloc, fault),
+        Reading::Formula { table, root } => settle(alloc, &table, root, options, notes),
+    }
+}
+
+/// What the searches come to.
+fn settle<N: Sink>(
+    alloc: Global,
+    table: &FormulaTable,
+    root: u32,
+    options: Options,
+    notes: &mut N,
+) -> Result<Output, AllocError>
+    requires { root < length table.now.nodes }
+    ensures found { IfOk result (λ out. (a : Answer)
+        × IsFound options.kind options.cert (tree_at table.now root) a × Shows out a) }
+    ensures silent { options.progress ≡ false → notes.new ≡ notes.old }
+{
+    let closure = Closure::of(alloc, table, root, options.kind)?;
+    take_turns(alloc, &closure, options, notes)
+}
+
+/// UNSAT by a certificate, if it is lawful.
+pub fn refuted(
+    alloc: Global,
+    closure: &Closure<'_>,
+    cert: bool,
+    found: &Certificate,
+) -> Result<Option<Output>, AllocError>
+    ensures { IfOk result (λ shown. IfSome shown (λ out. (a : Answer)
+        × IsFound closure.now.kind cert closure.now.formula a × Shows out a)) }
+{
+    if cert {
+        return refuted_by_text(alloc, closure, found);
+    }
+    match check(alloc, closure, closure.kind(), found)? {
+        Verdict::Verified => {
+            let lines = never_lines(alloc, closure, found)?;
+            let output = unsat(alloc, &lines)?;
+            Ok(Some(output))
+        }
+        Verdict::Refused(_) => Ok(None),
+    }
+}
+
+/// The same by the certificate's text. What is judged is what the text is read as, as `--check` does it.
+fn refuted_by_text(
+    alloc: Global,
+    closure: &Closure<'_>,
+    found: &Certificate,
+) -> Result<Option<Output>, AllocError>
+    ensures { IfOk result (λ shown. IfSome shown (λ out. (a : Answer)
+        × IsFound closure.now.kind true closure.now.formula a × Shows out a)) }
+{
+    let text = write(alloc, found)?;
+    let again = match read(alloc, &text) {
+        Ok(again) => again,
+        Err(TextRefused::Form(_)) => return Ok(None),
+        Err(TextRefused::NoMemory) => return Err(AllocError),
+    };
+    match check(alloc, closure, closure.kind(), &again)? {
+        Verdict::Verified => {
+            let output = certified(alloc, &text)?;
+            Ok(Some(output))
+        }
+        Verdict::Refused(_) => Ok(None),
+    }
+}

@@ -1,0 +1,29 @@
+use Rattle.std.proofs.Common.{◌++◌, ◌∙◌, ap, arith, append_assoc, sym}
+use Rattle.claims.specs.Between.{width}
+use Rattle.claim_reading.specs.Stack.{works_text, works_size}
+use Rattle.claim_reading.proofs.Works.{works_text_push, works_size_push, are_works_split}
+use Rattle.claim_reading.proofs.printing.push_entry.Goals as goal
+
+pub step-requires-clause-work : goal.step-requires-clause-work
+step-requires-clause-work c =
+    (are_works_split (width c.args.closure.now.formula) c.pop.new.self.items c.in-Some.work (rw c.in-Some.ensures.items at c.loop-work.invariant.works)).1
+
+pub step-requires-clause-works : goal.step-requires-clause-works
+step-requires-clause-works c =
+    (are_works_split (width c.args.closure.now.formula) c.pop.new.self.items c.in-Some.work (rw c.in-Some.ensures.items at c.loop-work.invariant.works)).0
+
+pub loop-work-smaller : goal.loop-work-smaller
+loop-work-smaller c = omega (
+  arith,
+  c.in_ok-step.ensures.size,
+  ap (works_size c.args.closure.now.formula) c.in-Some.ensures.items ∙ works_size_push c.args.closure.now.formula c.pop.new.self.items c.in-Some.work,
+)
+
+pub loop-work-preserved : goal.loop-work-preserved
+loop-work-preserved c = record {
+  text = c.in_ok-step.ensures.text ∙ append_assoc c.loop-work.out.items _ _ ∙ ap (λ text. c.loop-work.out.items ++ text)
+      (sym (ap (works_text c.args.closure.now.formula) c.in-Some.ensures.items
+      ∙ works_text_push c.args.closure.now.formula c.pop.new.self.items c.in-Some.work))
+      ∙ c.loop-work.invariant.text;
+  works = c.in_ok-step.ensures.works;
+}

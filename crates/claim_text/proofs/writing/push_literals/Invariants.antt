@@ -1,7 +1,0 @@
-use Rattle.std.proofs.Common.{◌≡◌, ◌++◌, take}
-use Rattle.std.specs.List.{flat_map}
-use Rattle.cert_text.specs.Text.{literal_text}
-use Rattle.claim_text.proofs.writing.push_literals.Given as goal
-
-abbrev pub invariant-loop-literal : goal.invariant-loop-literal
-invariant-loop-literal l = l.out.items ≡ l.fn.out.items ++ flat_map literal_text (take l.literal-index l.literals)

@@ -1,0 +1,5 @@
+pub mod Parts
+pub mod Reading
+pub mod Taking
+pub mod Claims
+pub mod Inner

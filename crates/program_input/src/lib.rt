@@ -1,0 +1,8 @@
+//! The input of a program: its cut at a separator line, and the formula of its text.
+#![tactic(auto)]
+
+mod parts;
+mod reading;
+
+pub use parts::{Parts, cut};
+pub use reading::{MAX_TEXT, Reading, read_formula};

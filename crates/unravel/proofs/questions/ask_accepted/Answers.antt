@@ -1,0 +1,12 @@
+use Rattle.std.proofs.Common.{◌+◌, sym, subst}
+use Rattle.unravel.specs.Depths.{AreStatesBelow}
+use Rattle.unravel.proofs.Earlier.{still_below}
+use Rattle.unravel.proofs.questions.ask_accepted.Goals as goal
+
+pub returns-clause-states : goal.returns-clause-states
+returns-clause-states c =
+    let f = c.args.closure.now.formula in
+    let kind = c.args.closure.now.kind in
+    let n = c.args.depth + 1 in
+    let below = subst (AreStatesBelow f kind n) (sym c.in_ok-accepted.ensures.states) c.in_ok-assume.ensures.0 in
+    still_below f kind n c.is_accepted.new.states.items c.begin_anew.new.states.items below c.begin_anew.ensures
