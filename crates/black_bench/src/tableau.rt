@@ -3,7 +3,7 @@
 ghost use Rattle.std.specs.Prelude.{◌≤◌};
 
 use crate::status;
-use clause_log::LogView;
+use derivation::NamedLog;
 use enc_layout::Layout;
 use ltl_closure::Closure;
 use std::alloc::Global;
@@ -24,24 +24,24 @@ pub(crate) fn decide_formula(
     };
     let written = match decision {
         Decision::Sat { depth, .. } => println!(rt; "SAT {}", depth).is_ok(),
-        Decision::Unsat { depth, log, .. } => print_unsat(rt, depth, &log.view()),
+        Decision::Unsat { depth, log, .. } => print_unsat(rt, depth, &log),
         Decision::Undecided { depth } => println!(rt; "UNDECIDED {}", depth).is_ok(),
     };
     status(written)
 }
 
-fn print_unsat(rt: &HostRuntime, depth: u32, view: &LogView<'_>) -> bool {
+fn print_unsat(rt: &HostRuntime, depth: u32, log: &NamedLog) -> bool {
     let mut literals: u64 = 0;
     let mut hints: u64 = 0;
-    for index in 0..view.lines() {
-        literals = literals.saturating_add(view.literals(index + 1).len() as u64);
-        hints = hints.saturating_add(view.hints(index + 1).len() as u64);
+    for index in 0..log.lines() {
+        literals = literals.saturating_add(log.literals(index + 1).len() as u64);
+        hints = hints.saturating_add(log.hints(index + 1) as u64);
     }
     println!(rt;
         "UNSAT {} {} {} {} {}",
         depth,
-        view.inputs(),
-        view.lines(),
+        log.log().view().inputs(),
+        log.lines(),
         literals,
         hints
     )

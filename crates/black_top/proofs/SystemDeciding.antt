@@ -5,7 +5,7 @@ use Rattle.ltl_syntax.specs.declared.node.Kind.{Kind}
 use Rattle.ltl_syntax.specs.declared.node.Kind.TheVariants as kinds
 use Rattle.ltl_syntax.specs.Formula.{Formula}
 use Rattle.ltl_syntax.specs.Table.{tree_at}
-use Rattle.clause_log.specs.LogValue.{LogValue}
+use Rattle.derivation.specs.Steps.{DerivationValue}
 use Rattle.unravel.specs.Decision.{IsRefutation}
 use Rattle.system_check.specs.declared.joining.Joined.{Joined}
 use Rattle.system_check.specs.declared.deciding.SystemAnswer.TheVariants as answers
@@ -14,7 +14,7 @@ use Rattle.system_check.specs.Joining.{IsJoined}
 use Rattle.system_check.specs.Answer.{IsAnswer}
 use Rattle.black_top.proofs.Certified.{unsat_shallow}
 
-module _ (joined : Joined) (limit k : ℕ) (log : LogValue) (targets : Vec ℕ Global) (f g h : Formula) (is : IsJoined f g h joined) (kept : IsAnswer f g h limit (answers.Holds k log targets)) where
+module _ (joined : Joined) (limit k : ℕ) (log : DerivationValue) (targets : Vec ℕ Global) (f g h : Formula) (is : IsJoined f g h joined) (kept : IsAnswer f g h limit (answers.Holds k log targets)) where
   -- the depth of HOLDS is not above the limit
   pub kept_shallow : k ≤ limit
   kept_shallow = unsat_shallow (whole_of f g h) kinds.Infinite limit k kept.1

@@ -7,7 +7,7 @@ use Rattle.ltl_parser.specs.Text.{IsAccepted}
 use Rattle.ltl_word.specs.declared.trace.Trace.{Trace}
 use Rattle.ltl_closure.specs.Run.{IsVerdict, Sat, Unsat, Undecided, bound}
 use Rattle.enc_layout.specs.Letters.{Fits}
-use Rattle.clause_log.specs.LogValue.{LogValue, IsLog}
+use Rattle.derivation.specs.Steps.{DerivationValue}
 use Rattle.log_trim.specs.Kept.{Marks}
 use Rattle.log_trim.specs.Trimmed.{IsTrimmed}
 use Rattle.unravel.specs.Decision.{IsTraceOfRun, IsModel, HasNoTrace, IsRefutation}
@@ -42,11 +42,10 @@ IsReached None d = Unit {0}
 -- the text is written of a log that refutes the formula at this depth: its version is 2, it has just the lines that the targets of the log stand on, and
 -- each of them is deleted behind its last use
 pub record IsWritten (f : Formula) (kind : Kind) (k : ℕ) (text : List ℕ) : Type 0 where
-  pub log : LogValue
+  pub log : DerivationValue
   pub closing : List ℕ
-  pub steps : IsLog log
   pub refutes : IsRefutation f kind k log closing
-  pub needed : LogValue
+  pub needed : DerivationValue
   pub targets : List ℕ
   pub marks : Marks
   pub trimmed : IsTrimmed log closing needed targets marks

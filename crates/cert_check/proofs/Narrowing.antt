@@ -1,4 +1,4 @@
--- From a log whose targets close the tableau to a lawful certificate.
+-- From lines whose targets close the tableau to a lawful certificate.
 use Rattle.std.proofs.Common.{◌≡◌, ℕ, zero, suc, ◌+◌, ◌<◌, inl, inr, Some, refl, sym, ap, subst, ◌∙◌, arith, List, [], ◌∷◌, length, take, get_or, ltb, All, Contains}
 use Rattle.std.proofs.lemmas.List.{get_or_default}
 use Rattle.std.proofs.lemmas.Bool.{cases_lt, cond-true, cond-false, lt-ltb, le-ltb}
@@ -16,7 +16,7 @@ use Rattle.enc_layout.specs.Targets.{negative_of, IsTarget}
 use Rattle.cert_text.specs.Live.{live_line}
 use Rattle.cert_text.specs.Writing.{parts_from}
 use Rattle.cert_text.proofs.Written.{written_lines, written_good, target_is_live}
-use Rattle.cert_check.specs.Lawful.{LogsAreLawful}
+use Rattle.cert_check.specs.Lawful.{StepsAreLawful}
 
 numbered_within : (small : ℕ) (lines : List (List Signed)) → All (All (IsKnown small)) lines → (n : ℕ) (clause : List Signed) → numbered lines n ≡ Some clause → All (IsKnown small) clause
 numbered_within small lines all zero clause is = cc
@@ -39,8 +39,8 @@ module _ (clauses lines : List (List Signed)) (greatest small : ℕ) (all : All 
 target_there : (targets : List ℕ) (lines : List (List Signed)) (i : ℕ) (line : List Signed) → i < length targets → numbered lines (get_or targets i 0) ≡ Some line → Contains targets (get_or targets i 0)
 target_there targets lines i line low is = (i, low, get_or_default targets i (get_or targets i 0) 0 low)
 
-pub logs_are_lawful : LogsAreLawful
-logs_are_lawful f kind k log targets is inputs few known closed =
+pub steps_are_lawful : StepsAreLawful
+steps_are_lawful f kind k log targets is few known closed =
     let greatest = letters_through kind (counts f) k in
     let clauses = clause_list f kind k in
     let parts = parts_from log.hints targets 0 log.lines log.hints in
@@ -51,10 +51,9 @@ logs_are_lawful f kind k log targets is inputs few known closed =
       letters = few;
       lines = λ n low.
           let below : n < length log.lines = omega (arith, low, ap length (written_lines log.hints targets 0 log.lines log.hints is.paired)) in
-          let step : IsHintedStep clauses (take n log.lines) greatest_u32 (get_or log.lines n []) (get_or log.hints n []) = subst (λ c. IsHintedStep c (take n log.lines) greatest_u32 (get_or log.lines n []) (get_or log.hints n [])) inputs (is.steps n below) in
           written_good log.hints targets log.lines is.paired clauses greatest n below
           (step_narrow clauses (take n log.lines) greatest_u32 greatest (All-take (All (IsKnown greatest)) n log.lines known)
-          (get_or log.lines n []) (get_or log.hints n []) (All-get_or (All (IsKnown greatest)) log.lines n [] below known) step);
+          (get_or log.lines n []) (get_or log.hints n []) (All-get_or (All (IsKnown greatest)) log.lines n [] below known) (is.steps n below));
       targets = λ i low. elim (cases_lt k i) [
         | inl last ↦
             let at : suc k ≡ i = omega (arith, last, low) in

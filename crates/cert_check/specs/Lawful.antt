@@ -7,7 +7,7 @@ use Rattle.ltl_word.specs.Trace.{IsTrace, IsOfKind}
 use Rattle.ltl_word.specs.Holds.{Satisfies}
 use Rattle.cnf_base.specs.declared.literal.Literal.{Literal as Signed}
 use Rattle.cnf_base.specs.Known.{AreKnown}
-use Rattle.clause_log.specs.LogValue.{LogValue, IsLog}
+use Rattle.derivation.specs.Steps.{DerivationValue, AreSteps}
 use Rattle.enc_layout.specs.Letters.{Unpruned, Here, Accepted, letters_through}
 use Rattle.enc_layout.specs.Clauses.{counts, clause_list}
 use Rattle.enc_layout.specs.Targets.{negative_of, CloseTableau}
@@ -48,15 +48,15 @@ IsLawfulAt f kind k bytes = (c : Certificate) × IsTextOf bytes c × IsLawful f 
 abbrev pub LawfulHasNoTrace : Type 0
 LawfulHasNoTrace = (f : Formula) (kind : Kind) (bytes : List ℕ) (t : Trace) → CertOk f kind bytes → IsTrace t → IsOfKind t kind → ¬ Satisfies t f
 
--- a log over the clause list through k, with letters through k alone, whose targets close the tableau, gives a lawful certificate
-abbrev pub LogsAreLawful : Type 0
-LogsAreLawful = (f : Formula) (kind : Kind) (k : ℕ) (log : LogValue) (targets : List ℕ) → IsLog log → log.inputs ≡ clause_list f kind k
+-- lines that are steps over the clause list through k, with letters through k alone, whose targets close the tableau, give a lawful certificate
+abbrev pub StepsAreLawful : Type 0
+StepsAreLawful = (f : Formula) (kind : Kind) (k : ℕ) (log : DerivationValue) (targets : List ℕ) → AreSteps (clause_list f kind k) log
     → letters_through kind (counts f) k ≤ 16777216 → AreKnown (letters_through kind (counts f) k) log.lines → CloseTableau f kind k log.lines targets
     → IsLawful f kind (written kind k log.lines log.hints targets)
 
--- what is written of such a log is a lawful certificate of its depth, where the depth and the counts are within their limits
-abbrev pub LogsVerify : Type 0
-LogsVerify = (f : Formula) (kind : Kind) (k : ℕ) (log : LogValue) (targets : List ℕ) → IsLog log → log.inputs ≡ clause_list f kind k
+-- what is written of them is a lawful certificate of the depth, where this and the counts are within their limits
+abbrev pub StepsVerify : Type 0
+StepsVerify = (f : Formula) (kind : Kind) (k : ℕ) (log : DerivationValue) (targets : List ℕ) → AreSteps (clause_list f kind k) log
     → letters_through kind (counts f) k ≤ 16777216 → AreKnown (letters_through kind (counts f) k) log.lines → CloseTableau f kind k log.lines targets
-    → k ≤ 1000 → length log.inputs ≤ greatest_u64 → length log.lines ≤ greatest_u64
+    → k ≤ 1000 → length (clause_list f kind k) ≤ greatest_u64 → length log.lines ≤ greatest_u64
     → IsLawfulAt f kind k (text_of (written kind k log.lines log.hints targets))

@@ -1,15 +1,15 @@
 //! Laws of lawful certificates. Each function is empty: its contract is the law, and a proof cites it by a
 //! call.
 ghost use Rattle.cert_check.specs.Answer.{AnswersAreOne, AllGoodIsVerified, VerifiedHasNoTrace};
-ghost use Rattle.cert_check.specs.Lawful.{LawfulHasNoTrace, LogsAreLawful, LogsVerify};
+ghost use Rattle.cert_check.specs.Lawful.{LawfulHasNoTrace, StepsAreLawful, StepsVerify};
 ghost use Rattle.cert_check.specs.Trimmed.{TargetsAreLines, TrimmedCloses, TrimmedVerifies};
 
-/// No trace of the kind satisfies a formula that has a lawful certificate, and a log that closes the tableau
-/// gives one.
+/// No trace of the kind satisfies a formula that has a lawful certificate, and lines that close the tableau
+/// give one.
 pub fn certified()
     ensures trace { LawfulHasNoTrace }
-    ensures log { LogsAreLawful }
-    ensures verify { LogsVerify }
+    ensures steps { StepsAreLawful }
+    ensures verify { StepsVerify }
 {}
 
 /// The targets of a closed tableau are lines. The lines that they stand on close it too, and give a lawful

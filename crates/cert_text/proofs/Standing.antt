@@ -1,18 +1,13 @@
 -- Where the parts of a text stand.
-use Rattle.std.proofs.Common.{◌≡◌, ℕ, zero, suc, ◌+◌, ◌-◌, ◌<◌, ◌≤◌, ◌⊎◌, inl, inr, List, [], ◌∷◌, ◌++◌, length, take, get_or, slice_range, Contains, Some, refl, sym, ap, ◌∙◌, subst, arith, append_assoc, length-append}
+use Rattle.std.proofs.Common.{◌≡◌, ℕ, zero, suc, ◌+◌, ◌-◌, ◌<◌, List, [], ◌∷◌, ◌++◌, length, take, get_or, slice_range, refl, sym, ap, ◌∙◌, arith, append_assoc, length-append}
 use Rattle.std.specs.Prelude.{codes}
 use Rattle.std.specs.List.{flat_map}
 use Rattle.std.proofs.lemmas.Grind.{flat_map-append}
-use Rattle.std.proofs.lemmas.List.{take_at, drop_at, length-take}
-use Rattle.std.proofs.lemmas.Option.{slice_get_within}
-use Rattle.cnf_base.specs.declared.literal.Literal.{Literal}
-use Rattle.cnf_base.specs.declared.literal.Hint.{Hint}
-use Rattle.cnf_base.specs.declared.literal.Hint.TheVariants as hints
-use Rattle.cnf_base.specs.Step.{numbered, named, Names, Refutes, conflict, propagate}
+use Rattle.std.proofs.lemmas.List.{take_at, drop_at}
 use Rattle.cert_text.specs.Text.{Part, Line, Delete, header_text, close_text, part_text, literal_text, hint_text, target_text}
 use Rattle.cert_text.specs.Live.{lines_of, hints_of, parts_before, parts_behind}
 use Rattle.cert_text.specs.Reading.{line_start, literals_end, hints_end, targets_start}
-use Rattle.cert_text.specs.Laws.{HintsAreEarlier, LinesStand, TargetsStand}
+use Rattle.cert_text.specs.Laws.{LinesStand, TargetsStand}
 use Rattle.cert_text.proofs.Sound.{line_text}
 
 -- the parts, taken apart at line k + 1
@@ -64,31 +59,3 @@ targets_stand bytes c is =
     let three = length-append t (codes "\n") in
     ap (λ y. slice_range y (targets_start c) (length bytes - 1)) whole
     ∙ middle (h ++ a ++ codes "close") t (codes "\n") (targets_start c) (length bytes - 1) (omega (arith, one)) (omega (arith, one, two, three, ap length whole))
-
--- the lines that hints name
-named_low : (lines : List (List Literal)) (m : ℕ) (clause : List Literal) → numbered lines m ≡ Some clause → (1 ≤ m) × (m ≤ length lines)
-named_low lines zero clause is = cc
-named_low lines (suc m) clause is = (omega arith, omega (arith, slice_get_within lines m clause is))
-
--- the first hint, or a later one
-first_or : (h : Hint) (hs : List Hint) (m : ℕ) → Contains (h ∷ hs) (hints.Line m) → (h ≡ hints.Line m) ⊎ Contains hs (hints.Line m)
-first_or h hs m (zero, low, is) = inl is
-first_or h hs m (suc i, low, is) = inr (i, omega (arith, low), is)
-
-names_low : (clauses lines : List (List Literal)) (greatest : ℕ) (h : Hint) (clause : List Literal) (m : ℕ) → Names clauses lines greatest h clause → h ≡ hints.Line m → (1 ≤ m) × (m ≤ length lines)
-names_low clauses lines greatest h clause m names at = named_low lines m clause (subst (λ x. named clauses lines x ≡ Some clause) at names.is)
-
-named_earlier : (clauses lines : List (List Literal)) (greatest : ℕ) {falses : List Literal} {hs : List Hint} → Refutes clauses lines greatest falses hs → (m : ℕ) → Contains hs (hints.Line m) → (1 ≤ m) × (m ≤ length lines)
-named_earlier clauses lines greatest (conflict {hint = h} {clause = clause} names all) m there = elim (first_or h [] m there) [
-  | inl at ↦ names_low clauses lines greatest h clause m names at
-  | inr none ↦ absurd (omega (arith, none.1))
-]
-named_earlier clauses lines greatest (propagate {hint = h} {hints = more} {clause = clause} names unit rest) m there = elim (first_or h more m there) [
-  | inl at ↦ names_low clauses lines greatest h clause m names at
-  | inr later ↦ named_earlier clauses lines greatest rest m later
-]
-
-pub hints_are_earlier : HintsAreEarlier
-hints_are_earlier clauses lines greatest k clause hs m step there =
-    let low = named_earlier clauses (take k lines) greatest step.refutes m there in
-    (low.0, omega (arith, low.1, length-take k lines))

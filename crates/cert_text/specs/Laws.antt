@@ -102,11 +102,6 @@ abbrev pub EndedAmongAll : Type 0
 EndedAmongAll = (hss : List (List Hint)) (targets : List ℕ) (n count : ℕ) → ((j m : ℕ) → j < length hss → Contains (slice_index_or hss j []) (hints.Line m) → m ≤ suc j) → n ≤ count
     → filter (λ m. not (list_any (λ t. t == m) targets) && (last_use hss m == n)) (numbers_to count) ≡ ended_at hss targets n
 
--- the hints of a hinted step over the first k lines name lines from 1 to k
-abbrev pub HintsAreEarlier : Type 0
-HintsAreEarlier = (clauses lines : List (List Literal)) (greatest k : ℕ) (clause : List Literal) (hs : List Hint) (m : ℕ)
-    → IsHintedStep clauses (take k lines) greatest clause hs → Contains hs (hints.Line m) → (1 ≤ m) × (m ≤ k)
-
 -- where the parts of a text stand
 abbrev pub LinesStand : Type 0
 LinesStand = (bytes : List ℕ) (c : Certificate) (k : ℕ) → IsTextOf bytes c → k < length (lines_of c.parts)

@@ -1,7 +1,7 @@
 //! Laws of certificate texts. Each function is empty: its contract is the law, and a proof cites it by a
 //! call.
 ghost use Rattle.cert_text.specs.Worked.{WorkedTexts};
-ghost use Rattle.cert_text.specs.Laws.{TextsSayOne, TextsAreFound, FaultsAreOne, TextsHaveNone, OthersHaveOne, ScansRead, ScansBegin, ScansStop, ScansEnd, AllAreLive, GoodLinesAreLive, LiveToUser, LastUsersStand, GoodLinesFollow, LastUsesAreLast, EndedAscend, EndedAreOne, EndedAmongAll, HintsAreEarlier, LinesStand, TargetsStand, WrittenSays, WrittenIsText, WrittenIsGood, TargetsAreLive};
+ghost use Rattle.cert_text.specs.Laws.{TextsSayOne, TextsAreFound, FaultsAreOne, TextsHaveNone, OthersHaveOne, ScansRead, ScansBegin, ScansStop, ScansEnd, AllAreLive, GoodLinesAreLive, LiveToUser, LastUsersStand, GoodLinesFollow, LastUsesAreLast, EndedAscend, EndedAreOne, EndedAmongAll, LinesStand, TargetsStand, WrittenSays, WrittenIsText, WrittenIsGood, TargetsAreLive};
 
 /// A text says one thing. Bytes that are no text have one form fault, and a text has none.
 pub fn texts()
@@ -48,7 +48,6 @@ pub fn deleting()
     ensures ended { EndedAscend }
     ensures one { EndedAreOne }
     ensures among { EndedAmongAll }
-    ensures earlier { HintsAreEarlier }
 {}
 
 /// Where the parts of a text stand.

@@ -1,4 +1,4 @@
-// The text of the lines of a log, each deleted after its last use.
+// The text of the lines of a derivation, each deleted after its last use.
 ghost use Rattle.std.specs.Prelude.{◌≡◌, ℕ, ◌+◌, ◌<◌, ◌≤◌, [], ◌∷◌, ◌++◌, List, length, filter, slice_index_or, Contains, IfOk, OnOk, if◌then◌else◌};
 ghost use Rattle.std.specs.List.{flat_map};
 ghost use Rattle.cnf_base.specs.declared.literal.Hint.{Hint as SomeHint};
@@ -9,8 +9,8 @@ ghost use Rattle.cert_text.specs.Writing.{is_ended, named_lines, ended_at, delet
 
 use crate::printing::{push_close, push_delete, push_header, push_line};
 use crate::uses::last_uses;
-use clause_log::LogView;
 use cnf_base::Hint;
+use derivation::Derivation;
 use ltl_syntax::Kind;
 use std::alloc::{AllocError, Global};
 
@@ -91,32 +91,32 @@ fn ended(
     Ok(())
 }
 
-/// One line of the log, and the delete behind it. What is deleted is gathered in `found`.
+/// One line of the derivation, and the delete behind it. What is deleted is gathered in `found`.
 fn push_step(
-    view: &LogView<'_>,
+    derivation: &Derivation,
     last: &[u64],
     targets: &[u64],
     index: u64,
     found: &mut Vec<u64>,
     out: &mut Vec<u8>,
 ) -> Result<(), AllocError>
-    requires last { AreLast view.now.hints (length view.now.hints) last.now }
-    requires low { index < length view.now.lines }
+    requires last { AreLast derivation.now.hints (length derivation.now.hints) last.now }
+    requires low { index < length derivation.now.lines }
     ensures { OnOk result (out.new.items ≡ out.old.items
-        ++ (part_text (text.Line (slice_index_or view.now.lines index [])
-        (slice_index_or view.now.hints index [])) ++ flat_map part_text
-        (delete_of (ended_at view.now.hints targets.now (index + 1))))) }
+        ++ (part_text (text.Line (slice_index_or derivation.now.lines index [])
+        (slice_index_or derivation.now.hints index [])) ++ flat_map part_text
+        (delete_of (ended_at derivation.now.hints targets.now (index + 1))))) }
 {
-    view.is_log();
+    derivation.is_derivation();
     let line = index + 1;
-    let hints = view.hints(line);
-    push_line(view.literals(line), hints, out)?;
+    let hints = derivation.hints(line);
+    push_line(derivation.literals(line), hints, out)?;
     ended(hints, last, targets, line, found)?;
     push_delete(found, out)?;
     Ok(())
 }
 
-/// The certificate text, of version 2, of the log's lines and of the targets. Behind each line that is the
+/// The certificate text, of version 2, of the lines and of the targets. Behind each line that is the
 /// last use of some lines which are no targets stands one delete that names these, ascending. It is a text
 /// where the depth is at most 1,000, there are as many targets as the depth plus 2, each target is a number
 /// from 1, and each letter of a line is from 1 to 16,777,216.
@@ -124,19 +124,19 @@ pub fn write(
     alloc: Global,
     kind: Kind,
     depth: u32,
-    view: &LogView<'_>,
+    derivation: &Derivation,
     targets: &[u64],
 ) -> Result<Vec<u8>, AllocError>
     ensures { IfOk result (λ whole. whole.items ≡ text_of
-        (written kind depth view.now.lines view.now.hints targets.now)) }
+        (written kind depth derivation.now.lines derivation.now.hints targets.now)) }
 {
-    view.is_log();
-    let last = last_uses(alloc, view)?;
+    derivation.is_derivation();
+    let last = last_uses(alloc, derivation)?;
     let mut found = Vec::new(alloc);
     let mut out = Vec::new(alloc);
     push_header(kind, depth, &mut out)?;
-    for index in 0..view.lines() {
-        push_step(view, &last, targets, index, &mut found, &mut out)?;
+    for index in 0..derivation.lines() {
+        push_step(derivation, &last, targets, index, &mut found, &mut out)?;
     }
     push_close(targets, &mut out)?;
     Ok(out)

@@ -1,7 +1,11 @@
 // The text of a certificate in both directions.
+ghost use Rattle.std.specs.Prelude.{◌≡◌, length, IfOk};
+
 use crate::worked::{log_of_false, minus};
 use cert_text::{CertRefused, CertView, Hints, Item, Items, Literals, Targets, form, laws, write};
 use cnf_base::Hint;
+use derivation::NamedLog;
+use log_trim::trim;
 use ltl_syntax::Kind;
 use std::alloc::{AllocError, Global};
 use std::test::Fail;
@@ -123,12 +127,22 @@ fn tells_the_first_fault(rt: HostRuntime) -> Result<(), Fail> {
     Ok(())
 }
 
-#[test]
-fn writes_with_deletes(rt: HostRuntime) -> Result<(), Fail> {
-    let mut log = log_of_false(rt.alloc())?;
+/// These two lines.
+fn two_lines(alloc: Global) -> Result<NamedLog, AllocError>
+    ensures { IfOk result (λ log. length log.lines ≡ 2) }
+{
+    let mut log = log_of_false(alloc)?;
     log.derive(&[minus(2)], &[Hint::Clause(2), Hint::Clause(1)])?;
     log.derive(&[minus(2)], &[Hint::Line(1)])?;
-    let text = write(rt.alloc(), Kind::Infinite, 0, &log.view(), &[2, 2])?;
+    let names = vec![in alloc; 1, 2, 3]?;
+    Ok(NamedLog::of(log, names))
+}
+
+#[test]
+fn writes_with_deletes(rt: HostRuntime) -> Result<(), Fail> {
+    let log = two_lines(rt.alloc())?;
+    let (lines, targets) = trim(rt.alloc(), log, &[2, 2])?;
+    let text = write(rt.alloc(), Kind::Infinite, 0, &lines, &targets)?;
     assert!(rt; text.as_slice() == TWO_LINES);
     laws::writing();
     laws::deleting();

@@ -15,10 +15,11 @@ use Rattle.enc_layout.specs.Clauses.{Literal, Plus, Minus, Clause, letter_of, ga
 use Rattle.enc_layout.specs.Numbered.{IsInside}
 use Rattle.enc_layout.proofs.Standing.{entries_inside}
 use Rattle.enc_layout.proofs.ByIndex.{below_same, flat_map_below}
-use Rattle.step_encode.specs.ByNumber.{entry_gate, start_entry, next_entry, yesterday_entry}
+use Rattle.clause_index.specs.ByNumber.{entry_gate}
+use Rattle.clause_index.proofs.Gates.{gate_same}
 use Rattle.claims.specs.Between.{width, signed, step_clauses, step_list}
 use Rattle.claim_check.specs.declared.step_list.Piece.TheVariants as Pieces
-use Rattle.claim_check.specs.Pieces.{signed_by, rows, last_entry, part_of, root_clauses}
+use Rattle.claim_check.specs.Pieces.{signed_by, rows, start_entry, next_entry, yesterday_entry, last_entry, part_of, root_clauses}
 
 -- members that are left out say nothing
 flat_filter : {X Y : Type 0} (p : X → Bool) (h : X → List Y) (es : List X) → flat_map (λ e. if p e then h e else []) es ≡ flat_map h (filter p es)
@@ -51,56 +52,39 @@ module _ (names : List (List ℕ)) (f : Formula) (entries : List Entry) (are : A
       ap (λ n. G n (get_or entries k Is.True)) (sym (closure_placed f k (NConst false) lt)) ∙ same (get_or (closure f) k (NConst false)) (get_or entries k Is.True) (are.each k lt))
       ∙ sym (flat_map_below H (closure f) (NConst false)))
 
-  gate_same : (i : ℕ) (e : Norm) (x : Entry) → StandsFor names f e x → entry_gate i (place_in (closure f) e) x ≡ gate (letter_of f i) e
-  gate_same i (NConst true) x s = ap (entry_gate i (at (NConst true))) s
-  gate_same i (NConst false) x s = ap (entry_gate i (at (NConst false))) s
-  gate_same i (NLetter (Name bytes)) x s = ap (entry_gate i (at (NLetter (Name bytes)))) s.1
-  gate_same i (NLetter (Fresh n)) x s = ap (entry_gate i (at (NLetter (Fresh n)))) s
-  gate_same i (NNotLetter p) x s = ap (entry_gate i (at (NNotLetter p))) s
-  gate_same i (NAnd a b) x s = ap (entry_gate i (at (NAnd a b))) s
-  gate_same i (NOr a b) x s = ap (entry_gate i (at (NOr a b))) s
-  gate_same i (NNext a) x s = ap (entry_gate i (at (NNext a))) s
-  gate_same i (NWeakNext a) x s = ap (entry_gate i (at (NWeakNext a))) s
-  gate_same i (NYesterday a) x s = ap (entry_gate i (at (NYesterday a))) s
-  gate_same i (NWeakYesterday a) x s = ap (entry_gate i (at (NWeakYesterday a))) s
-  gate_same i (NUntil a b) x s = ap (entry_gate i (at (NUntil a b))) s
-  gate_same i (NRelease a b) x s = ap (entry_gate i (at (NRelease a b))) s
-  gate_same i (NSince a b) x s = ap (entry_gate i (at (NSince a b))) s
-  gate_same i (NTrigger a b) x s = ap (entry_gate i (at (NTrigger a b))) s
+  next_same : (e : Norm) (x : Entry) → StandsFor names f e x → next_entry (place_in (closure f) e) x ≡ where_true is_next (next_clauses f 0) e
+  next_same (NConst true) x s = ap (next_entry (at (NConst true))) s
+  next_same (NConst false) x s = ap (next_entry (at (NConst false))) s
+  next_same (NLetter (Name bytes)) x s = ap (next_entry (at (NLetter (Name bytes)))) s.1
+  next_same (NLetter (Fresh n)) x s = ap (next_entry (at (NLetter (Fresh n)))) s
+  next_same (NNotLetter p) x s = ap (next_entry (at (NNotLetter p))) s
+  next_same (NAnd a b) x s = ap (next_entry (at (NAnd a b))) s
+  next_same (NOr a b) x s = ap (next_entry (at (NOr a b))) s
+  next_same (NNext a) x s = ap (next_entry (at (NNext a))) s
+  next_same (NWeakNext a) x s = ap (next_entry (at (NWeakNext a))) s
+  next_same (NYesterday a) x s = ap (next_entry (at (NYesterday a))) s
+  next_same (NWeakYesterday a) x s = ap (next_entry (at (NWeakYesterday a))) s
+  next_same (NUntil a b) x s = ap (next_entry (at (NUntil a b))) s
+  next_same (NRelease a b) x s = ap (next_entry (at (NRelease a b))) s
+  next_same (NSince a b) x s = ap (next_entry (at (NSince a b))) s
+  next_same (NTrigger a b) x s = ap (next_entry (at (NTrigger a b))) s
 
-  next_same : (e : Norm) (x : Entry) → StandsFor names f e x → next_entry 1 (place_in (closure f) e) x ≡ where_true is_next (next_clauses f 0) e
-  next_same (NConst true) x s = ap (next_entry 1 (at (NConst true))) s
-  next_same (NConst false) x s = ap (next_entry 1 (at (NConst false))) s
-  next_same (NLetter (Name bytes)) x s = ap (next_entry 1 (at (NLetter (Name bytes)))) s.1
-  next_same (NLetter (Fresh n)) x s = ap (next_entry 1 (at (NLetter (Fresh n)))) s
-  next_same (NNotLetter p) x s = ap (next_entry 1 (at (NNotLetter p))) s
-  next_same (NAnd a b) x s = ap (next_entry 1 (at (NAnd a b))) s
-  next_same (NOr a b) x s = ap (next_entry 1 (at (NOr a b))) s
-  next_same (NNext a) x s = ap (next_entry 1 (at (NNext a))) s
-  next_same (NWeakNext a) x s = ap (next_entry 1 (at (NWeakNext a))) s
-  next_same (NYesterday a) x s = ap (next_entry 1 (at (NYesterday a))) s
-  next_same (NWeakYesterday a) x s = ap (next_entry 1 (at (NWeakYesterday a))) s
-  next_same (NUntil a b) x s = ap (next_entry 1 (at (NUntil a b))) s
-  next_same (NRelease a b) x s = ap (next_entry 1 (at (NRelease a b))) s
-  next_same (NSince a b) x s = ap (next_entry 1 (at (NSince a b))) s
-  next_same (NTrigger a b) x s = ap (next_entry 1 (at (NTrigger a b))) s
-
-  yesterday_same : (e : Norm) (x : Entry) → StandsFor names f e x → yesterday_entry 1 (place_in (closure f) e) x ≡ where_true is_yesterday (before_clauses f 0) e
-  yesterday_same (NConst true) x s = ap (yesterday_entry 1 (at (NConst true))) s
-  yesterday_same (NConst false) x s = ap (yesterday_entry 1 (at (NConst false))) s
-  yesterday_same (NLetter (Name bytes)) x s = ap (yesterday_entry 1 (at (NLetter (Name bytes)))) s.1
-  yesterday_same (NLetter (Fresh n)) x s = ap (yesterday_entry 1 (at (NLetter (Fresh n)))) s
-  yesterday_same (NNotLetter p) x s = ap (yesterday_entry 1 (at (NNotLetter p))) s
-  yesterday_same (NAnd a b) x s = ap (yesterday_entry 1 (at (NAnd a b))) s
-  yesterday_same (NOr a b) x s = ap (yesterday_entry 1 (at (NOr a b))) s
-  yesterday_same (NNext a) x s = ap (yesterday_entry 1 (at (NNext a))) s
-  yesterday_same (NWeakNext a) x s = ap (yesterday_entry 1 (at (NWeakNext a))) s
-  yesterday_same (NYesterday a) x s = ap (yesterday_entry 1 (at (NYesterday a))) s
-  yesterday_same (NWeakYesterday a) x s = ap (yesterday_entry 1 (at (NWeakYesterday a))) s
-  yesterday_same (NUntil a b) x s = ap (yesterday_entry 1 (at (NUntil a b))) s
-  yesterday_same (NRelease a b) x s = ap (yesterday_entry 1 (at (NRelease a b))) s
-  yesterday_same (NSince a b) x s = ap (yesterday_entry 1 (at (NSince a b))) s
-  yesterday_same (NTrigger a b) x s = ap (yesterday_entry 1 (at (NTrigger a b))) s
+  yesterday_same : (e : Norm) (x : Entry) → StandsFor names f e x → yesterday_entry (place_in (closure f) e) x ≡ where_true is_yesterday (before_clauses f 0) e
+  yesterday_same (NConst true) x s = ap (yesterday_entry (at (NConst true))) s
+  yesterday_same (NConst false) x s = ap (yesterday_entry (at (NConst false))) s
+  yesterday_same (NLetter (Name bytes)) x s = ap (yesterday_entry (at (NLetter (Name bytes)))) s.1
+  yesterday_same (NLetter (Fresh n)) x s = ap (yesterday_entry (at (NLetter (Fresh n)))) s
+  yesterday_same (NNotLetter p) x s = ap (yesterday_entry (at (NNotLetter p))) s
+  yesterday_same (NAnd a b) x s = ap (yesterday_entry (at (NAnd a b))) s
+  yesterday_same (NOr a b) x s = ap (yesterday_entry (at (NOr a b))) s
+  yesterday_same (NNext a) x s = ap (yesterday_entry (at (NNext a))) s
+  yesterday_same (NWeakNext a) x s = ap (yesterday_entry (at (NWeakNext a))) s
+  yesterday_same (NYesterday a) x s = ap (yesterday_entry (at (NYesterday a))) s
+  yesterday_same (NWeakYesterday a) x s = ap (yesterday_entry (at (NWeakYesterday a))) s
+  yesterday_same (NUntil a b) x s = ap (yesterday_entry (at (NUntil a b))) s
+  yesterday_same (NRelease a b) x s = ap (yesterday_entry (at (NRelease a b))) s
+  yesterday_same (NSince a b) x s = ap (yesterday_entry (at (NSince a b))) s
+  yesterday_same (NTrigger a b) x s = ap (yesterday_entry (at (NTrigger a b))) s
 
   start_same : (e : Norm) (x : Entry) → StandsFor names f e x → start_entry (place_in (closure f) e) x ≡ where_true is_yesterday (start f) e
   start_same (NConst true) x s = ap (start_entry (at (NConst true))) s
@@ -137,15 +121,15 @@ module _ (names : List (List ℕ)) (f : Formula) (entries : List Entry) (are : A
   last_same (NTrigger a b) x s = ap (last_entry (at (NTrigger a b))) s
 
   pub gates_here : part_of Pieces.Gate entries ≡ part_b f 0
-  gates_here = over (entry_gate 0) (gate (letter_of f 0)) (gate_same 0)
+  gates_here = over (entry_gate 0) (gate (letter_of f 0)) (gate_same names f entries are 0)
 
   pub gates_next : part_of Pieces.NextGate entries ≡ part_b f 1
-  gates_next = over (entry_gate 1) (gate (letter_of f 1)) (gate_same 1)
+  gates_next = over (entry_gate 1) (gate (letter_of f 1)) (gate_same names f entries are 1)
 
   pub links : part_of Pieces.Next entries ++ part_of Pieces.Yesterday entries ≡ part_c f 1
   links =
-      ap₂ ◌++◌ (over (next_entry 1) (where_true is_next (next_clauses f 0)) next_same ∙ flat_filter is_next (next_clauses f 0) (closure f))
-      (over (yesterday_entry 1) (where_true is_yesterday (before_clauses f 0)) yesterday_same ∙ flat_filter is_yesterday (before_clauses f 0) (closure f))
+      ap₂ ◌++◌ (over (next_entry) (where_true is_next (next_clauses f 0)) next_same ∙ flat_filter is_next (next_clauses f 0) (closure f))
+      (over (yesterday_entry) (where_true is_yesterday (before_clauses f 0)) yesterday_same ∙ flat_filter is_yesterday (before_clauses f 0) (closure f))
 
   pub firsts : root_clauses f ++ part_of Pieces.Start entries ≡ part_c f 0
   firsts = ap (λ z. root_clauses f ++ z) (over start_entry (where_true is_yesterday (start f)) start_same ∙ flat_filter is_yesterday (start f) (closure f))

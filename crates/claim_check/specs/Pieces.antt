@@ -7,7 +7,7 @@ use Rattle.ltl_closure.specs.declared.entry.Entry.{Entry}
 use Rattle.ltl_closure.specs.declared.entry.Entry.TheVariants as Is
 use Rattle.enc_layout.specs.Letters.{Here, Accepted, EntryAt, below}
 use Rattle.enc_layout.specs.Clauses.{Literal, Plus, Minus, Clause, letter_of}
-use Rattle.step_encode.specs.ByNumber.{entry_gate, start_entry, next_entry, yesterday_entry}
+use Rattle.clause_index.specs.ByNumber.{entry_gate}
 use Rattle.claims.specs.Between.{number_of}
 use Rattle.claim_check.specs.declared.step_list.Piece.{Piece}
 use Rattle.claim_check.specs.declared.step_list.Piece.TheVariants as Pieces
@@ -25,6 +25,22 @@ abbrev pub step_of : Bool → ℕ
 step_of false = 0
 step_of true = 1
 
+-- what entry number t is at a first state, where it is a yesterday request
+abbrev pub start_entry : ℕ → Entry → List Clause
+start_entry t (Is.Yesterday a false) = (Minus (Here 0) ∷ Minus (EntryAt 0 t) ∷ []) ∷ []
+start_entry t (Is.Yesterday a true) = (Minus (Here 0) ∷ Plus (EntryAt 0 t) ∷ []) ∷ []
+start_entry t x = []
+
+-- the link of entry number t, where it is a next request
+abbrev pub next_entry : ℕ → Entry → List Clause
+next_entry t (Is.Next a w) = (Minus (Here 1) ∷ Minus (EntryAt 0 t) ∷ Plus (EntryAt 1 a) ∷ []) ∷ (Minus (Here 1) ∷ Plus (EntryAt 0 t) ∷ Minus (EntryAt 1 a) ∷ []) ∷ []
+next_entry t x = []
+
+-- and where it is a yesterday request
+abbrev pub yesterday_entry : ℕ → Entry → List Clause
+yesterday_entry t (Is.Yesterday a w) = (Minus (Here 1) ∷ Minus (EntryAt 1 t) ∷ Plus (EntryAt 0 a) ∷ []) ∷ (Minus (Here 1) ∷ Plus (EntryAt 1 t) ∷ Minus (EntryAt 0 a) ∷ []) ∷ []
+yesterday_entry t x = []
+
 -- a last state has no strong next request
 abbrev pub last_entry : ℕ → Entry → List Clause
 last_entry t (Is.Next a false) = (Minus (Accepted 0) ∷ Minus (EntryAt 0 t) ∷ []) ∷ []
@@ -34,8 +50,8 @@ last_entry t x = []
 abbrev pub clauses_of : Piece → ℕ → Entry → List Clause
 clauses_of Pieces.Gate t x = entry_gate 0 t x
 clauses_of Pieces.NextGate t x = entry_gate 1 t x
-clauses_of Pieces.Next t x = next_entry 1 t x
-clauses_of Pieces.Yesterday t x = yesterday_entry 1 t x
+clauses_of Pieces.Next t x = next_entry t x
+clauses_of Pieces.Yesterday t x = yesterday_entry t x
 clauses_of Pieces.Start t x = start_entry t x
 clauses_of Pieces.Last t x = last_entry t x
 

@@ -1,15 +1,17 @@
 // The list of a step, written over the entries of a closure: the gates at the state and at the next one, the
 // links between them, what a first state has, and what a last one has. Each part is one walk over the entries.
+// The gates are those of the clause list, over other letters.
 ghost use Rattle.std.specs.Prelude.{◌≡◌, ◌+◌, ◌*◌, true, ◌≤◌, ◌++◌, length, All, OnOk};
 ghost use Rattle.ltl_closure.specs.Entries.{IsNumber};
 ghost use Rattle.enc_layout.specs.Letters.{EntryAt};
 ghost use Rattle.enc_layout.specs.Clauses.{Plus};
 ghost use Rattle.enc_layout.specs.Numbered.{IsInside};
-ghost use Rattle.step_encode.specs.Gates.{and_rows, strong_rows, link_rows};
-ghost use Rattle.step_encode.specs.ByNumber.{entry_gate};
+ghost use Rattle.clause_index.specs.Rows.{link_rows};
+ghost use Rattle.clause_index.specs.ByNumber.{entry_gate};
 ghost use Rattle.claims.specs.Between.{after, width, step_list};
 ghost use Rattle.claim_check.specs.Pieces.{signed_by, rows, step_of, clauses_of, part_of, root_clauses};
 
+use clause_index::{GateLiterals, operands_of};
 use cnf_base::{ClauseList, Letter, Literal};
 use ltl_closure::{Closure, Entry};
 use std::alloc::AllocError;
@@ -38,36 +40,6 @@ fn entry(next: bool, width: u32, number: u32) -> Literal
     }
 }
 
-/// The gate is: left and right. With opposites it is the gate of "or".
-fn push_and(
-    gate: Literal,
-    left: Literal,
-    right: Literal,
-    out: &mut ClauseList,
-) -> Result<(), AllocError>
-    ensures { OnOk result (out.new ≡ out.old ++ and_rows gate left right) }
-{
-    out.push(&[gate.opposite(), left])?;
-    out.push(&[gate.opposite(), right])?;
-    out.push(&[gate, left.opposite(), right.opposite()])
-}
-
-/// The gate is: right, or left and the request. With opposites it is: right, and left or the request.
-fn push_strong(
-    gate: Literal,
-    left: Literal,
-    right: Literal,
-    request: Literal,
-    out: &mut ClauseList,
-) -> Result<(), AllocError>
-    ensures { OnOk result (out.new ≡ out.old ++ strong_rows gate left right request) }
-{
-    out.push(&[gate, right.opposite()])?;
-    out.push(&[gate, left.opposite(), request.opposite()])?;
-    out.push(&[gate.opposite(), right, left])?;
-    out.push(&[gate.opposite(), right, request])
-}
-
 /// The gate of an entry. A letter and a request have none.
 fn push_gate(
     next: bool,
@@ -81,58 +53,14 @@ fn push_gate(
     requires inside { IsInside width of }
     ensures { OnOk result (out.new ≡ out.old ++ rows width (entry_gate (step_of next) number of)) }
 {
-    let gate = entry(next, width, number);
-    match of {
-        Entry::True => out.push(&[gate]),
-        Entry::False => out.push(&[gate.opposite()]),
-        Entry::NotLetter(letter) => {
-            let letter = entry(next, width, letter);
-            out.push(&[gate, letter])?;
-            out.push(&[gate.opposite(), letter.opposite()])
-        }
-        Entry::And(left, right) => {
-            let (left, right) = (entry(next, width, left), entry(next, width, right));
-            push_and(gate, left, right, out)
-        }
-        Entry::Or(left, right) => {
-            let (left, right) = (entry(next, width, left), entry(next, width, right));
-            push_and(gate.opposite(), left.opposite(), right.opposite(), out)
-        }
-        Entry::Until {
-            left,
-            right,
-            request,
-        }
-        | Entry::Since {
-            left,
-            right,
-            request,
-        } => {
-            let (left, right) = (entry(next, width, left), entry(next, width, right));
-            push_strong(gate, left, right, entry(next, width, request), out)
-        }
-        Entry::Release {
-            left,
-            right,
-            request,
-        }
-        | Entry::Trigger {
-            left,
-            right,
-            request,
-        } => {
-            let (left, right) = (entry(next, width, left), entry(next, width, right));
-            let request = entry(next, width, request);
-            push_strong(
-                gate.opposite(),
-                left.opposite(),
-                right.opposite(),
-                request.opposite(),
-                out,
-            )
-        }
-        Entry::Letter(_) | Entry::Fresh(_) | Entry::Next { .. } | Entry::Yesterday { .. } => Ok(()),
-    }
+    let operands = operands_of(number, of);
+    let literals = GateLiterals {
+        gate: entry(next, width, number),
+        left: entry(next, width, operands.left),
+        right: entry(next, width, operands.right),
+        request: entry(next, width, operands.request),
+    };
+    clause_index::push_gate(of, literals, out)
 }
 
 /// Where there is a next state, the request has the value of its argument.

@@ -76,7 +76,7 @@ walk_within entries k left index le is lt = elim (cases_lt k (length entries)) [
 ]
 
 module _ (names : List (List ℕ)) (f : Formula) (entries : List Entry) (are : AreEntries names f entries) where
-  gate_same : (i : ℕ) (e : Norm) (x : Entry) → StandsFor names f e x → entry_gate i (place_in (closure f) e) x ≡ gate (letter_of f i) e
+  pub gate_same : (i : ℕ) (e : Norm) (x : Entry) → StandsFor names f e x → entry_gate i (place_in (closure f) e) x ≡ gate (letter_of f i) e
   gate_same i (NConst true) x s = ap (entry_gate i (place_in (closure f) (NConst true))) s
   gate_same i (NConst false) x s = ap (entry_gate i (place_in (closure f) (NConst false))) s
   gate_same i (NLetter (Name bytes)) x s = ap (entry_gate i (place_in (closure f) (NLetter (Name bytes)))) s.1

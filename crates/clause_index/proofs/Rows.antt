@@ -48,7 +48,7 @@ module _ (kind : Kind) (c : Counts) where
   abbrev pub row : List Clause → ℕ → List Signed
   row cs n = get_or (clauses_in kind c cs) n []
 
-  long : (cs : List Clause) → length (clauses_in kind c cs) ≡ length cs
+  pub long : (cs : List Clause) → length (clauses_in kind c cs) ≡ length cs
   long cs = length-map cs (map (literal_in kind c))
 
   pub row_left : (xs ys : List Clause) (n : ℕ) → n < length xs → row (xs ++ ys) n ≡ row xs n

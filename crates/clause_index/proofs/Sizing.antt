@@ -1,5 +1,5 @@
 -- The parts of a step have as many clauses as their sizes say.
-use Rattle.std.proofs.Common.{◌≡◌, ℕ, zero, suc, ◌+◌, ◌-◌, ◌*◌, ◌/◌, ◌<◌, ◌≤◌, Bool, true, false, IsTrue, arith, sym, ◌∙◌, ap, refl, inl, inr, List, [], ◌∷◌, ◌++◌, length, get_or, flat_map, length-append, add-one}
+use Rattle.std.proofs.Common.{◌≡◌, ℕ, zero, suc, ◌+◌, ◌-◌, ◌*◌, ◌/◌, ◌<◌, ◌≤◌, Bool, true, false, IsTrue, arith, sym, ◌∙◌, ap, refl, inl, inr, List, [], ◌∷◌, ◌++◌, length, get_or, flat_map, length-append, append_assoc, add-one}
 use Rattle.std.specs.Prelude.{nat_lt, filter, if◌then◌else◌}
 use Rattle.std.proofs.lemmas.Bool.{lt-ltb, le-ltb, cases_lt}
 use Rattle.std.proofs.lemmas.List.{length-map}
@@ -11,11 +11,11 @@ use Rattle.ltl_closure.specs.Norm.{Norm, NConst, NLetter, NNotLetter, NAnd, NOr,
 use Rattle.ltl_closure.specs.Closure.{closure, nexts, yesterdays, eventualities, is_yesterday}
 use Rattle.ltl_closure.proofs.Lists.{Contains-from_filter}
 use Rattle.enc_layout.specs.Letters.{Meaning, Accepted, EmptyAt, LoopTo, Equal, Differs, Fulfilled, Seen, Unpruned, below}
-use Rattle.enc_layout.specs.Clauses.{Plus, Minus, letter_of, carried, part_a, part_b, gate, start, next_clauses, before_clauses, part_c, place_clauses, equal_clause, fulfilled_clauses, loop_clause, closing_clauses, pair_clauses, part_d, is_strong_next, part_e, seen_clauses, new_clauses, pruned_clause, part_f, step_clauses}
+use Rattle.enc_layout.specs.Clauses.{Plus, Minus, letter_of, carried, part_a, part_b, gate, start, next_clauses, before_clauses, part_c, place_clauses, equal_clause, fulfilled_clauses, loop_clause, closing_clauses, pair_clauses, part_d, is_strong_next, part_e, seen_clauses, new_clauses, pruned_clause, part_f, state_clauses, step_clauses}
 use Rattle.enc_layout.proofs.ByIndex.{flat_map_below}
 use Rattle.enc_layout.proofs.Counting.{length-carried}
 use Rattle.clause_index.specs.declared.sizes.Sizes.{Sizes}
-use Rattle.clause_index.specs.Counts.{sizes_of, chain_size, link_size, pair_size, near_size, pairs_size, accept_size, prune_size, step_size, before_step, fulfilled_size, closing_size}
+use Rattle.clause_index.specs.Counts.{sizes_of, chain_size, link_size, state_size, pair_size, near_size, pairs_size, accept_size, prune_size, step_size, before_step, fulfilled_size, closing_size}
 
 pub length-even : {X : Type 0} (s n : ℕ) (g : ℕ → List X) → ((k : ℕ) → k < n → length (g k) ≡ s) → length (below n g) ≡ n * s
 length-even s zero g h = omega arith
@@ -202,17 +202,29 @@ module _ (f : Formula) where
       omega arith
   length-f Kinds.Finite i = length-even 1 i (λ j. (Minus Unpruned ∷ Minus (Equal j i) ∷ []) ∷ []) (λ j lt. refl)
 
-  pub length-step : (kind : Kind) (i : ℕ) → length (step_clauses f kind i) ≡ step_size kind (sizes_of f kind) i
-  length-step kind i =
+  pub length-states : (kind : Kind) (i : ℕ) → length (state_clauses f i) ≡ state_size (sizes_of f kind) i
+  length-states kind i =
       let a = length-a i in
       let b = length-b i in
       let c = length-c kind i in
+      let ab = length-append (part_a i) (part_b f i ++ part_c f i) in
+      let bc = length-append (part_b f i) (part_c f i) in
+      omega arith
+
+  -- a step is its states and what comes behind them
+  pub step_states : (kind : Kind) (i : ℕ) → step_clauses f kind i ≡ state_clauses f i ++ (part_d f kind i ++ (part_e f kind i ++ part_f f kind i))
+  step_states kind i =
+      let late = part_d f kind i ++ (part_e f kind i ++ part_f f kind i) in
+      sym (append_assoc (part_a i) (part_b f i ++ part_c f i) late ∙ ap (λ z. part_a i ++ z) (append_assoc (part_b f i) (part_c f i) late))
+
+  length-step : (kind : Kind) (i : ℕ) → length (step_clauses f kind i) ≡ step_size kind (sizes_of f kind) i
+  length-step kind i =
+      let s = length-states kind i in
       let d = length-d kind i in
       let e = length-e kind i in
       let g = length-f kind i in
-      let ab = length-append (part_a i) (part_b f i ++ (part_c f i ++ (part_d f kind i ++ (part_e f kind i ++ part_f f kind i)))) in
-      let bc = length-append (part_b f i) (part_c f i ++ (part_d f kind i ++ (part_e f kind i ++ part_f f kind i))) in
-      let cd = length-append (part_c f i) (part_d f kind i ++ (part_e f kind i ++ part_f f kind i)) in
+      let all = ap length (step_states kind i) in
+      let sd = length-append (state_clauses f i) (part_d f kind i ++ (part_e f kind i ++ part_f f kind i)) in
       let de = length-append (part_d f kind i) (part_e f kind i ++ part_f f kind i) in
       let ef = length-append (part_e f kind i) (part_f f kind i) in
       omega arith

@@ -22,13 +22,31 @@ weak_by (Is.Next a w) = w
 weak_by (Is.Yesterday a w) = w
 weak_by x = false
 
--- the number of the right operand of an entry `a U b`, and of its request; of any other entry its own
+-- the numbers of an entry's operands and of its request; one that it does not have is its own
+abbrev pub left_by : ℕ → Entry → ℕ
+left_by t (Is.NotLetter p) = p
+left_by t (Is.And a b) = a
+left_by t (Is.Or a b) = a
+left_by t (Is.Until a b r) = a
+left_by t (Is.Since a b r) = a
+left_by t (Is.Release a b r) = a
+left_by t (Is.Trigger a b r) = a
+left_by t x = t
+
 abbrev pub right_by : ℕ → Entry → ℕ
+right_by t (Is.And a b) = b
+right_by t (Is.Or a b) = b
 right_by t (Is.Until a b r) = b
+right_by t (Is.Since a b r) = b
+right_by t (Is.Release a b r) = b
+right_by t (Is.Trigger a b r) = b
 right_by t x = t
 
 abbrev pub request_by : ℕ → Entry → ℕ
 request_by t (Is.Until a b r) = r
+request_by t (Is.Since a b r) = r
+request_by t (Is.Release a b r) = r
+request_by t (Is.Trigger a b r) = r
 request_by t x = t
 
 -- whether the normal form is a weak request

@@ -31,6 +31,10 @@ abbrev pub link_size : Sizes → ℕ → ℕ
 link_size s zero = 1 + s.yesterdays
 link_size s (suc j) = 2 * s.nexts + 2 * s.yesterdays
 
+-- all that a step says of its own state
+abbrev pub state_size : Sizes → ℕ → ℕ
+state_size s i = chain_size i + (s.gates + link_size s i)
+
 -- a pair of states, with others between them or with none
 abbrev pub pair_size : Kind → Sizes → ℕ
 pair_size Kinds.Infinite s = 4 * place_count s + 2 + 4 * s.eventualities
@@ -54,7 +58,7 @@ prune_size Kinds.Infinite s = 2 + 4 * s.eventualities
 prune_size Kinds.Finite s = 1
 
 abbrev pub step_size : Kind → Sizes → ℕ → ℕ
-step_size kind s i = chain_size i + (s.gates + (link_size s i + (pairs_size kind s i + (accept_size kind s + i * prune_size kind s))))
+step_size kind s i = state_size s i + pairs_size kind s i + accept_size kind s + i * prune_size kind s
 
 -- the steps before this one
 abbrev pub before_step : Kind → Sizes → ℕ → ℕ

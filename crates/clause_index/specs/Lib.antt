@@ -2,7 +2,9 @@ pub mod Runs
 pub mod Literals
 pub mod Counts
 pub mod Sections
+pub mod PairParts
 pub mod ByNumber
 pub mod Rows
 pub mod Samples
 pub mod Indexed
+pub mod Numbers

@@ -2,8 +2,11 @@
 use Rattle.std.specs.Prelude.{ℕ, List, [], ◌∷◌, slice_index_or}
 use Rattle.cnf_base.specs.declared.literal.Literal.{Literal}
 use Rattle.cnf_base.specs.Literal.{opposite}
+use Rattle.ltl_closure.specs.declared.entry.Entry.{Entry}
+use Rattle.ltl_closure.specs.declared.entry.Entry.TheVariants as Is
 use Rattle.enc_layout.specs.Letters.{LayoutValue}
 use Rattle.enc_layout.specs.Clauses.{Clause, clauses_in}
+use Rattle.clause_index.specs.declared.gate.GateLiterals.{GateLiterals}
 
 abbrev pub row_at : LayoutValue → List Clause → ℕ → List Literal
 row_at layout cs n = slice_index_or (clauses_in layout.kind layout.counts cs) n []
@@ -16,17 +19,25 @@ negation_rows g p = (g ∷ p ∷ []) ∷ (opposite g ∷ opposite p ∷ []) ∷ 
 abbrev pub and_rows : Literal → Literal → Literal → List (List Literal)
 and_rows g a b = (opposite g ∷ a ∷ []) ∷ (opposite g ∷ b ∷ []) ∷ (g ∷ opposite a ∷ opposite b ∷ []) ∷ []
 
--- g is: a or b
-abbrev pub or_rows : Literal → Literal → Literal → List (List Literal)
-or_rows g a b = (g ∷ opposite a ∷ []) ∷ (g ∷ opposite b ∷ []) ∷ (opposite g ∷ a ∷ b ∷ []) ∷ []
-
 -- g is: b, or a and r
 abbrev pub strong_rows : Literal → Literal → Literal → Literal → List (List Literal)
 strong_rows g a b r = (g ∷ opposite b ∷ []) ∷ (g ∷ opposite a ∷ opposite r ∷ []) ∷ (opposite g ∷ b ∷ a ∷ []) ∷ (opposite g ∷ b ∷ r ∷ []) ∷ []
 
--- g is: b, and a or r
-abbrev pub weak_rows : Literal → Literal → Literal → Literal → List (List Literal)
-weak_rows g a b r = (opposite g ∷ b ∷ []) ∷ (opposite g ∷ a ∷ r ∷ []) ∷ (g ∷ opposite b ∷ opposite a ∷ []) ∷ (g ∷ opposite b ∷ opposite r ∷ []) ∷ []
+-- the gate of an entry over its literal and those of its operands and its request
+abbrev pub gate_rows : Entry → GateLiterals → List (List Literal)
+gate_rows Is.True o = (o.gate ∷ []) ∷ []
+gate_rows Is.False o = (opposite o.gate ∷ []) ∷ []
+gate_rows (Is.Letter n) o = []
+gate_rows (Is.Fresh n) o = []
+gate_rows (Is.NotLetter p) o = negation_rows o.gate o.left
+gate_rows (Is.And a b) o = and_rows o.gate o.left o.right
+gate_rows (Is.Or a b) o = and_rows (opposite o.gate) (opposite o.left) (opposite o.right)
+gate_rows (Is.Until a b r) o = strong_rows o.gate o.left o.right o.request
+gate_rows (Is.Since a b r) o = strong_rows o.gate o.left o.right o.request
+gate_rows (Is.Release a b r) o = strong_rows (opposite o.gate) (opposite o.left) (opposite o.right) (opposite o.request)
+gate_rows (Is.Trigger a b r) o = strong_rows (opposite o.gate) (opposite o.left) (opposite o.right) (opposite o.request)
+gate_rows (Is.Next a w) o = []
+gate_rows (Is.Yesterday a w) o = []
 
 -- where the state is there, the request has the value of its argument
 abbrev pub link_rows : Literal → Literal → Literal → List (List Literal)

@@ -2,35 +2,29 @@
 use Rattle.std.specs.Prelude.{ℕ, ◌+◌, ◌*◌, List}
 use Rattle.ltl_syntax.specs.declared.node.Kind.{Kind}
 use Rattle.ltl_syntax.specs.Formula.{Formula}
-use Rattle.enc_layout.specs.Clauses.{Clause, part_a, part_b, part_c, part_d, part_e, part_f}
+use Rattle.enc_layout.specs.Clauses.{Clause, state_clauses, part_d, part_e, part_f}
 use Rattle.clause_index.specs.declared.sizes.Sizes.{Sizes}
 use Rattle.clause_index.specs.declared.place.Section.{Section}
 use Rattle.clause_index.specs.declared.place.Section.TheVariants as sections
-use Rattle.clause_index.specs.Counts.{chain_size, link_size, pairs_size, accept_size, prune_size}
+use Rattle.clause_index.specs.Counts.{state_size, pairs_size, accept_size, prune_size}
 
 -- the clauses of a section at step i
 abbrev pub section_clauses : Formula → Kind → ℕ → Section → List Clause
-section_clauses f kind i sections.Chain = part_a i
-section_clauses f kind i sections.Gates = part_b f i
-section_clauses f kind i sections.Links = part_c f i
+section_clauses f kind i sections.States = state_clauses f i
 section_clauses f kind i sections.Pairs = part_d f kind i
 section_clauses f kind i sections.Acceptance = part_e f kind i
 section_clauses f kind i sections.Pruning = part_f f kind i
 
 -- how many they are
 abbrev pub section_size : Kind → Sizes → ℕ → Section → ℕ
-section_size kind s i sections.Chain = chain_size i
-section_size kind s i sections.Gates = s.gates
-section_size kind s i sections.Links = link_size s i
+section_size kind s i sections.States = state_size s i
 section_size kind s i sections.Pairs = pairs_size kind s i
 section_size kind s i sections.Acceptance = accept_size kind s
 section_size kind s i sections.Pruning = i * prune_size kind s
 
 -- the clauses of the step before them
 abbrev pub before_section : Kind → Sizes → ℕ → Section → ℕ
-before_section kind s i sections.Chain = 0
-before_section kind s i sections.Gates = chain_size i
-before_section kind s i sections.Links = chain_size i + s.gates
-before_section kind s i sections.Pairs = chain_size i + s.gates + link_size s i
-before_section kind s i sections.Acceptance = chain_size i + s.gates + link_size s i + pairs_size kind s i
-before_section kind s i sections.Pruning = chain_size i + s.gates + link_size s i + pairs_size kind s i + accept_size kind s
+before_section kind s i sections.States = 0
+before_section kind s i sections.Pairs = state_size s i
+before_section kind s i sections.Acceptance = state_size s i + pairs_size kind s i
+before_section kind s i sections.Pruning = state_size s i + pairs_size kind s i + accept_size kind s

@@ -1,20 +1,23 @@
 // The gates of entries: an entry's letter is true exactly where its operator says so of the letters of its
 // operands and its request.
-ghost use Rattle.std.specs.Prelude.{◌≡◌, ◌+◌, ◌-◌, ◌<◌, ◌≤◌, [], length, slice_index_or};
+ghost use Rattle.std.specs.Prelude.{◌≡◌, ◌+◌, ◌-◌, ◌<◌, ◌≤◌, [], ◌++◌, length, slice_index_or, OnOk, OnErr};
 ghost use Rattle.ltl_closure.specs.Entries.{IsNumber, entry_at};
-ghost use Rattle.enc_layout.specs.Letters.{EntryAt, Fits};
-ghost use Rattle.enc_layout.specs.Clauses.{layout_of, strong_gate, weak_gate, part_b};
-ghost use Rattle.enc_layout.specs.Numbered.{IsInside};
+ghost use Rattle.enc_layout.specs.Letters.{Fits};
+ghost use Rattle.enc_layout.specs.Clauses.{layout_of, part_b};
+ghost use Rattle.enc_layout.specs.Numbered.{IsInside, Extends};
 ghost use Rattle.clause_index.specs.Literals.{literals};
-ghost use Rattle.clause_index.specs.Rows.{row_at, negation_rows, and_rows, or_rows, strong_rows, weak_rows};
+ghost use Rattle.clause_index.specs.Rows.{row_at, negation_rows, and_rows, strong_rows, gate_rows};
 ghost use Rattle.clause_index.specs.Samples.{AreSamples};
 ghost use Rattle.clause_index.specs.ByNumber.{entry_gate, gate_size, gates_before};
 
+use crate::appending::push;
 use crate::found::Found;
+use crate::operands::operands_of;
 use crate::samples::{Samples, sample_start};
-use cnf_base::Literal;
+use cnf_base::{ClauseList, Literal};
 use enc_layout::Layout;
 use ltl_closure::{Closure, Entry};
+use std::alloc::AllocError;
 
 #[tactic(auto, using(crate::proofs::Picks::last_of_two))]
 fn negation(gate: Literal, letter: Literal, index: u64) -> Found
@@ -27,6 +30,7 @@ fn negation(gate: Literal, letter: Literal, index: u64) -> Found
     Found::Two(gate.opposite(), letter.opposite())
 }
 
+/// The gate is: the left operand and the right one. With opposites it is that of "or".
 #[tactic(auto, using(crate::proofs::Picks::last_of_three))]
 fn conjunction(gate: Literal, left: Literal, right: Literal, index: u64) -> Found
     requires { index < 3 }
@@ -41,21 +45,8 @@ fn conjunction(gate: Literal, left: Literal, right: Literal, index: u64) -> Foun
     Found::Three(gate, left.opposite(), right.opposite())
 }
 
-#[tactic(auto, using(crate::proofs::Picks::last_of_three))]
-fn disjunction(gate: Literal, left: Literal, right: Literal, index: u64) -> Found
-    requires { index < 3 }
-    ensures { literals result ≡ slice_index_or (or_rows gate left right) index [] }
-{
-    if index == 0 {
-        return Found::Two(gate, left.opposite());
-    }
-    if index == 1 {
-        return Found::Two(gate, right.opposite());
-    }
-    Found::Three(gate.opposite(), left, right)
-}
-
-/// The gate is: the right operand, or the left one and the request.
+/// The gate is: the right operand, or the left one and the request. With opposites it is: the right operand,
+/// and the left one or the request.
 #[tactic(auto, using(crate::proofs::Picks::last_of_four))]
 fn strong(gate: Literal, left: Literal, right: Literal, request: Literal, index: u64) -> Found
     requires { index < 4 }
@@ -73,77 +64,60 @@ fn strong(gate: Literal, left: Literal, right: Literal, request: Literal, index:
     Found::Three(gate.opposite(), right, request)
 }
 
-/// The gate is: the right operand, and the left one or the request.
-#[tactic(auto, using(crate::proofs::Picks::last_of_four))]
-fn weak(gate: Literal, left: Literal, right: Literal, request: Literal, index: u64) -> Found
-    requires { index < 4 }
-    ensures { literals result ≡ slice_index_or (weak_rows gate left right request) index [] }
-{
-    if index == 0 {
-        return Found::Two(gate.opposite(), right);
-    }
-    if index == 1 {
-        return Found::Three(gate.opposite(), left, request);
-    }
-    if index == 2 {
-        return Found::Three(gate, right.opposite(), left.opposite());
-    }
-    Found::Three(gate, right.opposite(), request.opposite())
+/// The literals of an entry, of its operands and of its request. One that it does not have is its own.
+#[derive(Clone, Copy, Drop)]
+pub struct GateLiterals {
+    pub gate: Literal,
+    pub left: Literal,
+    pub right: Literal,
+    pub request: Literal,
 }
 
-/// The gate of an until or a since, over the entries of these numbers.
-fn strong_gate(
-    layout: &Layout,
-    step: u32,
-    number: u32,
-    left: u32,
-    right: u32,
-    request: u32,
-    index: u64,
-) -> Found
-    requires few { step ≤ 1000 }
-    requires fits { Fits layout.now step }
-    requires number { IsNumber layout.now.counts.entries number }
-    requires left { IsNumber layout.now.counts.entries left }
-    requires right { IsNumber layout.now.counts.entries right }
-    requires request { IsNumber layout.now.counts.entries request }
-    requires within { index < 4 }
-    ensures { literals result ≡ row_at layout.now (strong_gate (EntryAt step number) (EntryAt step left)
-        (EntryAt step right) (EntryAt step request)) index }
-{
-    let gate = layout.entry(step, number);
-    let (left, right) = (layout.entry(step, left), layout.entry(step, right));
-    strong(gate, left, right, layout.entry(step, request), index)
-}
-
-/// The gate of a release or a trigger, over the entries of these numbers.
-fn weak_gate(
-    layout: &Layout,
-    step: u32,
-    number: u32,
-    left: u32,
-    right: u32,
-    request: u32,
-    index: u64,
-) -> Found
-    requires few { step ≤ 1000 }
-    requires fits { Fits layout.now step }
-    requires number { IsNumber layout.now.counts.entries number }
-    requires left { IsNumber layout.now.counts.entries left }
-    requires right { IsNumber layout.now.counts.entries right }
-    requires request { IsNumber layout.now.counts.entries request }
-    requires within { index < 4 }
-    ensures { literals result ≡ row_at layout.now (weak_gate (EntryAt step number) (EntryAt step left)
-        (EntryAt step right) (EntryAt step request)) index }
-{
-    let gate = layout.entry(step, number);
-    let (left, right) = (layout.entry(step, left), layout.entry(step, right));
-    weak(gate, left, right, layout.entry(step, request), index)
-}
-
-/// A clause of the gate of an entry, by its index there.
+/// A clause of the gate of the entry over these literals, by its index there.
 #[tactic(auto, using(crate::proofs::Picks::only))]
-fn gate_clause(layout: &Layout, step: u32, number: u32, entry: Entry, index: u64) -> Found
+fn gate_clause(entry: Entry, of: GateLiterals, index: u64) -> Found
+    requires { index < gate_size entry }
+    ensures { literals result ≡ slice_index_or (gate_rows entry of) index [] }
+{
+    match entry {
+        Entry::True => Found::One(of.gate),
+        Entry::NotLetter(_) => negation(of.gate, of.left, index),
+        Entry::And(..) => conjunction(of.gate, of.left, of.right, index),
+        Entry::Or(..) => conjunction(
+            of.gate.opposite(),
+            of.left.opposite(),
+            of.right.opposite(),
+            index,
+        ),
+        Entry::Until { .. } | Entry::Since { .. } => {
+            strong(of.gate, of.left, of.right, of.request, index)
+        }
+        Entry::Release { .. } | Entry::Trigger { .. } => strong(
+            of.gate.opposite(),
+            of.left.opposite(),
+            of.right.opposite(),
+            of.request.opposite(),
+            index,
+        ),
+        // Letters and requests have no clauses.
+        _ => Found::One(of.gate.opposite()),
+    }
+}
+
+/// Puts the gate of the entry over these literals behind the clauses of the list, of which some may stay
+/// after want of memory.
+pub fn push_gate(entry: Entry, of: GateLiterals, list: &mut ClauseList) -> Result<(), AllocError>
+    ensures ok { OnOk result (list.new ≡ list.old ++ gate_rows entry of) }
+    ensures err { OnErr result (Extends list.old list.new) }
+{
+    'clauses: for index in 0..gate_size(entry) {
+        push(&gate_clause(entry, of, index), list)?;
+    }
+    Ok(())
+}
+
+/// A clause of the gate of the entry of a step, by its index there.
+fn gate_at(layout: &Layout, step: u32, number: u32, entry: Entry, index: u64) -> Found
     requires few { step ≤ 1000 }
     requires fits { Fits layout.now step }
     requires number { IsNumber layout.now.counts.entries number }
@@ -151,41 +125,14 @@ fn gate_clause(layout: &Layout, step: u32, number: u32, entry: Entry, index: u64
     requires within { index < gate_size entry }
     ensures { literals result ≡ row_at layout.now (entry_gate step number entry) index }
 {
-    let gate = layout.entry(step, number);
-    match entry {
-        Entry::True => Found::One(gate),
-        Entry::NotLetter(letter) => negation(gate, layout.entry(step, letter), index),
-        Entry::And(left, right) => {
-            let (left, right) = (layout.entry(step, left), layout.entry(step, right));
-            conjunction(gate, left, right, index)
-        }
-        Entry::Or(left, right) => {
-            let (left, right) = (layout.entry(step, left), layout.entry(step, right));
-            disjunction(gate, left, right, index)
-        }
-        Entry::Until {
-            left,
-            right,
-            request,
-        } => strong_gate(layout, step, number, left, right, request, index),
-        Entry::Since {
-            left,
-            right,
-            request,
-        } => strong_gate(layout, step, number, left, right, request, index),
-        Entry::Release {
-            left,
-            right,
-            request,
-        } => weak_gate(layout, step, number, left, right, request, index),
-        Entry::Trigger {
-            left,
-            right,
-            request,
-        } => weak_gate(layout, step, number, left, right, request, index),
-        // Letters and requests have no clauses.
-        _ => Found::One(gate.opposite()),
-    }
+    let of = operands_of(number, entry);
+    let literals = GateLiterals {
+        gate: layout.entry(step, number),
+        left: layout.entry(step, of.left),
+        right: layout.entry(step, of.right),
+        request: layout.entry(step, of.request),
+    };
+    gate_clause(entry, literals, index)
 }
 
 /// How many clauses the gate of an entry has.
@@ -260,7 +207,7 @@ pub fn gates(
     ensures { literals result ≡ row_at layout.now (part_b closure.now.formula step) index }
 {
     let spot = gate_spot(closure.entries(), samples, index);
-    gate_clause(
+    gate_at(
         layout,
         step,
         spot.number,

@@ -1,6 +1,6 @@
 // Clauses by their numbers. A number is taken apart into a step, a section of the step and an index in the
 // section, and the clause is made from these: nothing is stored but counts, and no memory is taken.
-ghost use Rattle.std.specs.Prelude.{◌≡◌, ◌+◌, ◌<◌, ◌≤◌, length};
+ghost use Rattle.std.specs.Prelude.{◌≡◌, ◌+◌, ◌<◌, ◌≤◌, ◌^◌, length};
 ghost use Rattle.cnf_base.specs.Step.{clause_at};
 ghost use Rattle.ltl_closure.specs.Closure.{nexts, eventualities};
 ghost use Rattle.enc_layout.specs.Letters.{Fits};
@@ -10,16 +10,18 @@ ghost use Rattle.clause_index.specs.Rows.{row_at};
 ghost use Rattle.clause_index.specs.Counts.{sizes_of};
 ghost use Rattle.clause_index.specs.Samples.{AreSamples};
 ghost use Rattle.clause_index.specs.Sections.{section_clauses};
+ghost use Rattle.clause_index.specs.PairParts.{IsPart, part_clauses};
+ghost use Rattle.clause_index.specs.Numbers.{AreNumbersOf};
 
 use crate::acceptance::acceptance;
 use crate::found::Found;
-use crate::gate::gates;
-use crate::link::{chain, links};
+use crate::numbers::{Numbers, PairPart, part_numbers, section_numbers};
 use crate::pair::pairs;
 use crate::place::{Place, Section, place_of};
 use crate::pruning::pruning;
 use crate::samples::Samples;
 use crate::sizes::Sizes;
+use crate::state::states;
 use cnf_base::{Clauses, Literal};
 use enc_layout::Layout;
 use ltl_closure::Closure;
@@ -72,9 +74,7 @@ fn find(
 {
     let (step, index) = (place.step, place.index);
     match place.section {
-        Section::Chain => chain(layout, step, index),
-        Section::Gates => gates(closure, layout, samples, step, index),
-        Section::Links => links(closure, layout, step, index),
+        Section::States => states(closure, layout, sizes, samples, step, index),
         Section::Pairs => pairs(closure, layout, sizes, step, index),
         Section::Acceptance => acceptance(closure, layout, step, index),
         Section::Pruning => pruning(closure, layout, step, index),
@@ -108,6 +108,28 @@ impl<'c> Indexed<'c> {
     {
         let place = place_of(self.sizes, self.depth, number - 1);
         find(self.closure, &self.layout, self.sizes, &self.samples, place)
+    }
+
+    /// The numbers of the clauses of a section of the step.
+    pub fn numbers(&self, step: u32, section: Section) -> Numbers
+        requires { step ≤ self.now.depth }
+        ensures clauses { AreNumbersOf self.now result
+            (section_clauses self.now.formula self.now.kind step section) }
+        ensures small { result.first + result.count < 2 ^ 60 }
+    {
+        section_numbers(self.sizes, step, section)
+    }
+
+    /// The numbers of the clauses of a part of the step's pair with an earlier one.
+    pub fn pair_numbers(&self, step: u32, earlier: u32, part: PairPart) -> Numbers
+        requires step { step ≤ self.now.depth }
+        requires earlier { earlier < step }
+        requires known { IsPart self.now.formula self.now.kind part }
+        ensures clauses { AreNumbersOf self.now result
+            (part_clauses self.now.formula self.now.kind step earlier part) }
+        ensures small { result.first + result.count < 2 ^ 60 }
+    {
+        part_numbers(self.sizes, step, earlier, part)
     }
 }
 

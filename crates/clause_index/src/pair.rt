@@ -151,7 +151,7 @@ fn fulfilled_clause(
 }
 
 /// How many clauses say of an eventuality whether it is fulfilled.
-fn fulfilled_size(step: u32, earlier: u32) -> u64
+pub fn fulfilled_size(step: u32, earlier: u32) -> u64
     requires few { step ≤ 1000 }
     requires earlier { earlier < step }
     ensures size { result ≡ fulfilled_size step earlier }

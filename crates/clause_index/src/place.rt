@@ -9,13 +9,9 @@ use crate::sizes::Sizes;
 /// The sections of a step's clauses, in their order.
 #[derive(Clone, Copy, PartialEq, Eq, Debug, Drop)]
 pub enum Section {
-    /// The state is there only where the one before it is.
-    Chain,
-    /// The gates of the entries.
-    Gates,
-    /// The requests, and at the first state the root.
-    Links,
-    /// The pairs of the step and an earlier one.
+    /// The state is there only where the one before it is, the gates of its entries, and its requests.
+    States,
+    /// The pairs that the step makes with the earlier ones.
     Pairs,
     /// By what rule a run is accepted.
     Acceptance,
@@ -44,32 +40,18 @@ fn spot_of(sizes: Sizes, step: u32, index: u64) -> Spot
     ensures place { before_section sizes.kind sizes step result.section + result.index ≡ index }
     ensures within { result.index < section_size sizes.kind sizes step result.section }
 {
-    let chain = sizes.chain(step);
-    if index < chain {
+    let states = sizes.states(step);
+    if index < states {
         return Spot {
-            section: Section::Chain,
+            section: Section::States,
             index,
         };
     }
-    let gates = chain + sizes.gates as u64;
-    if index < gates {
-        return Spot {
-            section: Section::Gates,
-            index: index - chain,
-        };
-    }
-    let links = gates + sizes.links(step);
-    if index < links {
-        return Spot {
-            section: Section::Links,
-            index: index - gates,
-        };
-    }
-    let pairs = links + sizes.pairs(step);
+    let pairs = states + sizes.pairs(step);
     if index < pairs {
         return Spot {
             section: Section::Pairs,
-            index: index - links,
+            index: index - states,
         };
     }
     let acceptance = pairs + sizes.acceptance();

@@ -4,8 +4,9 @@ ghost use Rattle.std.specs.Prelude.{◌≡◌, ◌<◌, length};
 ghost use Rattle.ltl_closure.specs.Closure.{nexts, yesterdays, eventualities};
 ghost use Rattle.ltl_closure.specs.Entries.{IsNumber};
 ghost use Rattle.enc_layout.specs.Clauses.{carried};
-ghost use Rattle.clause_index.specs.ByNumber.{entry_count, argument_by, weak_by, right_by, request_by, number_at, argument_at, right_number, request_number, weak_at};
+ghost use Rattle.clause_index.specs.ByNumber.{entry_count, argument_by, weak_by, number_at, argument_at, right_number, request_number, weak_at};
 
+use crate::operands::operands_of;
 use ltl_closure::{Closure, Entry};
 
 /// A request's own number and that of its argument.
@@ -38,19 +39,6 @@ fn request_of(number: u32, entry: Entry) -> Request
             number,
             argument: number,
             weak: false,
-        },
-    }
-}
-
-fn eventuality_of(number: u32, entry: Entry) -> Eventuality
-    ensures right { result.right ≡ right_by number entry }
-    ensures request { result.request ≡ request_by number entry }
-{
-    match entry {
-        Entry::Until { right, request, .. } => Eventuality { right, request },
-        _ => Eventuality {
-            right: number,
-            request: number,
         },
     }
 }
@@ -105,5 +93,9 @@ pub fn eventuality_at(closure: &Closure<'_>, index: usize) -> Eventuality
     ensures request_known { IsNumber (entry_count closure.now.formula) result.request }
 {
     let number = closure.eventualities()[index];
-    eventuality_of(number, closure.entry(number))
+    let of = operands_of(number, closure.entry(number));
+    Eventuality {
+        right: of.right,
+        request: of.request,
+    }
 }

@@ -2,7 +2,7 @@
 // where it stands.
 ghost use Rattle.std.specs.Prelude.{◌≡◌, length, ◌-◌, ◌*◌, ◌/◌, ◌<◌, ◌≤◌, ◌^◌};
 ghost use Rattle.ltl_closure.specs.Closure.{nexts, eventualities};
-ghost use Rattle.clause_index.specs.Counts.{sizes_of, chain_size, link_size, place_count, pair_size, near_size, pairs_size, accept_size, prune_size, before_step};
+ghost use Rattle.clause_index.specs.Counts.{sizes_of, chain_size, link_size, state_size, place_count, pair_size, near_size, pairs_size, accept_size, prune_size, before_step};
 
 use crate::acceptance::strong_count;
 use crate::gate::gates_count;
@@ -54,6 +54,14 @@ impl Sizes {
         } else {
             2 * self.nexts as u64 + 2 * self.yesterdays as u64
         }
+    }
+
+    /// The clauses of a step's own state.
+    pub fn states(self, step: u32) -> u64
+        ensures size { result ≡ state_size self step }
+        ensures small { result < 2 ^ 36 }
+    {
+        self.chain(step) + (self.gates as u64 + self.links(step))
     }
 
     /// The places of a carry.

@@ -1,18 +1,19 @@
--- The marked lines of a log are a log.
+-- The marked lines of a derivation are one.
 use Rattle.std.proofs.Common.{◌≡◌, ℕ, zero, suc, ◌<◌, ◌≤◌, inl, inr, Bool, true, false, IsTrue, IsFalse, List, [], ◌∷◌, ◌++◌, length, take, map, get_or, Some, Contains, refl, sym, ap, ap₂, subst, ◌∙◌, arith, length-append}
 use Rattle.std.proofs.lemmas.Bool.{cases_lt}
-use Rattle.std.proofs.lemmas.List.{map-append, length-take-le, get_or-take, get_or-map, get_or_append_left, get_or_at}
+use Rattle.std.proofs.lemmas.List.{map-append, get_or-map, get_or_append_left, get_or_at}
 use Rattle.std.proofs.lemmas.Option.{slice_get_within, get_or_from_slice_get}
 use Rattle.cnf_base.specs.declared.literal.Literal.{Literal}
 use Rattle.cnf_base.specs.declared.literal.Hint.{Hint}
 use Rattle.cnf_base.specs.declared.literal.Hint.TheVariants.{Clause, Line}
 use Rattle.cnf_base.specs.Step.{numbered, IsHintedStep}
-use Rattle.clause_log.specs.LogValue.{LogValue, IsLog, greatest_u32, with_line}
-use Rattle.clause_log.proofs.LogLemmas.{log_with_line}
+use Rattle.clause_log.specs.LogValue.{greatest_u32}
+use Rattle.derivation.specs.Steps.{DerivationValue, AreSteps, IsDerivation, lines_by, with_step}
+use Rattle.derivation.proofs.Renaming.{IsCarried, step_renamed}
+use Rattle.derivation.proofs.Lines.{named_line, hint_earlier as earlier, step_added}
 use Rattle.log_trim.specs.Kept.{Marks, kept, new_number, renumbered, trimmed_to, trimmed, new_numbers, HasHint, IsClosed, AreNumbers}
 use Rattle.log_trim.specs.Marking.{HasTargets}
 use Rattle.log_trim.proofs.Keeping.{kept_yes, kept_no, kept_all, kept_at}
-use Rattle.log_trim.proofs.Renaming.{IsCarried, step_renamed, hint_names}
 
 -- the new number of a marked line is one more than there are marked lines before it
 pub number_is : (M : Marks) (lines : List (List Literal)) (j : ℕ) → j < length lines → IsTrue (M (suc j)) → new_number M lines (suc j) ≡ suc (length (kept M (take j lines)))
@@ -23,23 +24,13 @@ pub numbered_kept : (M : Marks) (lines : List (List Literal)) (k j : ℕ) → Is
 numbered_kept M lines k j marked lt le =
     subst (λ n. numbered (kept M (take k lines)) n ≡ Some (get_or lines j [])) (sym (number_is M lines j (omega arith) marked)) (kept_at M lines k j [] marked lt le)
 
--- a line that is named among the first k lines
-named_line : (lines : List (List Literal)) (k m : ℕ) (clause : List Literal) → k ≤ length lines → numbered (take k lines) m ≡ Some clause → (j : ℕ) × (m ≡ suc j) × (j < k) × (get_or lines j [] ≡ clause)
-named_line lines k zero clause le e = absurd (cc)
-named_line lines k (suc j) clause le e =
-    let inside : j < length (take k lines) = slice_get_within (take k lines) j clause e in
-    let lt : j < k = omega (arith, length-take-le k lines le) in
-    (j, refl, lt, sym (get_or-take k lines j [] lt) ∙ get_or_from_slice_get (take k lines) j clause [] e)
+-- a hint that names a line names an earlier one
+pub hint_earlier : (log : DerivationValue) → IsDerivation log → (k m : ℕ) → k < length log.lines → HasHint log k m → (0 < m) × (m ≤ k)
+hint_earlier log (list, are) k m lt c = earlier list log are k m lt c
 
-module _ (log : LogValue) (M : Marks) (is : IsLog log) where
-  pub hint_earlier : (k m : ℕ) → k < length log.lines → HasHint log k m → (0 < m) × (m ≤ k)
-  hint_earlier k m lt c =
-      let w = hint_names log.inputs (take k log.lines) greatest_u32 (get_or log.lines k []) (get_or log.hints k []) (Line m) (is.steps k lt).refutes c in
-      let l = named_line log.lines k m w.0 (omega arith) w.1 in
-      (omega (arith, l.1), omega (arith, l.1, l.2))
-
-  module _ (closed : IsClosed log M) where
-    carried : (k : ℕ) → k < length log.lines → IsTrue (M (suc k)) → (hint : Hint) → Contains (get_or log.hints k []) hint → IsCarried log.inputs (take k log.lines) (kept M (take k log.lines)) greatest_u32 (renumbered M log.lines) hint
+module _ (log : DerivationValue) (M : Marks) where
+  module _ (list : List (List Literal)) (are : AreSteps list log) (closed : IsClosed log M) where
+    carried : (k : ℕ) → k < length log.lines → IsTrue (M (suc k)) → (hint : Hint) → Contains (get_or log.hints k []) hint → IsCarried list (take k log.lines) list (kept M (take k log.lines)) greatest_u32 (renumbered M log.lines) hint
     carried k lt marked (Clause n) c = record { clause = λ clause e. e; line = λ m e. absurd (cc) }
     carried k lt marked (Line m) c = record {
       clause = λ clause e.
@@ -50,40 +41,35 @@ module _ (log : LogValue) (M : Marks) (is : IsLog log) where
       line = λ n e. (m, refl);
     }
 
-    pub may : (k : ℕ) → k < length log.lines → IsTrue (M (suc k)) → IsHintedStep log.inputs (kept M (take k log.lines)) greatest_u32 (get_or log.lines k []) (map (renumbered M log.lines) (get_or log.hints k []))
-    may k lt marked = step_renamed log.inputs (take k log.lines) (kept M (take k log.lines)) greatest_u32 (renumbered M log.lines) (get_or log.lines k []) (get_or log.hints k []) (carried k lt marked) (is.steps k lt)
+    pub may : (k : ℕ) → k < length log.lines → IsTrue (M (suc k)) → IsHintedStep list (kept M (take k log.lines)) greatest_u32 (get_or log.lines k []) (map (renumbered M log.lines) (get_or log.hints k []))
+    may k lt marked = step_renamed list (take k log.lines) list (kept M (take k log.lines)) greatest_u32 (renumbered M log.lines) (get_or log.lines k []) (get_or log.hints k []) (carried k lt marked) (are.steps k lt)
 
-  -- a log with these lines and hints
-  abbrev with : List (List Literal) → List (List Hint) → LogValue
-  with lines hints = record { inputs = log.inputs; lines = lines; hints = hints }
+  module _ (paired : length log.hints ≡ length log.lines) where
+    pub goes_on : (k : ℕ) → k < length log.lines → IsTrue (M (suc k)) → with_step (trimmed_to M log k) (get_or log.lines k []) (map (renumbered M log.lines) (get_or log.hints k [])) ≡ trimmed_to M log (suc k)
+    goes_on k lt marked =
+        ap₂ lines_by (sym (kept_yes M log.lines k [] lt marked))
+        (sym (ap (map (map (renumbered M log.lines))) (kept_yes M log.hints k [] (omega arith) marked) ∙ map-append (map (renumbered M log.lines)) (kept M (take k log.hints)) (get_or log.hints k [] ∷ [])))
 
-  pub goes_on : (k : ℕ) → k < length log.lines → IsTrue (M (suc k)) → with_line (trimmed_to M log k) (get_or log.lines k []) (map (renumbered M log.lines) (get_or log.hints k [])) ≡ trimmed_to M log (suc k)
-  goes_on k lt marked =
-      let there : k < length log.hints = omega (arith, is.paired) in
-      ap₂ with (sym (kept_yes M log.lines k [] lt marked))
-      (sym (ap (map (map (renumbered M log.lines))) (kept_yes M log.hints k [] there marked) ∙ map-append (map (renumbered M log.lines)) (kept M (take k log.hints)) (get_or log.hints k [] ∷ [])))
+    pub skips : (k : ℕ) → k < length log.lines → IsFalse (M (suc k)) → trimmed_to M log k ≡ trimmed_to M log (suc k)
+    skips k lt unmarked =
+        ap₂ lines_by (sym (kept_no M log.lines k [] lt unmarked)) (sym (ap (map (map (renumbered M log.lines))) (kept_no M log.hints k [] (omega arith) unmarked)))
 
-  pub skips : (k : ℕ) → k < length log.lines → IsFalse (M (suc k)) → trimmed_to M log k ≡ trimmed_to M log (suc k)
-  skips k lt unmarked =
-      let there : k < length log.hints = omega (arith, is.paired) in
-      ap₂ with (sym (kept_no M log.lines k [] lt unmarked)) (sym (ap (map (map (renumbered M log.lines))) (kept_no M log.hints k [] there unmarked)))
+    pub ends : trimmed_to M log (length log.lines) ≡ trimmed M log
+    ends = ap₂ lines_by (kept_all M log.lines) (ap (λ n. map (map (renumbered M log.lines)) (kept M (take n log.hints))) (sym paired) ∙ ap (map (map (renumbered M log.lines))) (kept_all M log.hints))
 
-  pub ends : trimmed_to M log (length log.lines) ≡ trimmed M log
-  ends = ap₂ with (kept_all M log.lines) (ap (λ n. map (map (renumbered M log.lines)) (kept M (take n log.hints))) (sym is.paired) ∙ ap (map (map (renumbered M log.lines))) (kept_all M log.hints))
-
-  module _ (closed : IsClosed log M) where
-    first_is_log : (k : ℕ) → k ≤ length log.lines → IsLog (trimmed_to M log k)
-    first_is_log zero le = record { paired = refl; steps = λ k lt. absurd (omega arith) }
-    first_is_log (suc k) le = go (M (suc k)) refl (first_is_log k (omega arith))
+  module _ (list : List (List Literal)) (are : AreSteps list log) (closed : IsClosed log M) where
+    first_steps : (k : ℕ) → k ≤ length log.lines → AreSteps list (trimmed_to M log k)
+    first_steps zero le = record { paired = refl; steps = λ k lt. absurd (omega arith) }
+    first_steps (suc k) le = go (M (suc k)) refl (first_steps k (omega arith))
       where
-        go : (b : Bool) → M (suc k) ≡ b → IsLog (trimmed_to M log k) → IsLog (trimmed_to M log (suc k))
+        go : (b : Bool) → M (suc k) ≡ b → AreSteps list (trimmed_to M log k) → AreSteps list (trimmed_to M log (suc k))
         go true marked before =
-            subst IsLog (goes_on k (omega arith) marked)
-            (log_with_line (trimmed_to M log k) (get_or log.lines k []) (map (renumbered M log.lines) (get_or log.hints k [])) before (may closed k (omega arith) marked))
-        go false unmarked before = subst IsLog (skips k (omega arith) unmarked) before
+            subst (AreSteps list) (goes_on are.paired k (omega arith) marked)
+            (step_added list (trimmed_to M log k) (get_or log.lines k []) (map (renumbered M log.lines) (get_or log.hints k [])) before (may list are closed k (omega arith) marked))
+        go false unmarked before = subst (AreSteps list) (skips are.paired k (omega arith) unmarked) before
 
-    pub trimmed_log : IsLog (trimmed M log)
-    trimmed_log = subst IsLog ends (first_is_log (length log.lines) (omega arith))
+    pub trimmed_steps : AreSteps list (trimmed M log)
+    trimmed_steps = subst (AreSteps list) (ends are.paired) (first_steps (length log.lines) (omega arith))
 
 -- a marked line keeps its literals
 pub line_kept : (M : Marks) (lines : List (List Literal)) (n : ℕ) (line : List Literal) → IsTrue (M n) → numbered lines n ≡ Some line → numbered (kept M lines) (new_number M lines n) ≡ Some line

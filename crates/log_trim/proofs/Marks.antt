@@ -5,11 +5,11 @@ use Rattle.std.proofs.Math.Seq.{take-length}
 use Rattle.std.proofs.lemmas.List.{get_or-set_same, get_or-set_other, get_or_past, get_or-take, length-take, length-take-le}
 use Rattle.cnf_base.specs.declared.literal.Hint.{Hint}
 use Rattle.cnf_base.specs.declared.literal.Hint.TheVariants.{Clause, Line}
-use Rattle.clause_log.specs.LogValue.{LogValue, IsLog}
+use Rattle.derivation.specs.Steps.{DerivationValue, IsDerivation}
 use Rattle.log_trim.specs.Kept.{Marks, HasHint, IsClosed}
 use Rattle.log_trim.specs.Marking.{marked, IsMarking, IsNeeded, target, named, HasTargets, AreNeeded, AddsHints, IsMarkedFrom, AreTheNeeded, AreLines}
 use Rattle.log_trim.proofs.MarkedLines.{hint_earlier}
-use Rattle.log_trim.proofs.Renaming.{Contains-nil}
+use Rattle.derivation.proofs.Renaming.{Contains-nil}
 
 equal_or_not : (m n : ℕ) → (m ≡ n) ⊎ (m ≡ n → ⊥)
 equal_or_not m n = elim (cases_lt m n) [
@@ -71,7 +71,7 @@ contains_more xs i x y lt at c =
           inr (sym at ∙ default_moves xs i x y lt ∙ ap (λ j. get_or xs j y) (sym last) ∙ is)
     ]
 
-module _ (log : LogValue) (targets : List ℕ) where
+module _ (log : DerivationValue) (targets : List ℕ) where
   pub target_marked : (i : ℕ) (M N : Marks) → i < length targets → IsMarking M N (get_or targets i 0) → AreNeeded log targets M → HasTargets M targets i → AreNeeded log targets N × HasTargets N targets (suc i)
   target_marked i M N lt marking needed has = (
     λ n h. elim ((marking n).0 h) [ inl old ↦ needed n old | inr e ↦ target i lt (sym e) ],
@@ -84,14 +84,14 @@ module _ (log : LogValue) (targets : List ℕ) where
   pub starts : (M : Marks) → AreNeeded log targets M → HasTargets M targets (length targets) → IsMarkedFrom log targets (length log.lines) M
   starts M needed has = record { has = has; needed = needed; closed = λ k m le lt. absurd (omega arith) }
 
-  pub line_visited : (k : ℕ) (M N : Marks) → IsLog log → k < length log.lines → IsTrue (M (suc k)) → ((n : ℕ) → IsTrue (N n) ↔ (IsTrue (M n) ⊎ HasHint log k n)) → IsMarkedFrom log targets (suc k) M → IsMarkedFrom log targets k N
+  pub line_visited : (k : ℕ) (M N : Marks) → IsDerivation log → k < length log.lines → IsTrue (M (suc k)) → ((n : ℕ) → IsTrue (N n) ↔ (IsTrue (M n) ⊎ HasHint log k n)) → IsMarkedFrom log targets (suc k) M → IsMarkedFrom log targets k N
   line_visited k M N is lt at adds w = record {
     has = λ j below. (adds _).1 (inl (w.has j below));
     needed = λ n h. elim ((adds n).0 h) [ inl old ↦ w.needed n old | inr c ↦ named k (w.needed (suc k) at) c ];
     closed = λ j n le below h d. elim (cases_lt k j) [
       | inl more ↦ elim ((adds (suc j)).0 h) [
         | inl old ↦ (adds n).1 (inl (w.closed j n (omega arith) below old d))
-        | inr c ↦ absurd (omega (arith, (hint_earlier log M is k (suc j) lt c).1))
+        | inr c ↦ absurd (omega (arith, (hint_earlier log is k (suc j) lt c).1))
       ]
       | inr high ↦ let same : j ≡ k = omega arith in (adds n).1 (inr (subst (λ i. HasHint log i n) same d))
     ];
@@ -107,22 +107,22 @@ module _ (log : LogValue) (targets : List ℕ) where
     ];
   }
 
-  module _ (M : Marks) (is : IsLog log) (w : IsMarkedFrom log targets 0 M) where
+  module _ (M : Marks) (is : IsDerivation log) (w : IsMarkedFrom log targets 0 M) where
     needed_marked : {n : ℕ} → IsNeeded log targets n → IsTrue (M n)
     needed_marked (target i lt e) = subst (λ n. IsTrue (M n)) e (w.has i lt)
     needed_marked {n} (named k above c) = elim (cases_lt k (length log.lines)) [
       | inl lt ↦ w.closed k n (omega arith) lt (needed_marked above) c
-      | inr le ↦ absurd (Contains-nil (Line n) (subst (λ l. Contains l (Line n)) (get_or_past log.hints k [] (omega (arith, is.paired))) c))
+      | inr le ↦ absurd (Contains-nil (Line n) (subst (λ l. Contains l (Line n)) (get_or_past log.hints k [] (let paired = is.1.paired in omega (arith, paired, le))) c))
     ]
 
     pub ended : IsClosed log M × AreTheNeeded log targets M
     ended = (w.closed, λ n. (w.needed n, needed_marked))
 
-  pub needed_lines : {n : ℕ} → IsLog log → AreLines log targets → IsNeeded log targets n → (0 < n) × (n ≤ length log.lines)
+  pub needed_lines : {n : ℕ} → IsDerivation log → AreLines log targets → IsNeeded log targets n → (0 < n) × (n ≤ length log.lines)
   needed_lines is lines (target i lt e) = let w = lines i lt in (omega (arith, w.0), omega (arith, w.1))
   needed_lines {n} is lines (named k above c) =
       let w = needed_lines is lines above in
-      let h = hint_earlier log (λ j. false) is k n (omega (arith, w.1)) c in
+      let h = hint_earlier log is k n (omega (arith, w.1)) c in
       (h.0, omega (arith, h.1, w.1))
 
 -- ---- the hints of one line

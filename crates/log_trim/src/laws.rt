@@ -1,11 +1,11 @@
-//! Laws of the log of the lines that some lines of a log stand on. Each function is empty: its contract is
+//! Laws of the lines that some lines of a derivation stand on. Each function is empty: its contract is
 //! the law, and a proof cites it by a call.
 ghost use Rattle.log_trim.specs.Examples.{WorkedTrimming};
-ghost use Rattle.log_trim.specs.Laws.{TrimmedIsLog, TrimmedKeeps, TargetsKeep, TrimmedIsKnown, TrimmedAreLines, TrimmedIsShorter, PushingStarts, PushingMay, PushingGoesOn, PushingSkips, PushingEnds, TableGoesOn, TableHas, SettingMarks, TargetIsMarked, MarkingStarts, NoHintsAdd, HintIsMarked, ClauseIsPassed, LineIsVisited, LineIsPassed, MarkingEnds, HintsAreEarlier, HintIsThere, NeededAreLines};
+ghost use Rattle.log_trim.specs.Laws.{TrimmedAreSteps, TrimmedKeeps, TargetsKeep, TrimmedIsKnown, TrimmedAreLines, TrimmedIsShorter, PushingStarts, PushingMay, PushingGoesOn, PushingSkips, PushingEnds, TableGoesOn, TableHas, SettingMarks, TargetIsMarked, MarkingStarts, NoHintsAdd, HintIsMarked, ClauseIsPassed, LineIsVisited, LineIsPassed, MarkingEnds, HintIsThere, NeededAreLines};
 
-/// The marked lines are a log, where what they name is marked.
+/// The marked lines are steps over the same list, where what they name is marked.
 pub fn trimming()
-    ensures log { TrimmedIsLog }
+    ensures steps { TrimmedAreSteps }
     ensures keeps { TrimmedKeeps }
     ensures targets { TargetsKeep }
     ensures within { TrimmedIsKnown }
@@ -13,7 +13,7 @@ pub fn trimming()
     ensures shorter { TrimmedIsShorter }
 {}
 
-/// What the definitions give for a log that was trimmed by hand.
+/// What the definitions give for lines that were trimmed by hand.
 pub fn worked_trimming()
     ensures { WorkedTrimming }
 {}
@@ -49,6 +49,5 @@ pub fn marking()
 /// Where hints and needed lines lie.
 pub fn earlier()
     ensures there { HintIsThere }
-    ensures hints { HintsAreEarlier }
     ensures needed { NeededAreLines }
 {}

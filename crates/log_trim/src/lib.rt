@@ -1,4 +1,4 @@
-//! The log of just the lines that some lines of a log stand on.
+//! Just the lines that some lines of a derivation stand on.
 #![tactic(auto)]
 
 pub mod laws;

@@ -4,16 +4,16 @@
 // were up to each line, which is the new number of a marked line.
 ghost use Rattle.std.specs.Prelude.{◌≡◌, ℕ, ◌<◌, ◌≤◌, ◌+◌, ◌*◌, [], length, map, slice_index_or, IfOk, OnOk, Contains};
 ghost use Rattle.cnf_base.specs.declared.literal.Hint.TheVariants.{Line};
+ghost use Rattle.clause_log.specs.LogValue.{hints_at};
 ghost use Rattle.log_trim.specs.Kept.{Marks, IsClosed, AreNumbers, AreKept, renumbered};
 ghost use Rattle.log_trim.specs.Marking.{marked, AddsHints, AreTheNeeded, AreLines};
 ghost use Rattle.log_trim.specs.Trimmed.{IsTrimmed};
 
-use clause_log::{Log, LogView};
 use cnf_base::{Hint, Literal, Rows};
+use derivation::{Derivation, NamedLog};
 use std::alloc::{AllocError, Global};
 
-/// The marked lines so far, with their hints, and for each line of the log so far how many there were up to
-/// it.
+/// The marked lines so far, with their hints, and for each line so far how many there were up to it.
 #[derive(Drop)]
 struct KeptLines {
     lines: Rows<Literal>,
@@ -21,17 +21,21 @@ struct KeptLines {
     table: Vec<u64>,
 }
 
-/// Marks the lines that the hints name.
-fn mark_hints(hints: &[Hint], flags: &mut Vec<bool>)
-    requires lines { (m : ℕ) → Contains hints.now (Line m) → (0 < m) × (m ≤ length flags.old.items) }
-    ensures adds { AddsHints (marked flags.old.items) (marked flags.new.items) hints.now (length hints.now) }
+/// Marks the lines that the hints of a line name.
+fn mark_hints(log: &NamedLog, line: u64, flags: &mut Vec<bool>)
+    requires from_one { 1 ≤ line }
+    requires in_list { line ≤ length log.now.lines }
+    requires lines { (m : ℕ) → Contains (hints_at log.now.hints line) (Line m)
+        → (0 < m) × (m ≤ length flags.old.items) }
+    ensures adds { AddsHints (marked flags.old.items) (marked flags.new.items) (hints_at log.now.hints line)
+        (length (hints_at log.now.hints line)) }
     ensures long { length flags.new.items ≡ length flags.old.items }
 {
-    'hints: for hint in hints {
-        match *hint {
+    'hints: for place in 0..log.hints(line) {
+        match log.hint(line, place) {
             Hint::Clause(_) => {}
-            Hint::Line(line) => {
-                let index = (line - 1) as usize;
+            Hint::Line(earlier) => {
+                let index = (earlier - 1) as usize;
                 flags[index] = true;
             }
         }
@@ -39,14 +43,14 @@ fn mark_hints(hints: &[Hint], flags: &mut Vec<bool>)
 }
 
 /// A mark for each line that is needed.
-fn needed(alloc: Global, view: &LogView<'_>, targets: &[u64]) -> Result<Vec<bool>, AllocError>
-    requires targets { AreLines view.now targets.now }
-    ensures long { IfOk result (λ flags. length flags.items ≡ length view.now.lines) }
-    ensures closed { IfOk result (λ flags. IsClosed view.now (marked flags.items)) }
-    ensures needed { IfOk result (λ flags. AreTheNeeded view.now targets.now (marked flags.items)) }
+fn needed(alloc: Global, log: &NamedLog, targets: &[u64]) -> Result<Vec<bool>, AllocError>
+    requires targets { AreLines log.now targets.now }
+    ensures long { IfOk result (λ flags. length flags.items ≡ length log.now.lines) }
+    ensures closed { IfOk result (λ flags. IsClosed log.now (marked flags.items)) }
+    ensures needed { IfOk result (λ flags. AreTheNeeded log.now targets.now (marked flags.items)) }
 {
-    view.is_log();
-    let count = view.lines() as usize;
+    log.is_derivation();
+    let count = log.lines() as usize;
     let mut flags = vec![in alloc; false; count]?;
     'targets: for target in targets {
         let index = (*target - 1) as usize;
@@ -56,7 +60,7 @@ fn needed(alloc: Global, view: &LogView<'_>, targets: &[u64]) -> Result<Vec<bool
     'lines: while left > 0 {
         let last = left - 1;
         if flags[last] {
-            mark_hints(view.hints(left as u64), &mut flags);
+            mark_hints(log, left as u64, &mut flags);
         }
         left = last;
     }
@@ -66,24 +70,24 @@ fn needed(alloc: Global, view: &LogView<'_>, targets: &[u64]) -> Result<Vec<bool
 /// The hints of a line, which name lines by their new numbers.
 fn renumber(
     alloc: Global,
-    view: &LogView<'_>,
+    log: &NamedLog,
     flags: &Vec<bool>,
     index: u64,
     table: &Vec<u64>,
 ) -> Result<Vec<Hint>, AllocError>
-    requires line { index < length view.now.lines }
-    requires table { AreNumbers (marked flags.now.items) view.now.lines index table.now.items }
+    requires line { index < length log.now.lines }
+    requires table { AreNumbers (marked flags.now.items) log.now.lines index table.now.items }
     ensures { IfOk result (λ new. new.items
-        ≡ map (renumbered (marked flags.now.items) view.now.lines) (slice_index_or view.now.hints index [])) }
+        ≡ map (renumbered (marked flags.now.items) log.now.lines) (slice_index_or log.now.hints index [])) }
 {
-    view.is_log();
-    let hints = view.hints(index + 1);
+    log.is_derivation();
+    let line = index + 1;
     let mut new = Vec::new(alloc);
-    'hints: for hint in hints {
-        match *hint {
+    'hints: for place in 0..log.hints(line) {
+        match log.hint(line, place) {
             Hint::Clause(number) => new.push(Hint::Clause(number))?,
-            Hint::Line(line) => {
-                let place = (line - 1) as usize;
+            Hint::Line(earlier) => {
+                let place = (earlier - 1) as usize;
                 new.push(Hint::Line(table[place]))?;
             }
         }
@@ -94,23 +98,23 @@ fn renumber(
 /// Puts a line behind the kept ones, where it is marked, and its new number into the table.
 fn keep_line(
     alloc: Global,
-    view: &LogView<'_>,
+    log: &NamedLog,
     flags: &Vec<bool>,
     index: u64,
     kept: &mut KeptLines,
 ) -> Result<(), AllocError>
-    requires long { length flags.now.items ≡ length view.now.lines }
-    requires line { index < length view.now.lines }
-    requires kept { AreKept (marked flags.now.items) view.now index
+    requires long { length flags.now.items ≡ length log.now.lines }
+    requires line { index < length log.now.lines }
+    requires kept { AreKept (marked flags.now.items) log.now index
         kept.old.lines kept.old.hints kept.old.table.items }
     ensures { OnOk result
-        (AreKept (marked flags.now.items) view.now (index + 1) kept.new.lines kept.new.hints
+        (AreKept (marked flags.now.items) log.now (index + 1) kept.new.lines kept.new.hints
         kept.new.table.items) }
 {
-    view.is_log();
+    log.is_derivation();
     if flags[index as usize] {
-        let hints = renumber(alloc, view, flags, index, &kept.table)?;
-        kept.lines.push(view.literals(index + 1))?;
+        let hints = renumber(alloc, log, flags, index, &kept.table)?;
+        kept.lines.push(log.literals(index + 1))?;
         kept.hints.push(&hints)?;
     }
     kept.table.push(kept.lines.len() as u64)?;
@@ -118,9 +122,9 @@ fn keep_line(
 }
 
 /// The marked lines, in their order.
-fn keep_lines(alloc: Global, view: &LogView<'_>, flags: &Vec<bool>) -> Result<KeptLines, AllocError>
-    requires long { length flags.now.items ≡ length view.now.lines }
-    ensures { IfOk result (λ kept. AreKept (marked flags.now.items) view.now (length view.now.lines)
+fn keep_lines(alloc: Global, log: &NamedLog, flags: &Vec<bool>) -> Result<KeptLines, AllocError>
+    requires long { length flags.now.items ≡ length log.now.lines }
+    ensures { IfOk result (λ kept. AreKept (marked flags.now.items) log.now (length log.now.lines)
         kept.lines kept.hints kept.table.items) }
 {
     let mut kept = KeptLines {
@@ -128,26 +132,30 @@ fn keep_lines(alloc: Global, view: &LogView<'_>, flags: &Vec<bool>) -> Result<Ke
         hints: Rows::new(alloc),
         table: Vec::new(alloc),
     };
-    'lines: for index in 0..view.lines() {
-        keep_line(alloc, view, flags, index, &mut kept)?;
+    'lines: for index in 0..log.lines() {
+        keep_line(alloc, log, flags, index, &mut kept)?;
     }
     Ok(kept)
 }
 
-/// The log of just the lines that the targets stand on, and the targets' new numbers. A target stands on
-/// itself and on whatever a hint of such a line names. The lines keep their order and their literals;
-/// hints name them by their new numbers, which run from 1. The inputs move over to the new log.
-pub fn trim(alloc: Global, log: Log, targets: &[u64]) -> Result<(Log, Vec<u64>), AllocError>
+/// Just the lines that the targets stand on, and the targets' new numbers. A target stands on itself and on
+/// whatever a hint of such a line names. The lines keep their order and their literals; hints name them by
+/// their new numbers, which run from 1, and clauses of the list as before.
+pub fn trim(
+    alloc: Global,
+    log: NamedLog,
+    targets: &[u64],
+) -> Result<(Derivation, Vec<u64>), AllocError>
     requires { AreLines log targets.now }
     ensures { IfOk result (λ r. (M : Marks) × IsTrimmed log targets.now r.0 r.1.items M) }
 {
-    let view = log.view();
-    let flags = needed(alloc, &view, targets)?;
-    let kept = keep_lines(alloc, &view, &flags)?;
+    log.is_derivation();
+    let flags = needed(alloc, &log, targets)?;
+    let kept = keep_lines(alloc, &log, &flags)?;
     let mut numbers = Vec::new(alloc);
     'targets: for target in targets {
         let place = (*target - 1) as usize;
         numbers.push(kept.table[place])?;
     }
-    Ok((log.with_lines(kept.lines, kept.hints), numbers))
+    Ok((Derivation::of(kept.lines, kept.hints), numbers))
 }

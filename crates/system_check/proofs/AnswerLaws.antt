@@ -16,7 +16,7 @@ use Rattle.ltl_run.proofs.Least.{unsat_has_no_trace}
 use Rattle.ltl_run.proofs.Closing.{run_satisfies}
 use Rattle.ltl_run.proofs.Unique.{verdict_is_one}
 use Rattle.system_check.specs.System.{IsSystem, IsPath, system_of, whole_of}
-use Rattle.clause_log.specs.LogValue.{LogValue}
+use Rattle.derivation.specs.Steps.{DerivationValue}
 use Rattle.enc_layout.specs.Letters.{Fits}
 use Rattle.enc_layout.specs.Limit.{layout}
 use Rattle.unravel.specs.Decision.{IsTraceOfRun, IsDecision}
@@ -68,7 +68,7 @@ module _ (start step goal : Formula) (limit : ℕ) where
       | no n ↦ absurd (unsat_has_no_trace (whole_of start step goal) Kinds.Infinite limit k t unsat p.trace p.infinite ((whole_paths t p.trace p.infinite start step is goal).1 (p, n)))
     ]
 
-    pub holds_on : (k : ℕ) (log : LogValue) (targets : Vec ℕ Global) (t : Trace) → IsAnswer start step goal limit (answers.Holds k log targets) → IsPath start step t → Satisfies t goal
+    pub holds_on : (k : ℕ) (log : DerivationValue) (targets : Vec ℕ Global) (t : Trace) → IsAnswer start step goal limit (answers.Holds k log targets) → IsPath start step t → Satisfies t goal
     holds_on k log targets t w p = refuted_holds k t w.1 p
 
     pub fails_on : (k : ℕ) (t : Trace) → IsTraceOfRun (whole_of start step goal) Kinds.Infinite k t → IsPath start step t × (¬ Satisfies t goal)

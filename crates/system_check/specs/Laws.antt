@@ -11,7 +11,7 @@ use Rattle.ltl_word.specs.Holds.{Holds, Satisfies}
 use Rattle.ltl_word.specs.Propositional.{IsPropositional}
 use Rattle.ltl_closure.specs.Closure.{closure, nexts, yesterdays, eventualities}
 use Rattle.ltl_closure.specs.Run.{IsVerdict, Undecided, bound}
-use Rattle.clause_log.specs.LogValue.{LogValue}
+use Rattle.derivation.specs.Steps.{DerivationValue}
 use Rattle.enc_layout.specs.Letters.{Fits}
 use Rattle.enc_layout.specs.Clauses.{counts}
 use Rattle.system_check.specs.declared.joining.Joined.{Joined}
@@ -87,7 +87,7 @@ NoPathIsRight = (start step goal : Formula) (limit k : ℕ) (t : Trace) → IsSy
 
 -- HOLDS comes only where each path satisfies the goal
 abbrev pub HoldsIsRight : Type 0
-HoldsIsRight = (start step goal : Formula) (limit k : ℕ) (log : LogValue) (targets : Vec ℕ Global) (t : Trace) → IsSystem start step → IsAnswer start step goal limit (answers.Holds k log targets) → IsPath start step t → Satisfies t goal
+HoldsIsRight = (start step goal : Formula) (limit k : ℕ) (log : DerivationValue) (targets : Vec ℕ Global) (t : Trace) → IsSystem start step → IsAnswer start step goal limit (answers.Holds k log targets) → IsPath start step t → Satisfies t goal
 
 -- the trace of FAILS is a path that does not satisfy the goal
 abbrev pub FailsIsRight : Type 0

@@ -13,7 +13,7 @@ ghost use Rattle.system_check.specs.Joining.{IsJoined};
 ghost use Rattle.system_check.specs.Answer.{IsRefutedAt, IsAnswer};
 
 use crate::joining::Joined;
-use clause_log::Log;
+use derivation::NamedLog;
 use ltl_closure::Closure;
 use ltl_syntax::Kind;
 use ltl_word::Trace;
@@ -28,10 +28,11 @@ pub enum SystemAnswer {
         depth: u32,
     },
     /// There may be paths, and each satisfies the goal: the whole formula is refuted at this depth. The log's
-    /// inputs are its clause list through the depth, and the targets name the lines that close its tableau.
+    /// lines follow from its clause list through the depth, and the targets name the lines that close its
+    /// tableau.
     Holds {
         depth: u32,
-        log: Log,
+        log: NamedLog,
         targets: Vec<u64>,
     },
     /// The trace is a path that does not satisfy the goal, by an accepted run of depth + 1 states.

@@ -7,17 +7,20 @@ use Rattle.cnf_base.specs.declared.literal.Literal.{Literal as Signed}
 use Rattle.cnf_base.specs.Meaning.{Satisfies, literal_value}
 use Rattle.cnf_base.specs.Known.{IsKnown}
 use Rattle.ltl_closure.specs.Entries.{ClosureValue}
-use Rattle.ltl_closure.specs.Run.{HasAccepted, HasUnpruned}
 use Rattle.cdcl.specs.Solving.{IsConsistent}
 use Rattle.cdcl.specs.SolverValue.{SolverValue, IsAnswer, value_of}
 use Rattle.cdcl.specs.declared.solve.Answer.{Answer}
 use Rattle.cdcl.specs.declared.solve.Answer.TheVariants as answers
 use Rattle.enc_layout.specs.Letters.{LayoutValue, Meaning, Unpruned, Here, Accepted, IsLetter, letters_through}
 use Rattle.enc_layout.specs.Clauses.{Plus, counts, layout_of, literal_in, clause_list}
-use Rattle.enc_layout.specs.Assigned.{positive_of, AreSatisfiable, accepted_question, unpruned_question}
+use Rattle.enc_layout.specs.Assigned.{positive_of, accepted_question, unpruned_question}
 use Rattle.enc_layout.specs.Targets.{negative_of}
-use Rattle.enc_layout.specs.Laws.{AcceptedQuestionsAnswer, UnprunedQuestionsAnswer}
-use Rattle.unravel.specs.Depths.{IsThrough, AreStatesBelow, AreStatesTo, IsAcceptedAnswer, IsUnprunedAnswer, IsRejection, IsPruning}
+use Rattle.derivation.proofs.Names.{named_of}
+use Rattle.demand.specs.Inputs.{states_list, AreOfList}
+use Rattle.demand.proofs.ByStates.{satisfied_part}
+use Rattle.demand.proofs.Parts.{no_accepted, no_unpruned}
+use Rattle.unravel.specs.declared.inputs.Inputs.{Inputs}
+use Rattle.unravel.specs.Depths.{IsThrough, AreStatesBelow, AreStatesTo, Refuses, IsFound, IsAcceptedFound, IsUnprunedFound, IsRejection, IsPruning}
 use Rattle.unravel.proofs.Earlier.{met_alone, met_under}
 use Rattle.unravel.proofs.Lines.{only_from}
 use Rattle.unravel.proofs.Negated.{opposite_of_two, consistent_two, known_two, consistent_under, known_under}
@@ -51,63 +54,63 @@ pub under_consistent : (layout : LayoutValue) (c : ClosureValue) (n : ℕ) (stat
 under_consistent layout c n states p l own below is =
     subst (λ (x : Signed). IsConsistent (states ++ x ∷ [])) (sym (of_layout layout c p l own is)) (consistent_under c.formula c.kind n states p below)
 
-pub through_same : (f : Formula) (kind : Kind) (k : ℕ) (old new : SolverValue) → IsThrough f kind k old → new.letters ≡ old.letters → new.log.inputs ≡ old.log.inputs → IsThrough f kind k new
-through_same f kind k old new h letters inputs = record { inputs = inputs ∙ h.inputs; letters = letters ∙ h.letters }
-
-module _ (f : Formula) (kind : Kind) (k : ℕ) (s : SolverValue) (through : IsThrough f kind k s) where
-  satisfiable : (question : List Signed) → IsAnswer s question answers.Sat → AreSatisfiable (clause_list f kind k) question
-  satisfiable question (long, holds, yes') = (value_of s, subst (Satisfies (value_of s)) through.inputs holds, yes')
-
-  accepted_found : IsAnswer s (accepted_question f kind k) answers.Sat → IsAcceptedAnswer f kind k s true
-  accepted_found (long, holds, yes') = record {
-    room = let e = through.letters in omega (arith, long);
-    holds = subst (Satisfies (value_of s)) through.inputs holds;
-    here = All-head (λ l. literal_value (value_of s) l ≡ true) (positive_of f kind (Here k)) (positive_of f kind (Accepted k) ∷ []) yes';
-    accepted = All-head (λ l. literal_value (value_of s) l ≡ true) (positive_of f kind (Accepted k)) []
-        (All-tail (λ l. literal_value (value_of s) l ≡ true) (positive_of f kind (Here k)) (positive_of f kind (Accepted k) ∷ []) yes');
-  }
+module _ (f : Formula) (kind : Kind) (k : ℕ) (i : Inputs) (through : IsThrough f kind k i) where
+  -- what is in are clauses of the list
+  of_list : AreOfList f kind k i.solver.log.inputs
+  of_list = named_of (clause_list f kind k) i.solver.log.inputs i.names.items through.part.named
 
   -- a question under states
-  module _ (states : List Signed) (to : AreStatesTo f kind k states) (l : Signed) where
-    found_alone : IsAnswer s (states ++ l ∷ []) answers.Sat → IsAnswer s (positive_of f kind (Here k) ∷ l ∷ []) answers.Sat
-    found_alone (long, holds, yes') = (long, holds, met_alone f kind k (value_of s) states to l yes')
+  module _ (states : List Signed) (to : AreStatesTo f kind k states) (p : Meaning) where
+    question_found : IsAnswer i.solver (states ++ positive_of f kind p ∷ []) answers.Sat → IsFound f kind k p i.solver
+    question_found (long, holds, yes') =
+        let both = met_alone f kind k (value_of i.solver) states to (positive_of f kind p) yes' in
+        record {
+          room = let e = through.part.letters in omega (arith, long);
+          holds = holds;
+          here = All-head (λ l. literal_value (value_of i.solver) l ≡ true) (positive_of f kind (Here k)) (positive_of f kind p ∷ []) both;
+          own = All-head (λ l. literal_value (value_of i.solver) l ≡ true) (positive_of f kind p) []
+              (All-tail (λ l. literal_value (value_of i.solver) l ≡ true) (positive_of f kind (Here k)) (positive_of f kind p ∷ []) both);
+        }
 
-    none_alone : (line : ℕ) → IsAnswer s (states ++ l ∷ []) (answers.Unsat line) → AreSatisfiable (clause_list f kind k) (positive_of f kind (Here k) ∷ l ∷ []) → ⊥
-    none_alone line (from, upto, negated, none) (v, holds, yes') = none (v, subst (Satisfies v) (sym through.inputs) holds, met_under f kind k v states to l holds yes')
+    question_refused : (line : ℕ) → IsAnswer i.solver (states ++ positive_of f kind p ∷ []) (answers.Unsat line) → Refuses i.solver (positive_of f kind (Here k) ∷ positive_of f kind p ∷ [])
+    question_refused line (from, upto, negated, none) = λ w.
+        none (w.0, w.1, met_under f kind k w.0 states to (positive_of f kind p) (satisfied_part w.0 i.solver.log.inputs (states_list f kind k) through.states w.1) w.2)
 
   module _ (states : List Signed) (to : AreStatesTo f kind k states) where
-    pub accepted_yes : (answer : Answer) → answer ≡ answers.Sat → IsAnswer s (states ++ positive_of f kind (Accepted k) ∷ []) answer → IsAcceptedAnswer f kind k s true
-    accepted_yes answer e a = accepted_found (found_alone states to (positive_of f kind (Accepted k)) (subst (IsAnswer s (states ++ positive_of f kind (Accepted k) ∷ [])) e a))
+    pub accepted_yes : (answer : Answer) → answer ≡ answers.Sat → IsAnswer i.solver (states ++ positive_of f kind (Accepted k) ∷ []) answer → IsAcceptedFound f kind k i.solver true
+    accepted_yes answer e a = question_found states to (Accepted k) (subst (IsAnswer i.solver (states ++ positive_of f kind (Accepted k) ∷ [])) e a)
 
-    pub accepted_no : AcceptedQuestionsAnswer → (answer : Answer) (line : ℕ) → answer ≡ answers.Unsat line → IsAnswer s (states ++ positive_of f kind (Accepted k) ∷ []) answer → IsAcceptedAnswer f kind k s false
-    accepted_no asked answer line e a = λ r.
-        none_alone states to (positive_of f kind (Accepted k)) line (subst (IsAnswer s (states ++ positive_of f kind (Accepted k) ∷ [])) e a) ((asked f kind k k (omega arith)).0 r)
+    pub accepted_no : (answer : Answer) (line : ℕ) → answer ≡ answers.Unsat line → IsAnswer i.solver (states ++ positive_of f kind (Accepted k) ∷ []) answer → IsAcceptedFound f kind k i.solver false
+    accepted_no answer line e a =
+        let refused = question_refused states to (Accepted k) line (subst (IsAnswer i.solver (states ++ positive_of f kind (Accepted k) ∷ [])) e a) in
+        (no_accepted f kind k k i.solver.log.inputs (omega arith) of_list refused, refused)
 
-    pub unpruned_yes : UnprunedQuestionsAnswer → (answer : Answer) → answer ≡ answers.Sat → IsAnswer s (states ++ positive_of f kind Unpruned ∷ []) answer → IsUnprunedAnswer f kind k true
-    unpruned_yes asked answer e a =
-        (asked f kind k).1 (satisfiable (unpruned_question f kind k) (found_alone states to (positive_of f kind Unpruned) (subst (IsAnswer s (states ++ positive_of f kind Unpruned ∷ [])) e a)))
+    pub unpruned_yes : (answer : Answer) → answer ≡ answers.Sat → IsAnswer i.solver (states ++ positive_of f kind Unpruned ∷ []) answer → IsUnprunedFound f kind k i.solver true
+    unpruned_yes answer e a = question_found states to Unpruned (subst (IsAnswer i.solver (states ++ positive_of f kind Unpruned ∷ [])) e a)
 
-    pub unpruned_no : UnprunedQuestionsAnswer → (answer : Answer) (line : ℕ) → answer ≡ answers.Unsat line → IsAnswer s (states ++ positive_of f kind Unpruned ∷ []) answer → IsUnprunedAnswer f kind k false
-    unpruned_no asked answer line e a = λ r.
-        none_alone states to (positive_of f kind Unpruned) line (subst (IsAnswer s (states ++ positive_of f kind Unpruned ∷ [])) e a) ((asked f kind k).0 r)
+    pub unpruned_no : (answer : Answer) (line : ℕ) → answer ≡ answers.Unsat line → IsAnswer i.solver (states ++ positive_of f kind Unpruned ∷ []) answer → IsUnprunedFound f kind k i.solver false
+    unpruned_no answer line e a =
+        let refused = question_refused states to Unpruned line (subst (IsAnswer i.solver (states ++ positive_of f kind Unpruned ∷ [])) e a) in
+        (no_unpruned f kind k i.solver.log.inputs of_list refused, refused)
 
-  -- a question of a state, asked once more
-  module _ (i : ℕ) (le : i ≤ k) where
-    pub accepted_never : AcceptedQuestionsAnswer → (HasAccepted f kind i → ⊥) → (answer : Answer) → answer ≡ answers.Sat → IsAnswer s (accepted_question f kind i) answer → ⊥
-    accepted_never asked none answer e a = none ((asked f kind k i le).1 (satisfiable (accepted_question f kind i) (subst (IsAnswer s (accepted_question f kind i)) e a)))
+-- a question that was refused, asked once more
+module _ (f : Formula) (kind : Kind) (s : SolverValue) where
+  pub refused_again : (question : List Signed) → Refuses s question → (answer : Answer) → answer ≡ answers.Sat → IsAnswer s question answer → ⊥
+  refused_again question refused answer e a = let w = subst (IsAnswer s question) e a in refused (value_of s, w.1, w.2)
 
-    pub accepted_line : (answer : Answer) (line : ℕ) → answer ≡ answers.Unsat line → IsAnswer s (accepted_question f kind i) answer → IsRejection f kind i s.log.lines line
-    accepted_line answer line e a =
-        let w = subst (IsAnswer s (accepted_question f kind i)) e a in
-        only_from s.log.lines line (accepted_question f kind i) (negative_of f kind (Here i) ∷ negative_of f kind (Accepted i) ∷ []) (opposite_of_two f kind (Here i) (Accepted i)) w.0 w.1 w.2
+  pub accepted_line : (i : ℕ) (answer : Answer) (line : ℕ) → answer ≡ answers.Unsat line → IsAnswer s (accepted_question f kind i) answer → IsRejection f kind i s.log.lines line
+  accepted_line i answer line e a =
+      let w = subst (IsAnswer s (accepted_question f kind i)) e a in
+      only_from s.log.lines line (accepted_question f kind i) (negative_of f kind (Here i) ∷ negative_of f kind (Accepted i) ∷ []) (opposite_of_two f kind (Here i) (Accepted i)) w.0 w.1 w.2
 
-  pub unpruned_never : UnprunedQuestionsAnswer → (HasUnpruned f kind k → ⊥) → (answer : Answer) → answer ≡ answers.Sat → IsAnswer s (unpruned_question f kind k) answer → ⊥
-  unpruned_never asked none answer e a = none ((asked f kind k).1 (satisfiable (unpruned_question f kind k) (subst (IsAnswer s (unpruned_question f kind k)) e a)))
-
-  pub unpruned_line : (answer : Answer) (line : ℕ) → answer ≡ answers.Unsat line → IsAnswer s (unpruned_question f kind k) answer → IsPruning f kind k s.log.lines line
-  unpruned_line answer line e a =
+  pub unpruned_line : (k : ℕ) (answer : Answer) (line : ℕ) → answer ≡ answers.Unsat line → IsAnswer s (unpruned_question f kind k) answer → IsPruning f kind k s.log.lines line
+  unpruned_line k answer line e a =
       let w = subst (IsAnswer s (unpruned_question f kind k)) e a in
       only_from s.log.lines line (unpruned_question f kind k) (negative_of f kind (Here k) ∷ negative_of f kind Unpruned ∷ []) (opposite_of_two f kind (Here k) Unpruned) w.0 w.1 w.2
+
+-- the inputs stay while questions are asked
+pub refuses_same : (old new : SolverValue) (question : List Signed) → new.log.inputs ≡ old.log.inputs → Refuses old question → Refuses new question
+refuses_same old new question same refuses = λ w. refuses (w.0, subst (Satisfies w.0) same w.1, w.2)
 
 -- the same of literals that the closure's layout gave
 module _ (layout : LayoutValue) (c : ClosureValue) (own : layout ≡ layout_of c) (s : SolverValue) (answer : Answer) where

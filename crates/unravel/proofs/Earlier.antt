@@ -1,6 +1,5 @@
 -- Where a state is there, so is each state before it. So a question may assume these as well.
-use Rattle.std.proofs.Common.{◌≡◌, ℕ, zero, suc, ◌+◌, ◌<◌, ◌≤◌, Bool, true, IsTrue, ◌⊎◌, inl, inr, arith, sym, subst, List, [], ◌∷◌, ◌++◌, Contains}
-use Rattle.std.proofs.lemmas.Bool.{cases_lt}
+use Rattle.std.proofs.Common.{◌≡◌, ℕ, ◌+◌, ◌<◌, Bool, true, IsTrue, ◌⊎◌, inl, inr, arith, sym, subst, List, [], ◌∷◌, ◌++◌, Contains}
 use Rattle.std.proofs.lemmas.List.Elements.{All-nil, All-cons, All-head, All-tail, All-append, All-weaker, All-contains, Contains-append_left, Contains-append_right}
 use Rattle.ltl_syntax.specs.declared.node.Kind.{Kind}
 use Rattle.ltl_syntax.specs.Formula.{Formula}
@@ -9,28 +8,12 @@ use Rattle.cnf_base.specs.declared.literal.Literal.{Literal as Signed}
 use Rattle.cnf_base.specs.Meaning.{Satisfies, literal_value}
 use Rattle.cdcl.specs.Solving.{AreTrue}
 use Rattle.enc_layout.specs.Letters.{Here}
-use Rattle.enc_layout.specs.Clauses.{number_in, part_a, part_b, part_c, part_d, part_e, part_f, step_clauses, clause_list}
+use Rattle.enc_layout.specs.Clauses.{number_in}
 use Rattle.enc_layout.specs.Assigned.{positive_of}
-use Rattle.enc_layout.proofs.Each.{Each-left, below-Each}
-use Rattle.enc_layout.proofs.Gates.{IsTrueClause}
-use Rattle.enc_layout.proofs.Carries.{then1}
-use Rattle.enc_layout.proofs.Numbering.{by_number, letters_true}
+use Rattle.enc_layout.proofs.Numbering.{by_number}
+use Rattle.demand.specs.Inputs.{states_list}
+use Rattle.demand.proofs.ByStates.{here_down, states_true}
 use Rattle.unravel.specs.Depths.{IsStateBelow, AreStatesBelow, AreStatesTo}
-
-module _ (f : Formula) (kind : Kind) (d : ℕ) (v : ℕ → Bool) (holds : Satisfies v (clause_list f kind d)) where
-  one_before : (i : ℕ) → i < d → IsTrue (v (number_in f kind (Here (suc i)))) → IsTrue (v (number_in f kind (Here i)))
-  one_before i lt h =
-      let n : suc i < suc d = omega (arith, lt) in
-      let step = below-Each (IsTrueClause (by_number f kind v)) (suc d) (step_clauses f kind) (letters_true f kind v d holds) (suc i) n in
-      let link = Each-left (IsTrueClause (by_number f kind v)) (part_a (suc i)) (part_b f (suc i) ++ (part_c f (suc i) ++ (part_d f kind (suc i) ++ (part_e f kind (suc i) ++ part_f f kind (suc i))))) step in
-      then1 (by_number f kind v (Here (suc i))) (by_number f kind v (Here i)) link.0 h
-
-  there_before : (k j : ℕ) → k ≤ d → j ≤ k → IsTrue (v (number_in f kind (Here k))) → IsTrue (v (number_in f kind (Here j)))
-  there_before zero j le jk h = let e : zero ≡ j = omega (arith, jk) in subst (λ n. IsTrue (v (number_in f kind (Here n)))) e h
-  there_before (suc k) j le jk h = elim (cases_lt j (suc k)) [
-    | inl before ↦ there_before k j (omega (arith, le)) (omega (arith, before)) (one_before k (omega (arith, le)) h)
-    | inr here ↦ let e : suc k ≡ j = omega (arith, here, jk) in subst (λ n. IsTrue (v (number_in f kind (Here n)))) e h
-  ]
 
 -- a literal of depth d is true beside the state's where it is true beside more of the states
 module _ (f : Formula) (kind : Kind) (d : ℕ) (v : ℕ → Bool) (states : List Signed) (to : AreStatesTo f kind d states) (l : Signed) where
@@ -43,11 +26,11 @@ module _ (f : Formula) (kind : Kind) (d : ℕ) (v : ℕ → Bool) (states : List
       let own = All-contains IsMet (states ++ l ∷ []) l all (Contains-append_right states (l ∷ []) l (Contains-here l [])) in
       All-cons IsMet (positive_of f kind (Here d)) (l ∷ []) here (All-cons IsMet l [] own (All-nil IsMet))
 
-  pub met_under : Satisfies v (clause_list f kind d) → AreTrue v (positive_of f kind (Here d) ∷ l ∷ []) → AreTrue v (states ++ l ∷ [])
+  pub met_under : Satisfies v (states_list f kind d) → AreTrue v (positive_of f kind (Here d) ∷ l ∷ []) → AreTrue v (states ++ l ∷ [])
   met_under holds all =
       let here : IsTrue (v (number_in f kind (Here d))) = All-head IsMet (positive_of f kind (Here d)) (l ∷ []) all in
       let each : (m : Signed) → IsStateBelow f kind (d + 1) m → IsMet m =
-      λ m w. subst IsMet (sym w.2) (there_before f kind d v holds d w.0 (omega arith) (omega (arith, w.1)) here) in
+      λ m w. subst IsMet (sym w.2) (here_down f d (by_number f kind v) (states_true f kind v d holds) d w.0 (omega arith) here (omega (arith, w.1))) in
       All-append IsMet states (l ∷ []) (All-weaker (IsStateBelow f kind (d + 1)) IsMet each states to.0) (All-tail IsMet (positive_of f kind (Here d)) (l ∷ []) all)
 
 -- the states of a depth are those of the one before, and one more

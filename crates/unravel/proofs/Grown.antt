@@ -1,53 +1,56 @@
--- A step's clauses behind those of the steps before: their letters are known once the letters through the step are, and the solver then
--- has the list through the step.
-use Rattle.std.proofs.Common.{ℕ, zero, suc, ◌<◌, ◌≤◌, arith, refl, ap, ap₂, sym, ◌∙◌, subst, List, [], ◌++◌, length, All, ◌≡◌}
-use Rattle.std.proofs.lemmas.List.{drop_at}
-use Rattle.std.proofs.lemmas.List.Elements.{All-drop, All-weaker}
+-- A step's clauses behind those of the steps before: once the letters through the step are known, what is in is a part of the list through it,
+-- and with the step's states in it has the states through it.
+use Rattle.std.proofs.Common.{◌≡◌, ℕ, zero, suc, ◌≤◌, arith, refl, ap, sym, ◌∙◌, subst, List, [], All, Contains}
+use Rattle.std.proofs.lemmas.List.Elements.{All-contains_itself}
 use Rattle.ltl_syntax.specs.declared.node.Kind.{Kind}
 use Rattle.ltl_syntax.specs.Formula.{Formula}
 use Rattle.cnf_base.specs.declared.literal.Literal.{Literal as Signed}
-use Rattle.cnf_base.specs.Known.{IsKnown, AreKnown}
 use Rattle.clause_log.specs.LogValue.{LogValue}
-use Rattle.cdcl.specs.SolverValue.{SolverValue}
+use Rattle.derivation.specs.Naming.{AreNamed}
+use Rattle.derivation.proofs.Names.{named_grow}
 use Rattle.enc_layout.specs.Letters.{letters_through}
-use Rattle.enc_layout.specs.Clauses.{counts, step_clauses, signed_clauses, clause_list}
-use Rattle.enc_layout.specs.Laws.{LettersAreKnown, ListsBegin, ListsGrow}
+use Rattle.enc_layout.specs.Clauses.{counts, state_clauses, step_clauses, signed_clauses, clause_list}
 use Rattle.enc_layout.proofs.ByKind.{letters_less}
-use Rattle.unravel.specs.Depths.{IsBefore, IsThrough, HasAdded}
+use Rattle.enc_layout.proofs.Steps.{list_more}
+use Rattle.demand.proofs.ByStates.{states_grow}
+use Rattle.unravel.specs.declared.inputs.Inputs.{Inputs}
+use Rattle.unravel.specs.Putting.{up_to, Keeps, HasMore}
+use Rattle.unravel.specs.Depths.{IsBefore, IsThrough}
+use Rattle.unravel.proofs.Putting.{kept_trans}
 
-module _ (all_known : LettersAreKnown) (grows : ListsGrow) (f : Formula) (kind : Kind) where
-  known_list : (k : ℕ) → AreKnown (letters_through kind (counts f) k) (clause_list f kind k)
-  known_list k =
-      let n = letters_through kind (counts f) k in
-      All-weaker (λ c. All (λ l. (0 < l.letter.0) × (l.letter.0 ≤ letters_through kind (counts f) k)) c) (λ c. All (IsKnown n) c)
-      (λ c h. All-weaker (λ l. (0 < l.letter.0) × (l.letter.0 ≤ letters_through kind (counts f) k)) (IsKnown n) (λ l w. record { from_one = omega (arith, w.0); within = w.1 }) c h)
-      (clause_list f kind k) (all_known f kind k)
+pub room_before : (f : Formula) (kind : Kind) (k : ℕ) (i : Inputs) → IsBefore f kind k i → i.solver.letters ≤ letters_through kind (counts f) k
+room_before f kind zero i h = let e = h.letters in omega arith
+room_before f kind (suc k) i h = subst (λ n. n ≤ letters_through kind (counts f) (suc k)) (sym h.part.letters) (letters_less kind (counts f) k (suc k) (omega arith))
 
-  -- the letters of a step's clauses are among those through the step
-  pub known_step : (k : ℕ) → AreKnown (letters_through kind (counts f) k) (signed_clauses f kind (step_clauses f kind k))
-  known_step zero = known_list 0
-  known_step (suc k) =
-      let n = letters_through kind (counts f) (suc k) in
-      let all = subst (AreKnown n) (grows f kind k) (known_list (suc k)) in
-      subst (AreKnown n) (drop_at (clause_list f kind k) (signed_clauses f kind (step_clauses f kind (suc k))) (length (clause_list f kind k)) refl)
-      (All-drop (λ c. All (IsKnown n) c) (length (clause_list f kind k)) (clause_list f kind k ++ signed_clauses f kind (step_clauses f kind (suc k))) all)
+none_named : (list : List (List Signed)) → AreNamed list [] []
+none_named list = record { count = refl; each = λ i clause is. cc }
 
-pub room_before : (f : Formula) (kind : Kind) (k : ℕ) (s : SolverValue) → IsBefore f kind k s → s.letters ≤ letters_through kind (counts f) k
-room_before f kind zero s h = let e = h.letters in omega arith
-room_before f kind (suc k) s h = subst (λ n. n ≤ letters_through kind (counts f) (suc k)) (sym h.letters) (letters_less kind (counts f) k (suc k) (omega arith))
+module _ (f : Formula) (kind : Kind) where
+  -- what was put in are clauses of the longer list under the same names
+  still_named : (k : ℕ) (i : Inputs) → IsBefore f kind k i → AreNamed (clause_list f kind k) i.solver.log.inputs i.names.items
+  still_named zero i h =
+      subst (λ (is : List (List Signed)). AreNamed (clause_list f kind 0) is i.names.items) (sym h.inputs)
+      (subst (AreNamed (clause_list f kind 0) []) (sym h.names) (none_named (clause_list f kind 0)))
+  still_named (suc k) i h =
+      subst (λ (list : List (List Signed)). AreNamed list i.solver.log.inputs i.names.items) (sym (list_more f kind k))
+      (named_grow (clause_list f kind k) (signed_clauses f kind (step_clauses f kind (suc k))) i.solver.log.inputs i.names.items h.part.named)
 
-module _ (begins : ListsBegin) (grows : ListsGrow) (f : Formula) (kind : Kind) where
-  more_inputs : (clauses before step : List (List Signed)) (old sized new : SolverValue) → old.log.inputs ≡ before → sized.log ≡ old.log → clauses ≡ step → HasAdded clauses sized new → new.log.inputs ≡ before ++ step
-  more_inputs clauses before step old sized new had log is added =
-      added.inputs ∙ ap₂ (λ (xs ys : List (List Signed)). xs ++ ys) (ap (λ (l : LogValue). l.inputs) log ∙ had) is
+  -- once the letters are known
+  pub sized : (k : ℕ) (old new : Inputs) → IsBefore f kind k old → new.solver.log ≡ old.solver.log → new.names.items ≡ old.names.items → new.solver.letters ≡ letters_through kind (counts f) k
+      → HasMore (up_to f kind k) old new
+  sized k old new before log names letters =
+      let inputs : new.solver.log.inputs ≡ old.solver.log.inputs = ap (λ (l : LogValue). l.inputs) log in
+      record {
+        part = record {
+          named = subst (λ (is : List (List Signed)). AreNamed (clause_list f kind k) is new.names.items) (sym inputs)
+              (subst (AreNamed (clause_list f kind k) old.solver.log.inputs) (sym names) (still_named k old before));
+          letters = letters;
+        };
+        kept = subst (λ (is : List (List Signed)). All (Contains is) old.solver.log.inputs) (sym inputs) (All-contains_itself old.solver.log.inputs);
+      }
 
-  pub through_added : (k : ℕ) (clauses : List (List Signed)) (old sized new : SolverValue) → IsBefore f kind k old → sized.log ≡ old.log → sized.letters ≡ letters_through kind (counts f) k
-      → clauses ≡ signed_clauses f kind (step_clauses f kind k) → HasAdded clauses sized new → IsThrough f kind k new
-  through_added zero clauses old sized new before log letters is added = record {
-    inputs = more_inputs clauses [] (signed_clauses f kind (step_clauses f kind 0)) old sized new before.inputs log is added ∙ sym (begins f kind);
-    letters = added.letters ∙ letters;
-  }
-  through_added (suc k) clauses old sized new before log letters is added = record {
-    inputs = more_inputs clauses (clause_list f kind k) (signed_clauses f kind (step_clauses f kind (suc k))) old sized new before.inputs log is added ∙ sym (grows f kind k);
-    letters = added.letters ∙ letters;
-  }
+  -- and once the step's states are in
+  pub grown : (k : ℕ) (old new : Inputs) → IsBefore f kind k old → HasMore (up_to f kind k) old new
+      → All (Contains new.solver.log.inputs) (signed_clauses f kind (state_clauses f k)) → IsThrough f kind k new
+  grown zero old new before more own = record { part = more.part; states = own }
+  grown (suc k) old new before more own = record { part = more.part; states = states_grow f kind k old.solver.log.inputs new.solver.log.inputs before.states more.kept own }

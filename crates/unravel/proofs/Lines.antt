@@ -18,7 +18,7 @@ numbered_longer : (lines more : List (List Signed)) (n : ℕ) (line : List Signe
 numbered_longer lines more zero line h = cc
 numbered_longer lines more (suc n) line h = slice_get_longer lines more n line h
 
-numbered_at : (lines : List (List Signed)) (n : ℕ) → 1 ≤ n → n ≤ length lines → numbered lines n ≡ Some (clause_at lines n)
+pub numbered_at : (lines : List (List Signed)) (n : ℕ) → 1 ≤ n → n ≤ length lines → numbered lines n ≡ Some (clause_at lines n)
 numbered_at lines zero from upto = absurd (omega arith)
 numbered_at lines (suc m) from upto =
     let e : suc m - 1 ≡ m = omega arith in

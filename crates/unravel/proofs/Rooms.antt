@@ -1,12 +1,10 @@
 -- The letters that are read have values.
-use Rattle.std.proofs.Common.{◌≡◌, ℕ, ◌<◌, ◌≤◌, arith, ap, sym, ◌∙◌, subst, List, length, All}
-use Rattle.ltl_syntax.specs.declared.node.Kind.{Kind}
-use Rattle.ltl_syntax.specs.declared.node.Kind.TheVariants as Kinds
+use Rattle.std.proofs.Common.{◌≡◌, ℕ, ◌<◌, ◌≤◌, arith, sym, subst, List, length, All}
 use Rattle.cnf_base.specs.declared.literal.Literal.{Literal as Signed}
 use Rattle.ltl_closure.specs.Entries.{numbers_of, ClosureValue, IsNumber}
 use Rattle.cdcl.specs.SolverValue.{SolverValue}
 use Rattle.ltl_closure.proofs.Known.{numbers_known}
-use Rattle.enc_layout.specs.Letters.{Counts, LayoutValue, Meaning, EntryAt, LoopTo, IsLetter, letters_through, number_of}
+use Rattle.enc_layout.specs.Letters.{LayoutValue, Meaning, EntryAt, IsLetter, letters_through, number_of}
 use Rattle.enc_layout.specs.Clauses.{Plus, layout_of, literal_in}
 use Rattle.enc_layout.proofs.Numbers.{number_within}
 use Rattle.ltl_closure.specs.Closure.{closure}
@@ -31,15 +29,3 @@ pub letters_all : (layout : LayoutValue) (c : ClosureValue) → layout ≡ layou
 letters_all layout c own numbers is =
     subst (λ n. All (IsNumber n) numbers) (sym (entries_count layout c own))
     (subst (λ ns. All (IsNumber (length (closure c.formula))) ns) (sym is) (numbers_known c.formula (letters c.formula) (λ e m. (Contains-from_filter is_letter (closure c.formula) e m).0)))
-
-is_loop_letter : (kind : Kind) (counts : Counts) (l k : ℕ) → kind ≡ Kinds.Infinite → l < k → IsLetter kind counts k (LoopTo l k)
-is_loop_letter Kinds.Infinite counts l k e lt = (omega arith, lt)
-is_loop_letter Kinds.Finite counts l k e lt = cc
-
-module _ (layout : LayoutValue) (c : ClosureValue) (own : layout ≡ layout_of c) (infinite : c.kind ≡ Kinds.Infinite) (l k : ℕ) (lt : l < k) where
-  pub loop_letter : IsLetter layout.kind layout.counts k (LoopTo l k)
-  loop_letter = is_loop_letter layout.kind layout.counts l k (ap (λ (m : LayoutValue). m.kind) own ∙ infinite) lt
-
-  pub loop_has_value : (s : SolverValue) (n : ℕ) → HasRoom (layout_of c) k s → n ≡ number_of layout.kind layout.counts (LoopTo l k) → n < length s.model
-  loop_has_value s n room is =
-      subst (λ m. m < length s.model) (sym is) (has_value layout k s (LoopTo l k) (subst (λ (m : LayoutValue). HasRoom m k s) (sym own) room) loop_letter)

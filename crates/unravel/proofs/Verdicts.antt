@@ -1,5 +1,5 @@
 -- The decisions, from what the questions of the depths were answered.
-use Rattle.std.proofs.Common.{◌≡◌, ℕ, suc, ◌+◌, ◌≤◌, arith, inl, inr, sym, subst, List, ◌<◌}
+use Rattle.std.proofs.Common.{◌≡◌, ◌∙◌, ℕ, suc, ◌+◌, ◌≤◌, arith, ap, inl, inr, sym, subst, List, ◌<◌, All, Contains}
 use Rattle.std.proofs.lemmas.Bool.{cases_lt}
 use Rattle.ltl_syntax.specs.declared.node.Kind.{Kind}
 use Rattle.ltl_syntax.specs.Formula.{Formula}
@@ -7,15 +7,22 @@ use Rattle.ltl_closure.specs.Run.{Sat, HasAccepted, HasUnpruned, IsOpen, IsVerdi
 use Rattle.ltl_run.proofs.Closing.{accepted_by}
 use Rattle.ltl_run.proofs.Bounds.{settled}
 use Rattle.ltl_run.proofs.Least.{unsat_has_no_trace}
+use Rattle.cnf_base.specs.declared.literal.Literal.{Literal}
 use Rattle.cnf_base.specs.Known.{AreKnown}
-use Rattle.clause_log.specs.LogValue.{LogValue}
+use Rattle.clause_log.specs.LogValue.{LogValue, IsLog}
+use Rattle.derivation.specs.Naming.{AreNamed, derived}
+use Rattle.derivation.proofs.Lines.{named_steps}
 use Rattle.cdcl.specs.SolverValue.{SolverValue}
+use Rattle.enc_layout.specs.Clauses.{clause_list}
+use Rattle.enc_layout.specs.Assigned.{accepted_question, unpruned_question}
 use Rattle.enc_layout.specs.Targets.{CloseTableau}
 use Rattle.unravel.specs.declared.decision.Decision.{Decision}
 use Rattle.unravel.specs.declared.decision.Decision.TheVariants as decisions
 use Rattle.unravel.specs.Decision.{IsTraceOfRun, HasNoTrace, IsRefutation, IsDecision, IsUnsat, IsUndecided}
 use Rattle.unravel.specs.Settling.{IsShown, IsRefuted}
-use Rattle.unravel.specs.Depths.{IsThrough, IsBefore, AreOpen, AreRefused}
+use Rattle.unravel.specs.declared.inputs.Inputs.{Inputs}
+use Rattle.unravel.specs.Depths.{IsThrough, IsBefore, Refuses, AreOpen, AreRejected, AreRefused}
+use Rattle.unravel.proofs.Putting.{refuses_more}
 
 pub within_limit : (k limit : ℕ) → k < limit + 1 → k ≤ limit
 within_limit k limit lt = omega arith
@@ -27,8 +34,21 @@ module _ (f : Formula) (kind : Kind) where
     | inr g ↦ let e : j ≡ k = omega arith in subst (IsOpen f kind) (sym e) here
   ]
 
-  pub before_more : (k : ℕ) (s : SolverValue) → IsThrough f kind k s → IsBefore f kind (k + 1) s
-  before_more k s h = let e : suc k ≡ k + 1 = omega arith in subst (λ n. IsBefore f kind n s) e h
+  pub before_more : (k : ℕ) (i : Inputs) → IsThrough f kind k i → IsBefore f kind (k + 1) i
+  before_more k i h = let e : suc k ≡ k + 1 = omega arith in subst (λ n. IsBefore f kind n i) e h
+
+  pub rejected_none : (s : SolverValue) → AreRejected f kind 0 s
+  rejected_none s j lt = absurd (omega arith)
+
+  pub rejected_more : (k : ℕ) (s : SolverValue) → AreRejected f kind k s → Refuses s (accepted_question f kind k) → AreRejected f kind (k + 1) s
+  rejected_more k s before here j lt = elim (cases_lt j k) [
+    | inl l ↦ before j l
+    | inr g ↦ let e : j ≡ k = omega arith in subst (λ n. Refuses s (accepted_question f kind n)) (sym e) here
+  ]
+
+  -- what is put in later changes nothing
+  pub still_rejected : (k : ℕ) (old new : SolverValue) → All (Contains new.log.inputs) old.log.inputs → AreRejected f kind k old → AreRejected f kind k new
+  still_rejected k old new kept before j lt = refuses_more old new (accepted_question f kind j) kept (before j lt)
 
   module _ (limit k : ℕ) (le : k ≤ limit) (open' : AreOpen f kind k) where
     pub shown_decided : (d : Decision) → IsShown f kind k d → IsDecision f kind limit d
@@ -44,22 +64,29 @@ module _ (f : Formula) (kind : Kind) where
     refuted_decided none pruned (decisions.Sat n t) h = absurd h
     refuted_decided none pruned (decisions.Undecided n) h = absurd h
 
-  pub all_refused : (k : ℕ) → AreOpen f kind k → (HasAccepted f kind k → ⊥) → (HasUnpruned f kind k → ⊥) → AreRefused f kind k
-  all_refused k before none pruned = record {
-    accepted = λ i le. elim (cases_lt i k) [
-      | inl l ↦ (before i l).rejected
-      | inr g ↦ let e : i ≡ k = omega arith in subst (λ n. HasAccepted f kind n → ⊥) (sym e) none
-    ];
-    unpruned = pruned;
-  }
+  pub all_refused : (k : ℕ) (s : SolverValue) → AreRejected f kind k s → Refuses s (accepted_question f kind k) → Refuses s (unpruned_question f kind k) → AreRefused f kind k s
+  all_refused k s before here pruned = record { accepted = rejected_more k s before here; unpruned = pruned }
 
-  -- the log that the solver leaves
-  pub refutation : (k : ℕ) (s : SolverValue) (log : LogValue) (targets : List ℕ) → log ≡ s.log → IsThrough f kind k s → AreKnown s.letters s.log.lines → CloseTableau f kind k s.log.lines targets → IsRefutation f kind k log targets
-  refutation k s log targets is through known closes = subst (λ (l : LogValue). IsRefutation f kind k l targets) (sym is) (record {
-    inputs = through.inputs;
-    letters = subst (λ n. AreKnown n s.log.lines) through.letters known;
-    closed = closes;
-  })
+  -- a depth with neither is open
+  pub open_told : (k : ℕ) → (HasAccepted f kind k → ⊥) → HasUnpruned f kind k → IsOpen f kind k
+  open_told k none (r, run, unpruned) = record { run = (r, run); rejected = none; unpruned = (r, run, unpruned) }
+
+  -- the log that the solver leaves, under the names of its inputs
+  pub refutation : (k : ℕ) (i : Inputs) (s : SolverValue) (log : LogValue) (targets : List ℕ) → IsThrough f kind k i → s.letters ≡ i.solver.letters → s.log.inputs ≡ i.solver.log.inputs → log ≡ s.log → IsLog log
+      → AreKnown s.letters s.log.lines → CloseTableau f kind k s.log.lines targets → IsRefutation f kind k (derived log i.names.items) targets
+  refutation k i s log targets through letters inputs is log_is known closes =
+      let named = subst (λ (xs : List (List Literal)). AreNamed (clause_list f kind k) xs i.names.items) (sym (ap (λ (l : LogValue). l.inputs) is ∙ inputs)) through.part.named in
+      record {
+        steps = named_steps (clause_list f kind k) log i.names.items named log_is;
+        letters = subst (λ n. AreKnown n log.lines) (letters ∙ through.part.letters) (subst (λ (l : LogValue). AreKnown s.letters l.lines) (sym is) known);
+        closed = subst (λ (l : LogValue). CloseTableau f kind k l.lines targets) (sym is) closes;
+      }
+
+  -- its inputs are named by a list
+  pub log_named : (k : ℕ) (i : Inputs) (s : SolverValue) (log : LogValue) → IsThrough f kind k i → s.log.inputs ≡ i.solver.log.inputs → log ≡ s.log
+      → (list : List (List Literal)) × AreNamed list log.inputs i.names.items
+  log_named k i s log through inputs is =
+      (clause_list f kind k, subst (λ (xs : List (List Literal)). AreNamed (clause_list f kind k) xs i.names.items) (sym (ap (λ (l : LogValue). l.inputs) is ∙ inputs)) through.part.named)
 
   pub open_through : (limit n : ℕ) → limit + 1 ≤ n → AreOpen f kind n → AreOpen f kind (limit + 1)
   open_through limit n all open' j lt = open' j (omega arith)

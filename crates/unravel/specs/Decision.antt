@@ -9,7 +9,7 @@ use Rattle.ltl_closure.specs.Run.{States, IsRun, IsVerdict, Sat, Unsat, Undecide
 use Rattle.ltl_run.specs.declared.run_state.Close.{Close}
 use Rattle.ltl_run.specs.TraceOf.{Accepts, GivesTrace}
 use Rattle.cnf_base.specs.Known.{AreKnown}
-use Rattle.clause_log.specs.LogValue.{LogValue}
+use Rattle.derivation.specs.Steps.{DerivationValue, AreSteps}
 use Rattle.enc_layout.specs.Letters.{letters_through}
 use Rattle.enc_layout.specs.Clauses.{counts, clause_list}
 use Rattle.enc_layout.specs.Targets.{CloseTableau}
@@ -28,9 +28,9 @@ IsModel f kind t = IsTrace t × IsOfKind t kind × Satisfies t f
 abbrev pub HasNoTrace : Formula → Kind → Type 0
 HasNoTrace f kind = (t : Trace) → IsTrace t → IsOfKind t kind → ¬ Satisfies t f
 
--- the log has the clause list through depth k as inputs, its lines have only the letters from 1 through depth k, and the targets close the tableau
-pub record IsRefutation (f : Formula) (kind : Kind) (k : ℕ) (log : LogValue) (targets : List ℕ) : Type 0 where
-  pub inputs : log.inputs ≡ clause_list f kind k
+-- each line is a hinted step over the clause list through depth k, the lines have only the letters from 1 through depth k, and the targets close the tableau
+pub record IsRefutation (f : Formula) (kind : Kind) (k : ℕ) (log : DerivationValue) (targets : List ℕ) : Type 0 where
+  pub steps : AreSteps (clause_list f kind k) log
   pub letters : AreKnown (letters_through kind (counts f) k) log.lines
   pub closed : CloseTableau f kind k log.lines targets
 

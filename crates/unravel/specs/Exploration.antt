@@ -3,7 +3,7 @@ use Rattle.std.specs.Prelude.{ℕ, ◌≤◌, List, refl}
 use Rattle.std.specs.Coded.{Coded, code_by, coded×, coded_ℕ}
 use Rattle.ltl_closure.specs.Entries.{ClosureValue, coded_closure}
 use Rattle.cnf_base.specs.declared.literal.Literal.{Literal as Signed}
-use Rattle.cdcl.specs.SolverValue.{SolverValue}
+use Rattle.unravel.specs.declared.inputs.Inputs.{Inputs}
 use Rattle.enc_layout.specs.Letters.{Fits}
 use Rattle.enc_layout.specs.Clauses.{layout_of}
 use Rattle.unravel.specs.Depths.{IsBefore, AreStatesBelow}
@@ -22,7 +22,7 @@ coded_exploration =
 abbrev pub CanGoOn : ExplorationValue → Type 0
 CanGoOn e = (e.depth ≤ 1000) × Fits (layout_of e.closure) e.depth
 
--- the solver has what stands before depth k, and each of the literals says that some state before it is there
-pub record IsPrepared (c : ClosureValue) (k : ℕ) (s : SolverValue) (literals : List Signed) : Type 0 where
-  pub before : IsBefore c.formula c.kind k s
+-- what stands before depth k was put in, and each of the literals says that some state before it is there
+pub record IsPrepared (c : ClosureValue) (k : ℕ) (i : Inputs) (literals : List Signed) : Type 0 where
+  pub before : IsBefore c.formula c.kind k i
   pub states : AreStatesBelow c.formula c.kind k literals

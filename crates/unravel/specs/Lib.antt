@@ -1,4 +1,6 @@
 pub mod Decision
+pub mod Putting
+pub mod Listing
 pub mod Depths
 pub mod Values
 pub mod Settling

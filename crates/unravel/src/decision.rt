@@ -1,6 +1,6 @@
 // What is decided of a formula.
 
-use clause_log::Log;
+use derivation::NamedLog;
 use ltl_word::Trace;
 
 /// What the tableau says of a formula. Depths count from 0.
@@ -11,11 +11,11 @@ pub enum Decision {
         depth: u32,
         trace: Trace,
     },
-    /// Unsatisfiable: the log's inputs are the clause list through the depth, and the targets name the lines
-    /// that close the tableau.
+    /// Unsatisfiable: the log's lines follow from the clause list through the depth, and the targets name the
+    /// lines that close the tableau.
     Unsat {
         depth: u32,
-        log: Log,
+        log: NamedLog,
         targets: Vec<u64>,
     },
     /// Neither, up to this depth.

@@ -6,10 +6,10 @@ ghost use Rattle.unravel.specs.Exploration.{CanGoOn};
 ghost use Rattle.unravel.specs.Exploring.{IsExplored};
 
 use crate::growing::grow;
+use crate::inputs::Inputs;
 use crate::questions::ask_accepted;
 use crate::showing::shown_trace;
-use cdcl::Solver;
-use cnf_base::{ClauseList, Literal};
+use cnf_base::Literal;
 use enc_layout::Layout;
 use ltl_closure::Closure;
 use ltl_word::Trace;
@@ -27,8 +27,7 @@ const LAST: u32 = 1000;
 pub struct Exploration<'c> {
     alloc: Global,
     closure: &'c Closure<'c>,
-    solver: Solver,
-    clauses: ClauseList,
+    inputs: Inputs,
     states: Vec<Literal>,
     depth: u32,
 }
@@ -42,7 +41,7 @@ impl<'c> Model for Exploration<'c> {
 
     ghost view = { λ e. record { closure = e.closure.now; depth = e.depth } };
 
-    ghost invariant = { λ e. IsPrepared e.closure.now e.depth e.solver e.states.items };
+    ghost invariant = { λ e. IsPrepared e.closure.now e.depth e.inputs e.states.items };
 }
 
 /// What one depth more comes to.
@@ -62,8 +61,7 @@ impl<'c> Exploration<'c> {
         Exploration {
             alloc,
             closure,
-            solver: Solver::new(alloc),
-            clauses: ClauseList::new(alloc),
+            inputs: Inputs::new(alloc),
             states: Vec::new(alloc),
             depth: 0,
         }
@@ -78,7 +76,7 @@ impl<'c> Exploration<'c> {
 
     /// How many lines were learnt so far, which tells what the search took. Nothing is promised of it.
     pub fn lines(&self) -> u64 {
-        self.solver.log().view().lines()
+        self.inputs.solver.log().view().lines()
     }
 
     /// Whether the next depth is at most 1,000, and its clauses have letters enough.
@@ -97,19 +95,17 @@ impl<'c> Exploration<'c> {
         let alloc = self.alloc;
         let closure = self.closure;
         let depth = self.depth;
-        let mut solver = self.solver;
-        let mut clauses = self.clauses;
+        let mut inputs = self.inputs;
         let mut states = self.states;
-        grow(closure, depth, &mut clauses, &mut solver)?;
-        if ask_accepted(closure, &mut solver, &mut states, depth)? {
-            let trace = shown_trace(alloc, closure, &solver, depth)?;
+        grow(closure, depth, &mut inputs)?;
+        if let Some(close) = ask_accepted(alloc, closure, &mut inputs, &mut states, depth)? {
+            let trace = shown_trace(alloc, closure, &inputs.solver, depth, close)?;
             return Ok(Explored::Found { depth, trace });
         }
         Ok(Explored::Open(Exploration {
             alloc,
             closure,
-            solver,
-            clauses,
+            inputs,
             states,
             depth: depth + 1,
         }))

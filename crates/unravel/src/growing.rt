@@ -1,57 +1,86 @@
-// A depth's clauses, put into the solver behind those of the depths before. What the solver has learnt of
-// these stays.
-ghost use Rattle.std.specs.Prelude.{◌≡◌, ◌≤◌, OnOk};
-ghost use Rattle.cnf_base.specs.Known.{AreKnown};
+// A depth's clauses of the states and of acceptance, put in behind those of the depths before. What is said of
+// pairs of steps is put in where a run asks for it, but for the first two steps, whose pair is put in whole:
+// with one wide step a run would have to ask for most of it, place by place.
+ghost use Rattle.std.specs.Prelude.{◌≤◌, All, Contains, OnOk};
 ghost use Rattle.enc_layout.specs.Letters.{Fits};
-ghost use Rattle.enc_layout.specs.Clauses.{layout_of, step_clauses, signed_clauses};
-ghost use Rattle.unravel.specs.Depths.{IsBefore, IsThrough, HasAdded};
+ghost use Rattle.enc_layout.specs.Clauses.{layout_of, state_clauses, signed_clauses};
+ghost use Rattle.clause_index.specs.Sections.{section_clauses};
+ghost use Rattle.unravel.specs.Putting.{IsPartOf, HasMore, Keeps};
+ghost use Rattle.unravel.specs.Depths.{IsBefore, IsThrough};
 
-use cdcl::Solver;
-use cnf_base::{ClauseList, Clauses};
+use crate::demanded::add_numbers;
+use crate::inputs::Inputs;
+use crate::listed::Listed;
+use clause_index::Section;
 use enc_layout::Layout;
 use ltl_closure::Closure;
 use std::alloc::AllocError;
 
-/// Puts the clauses of a step into the list, in place of what was there.
-fn write_step(closure: &Closure<'_>, step: u32, clauses: &mut ClauseList) -> Result<(), AllocError>
-    requires few { step ≤ 1000 }
-    requires fits { Fits (layout_of closure.now) step }
-    ensures { OnOk result (clauses.new ≡ signed_clauses closure.now.formula closure.now.kind
-        (step_clauses closure.now.formula closure.now.kind step)) }
+/// Puts the clauses of a section of the step in.
+fn add_section(
+    listed: &Listed<'_>,
+    step: u32,
+    section: Section,
+    inputs: &mut Inputs,
+) -> Result<(), AllocError>
+    requires step { step ≤ listed.now.depth }
+    requires part { IsPartOf listed.now inputs.old }
+    ensures more { OnOk result (HasMore listed.now inputs.old inputs.new) }
+    ensures there { OnOk result (All (Contains inputs.new.solver.log.inputs)
+        (signed_clauses listed.now.formula listed.now.kind
+        (section_clauses listed.now.formula listed.now.kind step section))) }
 {
-    clauses.truncate(0);
-    encode::append(closure, step, clauses)
-}
-
-/// Adds the clauses to the solver, in their order.
-fn add_all(solver: &mut Solver, clauses: &ClauseList) -> Result<(), AllocError>
-    requires { AreKnown solver.old.letters clauses.now }
-    ensures { OnOk result (HasAdded clauses.now solver.old solver.new) }
-{
-    for index in 0..clauses.count() {
-        solver.add(clauses.clause(index + 1))?;
+    let numbers = listed.section(step, section);
+    'clauses: for index in 0..numbers.count {
+        inputs.add(listed, numbers.first + index)?;
     }
     Ok(())
 }
 
-/// Makes the letters of a step known to the solver, which has those of the steps before, and adds the step's
-/// clauses. The list serves as a buffer.
-pub fn grow(
-    closure: &Closure<'_>,
+/// Puts in what the step says of pairs, where it is the second.
+fn add_first_pair(listed: &Listed<'_>, step: u32, inputs: &mut Inputs) -> Result<(), AllocError>
+    requires step { step ≤ listed.now.depth }
+    requires part { IsPartOf listed.now inputs.old }
+    ensures { OnOk result (HasMore listed.now inputs.old inputs.new) }
+{
+    if step != 1 {
+        return Ok(());
+    }
+    add_numbers(listed, listed.section(step, Section::Pairs), inputs)?;
+    add_numbers(listed, listed.section(step, Section::Pruning), inputs)?;
+    Ok(())
+}
+
+/// Puts the step's clauses of its state and of acceptance in, and those of the first pair.
+fn add_step(
+    listed: &Listed<'_>,
     step: u32,
-    clauses: &mut ClauseList,
-    solver: &mut Solver,
+    inputs: &mut Inputs,
 ) -> Result<(), AllocError>
+    requires step { step ≤ listed.now.depth }
+    requires part { IsPartOf listed.now inputs.old }
+    ensures more { OnOk result (HasMore listed.now inputs.old inputs.new) }
+    ensures states { OnOk result (All (Contains inputs.new.solver.log.inputs)
+        (signed_clauses listed.now.formula listed.now.kind (state_clauses listed.now.formula step))) }
+{
+    add_section(listed, step, Section::States, inputs)?;
+    add_section(listed, step, Section::Acceptance, inputs)?;
+    add_first_pair(listed, step, inputs)?;
+    Ok(())
+}
+
+/// Makes the letters of a step known, where those of the steps before are, and puts the step's clauses in that
+/// no run has to ask for.
+pub fn grow(closure: &Closure<'_>, step: u32, inputs: &mut Inputs) -> Result<(), AllocError>
     requires few { step ≤ 1000 }
     requires fits { Fits (layout_of closure.now) step }
-    requires before { IsBefore closure.now.formula closure.now.kind step solver.old }
-    ensures through { OnOk result (IsThrough closure.now.formula closure.now.kind step solver.new) }
-    ensures lines { OnOk result (solver.new.log.lines ≡ solver.old.log.lines) }
+    requires before { IsBefore closure.now.formula closure.now.kind step inputs.old }
+    ensures through { OnOk result (IsThrough closure.now.formula closure.now.kind step inputs.new) }
+    ensures kept { OnOk result (Keeps inputs.old inputs.new) }
 {
-    enc_layout::laws::numbering();
-    enc_layout::laws::steps();
-    write_step(closure, step, clauses)?;
-    let layout = Layout::of(closure);
-    solver.letters(layout.letters_through(step) as u32)?;
-    add_all(solver, clauses)
+    let letters = Layout::of(closure).letters_through(step);
+    inputs.solver.letters(letters as u32)?;
+    let listed = Listed::of(closure, step);
+    add_step(&listed, step, inputs)?;
+    Ok(())
 }

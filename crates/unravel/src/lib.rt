@@ -1,15 +1,23 @@
-//! The depths of the tableau, one after another, over one solver: what the tableau says of a formula, with
-//! what shows it.
+//! The depths of the tableau, one after another, over one solver, which gets the clauses of the list as the runs
+//! that it finds ask for them: what the tableau says of a formula, with what shows it.
 #![tactic(auto)]
 
+mod accepting;
+mod assuming;
 mod closing;
 mod deciding;
 mod decision;
+mod demanded;
 mod exploring;
 mod growing;
+mod inputs;
 pub mod laws;
+mod listed;
+mod looking;
 mod questions;
+mod rest;
 mod showing;
+mod unpruning;
 
 pub use deciding::decide;
 pub use decision::Decision;

@@ -1,42 +1,37 @@
 // The trace of the accepted run that the solver's values give: the states are the values of the letters that
-// stand for entries, and the run closes to the first state whose letter says so, or by its end.
-ghost use Rattle.std.specs.Prelude.{◌≡◌, ◌+◌, ◌<◌, ◌≤◌, All, IfOk};
-ghost use Rattle.ltl_syntax.specs.declared.node.Kind.TheVariants as Kinds;
+// stand for entries, and the rule that accepts the run closes it.
+ghost use Rattle.std.specs.Prelude.{◌≡◌, ◌+◌, ◌≤◌, All, IfOk};
 ghost use Rattle.ltl_closure.specs.Entries.{numbers_of, IsNumber};
 ghost use Rattle.ltl_run.specs.States.{letters};
-ghost use Rattle.ltl_run.specs.TraceOf.{Accepts};
 ghost use Rattle.cdcl.specs.SolverValue.{value_of};
 ghost use Rattle.enc_layout.specs.Letters.{Fits};
 ghost use Rattle.enc_layout.specs.Clauses.{layout_of};
-ghost use Rattle.enc_layout.specs.Assigned.{states_of};
 ghost use Rattle.unravel.specs.Decision.{IsTraceOfRun, IsModel};
 ghost use Rattle.unravel.specs.Depths.{IsShowing};
 ghost use Rattle.unravel.specs.Values.{is_letter_entry, values_at, HasRoom, IsRead, AreRead};
 
 use cdcl::Solver;
-use enc_layout::{Layout, Part};
+use enc_layout::Layout;
 use ltl_closure::{Closure, Entry};
 use ltl_run::{Close, RunState, trace_of};
-use ltl_syntax::Kind;
 use ltl_word::Trace;
 use std::alloc::{AllocError, Global};
 
-/// The trace of the run of depth + 1 states that the values give.
+/// The trace of the run of depth + 1 states that the values give, and the rule closes.
 pub fn shown_trace(
     alloc: Global,
     closure: &Closure<'_>,
     solver: &Solver,
     depth: u32,
+    close: Close,
 ) -> Result<Trace, AllocError>
     requires few { depth ≤ 1000 }
     requires fits { Fits (layout_of closure.now) depth }
-    requires showing { IsShowing closure.now.formula closure.now.kind depth solver.now }
+    requires showing { IsShowing closure.now.formula closure.now.kind depth solver.now close }
     ensures run { IfOk result (IsTraceOfRun closure.now.formula closure.now.kind depth) }
     ensures model { IfOk result (IsModel closure.now.formula closure.now.kind) }
 {
-    enc_layout::laws::assignment_runs();
     let states = read_states(alloc, closure, solver, depth)?;
-    let close = closing_rule(closure, solver, depth);
     trace_of(alloc, closure, &states, close)
 }
 
@@ -133,39 +128,4 @@ fn entry_values(
         values.push(solver.value(entry.letter))?;
     }
     Ok(values)
-}
-
-/// The rule by which the run is accepted.
-fn closing_rule(closure: &Closure<'_>, solver: &Solver, depth: u32) -> Close
-    requires few { depth ≤ 1000 }
-    requires fits { Fits (layout_of closure.now) depth }
-    requires showing { IsShowing closure.now.formula closure.now.kind depth solver.now }
-    ensures { Accepts result closure.now.formula (states_of closure.now.formula closure.now.kind
-        (value_of solver.now)) depth closure.now.kind }
-{
-    enc_layout::laws::assignment_runs();
-    match closure.kind() {
-        Kind::Infinite => loop_rule(closure, solver, depth),
-        Kind::Finite => Close::End,
-    }
-}
-
-/// The first earlier state that the run closes to. Where there is none, no next request is true in the last
-/// state.
-fn loop_rule(closure: &Closure<'_>, solver: &Solver, depth: u32) -> Close
-    requires few { depth ≤ 1000 }
-    requires fits { Fits (layout_of closure.now) depth }
-    requires infinite { closure.now.kind ≡ Kinds.Infinite }
-    requires showing { IsShowing closure.now.formula closure.now.kind depth solver.now }
-    ensures { Accepts result closure.now.formula (states_of closure.now.formula closure.now.kind
-        (value_of solver.now)) depth closure.now.kind }
-{
-    enc_layout::laws::assignment_runs();
-    let layout = Layout::of(closure);
-    for earlier in 0..depth {
-        if solver.value(layout.letter(depth, Part::Loop(earlier))) {
-            return Close::Loop(earlier);
-        }
-    }
-    Close::Empty
 }

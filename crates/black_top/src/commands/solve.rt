@@ -14,8 +14,10 @@ ghost use Rattle.black_top.specs.Inner.{Shows};
 
 use super::conflict::shown_core;
 use crate::output::{Output, refusal, sat, undecided, unsat};
-use clause_log::Log;
+use clause_index::Indexed;
+use cnf_base::Clauses;
 use command_words::Options;
+use derivation::NamedLog;
 use enc_layout::Layout;
 use log_trim::trim;
 use ltl_closure::Closure;
@@ -118,7 +120,7 @@ fn shown_certificate(
     alloc: Global,
     closure: &Closure<'_>,
     depth: u32,
-    log: Log,
+    log: NamedLog,
     targets: &[u64],
     cert: bool,
 ) -> Result<Option<Vec<u8>>, AllocError>
@@ -140,7 +142,7 @@ pub fn certificate(
     alloc: Global,
     closure: &Closure<'_>,
     depth: u32,
-    log: Log,
+    log: NamedLog,
     targets: &[u64],
 ) -> Result<Vec<u8>, AllocError>
     requires few { depth ≤ 1000 }
@@ -152,11 +154,9 @@ pub fn certificate(
         IsWritten closure.now.formula closure.now.kind depth text.items) }
 {
     cert_check::laws::trimmed();
-    // The view says that each line is a hinted step.
-    let _ = log.view();
     let (needed, numbers) = trim(alloc, log, targets)?;
-    let view = needed.view();
     // The counts are numbers of 64 bits, so the text can name each clause and each line.
-    let _counts = (view.inputs(), view.lines());
-    cert_text::write(alloc, closure.kind(), depth, &view, &numbers)
+    let clauses = Indexed::of(closure, depth);
+    let _counts = (clauses.count(), needed.lines());
+    cert_text::write(alloc, closure.kind(), depth, &needed, &numbers)
 }

@@ -19,8 +19,8 @@ ghost use Rattle.report.specs.Texts.{Proof};
 use crate::commands::solve::{DEFAULT_DEPTH, certificate};
 use crate::output::{Output, no_path, path_fails, paths_hold, paths_hold_by, refusal, undecided};
 use crate::parts::{ThreeParts, cut_twice};
-use clause_log::Log;
 use command_words::Options;
+use derivation::NamedLog;
 use enc_layout::Layout;
 use ltl_closure::Closure;
 use ltl_syntax::{FormulaTable, Kind, print};
@@ -272,7 +272,7 @@ fn proved(
     joined: &Joined,
     closure: &Closure<'_>,
     depth: u32,
-    log: Log,
+    log: NamedLog,
     targets: &[u64],
 ) -> Result<Output, AllocError>
     requires there { joined.now.whole < length joined.now.table.nodes }

@@ -1,5 +1,4 @@
 use Rattle.cert_text.proofs.Ended.{last_uses_are_last, ended_ascend, ended_are_one, ended_among_all}
-use Rattle.cert_text.proofs.Standing.{hints_are_earlier}
 use Rattle.cert_text.proofs.laws.deleting.Goals as goal
 
 pub returns-clause-last : goal.returns-clause-last
@@ -13,6 +12,3 @@ returns-clause-one c = ended_are_one
 
 pub returns-clause-among : goal.returns-clause-among
 returns-clause-among c = ended_among_all
-
-pub returns-clause-earlier : goal.returns-clause-earlier
-returns-clause-earlier c = hints_are_earlier

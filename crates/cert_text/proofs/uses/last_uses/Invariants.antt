@@ -6,4 +6,4 @@ abbrev pub invariant-loop-index : goal.invariant-loop-index
 invariant-loop-index l = AreNumbered l.index l.last.items
 
 abbrev pub invariant-loop-index-2 : goal.invariant-loop-index-2
-invariant-loop-index-2 l = AreNoted l.view.hints (length l.view.lines) l.index l.last.items
+invariant-loop-index-2 l = AreNoted l.derivation.hints (length l.derivation.lines) l.index l.last.items

@@ -1,21 +1,10 @@
-use Rattle.std.proofs.Common.{◌≡◌, true, List, [], ◌∷◌, refl}
-use Rattle.cnf_base.specs.declared.literal.Literal.{Literal}
-use Rattle.cnf_base.specs.declared.literal.Hint.{Hint}
-use Rattle.cnf_base.specs.declared.literal.Hint.TheVariants.{Clause, Line}
-use Rattle.cnf_base.specs.Step.{IsHintedStep}
-use Rattle.cnf_base.specs.Worked.{minus, clauses_of_false}
-use Rattle.cnf_base.proofs.Deciding.{is_hinted_step, Decides-hinted_step}
-use Rattle.clause_log.specs.LogValue.{greatest_u32}
+use Rattle.std.proofs.Common.{ℕ, zero, suc, ◌≡◌, ◌<◌, ◌≤◌, [], ◌∷◌, get_or, arith}
 use Rattle.certificate_tests.proofs.texts.writes_with_deletes.Goals as goal
 
-is_step : (lines : List (List Literal)) (hints : List Hint) → is_hinted_step clauses_of_false lines greatest_u32 (minus 2 ∷ []) hints ≡ true
-    → IsHintedStep clauses_of_false lines greatest_u32 (minus 2 ∷ []) hints
-is_step lines hints = (Decides-hinted_step clauses_of_false lines greatest_u32 (minus 2 ∷ []) hints).0
+are_lines : (count : ℕ) → count ≡ 2 → (i : ℕ) → i < 2 → (0 < get_or (2 ∷ 2 ∷ []) i 0) × (get_or (2 ∷ 2 ∷ []) i 0 ≤ count)
+are_lines count is zero low = (omega arith, omega (arith, is))
+are_lines count is (suc zero) low = (omega arith, omega (arith, is))
+are_lines count is (suc (suc i)) low = absurd (omega (arith, low))
 
-pub derive-requires : goal.derive-requires
-derive-requires g c = rw (c.in_ok-log.ensures, c.minus.ensures) (is_step [] (Clause 2 ∷ Clause 1 ∷ []) refl)
-
-pub derive-requires-2 : goal.derive-requires-2
-derive-requires-2 g c =
-    rw (c.in_ok-derive.ensures.added.0, c.in_ok-log.ensures, c.minus.ensures, c.minus-2.ensures)
-    (is_step ((minus 2 ∷ []) ∷ []) (Line 1 ∷ []) refl)
+pub trim-requires : goal.trim-requires
+trim-requires g c = are_lines _ c.in_ok-log.ensures

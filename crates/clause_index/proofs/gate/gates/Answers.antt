@@ -13,15 +13,15 @@ gate_spot-spot-requires-clause-within c =
 pub entry-requires : goal.entry-requires
 entry-requires c = subst (λ n. IsNumber n c.gate_spot-spot.result.number) c.entries.ensures.closure.long c.gate_spot-spot.ensures.known
 
-pub gate_clause-requires-clause-inside : goal.gate_clause-requires-clause-inside
-gate_clause-requires-clause-inside c =
+pub gate_at-requires-clause-inside : goal.gate_at-requires-clause-inside
+gate_at-requires-clause-inside c =
     one_inside c.args.layout.now c.args.closure.now c.requires.own c.args.closure.now.entries c.entry.ensures.closure c.gate_spot-spot.result.number
     (subst (λ n. IsNumber n c.gate_spot-spot.result.number) c.entries.ensures.closure.long c.gate_spot-spot.ensures.known)
     c.entry.result c.entry.ensures.entry
 
 pub returns : goal.returns
 returns c =
-    c.gate_clause.ensures
+    c.gate_at.ensures
     ∙ (ap (λ x. row_at c.args.layout.now (entry_gate c.args.step c.gate_spot-spot.result.number x) c.gate_spot-spot.result.index)
     (c.entry.ensures.entry ∙ ap (λ es. entry_at es c.gate_spot-spot.result.number) (sym c.entries.ensures.entries))
     ∙ gate_row c.args.closure.now.names c.args.closure.now.formula c.entries.result.now c.entries.ensures.closure c.args.layout.now c.args.step

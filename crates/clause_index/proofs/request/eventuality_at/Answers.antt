@@ -12,13 +12,13 @@ entry-requires c = let f = c.args.closure.now.formula in number_known f (eventua
 pub returns-clause-right : goal.returns-clause-right
 returns-clause-right c =
     let f = c.args.closure.now.formula in
-    c.eventuality_of.ensures.right ∙ (ap (right_by (slice_index_or c.eventualities.result.now c.args.index 0)) c.entry.ensures.entry
+    c.operands_of-of.ensures.right ∙ (ap (right_by (slice_index_or c.eventualities.result.now c.args.index 0)) c.entry.ensures.entry
     ∙ right_is c.args.closure.now.names f c.args.closure.now.entries c.entry.ensures.closure c.eventualities.result.now c.eventualities.ensures.numbers c.args.index c.requires)
 
 pub returns-clause-request : goal.returns-clause-request
 returns-clause-request c =
     let f = c.args.closure.now.formula in
-    c.eventuality_of.ensures.request ∙ (ap (request_by (slice_index_or c.eventualities.result.now c.args.index 0)) c.entry.ensures.entry
+    c.operands_of-of.ensures.request ∙ (ap (request_by (slice_index_or c.eventualities.result.now c.args.index 0)) c.entry.ensures.entry
     ∙ request_is c.args.closure.now.names f c.args.closure.now.entries c.entry.ensures.closure c.eventualities.result.now c.eventualities.ensures.numbers c.args.index c.requires)
 
 pub returns-clause-right_known : goal.returns-clause-right_known

@@ -9,5 +9,4 @@ clauses-preserved c =
     let all = clause_list v.formula v.kind v.depth in
     let low : c.clauses.index < length all = omega (arith, c.clauses-test.true, c.count-index-end.ensures) in
     let back : c.clauses.index + 1 - 1 ≡ c.clauses.index = omega arith in
-    let spelled = c.deref.ensures.value ∙ c.in_ok-spell.ensures.spelled ∙ c.clause.ensures ∙ ap (λ n. get_or all n []) back in
-    next_more all c.clauses.list c.push.new.self c.clauses.index c.deref.result.now [] low (sym spelled) c.clauses.invariant c.in_ok-push.ensures
+    next_more [] all c.clauses.list c.push.new.list c.clauses.index _ [] low (sym (c.clause.ensures ∙ ap (λ n. get_or all n []) back)) c.clauses.invariant c.in_ok-push.ensures.ok

@@ -1,10 +1,5 @@
-use Rattle.std.proofs.Common.{false}
-use Rattle.log_trim.proofs.MarkedLines.{hint_earlier}
 use Rattle.log_trim.proofs.Marks.{needed_lines, there}
 use Rattle.log_trim.proofs.laws.earlier.Goals as goal
-
-pub returns-clause-hints : goal.returns-clause-hints
-returns-clause-hints c log k m is lt h = hint_earlier log (λ j. false) is k m lt h
 
 pub returns-clause-needed : goal.returns-clause-needed
 returns-clause-needed c log targets n is lines needed = needed_lines log targets is lines needed

@@ -7,5 +7,5 @@ returns-clause-on c M lines k n table are e = rw (add-one k) (table_on M lines k
 
 pub returns-clause-has : goal.returns-clause-has
 returns-clause-has c log M k m table is lt h are =
-    let w = hint_earlier log M is k m lt h in
+    let w = hint_earlier log is k m lt h in
     (w.0, w.1, λ i e. table_has M log.lines k m table w.1 are i e)

@@ -1,11 +1,11 @@
 use Rattle.std.proofs.Common.{All}
 use Rattle.cnf_base.specs.Known.{IsKnown}
 use Rattle.log_trim.proofs.Keeping.{All-kept_from, kept_from_few, contains_kept}
-use Rattle.log_trim.proofs.MarkedLines.{trimmed_log, line_kept, target_kept}
+use Rattle.log_trim.proofs.MarkedLines.{trimmed_steps, line_kept, target_kept}
 use Rattle.log_trim.proofs.laws.trimming.Goals as goal
 
-pub returns-clause-log : goal.returns-clause-log
-returns-clause-log c log M is closed = trimmed_log log M is closed
+pub returns-clause-steps : goal.returns-clause-steps
+returns-clause-steps c list log M are closed = trimmed_steps log M list are closed
 
 pub returns-clause-keeps : goal.returns-clause-keeps
 returns-clause-keeps c log M n line marked e = line_kept M log.lines n line marked e

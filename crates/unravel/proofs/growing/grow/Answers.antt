@@ -1,35 +1,52 @@
-use Rattle.std.proofs.Common.{◌≡◌, ◌≤◌, ap, sym, ◌∙◌, subst}
-use Rattle.std.proofs.lemmas.Result.{on_ok_weaker}
-use Rattle.cnf_base.specs.Known.{AreKnown}
+use Rattle.std.proofs.Common.{◌≡◌, ◌≤◌, ap, refl, sym, ◌∙◌, subst, All, Contains}
 use Rattle.cdcl.specs.SolverValue.{SolverValue}
 use Rattle.enc_layout.specs.Letters.{LayoutValue, letters_through}
-use Rattle.enc_layout.specs.Clauses.{counts, step_clauses, signed_clauses}
-use Rattle.unravel.proofs.Grown.{room_before, known_step, through_added}
+use Rattle.enc_layout.specs.Clauses.{counts, state_clauses, signed_clauses}
+use Rattle.unravel.specs.Putting.{up_to, IsPartOf, HasMore}
+use Rattle.unravel.proofs.Putting.{more_then}
+use Rattle.unravel.proofs.Grown.{room_before, sized, grown}
 use Rattle.unravel.proofs.growing.grow.Goals as goal
 
 pub letters-requires : goal.letters-requires
 letters-requires c =
     let f = c.args.closure.now.formula in
     let kind = c.args.closure.now.kind in
-    let all : c.letters_through.result ≡ letters_through kind (counts f) c.args.step = c.letters_through.ensures ∙ ap (λ (m : LayoutValue). letters_through m.kind m.counts c.args.step) c.of-layout.ensures.layout in
-    subst (λ n. c.args.solver.now.letters ≤ n) (sym all) (room_before f kind c.args.step c.args.solver.now c.requires.before)
+    let all : c.letters_through-letters.result ≡ letters_through kind (counts f) c.args.step = c.letters_through-letters.ensures ∙ ap (λ (m : LayoutValue). letters_through m.kind m.counts c.args.step) c.of.ensures.layout in
+    subst (λ n. c.args.inputs.now.solver.letters ≤ n) (sym all) (room_before f kind c.args.step c.args.inputs.now c.requires.before)
 
-pub add_all-requires : goal.add_all-requires
-add_all-requires c =
+pub add_step-requires-clause-part : goal.add_step-requires-clause-part
+add_step-requires-clause-part c =
     let f = c.args.closure.now.formula in
     let kind = c.args.closure.now.kind in
-    let all : c.letters_through.result ≡ letters_through kind (counts f) c.args.step = c.letters_through.ensures ∙ ap (λ (m : LayoutValue). letters_through m.kind m.counts c.args.step) c.of-layout.ensures.layout in
-    let known : c.letters.new.self.letters ≡ letters_through kind (counts f) c.args.step = ap (λ (s : SolverValue). s.letters) c.in_ok-letters.ensures.known ∙ all in
-    subst (AreKnown c.letters.new.self.letters) (sym c.in_ok-write_step.ensures)
-    (subst (λ n. AreKnown n (signed_clauses f kind (step_clauses f kind c.args.step))) (sym known) (known_step c.numbering.ensures.known c.steps.ensures.more f kind c.args.step))
+    let all : c.letters_through-letters.result ≡ letters_through kind (counts f) c.args.step = c.letters_through-letters.ensures ∙ ap (λ (m : LayoutValue). letters_through m.kind m.counts c.args.step) c.of.ensures.layout in
+    let known = c.in_ok-letters.ensures.known in
+    let first = sized f kind c.args.step c.args.inputs.now _ c.requires.before (ap (λ (s : SolverValue). s.log) known) refl (ap (λ (s : SolverValue). s.letters) known ∙ all) in
+    subst (λ x. IsPartOf x _) (sym c.of-listed.ensures) first.part
 
 pub returns-clause-through : goal.returns-clause-through
 returns-clause-through c =
     let f = c.args.closure.now.formula in
     let kind = c.args.closure.now.kind in
-    let all : c.letters_through.result ≡ letters_through kind (counts f) c.args.step = c.letters_through.ensures ∙ ap (λ (m : LayoutValue). letters_through m.kind m.counts c.args.step) c.of-layout.ensures.layout in
-    let known : c.letters.new.self.letters ≡ letters_through kind (counts f) c.args.step = ap (λ (s : SolverValue). s.letters) c.in_ok-letters.ensures.known ∙ all in
-    on_ok_weaker c.add_all.result
-    (through_added c.steps.ensures.first c.steps.ensures.more f kind c.args.step c.write_step.new.clauses c.args.solver.now c.letters.new.self c.add_all.new.solver c.requires.before
-    (ap (λ (s : SolverValue). s.log) c.in_ok-letters.ensures.known) known c.in_ok-write_step.ensures)
-    c.add_all.ensures
+    let k = c.args.step in
+    let x = up_to f kind k in
+    let start = c.args.inputs.now in
+    let last = c.add_step.new.inputs in
+    let all : c.letters_through-letters.result ≡ letters_through kind (counts f) k = c.letters_through-letters.ensures ∙ ap (λ (m : LayoutValue). letters_through m.kind m.counts k) c.of.ensures.layout in
+    let known = c.in_ok-letters.ensures.known in
+    let first = sized f kind k start _ c.requires.before (ap (λ (s : SolverValue). s.log) known) refl (ap (λ (s : SolverValue). s.letters) known ∙ all) in
+    let more = more_then x start _ last first (subst (λ y. HasMore y _ last) c.of-listed.ensures c.in_ok-add_step.ensures.more) in
+    grown f kind k start last c.requires.before more
+    (subst (λ y. All (Contains last.solver.log.inputs) (signed_clauses y.formula y.kind (state_clauses y.formula k))) c.of-listed.ensures c.in_ok-add_step.ensures.states)
+
+pub returns-clause-kept : goal.returns-clause-kept
+returns-clause-kept c =
+    let f = c.args.closure.now.formula in
+    let kind = c.args.closure.now.kind in
+    let k = c.args.step in
+    let x = up_to f kind k in
+    let start = c.args.inputs.now in
+    let last = c.add_step.new.inputs in
+    let all : c.letters_through-letters.result ≡ letters_through kind (counts f) k = c.letters_through-letters.ensures ∙ ap (λ (m : LayoutValue). letters_through m.kind m.counts k) c.of.ensures.layout in
+    let known = c.in_ok-letters.ensures.known in
+    let first = sized f kind k start _ c.requires.before (ap (λ (s : SolverValue). s.log) known) refl (ap (λ (s : SolverValue). s.letters) known ∙ all) in
+    (more_then x start _ last first (subst (λ y. HasMore y _ last) c.of-listed.ensures c.in_ok-add_step.ensures.more)).kept

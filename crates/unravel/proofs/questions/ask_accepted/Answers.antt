@@ -8,5 +8,5 @@ returns-clause-states c =
     let f = c.args.closure.now.formula in
     let kind = c.args.closure.now.kind in
     let n = c.args.depth + 1 in
-    let below = subst (AreStatesBelow f kind n) (sym c.in_ok-accepted.ensures.states) c.in_ok-assume.ensures.0 in
-    still_below f kind n c.is_accepted.new.states.items c.begin_anew.new.states.items below c.begin_anew.ensures
+    let below = subst (AreStatesBelow f kind n) (sym c.in_ok-close.ensures.states) c.in_ok-assume.ensures.0 in
+    still_below f kind n c.accepting_rule-close.new.states.items c.begin_anew.new.states.items below c.begin_anew.ensures

@@ -1,4 +1,4 @@
-use Rattle.std.proofs.Common.{◌+◌, arith, sym, subst}
+use Rattle.std.proofs.Common.{◌+◌, sym, subst}
 use Rattle.ltl_closure.specs.Run.{IsRun}
 use Rattle.ltl_run.proofs.Collecting.{if_ok_more}
 use Rattle.cdcl.specs.SolverValue.{value_of}
@@ -13,7 +13,7 @@ trace_of-requires-clause-run c =
     let kind = c.args.closure.now.kind in
     let v = value_of c.args.solver.now in
     let read : AreRead f kind v (c.args.depth + 1) c.deref.result.now = subst (AreRead f kind v (c.args.depth + 1)) (sym c.deref.ensures.value) c.in_ok-states.ensures in
-    let run : IsRun f c.args.depth (states_of f kind v) = c.assignment_runs.ensures.run f kind c.args.depth c.args.depth v (omega arith) c.requires.showing.holds c.requires.showing.here in
+    let run : IsRun f c.args.depth (states_of f kind v) = c.requires.showing.run in
     read_run f kind v c.args.depth c.deref.result.now read run
 
 pub trace_of-requires-clause-accepted : goal.trace_of-requires-clause-accepted
@@ -22,8 +22,8 @@ trace_of-requires-clause-accepted c =
     let kind = c.args.closure.now.kind in
     let v = value_of c.args.solver.now in
     let read : AreRead f kind v (c.args.depth + 1) c.deref.result.now = subst (AreRead f kind v (c.args.depth + 1)) (sym c.deref.ensures.value) c.in_ok-states.ensures in
-    let run : IsRun f c.args.depth (states_of f kind v) = c.assignment_runs.ensures.run f kind c.args.depth c.args.depth v (omega arith) c.requires.showing.holds c.requires.showing.here in
-    read_rule f kind v c.args.depth c.deref.result.now read run c.closing_rule-close.result c.closing_rule-close.ensures
+    let run : IsRun f c.args.depth (states_of f kind v) = c.requires.showing.run in
+    read_rule f kind v c.args.depth c.deref.result.now read run c.args.close c.requires.showing.rule
 
 pub returns-clause-run : goal.returns-clause-run
 returns-clause-run c =
@@ -31,5 +31,5 @@ returns-clause-run c =
     let kind = c.args.closure.now.kind in
     let v = value_of c.args.solver.now in
     let read : AreRead f kind v (c.args.depth + 1) c.deref.result.now = subst (AreRead f kind v (c.args.depth + 1)) (sym c.deref.ensures.value) c.in_ok-states.ensures in
-    let run : IsRun f c.args.depth (states_of f kind v) = c.assignment_runs.ensures.run f kind c.args.depth c.args.depth v (omega arith) c.requires.showing.holds c.requires.showing.here in
-    if_ok_more (read_trace f kind v c.args.depth c.deref.result.now read run c.closing_rule-close.result c.closing_rule-close.ensures) c.trace_of.result c.trace_of.ensures.gives
+    let run : IsRun f c.args.depth (states_of f kind v) = c.requires.showing.run in
+    if_ok_more (read_trace f kind v c.args.depth c.deref.result.now read run c.args.close c.requires.showing.rule) c.trace_of.result c.trace_of.ensures.gives

@@ -1,6 +1,6 @@
 use Rattle.std.proofs.Common.{ℕ, ◌≤◌, List, length, refl, sym, subst, arith}
 use Rattle.ltl_syntax.specs.declared.node.Kind.{Kind}
-use Rattle.clause_log.specs.LogValue.{LogValue}
+use Rattle.enc_layout.specs.Clauses.{clause_list}
 use Rattle.cert_text.specs.Text.{text_of}
 use Rattle.cert_text.specs.Writing.{written}
 use Rattle.cert_check.specs.Lawful.{IsLawfulAt}
@@ -19,19 +19,16 @@ returns-clause-lawful c =
     let f = value.formula in
     let kind = value.kind in
     let depth = c.args.depth in
-    let targets = c.args.targets.now in
     let new = c.in_ok-needed.needed in
     let numbers = c.in_ok-needed.numbers.items in
     let (M, kept) = c.in_ok-needed.ensures in
-    let view = c.view-view-2.result in
-    let at : length new.inputs ≤ 18446744073709551615 = subst (λ (log : LogValue). length log.inputs ≤ 18446744073709551615) c.view-view-2.ensures.same (omega (arith, c.inputs.ensures, c.inputs.type_inv)) in
-    let of : length new.lines ≤ 18446744073709551615 = subst (λ (log : LogValue). length log.lines ≤ 18446744073709551615) c.view-view-2.ensures.same (omega (arith, c.lines.ensures, c.lines.type_inv)) in
+    let clauses : length (clause_list f kind depth) ≤ 18446744073709551615 = ? in
+    let lines : length new.lines ≤ 18446744073709551615 = omega (arith, c.lines.ensures, c.lines.type_inv) in
     let refutes = c.requires.refutes in
-    let lawful = c.trimmed.ensures.verify f kind depth c.args.log new targets numbers M c.view-view.ensures.steps kept refutes.inputs c.requires.fits refutes.letters refutes.closed c.requires.few at of in
+    let lawful = c.trimmed.ensures.verify f kind depth c.args.log new c.args.targets.now numbers M refutes.steps kept c.requires.fits refutes.letters refutes.closed c.requires.few clauses lines in
     let said = subst (λ (ns : List ℕ). IsLawfulAt f kind depth (text_of (written kind depth new.lines new.hints ns))) (sym c.deref.ensures.value) lawful in
-    let seen = subst (λ (log : LogValue). IsLawfulAt f kind depth (text_of (written kind depth log.lines log.hints c.deref.result.now))) (sym c.view-view-2.ensures.same) said in
-    let named = subst (λ (k : Kind). IsLawfulAt f kind depth (text_of (written k depth view.lines view.hints c.deref.result.now))) (sym c.kind.ensures) seen in
-    text_so (λ v. v.items) c.write.result (IsLawfulAt f kind depth) (text_of (written c.kind.result depth view.lines view.hints c.deref.result.now)) named c.write.ensures
+    let named = subst (λ (k : Kind). IsLawfulAt f kind depth (text_of (written k depth new.lines new.hints c.deref.result.now))) (sym c.kind.ensures) said in
+    text_so (λ v. v.items) c.write.result (IsLawfulAt f kind depth) (text_of (written c.kind.result depth new.lines new.hints c.deref.result.now)) named c.write.ensures
 
 pub returns-clause-written : goal.returns-clause-written
 returns-clause-written c =
@@ -42,11 +39,9 @@ returns-clause-written c =
     let new = c.in_ok-needed.needed in
     let numbers = c.in_ok-needed.numbers.items in
     let (M, kept) = c.in_ok-needed.ensures in
-    let view = c.view-view-2.result in
     let how : IsWritten f kind depth (text_of (written kind depth new.lines new.hints numbers)) = record {
       log = c.args.log;
       closing = c.args.targets.now;
-      steps = c.view-view.ensures.steps;
       refutes = c.requires.refutes;
       needed = new;
       targets = numbers;
@@ -55,6 +50,5 @@ returns-clause-written c =
       spelled = refl;
     } in
     let said = subst (λ (ns : List ℕ). IsWritten f kind depth (text_of (written kind depth new.lines new.hints ns))) (sym c.deref.ensures.value) how in
-    let seen = subst (λ (log : LogValue). IsWritten f kind depth (text_of (written kind depth log.lines log.hints c.deref.result.now))) (sym c.view-view-2.ensures.same) said in
-    let named = subst (λ (k : Kind). IsWritten f kind depth (text_of (written k depth view.lines view.hints c.deref.result.now))) (sym c.kind.ensures) seen in
-    text_so (λ v. v.items) c.write.result (IsWritten f kind depth) (text_of (written c.kind.result depth view.lines view.hints c.deref.result.now)) named c.write.ensures
+    let named = subst (λ (k : Kind). IsWritten f kind depth (text_of (written k depth new.lines new.hints c.deref.result.now))) (sym c.kind.ensures) said in
+    text_so (λ v. v.items) c.write.result (IsWritten f kind depth) (text_of (written c.kind.result depth new.lines new.hints c.deref.result.now)) named c.write.ensures

@@ -24,4 +24,4 @@ returns c =
     subst (λ v. literals c.find.result ≡ clause_at (clause_list v.formula v.kind v.depth) c.args.number) c.self.view_is
     (c.find.ensures
     ∙ list_row c.self.inside.layout c.self.inside.closure.now c.self.invariant.own c.self.inside.sizes c.self.invariant.sizes_are c.self.inside.depth c.place_of-place.result.step
-    c.place_of-place.result.section c.place_of-place.result.index c.args.number c.place_of-place.ensures.known c.place_of-place.ensures.within c.place_of-place.ensures.place)
+    c.place_of-place.result.section c.place_of-place.result.index c.args.number c.requires.from_one c.place_of-place.ensures.known c.place_of-place.ensures.within c.place_of-place.ensures.place)

@@ -1,0 +1,15 @@
+pub mod ByStates
+pub mod Finding
+pub mod Telling
+pub mod Closes
+pub mod PrunedStates
+pub mod Parts
+pub mod Agreeing
+pub mod Looks
+pub mod StateNumbers
+pub mod Last
+pub mod ValueLists
+pub mod Rooms
+pub mod Operands
+pub mod Reach
+pub mod ReadRows

@@ -1,0 +1,12 @@
+pub mod Inputs
+pub mod Values
+pub mod Rows
+pub mod Entries
+pub mod Reading
+pub mod Nearest
+pub mod Closing
+pub mod Fulfilment
+pub mod Pruning
+pub mod Constraints
+pub mod Worked
+pub mod Laws

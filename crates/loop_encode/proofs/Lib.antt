@@ -1,4 +1,0 @@
-mod Growing
-mod Linked
-mod Known
-mod Joined

@@ -1,8 +1,0 @@
-use Rattle.std.proofs.Common.{◌≡◌, ◌++◌}
-use Rattle.enc_layout.specs.Letters.{below}
-use Rattle.enc_layout.specs.Steps.{clauses_at}
-use Rattle.prune_encode.specs.ByNumber.{seen_pair}
-use Rattle.prune_encode.proofs.seen.push_seen.Given as goal
-
-abbrev pub invariant-loop-earlier : goal.invariant-loop-earlier
-invariant-loop-earlier l = l.out ≡ l.fn.out ++ clauses_at l.step (below l.earlier (seen_pair l.step.layout.counts.eventualities l.step.number))

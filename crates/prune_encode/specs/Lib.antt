@@ -1,2 +1,0 @@
-pub mod New
-pub mod ByNumber

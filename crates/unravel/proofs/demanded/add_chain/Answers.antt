@@ -1,0 +1,8 @@
+use Rattle.unravel.proofs.Putting.{more_none, more_then}
+use Rattle.unravel.proofs.demanded.add_chain.Goals as goal
+
+pub steps-init : goal.steps-init
+steps-init c = more_none c.args.listed.now c.args.inputs.now c.requires
+
+pub steps-preserved : goal.steps-preserved
+steps-preserved c = more_then c.args.listed.now c.args.inputs.now c.steps.inputs c.add_fulfilled.new.inputs c.steps.invariant c.in_ok-add_fulfilled.ensures
