@@ -1,5 +1,5 @@
 -- What may be decided next.
-use Rattle.std.specs.Prelude.{◌≡◌, ℕ, ◌<◌, ◌≤◌, length}
+use Rattle.std.specs.Prelude.{◌≡◌, ℕ, ◌<◌, length}
 use Rattle.cdcl_activity.specs.Order.{OrderValue}
 
 -- the letters that wait, and the one that is held ready; 0 for none
@@ -11,8 +11,3 @@ pub record ChoicesValue : Type 0 where
 pub record IsOffered (v : ChoicesValue) (x letter : ℕ) : Type 0 where
   pub is : x ≡ letter
   pub known : letter < length v.order.places
-
--- x is the letter behind those that there are, and no letter is 0
-pub record IsNew (v : ChoicesValue) (x : ℕ) : Type 0 where
-  pub from_one : 1 ≤ x
-  pub next : x ≡ length v.order.places

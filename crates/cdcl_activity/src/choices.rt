@@ -4,7 +4,7 @@
 // tests whether it has a value.
 ghost use Rattle.std.specs.Prelude.{◌≡◌, ◌≢◌, ◌↔◌, ◌⊎◌, ℕ, ◌^◌, ◌+◌, ◌/◌, ◌<◌, ◌≤◌, [], length, MatchOption, OnOk, OnErr};
 ghost use Rattle.cdcl_activity.specs.Order.{IsWaiting};
-ghost use Rattle.cdcl_activity.specs.Choices.{IsOffered, IsNew};
+ghost use Rattle.cdcl_activity.specs.Choices.{IsOffered};
 
 use crate::order::Order;
 use cnf_base::{Letter, Literal};
@@ -52,27 +52,21 @@ impl Choices {
         }
     }
 
-    /// Makes the next letter known, and lets it wait. There is no letter 0, and none behind the greatest
-    /// number.
+    /// Makes the next letter known. It doesn't wait. There is none behind the greatest number.
     pub fn letter(&mut self) -> Result<(), AllocError>
         ensures size { OnOk result (length self.old.order.places < 2 ^ 32
             → length self.new.order.places ≡ length self.old.order.places + 1) }
         ensures held { self.new.held ≡ self.old.held }
-        ensures waiting { OnOk result (length self.old.order.places < 2 ^ 32 → (x : ℕ)
-            → IsWaiting self.new.order x ↔ (IsNew self.old x ⊎ IsWaiting self.old.order x)) }
+        ensures waiting { OnOk result ((x : ℕ) → IsWaiting self.new.order x ↔ IsWaiting self.old.order x) }
         ensures full { 2 ^ 32 ≤ length self.old.order.places → self.new ≡ self.old }
         ensures refused { OnErr result (self.new ≡ self.old) }
     {
-        let letter = self.order.letters();
-        if letter > 4294967295 {
+        if self.order.letters() > 4294967295 {
             return Ok(());
         }
         self.activities.push(0)?;
         self.phases.push(true)?;
         self.order.letter()?;
-        if letter > 0 {
-            self.insert(letter as u32);
-        }
         Ok(())
     }
 

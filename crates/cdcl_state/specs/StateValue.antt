@@ -4,7 +4,6 @@ use Rattle.cnf_base.specs.declared.literal.Literal.{Literal}
 use Rattle.cnf_base.specs.declared.literal.Hint.{Hint}
 use Rattle.cnf_base.specs.declared.literal.Hint.TheVariants.{Clause, Line}
 use Rattle.cnf_base.specs.Literal.{opposite}
-use Rattle.cnf_base.specs.Known.{IsKnown}
 use Rattle.clause_log.specs.LogValue.{LogValue}
 use Rattle.cdcl_trail.specs.declared.assigned.Entry.{Entry}
 use Rattle.cdcl_trail.specs.Trail.{literals_of, IsReason, IsConflict, IsUnset, StandsAt}
@@ -65,9 +64,13 @@ pub record IsBack (old new : StateValue) (level : ℕ) : Type 0 where
   pub low : All (λ e. e.level ≤ level) new.trail
   pub high : (d : Entry) → length new.trail < length old.trail → level < (slice_index_or old.trail (length new.trail) d).level
 
--- each known literal is true, or its opposite is
+-- the literal is true, or its opposite is
+abbrev pub IsSet : List Entry → Literal → Type 0
+IsSet trail l = Contains (literals_of trail) l ⊎ Contains (literals_of trail) (opposite l)
+
+-- each literal of an input is true, or its opposite is
 abbrev pub AreSet : StateValue → Type 0
-AreSet s = (l : Literal) → IsKnown s.letters l → Contains (literals_of s.trail) l ⊎ Contains (literals_of s.trail) (opposite l)
+AreSet s = All (All (IsSet s.trail)) s.log.inputs
 
 -- the literal of the letter that is not negated
 abbrev pub positive : ℕ → Literal

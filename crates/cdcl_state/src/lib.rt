@@ -6,6 +6,8 @@ pub mod copy;
 pub mod decide;
 pub mod gather;
 pub mod kept;
+pub mod lettered;
+pub mod named;
 pub mod repeats;
 pub mod state;
 pub mod store;

@@ -1,7 +1,7 @@
 // The state of the solver: the trail, the log, and the log's clauses in the order in which they are watched.
-ghost use Rattle.std.specs.Prelude.{◌≡◌, ◌≢◌, ◌+◌, ◌<◌, ◌≤◌, [], true, All, AllPairs, length, MatchOption, IfSome, IfOk, OnErr, OnOk};
+ghost use Rattle.std.specs.Prelude.{◌≡◌, ◌≢◌, ◌+◌, ◌<◌, ◌≤◌, [], true, All, IsTrue, AllPairs, length, MatchOption, IfSome, IfOk, OnErr, OnOk};
 ghost use Rattle.cnf_base.specs.Known.{IsKnown, AreKnown};
-ghost use Rattle.cdcl_state.specs.StateValue.{IsSettled, Propagated, AreSet, IsModel, with_log, with_letters};
+ghost use Rattle.cdcl_state.specs.StateValue.{IsSettled, Propagated, AreSet, IsSet, IsModel, with_log, with_letters};
 ghost use Rattle.cdcl_trail.specs.Trail.{IsConflict, literals_of, IsUnset, HasValue, place_level};
 ghost use Rattle.cnf_base.specs.Step.{IsHintedStep};
 ghost use Rattle.clause_log.specs.LogValue.{IsLog, greatest_u32, with_line, with_input};
@@ -10,6 +10,7 @@ ghost use Rattle.cdcl_propagate.specs.Visit.{HaveSame};
 ghost use Rattle.cdcl_state.specs.Turns.{IsDecided};
 
 use crate::decide::offer;
+use crate::lettered::LetteredLog;
 use crate::state::backjump::settle;
 use crate::store::{distinct, is_ready, lead, rewind, store};
 use crate::widen::widen;
@@ -35,7 +36,7 @@ pub struct State {
     /// The known letters run from 1 to this number.
     letters: usize,
     assigned: Assigned,
-    log: Log,
+    log: LetteredLog,
     // The clauses of at least two literals, but for forgotten lines. The name of each says which of the log's
     // it is.
     watches: Watches,
@@ -86,7 +87,7 @@ impl State {
         State {
             letters: 0,
             assigned: Assigned::new(alloc),
-            log: Log::new(alloc),
+            log: LetteredLog::new(alloc),
             watches: Watches::new(alloc),
             head: 0,
             sure: 0,
@@ -105,7 +106,7 @@ impl State {
         ensures found { IfOk result (λ found. MatchOption found (IsSettled self.new)
             (IsConflict self.new.log.inputs self.new.log.lines (literals_of self.new.trail))) }
     {
-        match visit_units(&mut self.assigned, &self.log, &self.units, self.done)? {
+        match visit_units(&mut self.assigned, self.log.log(), &self.units, self.done)? {
             Some(hint) => return Ok(Some(hint)),
             None => {}
         }
@@ -118,11 +119,11 @@ impl State {
         let found = propagate(
             &mut self.assigned,
             &mut self.watches,
-            &self.log,
+            self.log.log(),
             &mut self.head,
             &mut self.sure,
         )?;
-        offer(&mut self.choices, &self.assigned, found);
+        offer(&mut self.choices, &self.assigned, self.log.named(), found);
         self.watches.watching();
         self.assigned.told();
         Ok(found)
@@ -150,8 +151,8 @@ impl State {
         self.assigned.level_at(place)
     }
 
-    /// A literal of a known letter that has no value, if there is one: first of the letters that may be
-    /// decided, and where none is left, of all of them.
+    /// A known literal without a value, if a literal of an input has none: first of a letter that may be
+    /// decided, and where none is left, of any letter that an input names.
     pub fn free(&self) -> Option<Literal>
         ensures { MatchOption result (AreSet self.now)
             (λ l. IsUnset (literals_of self.now.trail) l × IsKnown self.now.letters l) }
@@ -161,45 +162,52 @@ impl State {
             Some(literal) => return Some(literal),
             None => {}
         }
-        for letter in 1..self.letters + 1 {
-            let literal = self.choices.literal(letter as u32);
-            if self.value(literal).is_none() {
+        let named = self.log.named().letters();
+        for letter in named {
+            let literal = self.choices.literal(*letter);
+            if self.is_open(literal) {
                 return Some(literal);
             }
         }
         None
     }
 
-    /// The letter that is held ready for a decision, if it has no value.
+    /// The literal that is held ready for a decision, if it has no value.
     fn ready(&self) -> Option<Literal>
         ensures { IfSome result (λ l. IsUnset (literals_of self.now.trail) l × IsKnown self.now.letters l) }
     {
-        let letter = self.choices.held();
-        if letter < 1 {
-            return None;
-        }
-        if self.letters < letter as usize {
-            return None;
-        }
-        let literal = self.choices.literal(letter);
-        if self.value(literal).is_none() {
+        let literal = self.choices.literal(self.choices.held());
+        if self.is_open(literal) {
             return Some(literal);
         }
         None
+    }
+
+    /// Whether the literal is known and has no value.
+    fn is_open(&self, literal: Literal) -> bool
+        ensures yes { IsTrue result
+            → IsUnset (literals_of self.now.trail) literal × IsKnown self.now.letters literal }
+        ensures no { ¬ IsTrue result → IsKnown self.now.letters literal → IsSet self.now.trail literal }
+    {
+        if literal.letter.0 < 1 {
+            return false;
+        }
+        if self.letters < literal.letter.0 as usize {
+            return false;
+        }
+        self.value(literal).is_none()
     }
 
     /// The letters' values, each under its number; that of number 0 means nothing.
     pub fn model(&self, alloc: Global) -> Result<Vec<bool>, AllocError>
         ensures { IfOk result (λ model. IsModel self.now model.items) }
     {
-        let mut model: Vec<bool> = Vec::new(alloc);
-        model.push(false)?;
-        for letter in 1..self.letters + 1 {
-            let value = self.assigned.holds(Literal {
-                letter: Letter(letter as u32),
-                negated: false,
-            });
-            model.push(value)?;
+        let mut model: Vec<bool> = vec![in alloc; false; self.letters + 1]?;
+        for place in 0..self.assigned.len() {
+            let literal = self.assigned.entry(place).literal;
+            if !literal.negated && (literal.letter.0 as usize) < model.len() {
+                model[literal.letter.0 as usize] = true;
+            }
         }
         Ok(model)
     }
@@ -258,7 +266,7 @@ impl State {
         ensures refused { OnErr result (self.new ≡ self.old) }
     {
         let _ = self.log.view();
-        let number = self.log.add_input(clause)?;
+        let number = self.log.add_input(clause, &mut self.choices)?;
         match self.units.push(Hint::Clause(number)) {
             Ok(()) => {
                 return Ok(number);
@@ -281,7 +289,7 @@ impl State {
         ensures refused { OnErr result (self.new ≡ self.old) }
     {
         let _ = self.log.view();
-        let number = self.log.add_input(clause)?;
+        let number = self.log.add_input(clause, &mut self.choices)?;
         match store(stored, Hint::Clause(number), &mut self.watches) {
             Ok(()) => {
                 rewind(&self.assigned, stored, &mut self.head, &mut self.sure);
@@ -396,14 +404,14 @@ impl State {
     pub fn log(&self) -> &Log
         ensures { result.now ≡ self.now.log }
     {
-        &self.log
+        self.log.log()
     }
 
     /// The log, and nothing else of the state.
     pub fn into_log(self) -> Log
         ensures { result ≡ self.log }
     {
-        self.log
+        self.log.into_log()
     }
 
     /// Decides the literal on a level of its own.

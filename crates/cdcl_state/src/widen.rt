@@ -1,8 +1,7 @@
 // Room for more letters: a value, two lists of watchers, a mark and a place among the choices for each. What
-// is there keeps its place.
+// is there keeps its place, and none of them waits for a decision yet.
 ghost use Rattle.std.specs.Prelude.{◌≡◌, ℕ, ◌<◌, ◌≤◌, ◌⊎◌, ◌↔◌, ◌*◌, ◌^◌, ◌+◌, length, OnOk};
 ghost use Rattle.cdcl_activity.specs.Order.{IsWaiting};
-ghost use Rattle.cdcl_activity.specs.Choices.{IsNew};
 
 use cdcl_activity::choices::Choices;
 use cdcl_analyze::marks::Marks;
@@ -27,8 +26,7 @@ fn widen_one(
     ensures few { length assigned.new.values ≤ length assigned.old.values + 1 }
     ensures marks { length assigned.new.values ≤ length marks.new.stamps }
     ensures held { choices.new.held ≡ choices.old.held }
-    ensures waiting { OnOk result (length choices.old.order.places < 2 ^ 32 → (x : ℕ)
-        → IsWaiting choices.new.order x ↔ (IsNew choices.old x ⊎ IsWaiting choices.old.order x)) }
+    ensures waiting { OnOk result ((x : ℕ) → IsWaiting choices.new.order x ↔ IsWaiting choices.old.order x) }
     ensures ok { OnOk result (length assigned.new.values ≡ length assigned.old.values + 1) }
 {
     marks.letter()?;

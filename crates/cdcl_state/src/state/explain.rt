@@ -25,7 +25,7 @@ impl State {
         ensures decided { IfOk result (λ learnt. cut ≡ Decisions
             → All (IsDecision self.old.trail) learnt.places.items) }
     {
-        let graph = ImplicationGraph::of(&self.assigned, self.watches.arena(), &self.log);
+        let graph = ImplicationGraph::of(&self.assigned, self.watches.arena(), self.log.log());
         let learnt = explain(
             alloc,
             &graph,
@@ -93,7 +93,11 @@ impl State {
         let place = self.assigned.place(literal.opposite());
         match self.assigned.entry(place).reason {
             Some(hint) => {
-                let graph = ImplicationGraph::of(&self.assigned, self.watches.arena(), &self.log);
+                let graph = ImplicationGraph::of(
+                    &self.assigned,
+                    self.watches.arena(),
+                    self.log.log(),
+                );
                 let learnt = explain_forced(
                     alloc,
                     &graph,
