@@ -9,11 +9,10 @@ use Rattle.cnf_base.specs.declared.literal.Hint.{Hint}
 use Rattle.cnf_base.specs.declared.literal.Hint.TheVariants.{Clause, Line}
 use Rattle.cnf_base.specs.Literal.{opposite}
 use Rattle.cnf_base.specs.Step.{numbered, clause_at, IsHintedStep, Refutes, conflict, propagate}
-use Rattle.cnf_base.specs.Known.{IsKnown, AreKnown}
 use Rattle.cnf_base.proofs.SameLiteral.{opposite_opposite}
 use Rattle.cnf_base.proofs.MoreClauses.{refutes_more}
 use Rattle.clause_log.specs.LogValue.{LogValue, greatest_u32, with_line}
-use Rattle.cdcl_state.specs.StateValue.{StateValue, with_trail, with_log, IsHeeded, IsSettled, AreSet, Propagated}
+use Rattle.cdcl_state.specs.StateValue.{StateValue, with_trail, with_log, IsHeeded, IsSettled, AreSet, IsSet, Propagated}
 use Rattle.cdcl_trail.specs.Trail.{literals_of, IsReason, blank_entry, literal_at, IsDecision}
 use Rattle.cdcl_analyze.specs.Learnt.{IsLearnt}
 use Rattle.cdcl_state.specs.Turns.{IsTurn, IsUnturned, IsDecided}
@@ -291,11 +290,11 @@ last_line s mid clause hints line derived is =
     let number : line ≡ suc (length s.log.lines) = is ∙ ap length lines ∙ length_push s.log.lines clause ∙ add-one (length s.log.lines) in
     rw (number, lines) (slice_get-get_or (s.log.lines ++ clause ∷ []) (length s.log.lines) clause (omega (arith, length_push s.log.lines clause)) ∙ ap Some (get_or_at s.log.lines clause [] clause (length s.log.lines) refl))
 
--- where each letter is set and no clause is false, each input has a true literal
-pub inputs_true : (s : StateValue) → IsSettled s → AreSet s → AreKnown s.letters s.log.inputs → All (λ clause. Any (Contains (literals_of s.trail)) clause) s.log.inputs
-inputs_true s settled set known k d below =
+-- where each letter of an input is set and no clause is false, each input has a true literal
+pub inputs_true : (s : StateValue) → IsSettled s → AreSet s → All (λ clause. Any (Contains (literals_of s.trail)) clause) s.log.inputs
+inputs_true s settled set k d below =
     let clause = get_or s.log.inputs k d in
-    elim (true_or_false (literals_of s.trail) clause (λ l c. set l (All-contains (IsKnown s.letters) clause l (known k d below) c))) [
+    elim (true_or_false (literals_of s.trail) clause (λ l c. All-contains (IsSet s.trail) clause l (set k d below) c)) [
       | inl some ↦ some
       | inr none ↦ absurd ((settled (Clause (suc k)) tt).0 (record { clause = clause; is = slice_get-get_or s.log.inputs k d below; all_false = none }))
     ]

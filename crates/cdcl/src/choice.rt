@@ -17,7 +17,7 @@ pub enum Choice {
     Refuted(Literal),
     /// All assumptions are true, and this literal has no value.
     Search(Literal),
-    /// All assumptions are true, and each letter has a value.
+    /// All assumptions are true, and each letter of an input has a value.
     Done,
 }
 

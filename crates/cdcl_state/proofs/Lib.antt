@@ -13,3 +13,4 @@ mod Back
 mod Jump
 mod Gathering
 mod Copying
+mod Naming

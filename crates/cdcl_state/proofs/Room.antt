@@ -1,13 +1,14 @@
 -- Room for more letters keeps what holds of a state; the values of all letters.
-use Rattle.std.proofs.Common.{◌≡◌, ◌↔◌, ℕ, ◌<◌, ◌≤◌, ◌+◌, ◌*◌, ◌^◌, inl, inr, List, [], ◌∷◌, ◌++◌, Bool, true, Contains, length, get_or, sym, ap, ◌∙◌, subst, arith}
-use mathlib.Core.Bool.{false}
+use Rattle.std.proofs.Common.{◌≡◌, ◌↔◌, ◌⊎◌, ℕ, ◌<◌, ◌≤◌, ◌+◌, ◌*◌, ◌^◌, inl, inr, take, replicate, List, [], ◌∷◌, ◌++◌, Bool, true, Contains, length, get_or, sym, ap, ◌∙◌, subst, arith}
+use mathlib.Core.Bool.{false, false≢true}
 use Rattle.std.proofs.lemmas.Bool.{cases_lt}
-use Rattle.std.proofs.lemmas.List.{get_or_append_left, get_or_at}
+use Rattle.std.proofs.lemmas.List.{get_or_past, get_or-replicate, length-replicate, take_more, map-append}
+use Rattle.std.proofs.lemmas.List.Elements.{Contains-append_left, Contains-push, Contains-push_cases}
 use Rattle.cnf_base.specs.declared.literal.Literal.{Literal}
 use Rattle.cnf_base.specs.declared.literal.Hint.{Hint}
 use Rattle.cnf_base.specs.Known.{IsKnown, AreKnown}
 use Rattle.clause_log.specs.LogValue.{LogValue}
-use Rattle.cdcl_trail.specs.Trail.{literals_of}
+use Rattle.cdcl_trail.specs.Trail.{literals_of, literal_at, blank_entry}
 use Rattle.cdcl_state.specs.StateValue.{positive}
 use Rattle.cdcl_watches.specs.Watching.{WatchValue}
 use Rattle.cdcl_trail.specs.Assigned.{AssignedValue}
@@ -71,13 +72,33 @@ state_lettered letters count a w units log head sure done firm marked whole stat
   size = state.size;
 }
 
--- the value of one letter more
-pub model_more : (trail : List Entry) (model next : List Bool) (n : ℕ) (b : Bool) → length model ≡ n → next ≡ model ++ b ∷ [] → ((b ≡ true) ↔ Contains (literals_of trail) (positive n))
-    → ((x : ℕ) → 1 ≤ x → x < n → (get_or model x false ≡ true) ↔ Contains (literals_of trail) (positive x)) → (x : ℕ) → 1 ≤ x → x < n + 1 → (get_or next x false ≡ true) ↔ Contains (literals_of trail) (positive x)
-model_more trail model next n b size is here told x from_one below = elim (cases_lt x n) [
-  | inl old ↦ subst (λ v. (v ≡ true) ↔ Contains (literals_of trail) (positive x)) (sym (ap (λ m. get_or m x false) is ∙ get_or_append_left model (b ∷ []) false x (omega (arith, size, old)))) (told x from_one old)
-  | inr high ↦
-      let last : length model ≡ x = omega (arith, size, high, below) in
-      subst (λ v. (v ≡ true) ↔ Contains (literals_of trail) (positive x)) (sym (ap (λ m. get_or m x false) is ∙ get_or_at model b [] false x last))
-      (subst (λ k. (b ≡ true) ↔ Contains (literals_of trail) (positive k)) (sym size ∙ last) here)
-]
+-- the values of the letters of one entry more
+pub model_more : (trail : List Entry) (old new : List Bool) (k n : ℕ) → k < length trail
+    → ((x : ℕ) → x < n → (get_or new x false ≡ true) ↔ ((get_or old x false ≡ true) ⊎ (literal_at trail k ≡ positive x)))
+    → ((x : ℕ) → x < n → (get_or old x false ≡ true) ↔ Contains (literals_of (take k trail)) (positive x))
+    → (x : ℕ) → x < n → (get_or new x false ≡ true) ↔ Contains (literals_of (take (k + 1) trail)) (positive x)
+model_more trail old new k n below set told x low =
+    let front = literals_of (take k trail) in
+    let last = literal_at trail k in
+    let e : literals_of (take (k + 1) trail) ≡ front ++ last ∷ [] = ap literals_of (take_more trail k blank_entry below) ∙ map-append (λ (e : Entry). e.literal) (take k trail) (get_or trail k blank_entry ∷ []) in
+    subst (λ ls. (get_or new x false ≡ true) ↔ Contains ls (positive x)) (sym e) (
+      (λ is. elim ((set x low).0 is) [
+        | inl before ↦ Contains-append_left front (last ∷ []) (positive x) ((told x low).0 before)
+        | inr here ↦ subst (Contains (front ++ last ∷ [])) here (Contains-push front last)
+      ]),
+      (λ there. (set x low).1 (elim (Contains-push_cases front last (positive x) there) [
+        | inl before ↦ inl ((told x low).1 before)
+        | inr here ↦ inr here
+      ])),
+    )
+
+-- no letter is true yet
+pub model_none : (trail : List Entry) (n x : ℕ) → (get_or (replicate n false) x false ≡ true) ↔ Contains (literals_of (take 0 trail)) (positive x)
+model_none trail n x = (
+  (λ is. absurd (false≢true (sym (none (cases_lt x n)) ∙ is))),
+  (λ there. absurd (omega (arith, there.1))),
+)
+  where
+    none : (x < n) ⊎ (n ≤ x) → get_or (replicate n false) x false ≡ false
+    none (inl low) = get_or-replicate n x false false low
+    none (inr high) = get_or_past (replicate n false) x false (omega (arith, length-replicate n false, high))

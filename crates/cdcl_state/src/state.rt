@@ -1,7 +1,7 @@
 // The state of the solver: the trail, the log, and the log's clauses in the order in which they are watched.
-ghost use Rattle.std.specs.Prelude.{◌≡◌, ◌≢◌, ◌+◌, ◌<◌, ◌≤◌, [], true, All, IsTrue, AllPairs, length, MatchOption, IfSome, IfOk, OnErr, OnOk};
+ghost use Rattle.std.specs.Prelude.{◌≡◌, ◌≢◌, ◌↔◌, ◌⊎◌, ℕ, ◌+◌, ◌<◌, ◌≤◌, [], true, false, All, IsTrue, AllPairs, length, slice_index_or, MatchOption, IfSome, IfOk, OnErr, OnOk};
 ghost use Rattle.cnf_base.specs.Known.{IsKnown, AreKnown};
-ghost use Rattle.cdcl_state.specs.StateValue.{IsSettled, Propagated, AreSet, IsSet, IsModel, with_log, with_letters};
+ghost use Rattle.cdcl_state.specs.StateValue.{IsSettled, Propagated, AreSet, IsSet, IsModel, positive, with_log, with_letters};
 ghost use Rattle.cdcl_trail.specs.Trail.{IsConflict, literals_of, IsUnset, HasValue, place_level};
 ghost use Rattle.cnf_base.specs.Step.{IsHintedStep};
 ghost use Rattle.clause_log.specs.LogValue.{IsLog, greatest_u32, with_line, with_input};
@@ -21,7 +21,7 @@ use cdcl_propagate::units::visit_units;
 use cdcl_trail::assigned::{Assigned, Entry};
 use cdcl_watches::watches::Watches;
 use clause_log::Log;
-use cnf_base::{Hint, Letter, Literal};
+use cnf_base::{Hint, Literal};
 use std::alloc::{AllocError, Global};
 use std::marker::Model;
 
@@ -204,10 +204,7 @@ impl State {
     {
         let mut model: Vec<bool> = vec![in alloc; false; self.letters + 1]?;
         for place in 0..self.assigned.len() {
-            let literal = self.assigned.entry(place).literal;
-            if !literal.negated && (literal.letter.0 as usize) < model.len() {
-                model[literal.letter.0 as usize] = true;
-            }
+            set_true(&mut model, self.assigned.entry(place).literal);
         }
         Ok(model)
     }
@@ -428,5 +425,17 @@ impl State {
             level,
             reason: None,
         })
+    }
+}
+
+/// The letter of a literal that is true has the value that makes it so, if it is below the length.
+fn set_true(model: &mut Vec<bool>, literal: Literal)
+    ensures size { length model.new.items ≡ length model.old.items }
+    ensures told { (x : ℕ) → x < length model.old.items → (slice_index_or model.new.items x false ≡ true)
+        ↔ ((slice_index_or model.old.items x false ≡ true) ⊎ (literal ≡ positive x)) }
+{
+    let letter = literal.letter.0 as usize;
+    if !literal.negated && letter < model.len() {
+        model[letter] = true;
     }
 }

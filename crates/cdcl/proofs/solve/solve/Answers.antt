@@ -131,7 +131,7 @@ returns-in-Refuted-clause-answer c =
 pub returns-in-Done-clause-answer : goal.returns-in-Done-clause-answer
 returns-in-Done-clause-answer c =
     let settled = none_case _ c.in_ok-found.found c.in-None.is c.in_ok-found.ensures.found in
-    (inputs_true c.propagate.new.self settled c.in-Done.ensures.1 c.bounded.ensures.known_inputs, c.in-Done.ensures.0)
+    (inputs_true c.propagate.new.self settled c.in-Done.ensures.1, c.in-Done.ensures.0)
 
 pub returns-then-len-eq0-clause-answer : goal.returns-then-len-eq0-clause-answer
 returns-then-len-eq0-clause-answer c =

@@ -1,0 +1,52 @@
+-- The letters that inputs name stay named, and each of them is listed.
+use Rattle.std.proofs.Common.{◌≡◌, ℕ, ◌<◌, ◌+◌, inl, inr, List, [], ◌∷◌, ◌++◌, Bool, true, All, Contains, length, get_or, set, sym, ap, ◌∙◌, subst, arith}
+use mathlib.Core.Bool.{false, false≢true}
+use Rattle.std.proofs.lemmas.Bool.{cases_lt, cases_eq}
+use Rattle.std.proofs.lemmas.List.{get_or_past, get_or-set_other, get_or_append_left, get_or_at, length_push}
+use Rattle.std.proofs.lemmas.List.Elements.{All-contains, All-push, Contains-append_left, Contains-get_or, Contains-push}
+use Rattle.cnf_base.specs.declared.literal.Literal.{Literal}
+use Rattle.cdcl_state.specs.Named.{AreListed, AreOf}
+
+pub listed_none : (letters : List ℕ) → AreListed [] letters
+listed_none letters x is = absurd (false≢true (sym (get_or_past [] x false (omega arith)) ∙ is))
+
+-- no flag more is set
+pub listed_longer : (old new : List Bool) (letters : List ℕ) → ((x : ℕ) → get_or new x false ≡ true → get_or old x false ≡ true) → AreListed old letters → AreListed new letters
+listed_longer old new letters kept listed x is = listed x (kept x is)
+
+-- a flag that is not set came behind the others
+pub flags_push : (flags : List Bool) (x : ℕ) → get_or (flags ++ false ∷ []) x false ≡ true → get_or flags x false ≡ true
+flags_push flags x is = elim (cases_lt x (length flags)) [
+  | inl low ↦ sym (get_or_append_left flags (false ∷ []) false x low) ∙ is
+  | inr high ↦ elim (cases_eq x (length flags)) [
+    | inl last ↦ absurd (false≢true (sym (get_or_at flags false [] false x (sym last)) ∙ is))
+    | inr past ↦ absurd (false≢true (sym (get_or_past (flags ++ false ∷ []) x false (omega (arith, high, past, length_push flags false))) ∙ is))
+  ]
+]
+
+-- a letter came behind the others, with its flag
+pub listed_more : (flags : List Bool) (letters : List ℕ) (letter : ℕ) → AreListed flags letters → AreListed (set flags letter true) (letters ++ letter ∷ [])
+listed_more flags letters letter listed x is = elim (cases_eq x letter) [
+  | inl here ↦ subst (Contains (letters ++ letter ∷ [])) (sym here) (Contains-push letters letter)
+  | inr other ↦ Contains-append_left letters (letter ∷ []) x (listed x (sym (get_or-set_other flags letter x true false other) ∙ is))
+]
+
+-- what was named stays named
+pub of_more : (old new : List ℕ) (clauses : List (List Literal)) → All (Contains new) old → All (AreOf old) clauses → All (AreOf new) clauses
+of_more old new clauses kept are k d below i e low = All-contains (Contains new) old (get_or (get_or clauses k d) i e).letter.0 kept (are k d below i e low)
+
+-- an input whose letters are named came behind the others
+pub of_push : (old new : List ℕ) (clauses : List (List Literal)) (clause : List Literal) → All (Contains new) old → AreOf new clause → All (AreOf old) clauses → All (AreOf new) (clauses ++ clause ∷ [])
+of_push old new clauses clause kept there are = All-push (AreOf new) clauses clause (of_more old new clauses kept are) there
+
+-- the last input was taken back
+pub of_fewer : (letters : List ℕ) (clauses all : List (List Literal)) (clause : List Literal) → all ≡ clauses ++ clause ∷ [] → All (AreOf letters) all → All (AreOf letters) clauses
+of_fewer letters clauses all clause is are k d below =
+    let e : get_or all k d ≡ get_or clauses k d = ap (λ xs. get_or xs k d) is ∙ get_or_append_left clauses (clause ∷ []) d k below in
+    subst (AreOf letters) e (are k d (omega (arith, below, ap length is, length_push clauses clause)))
+
+pub kept_push : (letters : List ℕ) (letter : ℕ) → All (Contains (letters ++ letter ∷ [])) letters
+kept_push letters letter k d below = Contains-append_left letters (letter ∷ []) (get_or letters k d) (Contains-get_or letters k d below)
+
+pub kept_both : (one two three : List ℕ) → All (Contains two) one → All (Contains three) two → All (Contains three) one
+kept_both one two three first second k d below = All-contains (Contains three) two (get_or one k d) second (first k d below)
