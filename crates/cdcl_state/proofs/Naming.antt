@@ -1,11 +1,16 @@
 -- The letters that inputs name stay named, and each of them is listed.
-use Rattle.std.proofs.Common.{◌≡◌, ℕ, ◌<◌, ◌+◌, inl, inr, List, [], ◌∷◌, ◌++◌, Bool, true, All, Contains, length, get_or, set, sym, ap, ◌∙◌, subst, arith}
+use Rattle.std.proofs.Common.{◌≡◌, ℕ, ◌<◌, ◌+◌, inl, inr, List, [], ◌∷◌, ◌++◌, Bool, true, All, Contains, take, length, get_or, set, sym, ap, ◌∙◌, subst, arith}
 use mathlib.Core.Bool.{false, false≢true}
 use Rattle.std.proofs.lemmas.Bool.{cases_lt, cases_eq}
 use Rattle.std.proofs.lemmas.List.{get_or_past, get_or-set_other, get_or_append_left, get_or_at, length_push}
-use Rattle.std.proofs.lemmas.List.Elements.{All-contains, All-push, Contains-append_left, Contains-get_or, Contains-push}
+use Rattle.std.proofs.lemmas.List.Elements.{All-contains, All-more, All-push, Contains-append_left, Contains-get_or, Contains-push}
 use Rattle.cnf_base.specs.declared.literal.Literal.{Literal}
+use Rattle.cnf_base.proofs.SameLiteral.{opposite_opposite}
+use Rattle.cdcl_trail.specs.Trail.{literals_of}
+use Rattle.cdcl_trail.specs.declared.assigned.Entry.{Entry}
+use Rattle.cdcl_trail.proofs.Assign.{same_letter}
 use Rattle.cdcl_state.specs.Named.{AreListed, AreOf}
+use Rattle.cdcl_state.specs.StateValue.{IsSet}
 
 pub listed_none : (letters : List ℕ) → AreListed [] letters
 listed_none letters x is = absurd (false≢true (sym (get_or_past [] x false (omega arith)) ∙ is))
@@ -50,3 +55,19 @@ kept_push letters letter k d below = Contains-append_left letters (letter ∷ []
 
 pub kept_both : (one two three : List ℕ) → All (Contains two) one → All (Contains three) two → All (Contains three) one
 kept_both one two three first second k d below = All-contains (Contains three) two (get_or one k d) second (first k d below)
+
+-- one letter more of a clause is named
+pub of_next : (old new : List ℕ) (clause : List Literal) (k : ℕ) (d : Literal) → k < length clause → All (Contains new) old → Contains new (get_or clause k d).letter.0 → AreOf old (take k clause) → AreOf new (take (k + 1) clause)
+of_next old new clause k d below kept there are =
+    All-more (λ l. Contains new l.letter.0) clause k d below
+    (λ i e low. All-contains (Contains new) old (get_or (take k clause) i e).letter.0 kept (are i e low)) there
+
+-- where the literal or its opposite is true, one of each literal of its letter is
+pub set_letter : (trail : List Entry) (l m : Literal) → m.letter.0 ≡ l.letter.0 → IsSet trail l → IsSet trail m
+set_letter trail l m same set = elim (same_letter m l same) [
+  | inl e ↦ subst (IsSet trail) (sym e) set
+  | inr e ↦ subst (IsSet trail) (sym e) (elim set [
+    | inl there ↦ inr (subst (Contains (literals_of trail)) (sym (opposite_opposite l)) there)
+    | inr there ↦ inl there
+  ])
+]

@@ -1,6 +1,7 @@
 use Rattle.std.proofs.Common.{All, sym, subst}
 use Rattle.cnf_base.specs.Known.{IsKnown}
 use Rattle.cdcl_analyze.specs.Analysis.{AreFromOne}
+use Rattle.cdcl_analyze.specs.Reason.{IsAnalyzable}
 use Rattle.cdcl_state.specs.StateValue.{StateValue}
 use Rattle.cdcl_state.proofs.Known.{trail_known, known_from_one, learnt_known}
 use Rattle.cdcl_state.proofs.States.{analyzable}
@@ -17,7 +18,8 @@ explain-requires-clause-from_one c =
 
 pub of-graph-requires : goal.of-graph-requires
 of-graph-requires c =
-    analyzable c.self.invariant c.arena.result.now c.arena.ensures.clauses c.arena.ensures.names
+    subst (λ l. IsAnalyzable l c.self.inside.assigned c.arena.result.now) (sym c.log.ensures)
+    (analyzable c.self.invariant c.arena.result.now c.arena.ensures.clauses c.arena.ensures.names)
 
 pub returns-clause-known : goal.returns-clause-known
 returns-clause-known c =

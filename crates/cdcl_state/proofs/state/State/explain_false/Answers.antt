@@ -2,6 +2,7 @@ use Rattle.std.proofs.Common.{◌≢◌, ℕ, All, sym, ap, ◌∙◌, subst}
 use Rattle.std.proofs.lemmas.List.{get_or_default}
 use Rattle.cnf_base.specs.Literal.{opposite}
 use Rattle.cnf_base.specs.Known.{IsKnown}
+use Rattle.cdcl_analyze.specs.Reason.{IsAnalyzable}
 use Rattle.cdcl_state.specs.StateValue.{StateValue}
 use Rattle.cdcl_trail.specs.Trail.{blank_entry, literal_at, IsDecision}
 use Rattle.cdcl_analyze.specs.Analysis.{AreFromOne, refuted_at}
@@ -21,7 +22,8 @@ explain_forced-requires-clause-from_one c =
 
 pub of-graph-requires : goal.of-graph-requires
 of-graph-requires c =
-    analyzable c.self.invariant c.arena.result.now c.arena.ensures.clauses c.arena.ensures.names
+    subst (λ l. IsAnalyzable l c.self.inside.assigned c.arena.result.now) (sym c.log.ensures)
+    (analyzable c.self.invariant c.arena.result.now c.arena.ensures.clauses c.arena.ensures.names)
 
 pub returns-in-Some-clause-known : goal.returns-in-Some-clause-known
 returns-in-Some-clause-known c =

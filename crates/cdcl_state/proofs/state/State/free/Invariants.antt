@@ -1,4 +1,4 @@
-use Rattle.std.proofs.Common.{ℕ, Contains, take}
+use Rattle.std.proofs.Common.{Contains, take}
 use Rattle.cnf_base.specs.declared.literal.Literal.{Literal}
 use Rattle.cnf_base.specs.Known.{IsKnown}
 use Rattle.cdcl_state.specs.StateValue.{IsSet}
