@@ -11,6 +11,8 @@ mod depths;
 #[cfg(test)]
 mod lists;
 #[cfg(test)]
+mod looks;
+#[cfg(test)]
 mod numbered;
 #[cfg(test)]
 mod runs;

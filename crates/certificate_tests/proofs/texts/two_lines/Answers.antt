@@ -32,4 +32,5 @@ derive-requires-2 c =
     (is_step ((minus 2 ∷ []) ∷ []) (Line 1 ∷ []) refl)
 
 pub of-requires : goal.of-requires
-of-requires c = ?
+of-requires c =
+    (clauses_of_false, rw (c.in_ok-derive-2.ensures.added.0, c.in_ok-derive.ensures.added.0, c.in_ok-log.ensures, c.in_ok-names.ensures) own_names)

@@ -40,4 +40,5 @@ named_five = record { count = refl; each = each }
     each (suc (suc (suc i))) clause is = cc
 
 pub of-requires : goal.of-requires
-of-requires c = ?
+of-requires c =
+    (five, rw (c.in_ok-third.ensures.added.0, c.in_ok-second.ensures.added.0, c.in_ok-first.ensures.added.0, c.in_ok-log.ensures, c.in_ok-names.ensures) named_five)
