@@ -139,8 +139,10 @@ impl<'c> Listed<'c> {
         ensures { IsTrue result → (pair.earlier < pair.later) × (pair.later ≤ self.now.depth)
             × IsPart self.now.formula self.now.kind part }
     {
-        let are_steps = pair.earlier < pair.later && pair.later <= self.depth;
-        if !are_steps {
+        if pair.earlier >= pair.later {
+            return false;
+        }
+        if pair.later > self.depth {
             return false;
         }
         match self.closure.kind() {
