@@ -88,8 +88,9 @@ module _ (x : IndexedValue) (number : ℕ) (in_list : IsNumberIn x number) where
               (All-weaker (Contains before) (Contains (before ++ clause ∷ [])) (Contains-append_left before (clause ∷ [])) before (All-contains_itself before));
         }
 
-    pub added_there : Contains new.solver.log.inputs (clause_at (list_of x) number)
-    added_there = subst (λ (is : List (List Signed)). Contains is (clause_at (list_of x) number)) (sym inputs) (Contains-push old.solver.log.inputs (clause_at (list_of x) number))
+-- it is there
+pub added_there : (before after : List (List Signed)) (clause : List Signed) → after ≡ before ++ clause ∷ [] → Contains after clause
+added_there before after clause is = subst (λ (all : List (List Signed)). Contains all clause) (sym is) (Contains-push before clause)
 
 -- ---- clauses in their order: where those before a place are in, and the one at it is as well
 

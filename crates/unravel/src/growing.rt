@@ -52,11 +52,7 @@ fn add_first_pair(listed: &Listed<'_>, step: u32, inputs: &mut Inputs) -> Result
 }
 
 /// Puts the step's clauses of its state and of acceptance in, and those of the first pair.
-fn add_step(
-    listed: &Listed<'_>,
-    step: u32,
-    inputs: &mut Inputs,
-) -> Result<(), AllocError>
+fn add_step(listed: &Listed<'_>, step: u32, inputs: &mut Inputs) -> Result<(), AllocError>
     requires step { step ≤ listed.now.depth }
     requires part { IsPartOf listed.now inputs.old }
     ensures more { OnOk result (HasMore listed.now inputs.old inputs.new) }
@@ -79,7 +75,7 @@ pub fn grow(closure: &Closure<'_>, step: u32, inputs: &mut Inputs) -> Result<(),
     ensures kept { OnOk result (Keeps inputs.old inputs.new) }
 {
     let letters = Layout::of(closure).letters_through(step);
-    inputs.solver.letters(letters as u32)?;
+    inputs.letters(letters as u32)?;
     let listed = Listed::of(closure, step);
     add_step(&listed, step, inputs)?;
     Ok(())

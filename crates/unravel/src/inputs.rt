@@ -1,6 +1,6 @@
 // What the solver was given of the clause list. Each input stands beside its number in the list, so that what
 // follows from the inputs is told of the list, which nobody stores.
-ghost use Rattle.std.specs.Prelude.{◌≡◌, Contains, OnOk};
+ghost use Rattle.std.specs.Prelude.{◌≡◌, ◌≤◌, Contains, OnOk};
 ghost use Rattle.cnf_base.specs.Step.{clause_at};
 ghost use Rattle.clause_index.specs.Literals.{literals};
 ghost use Rattle.unravel.specs.Putting.{list_of, IsNumberIn, IsPartOf, HasMore};
@@ -47,6 +47,17 @@ impl Inputs {
             asked: IndexSet::new(alloc),
             clause: Vec::new(alloc),
         }
+    }
+
+    /// Makes the letters from 1 to the count known.
+    pub fn letters(&mut self, count: u32) -> Result<(), AllocError>
+        requires { self.old.solver.letters ≤ count }
+        ensures letters { OnOk result (self.new.solver.letters ≡ count) }
+        ensures log { OnOk result (self.new.solver.log ≡ self.old.solver.log) }
+        ensures names { OnOk result (self.new.names.items ≡ self.old.names.items) }
+    {
+        self.solver.letters(count)?;
+        Ok(())
     }
 
     /// Puts the clause of this number in.

@@ -37,11 +37,7 @@ fn add_missing(listed: &Listed<'_>, inputs: &mut Inputs) -> Result<(), AllocErro
 }
 
 /// Puts the rest of the list through the depth in.
-pub fn add_rest(
-    closure: &Closure<'_>,
-    depth: u32,
-    inputs: &mut Inputs,
-) -> Result<(), AllocError>
+pub fn add_rest(closure: &Closure<'_>, depth: u32, inputs: &mut Inputs) -> Result<(), AllocError>
     requires few { depth ≤ 1000 }
     requires fits { Fits (layout_of closure.now) depth }
     requires part { IsPartOf (listed_of closure.now depth) inputs.old }

@@ -19,9 +19,10 @@ add_step-requires-clause-part c =
     let f = c.args.closure.now.formula in
     let kind = c.args.closure.now.kind in
     let all : c.letters_through-letters.result ≡ letters_through kind (counts f) c.args.step = c.letters_through-letters.ensures ∙ ap (λ (m : LayoutValue). letters_through m.kind m.counts c.args.step) c.of.ensures.layout in
-    let known = c.in_ok-letters.ensures.known in
-    let first = sized f kind c.args.step c.args.inputs.now _ c.requires.before (ap (λ (s : SolverValue). s.log) known) refl (ap (λ (s : SolverValue). s.letters) known ∙ all) in
-    subst (λ x. IsPartOf x _) (sym c.of-listed.ensures) first.part
+    let mid = c.letters.new.self in
+    let now = c.in_ok-letters.ensures in
+    let first = sized f kind c.args.step c.args.inputs.now mid c.requires.before now.log now.names (now.letters ∙ all) in
+    subst (λ x. IsPartOf x mid) (sym c.of-listed.ensures) first.part
 
 pub returns-clause-through : goal.returns-clause-through
 returns-clause-through c =
@@ -32,9 +33,10 @@ returns-clause-through c =
     let start = c.args.inputs.now in
     let last = c.add_step.new.inputs in
     let all : c.letters_through-letters.result ≡ letters_through kind (counts f) k = c.letters_through-letters.ensures ∙ ap (λ (m : LayoutValue). letters_through m.kind m.counts k) c.of.ensures.layout in
-    let known = c.in_ok-letters.ensures.known in
-    let first = sized f kind k start _ c.requires.before (ap (λ (s : SolverValue). s.log) known) refl (ap (λ (s : SolverValue). s.letters) known ∙ all) in
-    let more = more_then x start _ last first (subst (λ y. HasMore y _ last) c.of-listed.ensures c.in_ok-add_step.ensures.more) in
+    let mid = c.letters.new.self in
+    let now = c.in_ok-letters.ensures in
+    let first = sized f kind k start mid c.requires.before now.log now.names (now.letters ∙ all) in
+    let more = more_then x start mid last first (subst (λ y. HasMore y mid last) c.of-listed.ensures c.in_ok-add_step.ensures.more) in
     grown f kind k start last c.requires.before more
     (subst (λ y. All (Contains last.solver.log.inputs) (signed_clauses y.formula y.kind (state_clauses y.formula k))) c.of-listed.ensures c.in_ok-add_step.ensures.states)
 
@@ -47,6 +49,7 @@ returns-clause-kept c =
     let start = c.args.inputs.now in
     let last = c.add_step.new.inputs in
     let all : c.letters_through-letters.result ≡ letters_through kind (counts f) k = c.letters_through-letters.ensures ∙ ap (λ (m : LayoutValue). letters_through m.kind m.counts k) c.of.ensures.layout in
-    let known = c.in_ok-letters.ensures.known in
-    let first = sized f kind k start _ c.requires.before (ap (λ (s : SolverValue). s.log) known) refl (ap (λ (s : SolverValue). s.letters) known ∙ all) in
-    (more_then x start _ last first (subst (λ y. HasMore y _ last) c.of-listed.ensures c.in_ok-add_step.ensures.more)).kept
+    let mid = c.letters.new.self in
+    let now = c.in_ok-letters.ensures in
+    let first = sized f kind k start mid c.requires.before now.log now.names (now.letters ∙ all) in
+    (more_then x start mid last first (subst (λ y. HasMore y mid last) c.of-listed.ensures c.in_ok-add_step.ensures.more)).kept

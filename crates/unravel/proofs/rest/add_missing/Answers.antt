@@ -1,5 +1,6 @@
 use Rattle.std.proofs.Common.{◌≡◌, ◌+◌, ◌-◌, ◌<◌, [], length, get_or, sym, subst, ap, ◌∙◌, arith, All, Contains}
-use Rattle.std.proofs.lemmas.List.{take_all}
+use Rattle.std.proofs.lemmas.List.{take_all, map-id}
+use Rattle.std.proofs.lemmas.Slice.Zip.{AllZip-map}
 use Rattle.std.proofs.lemmas.List.Elements.{All-nil, All-contains}
 use Rattle.std.proofs.lemmas.List.Sorted.{IsPermutation-sym, Contains-permutation}
 use Rattle.unravel.specs.Putting.{list_of}
@@ -13,7 +14,7 @@ numbers-init c = record {
 }
 
 pub add-requires-clause-number : goal.add-requires-clause-number
-add-requires-clause-number c = (omega arith, omega (arith, c.numbers-test.true, c.count.ensures))
+add-requires-clause-number c = (omega arith, omega (arith, c.numbers-test.true, c.count-index-end.ensures))
 
 -- the number is among the names, so its clause is among the inputs
 pub numbers-preserved-then-is_among : goal.numbers-preserved-then-is_among
@@ -21,11 +22,11 @@ numbers-preserved-then-is_among c =
     let x = c.args.listed.now in
     let list = list_of x in
     let index = c.numbers.index in
-    let low : index < length list = omega (arith, c.numbers-test.true, c.count.ensures) in
+    let low : index < length list = omega (arith, c.numbers-test.true, c.count-index-end.ensures) in
     let cur = c.numbers.inputs.solver.log.inputs in
     let names = c.args.inputs.now.names.items in
     let sorted = c.is_among.ensures c.if-is_among.true in
-    let items = c.in_ok-there.ensures.items_if_clones_equal (λ y h. h) in
+    let items = AllZip-map (λ n. n) names c.in_ok-there.there.items c.in_ok-there.ensures.cases.0 ∙ map-id names in
     let named : Contains names (index + 1) =
     subst (λ ns. Contains ns (index + 1)) items
     (Contains-permutation c.sort.new.self.items c.in_ok-there.there.items (index + 1) (IsPermutation-sym c.in_ok-there.there.items c.sort.new.self.items c.sort.ensures.permutation)
@@ -40,7 +41,7 @@ numbers-preserved c =
     let x = c.args.listed.now in
     let list = list_of x in
     let index = c.numbers.index in
-    let low : index < length list = omega (arith, c.numbers-test.true, c.count.ensures) in
+    let low : index < length list = omega (arith, c.numbers-test.true, c.count-index-end.ensures) in
     let new = c.add.new.self in
     let back : index + 1 - 1 ≡ index = omega arith in
     let here = subst (λ n. Contains new.solver.log.inputs (get_or list n [])) back c.in_ok-add.ensures.there in
@@ -52,4 +53,4 @@ numbers-preserved c =
 pub returns-clause-whole : goal.returns-clause-whole
 returns-clause-whole c =
     let list = list_of c.args.listed.now in
-    subst (All (Contains c.numbers.inputs.solver.log.inputs)) (take_all c.numbers.index list (omega (arith, c.numbers-test.false, c.count.ensures))) c.numbers.invariant.there
+    subst (All (Contains c.numbers.inputs.solver.log.inputs)) (take_all c.numbers.index list (omega (arith, c.numbers-test.false, c.count-index-end.ensures))) c.numbers.invariant.there

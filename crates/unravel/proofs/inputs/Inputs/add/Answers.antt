@@ -27,5 +27,4 @@ returns-clause-there c =
     let before = c.args.self.now.solver.log.inputs in
     let is : c.deref.result.now ≡ clause_at (list_of x) c.args.number = c.deref.ensures.value ∙ (c.in_ok-spell.ensures ∙ c.clause-found.ensures) in
     let now = c.in_ok-add.ensures.added.0 in
-    added_there x c.args.number c.requires.number c.args.self.now _ c.requires.part (ap (λ (s : SolverValue). s.log.inputs) now ∙ ap (λ l. before ++ l ∷ []) is) c.in_ok-push.ensures.items
-    (ap (λ (s : SolverValue). s.letters) now)
+    added_there before _ (clause_at (list_of x) c.args.number) (ap (λ (s : SolverValue). s.log.inputs) now ∙ ap (λ l. before ++ l ∷ []) is)
