@@ -1,6 +1,6 @@
 -- A step's clauses behind those of the steps before: once the letters through the step are known, what is in is a part of the list through it,
 -- and with the step's states in it has the states through it.
-use Rattle.std.proofs.Common.{◌≡◌, ℕ, zero, suc, ◌≤◌, arith, refl, ap, sym, ◌∙◌, subst, List, [], All, Contains}
+use Rattle.std.proofs.Common.{◌≡◌, ℕ, zero, suc, ◌≤◌, arith, refl, ap, sym, subst, List, [], All, Contains}
 use Rattle.std.proofs.lemmas.List.Elements.{All-contains_itself}
 use Rattle.ltl_syntax.specs.declared.node.Kind.{Kind}
 use Rattle.ltl_syntax.specs.Formula.{Formula}
@@ -14,9 +14,8 @@ use Rattle.enc_layout.proofs.ByKind.{letters_less}
 use Rattle.enc_layout.proofs.Steps.{list_more}
 use Rattle.demand.proofs.ByStates.{states_grow}
 use Rattle.unravel.specs.declared.inputs.Inputs.{Inputs}
-use Rattle.unravel.specs.Putting.{up_to, Keeps, HasMore}
+use Rattle.unravel.specs.Putting.{up_to, HasMore}
 use Rattle.unravel.specs.Depths.{IsBefore, IsThrough}
-use Rattle.unravel.proofs.Putting.{kept_trans}
 
 pub room_before : (f : Formula) (kind : Kind) (k : ℕ) (i : Inputs) → IsBefore f kind k i → i.solver.letters ≤ letters_through kind (counts f) k
 room_before f kind zero i h = let e = h.letters in omega arith

@@ -12,7 +12,7 @@ use Rattle.clause_index.specs.declared.numbers.PairPart.{PairPart}
 use Rattle.clause_index.specs.PairParts.{IsPart}
 use Rattle.clause_index.specs.Indexed.{IndexedValue}
 use Rattle.clause_index.specs.Numbers.{AreNumbersOf}
-use Rattle.unravel.specs.Putting.{up_to, listed_of, list_of, IsNumberIn, AreNumbersIn}
+use Rattle.unravel.specs.Putting.{up_to, listed_of, IsNumberIn, AreNumbersIn}
 
 pub number_in : (x : IndexedValue) (numbers : Numbers) (index : ℕ) → AreNumbersIn x numbers → index < numbers.count → IsNumberIn x (numbers.first + index)
 number_in x numbers index are lt = (omega (arith, are.from_one), omega (arith, are.within, lt))

@@ -1,5 +1,5 @@
 -- Clauses of the list that are put in one after another, under their numbers in it.
-use Rattle.std.proofs.Common.{◌≡◌, ℕ, zero, suc, ◌+◌, ◌-◌, ◌<◌, ◌≤◌, arith, ap, sym, ◌∙◌, subst, List, [], ◌∷◌, ◌++◌, length, get_or, take, All, Contains, Some}
+use Rattle.std.proofs.Common.{◌≡◌, ℕ, zero, suc, ◌+◌, ◌-◌, ◌<◌, arith, ap, sym, ◌∙◌, subst, List, [], ◌∷◌, ◌++◌, length, get_or, take, All, Contains, Some}
 use Rattle.std.proofs.lemmas.List.{get_or_default}
 use Rattle.std.proofs.lemmas.Option.{slice_get-get_or, get_or_from_slice_get}
 use Rattle.std.proofs.lemmas.List.Elements.{All-weaker, All-contains, All-contains_itself, All-more, Contains-append_left, Contains-push, Contains-get_or}
@@ -19,7 +19,7 @@ use Rattle.demand.proofs.Parts.{inputs_known}
 use Rattle.demand.proofs.StateNumbers.{whole_of}
 use Rattle.demand.proofs.ByStates.{satisfied_part}
 use Rattle.unravel.specs.declared.inputs.Inputs.{Inputs}
-use Rattle.unravel.specs.Putting.{up_to, list_of, IsNumberIn, IsPartOf, Keeps, HasMore, IsAsked}
+use Rattle.unravel.specs.Putting.{up_to, list_of, IsNumberIn, IsPartOf, HasMore, IsAsked}
 use Rattle.unravel.specs.Depths.{IsThrough, Refuses}
 use Rattle.unravel.proofs.Lines.{numbered_at}
 

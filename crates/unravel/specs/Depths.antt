@@ -1,5 +1,5 @@
 -- What a solver holds of the depths that were asked, and what the questions of a depth were answered.
-use Rattle.std.specs.Prelude.{◌≡◌, ℕ, zero, suc, ◌+◌, ◌<◌, ◌≤◌, Bool, true, false, ⊤, List, [], ◌∷◌, length, slice_index_or, All, Contains, Option, Some, None}
+use Rattle.std.specs.Prelude.{◌≡◌, ℕ, zero, suc, ◌+◌, ◌<◌, Bool, true, false, ⊤, List, [], ◌∷◌, length, slice_index_or, All, Contains, Option, Some, None}
 use Rattle.ltl_syntax.specs.declared.node.Kind.{Kind}
 use Rattle.ltl_syntax.specs.Formula.{Formula}
 use Rattle.ltl_closure.specs.Run.{IsRun, HasAccepted, HasUnpruned, IsOpen}

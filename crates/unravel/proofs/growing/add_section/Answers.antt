@@ -1,4 +1,4 @@
-use Rattle.std.proofs.Common.{◌≡◌, ◌<◌, ◌≤◌, [], length, map, sym, subst, arith, All, Contains}
+use Rattle.std.proofs.Common.{◌<◌, length, map, subst, arith, All, Contains}
 use Rattle.std.proofs.lemmas.List.{take_all, length-map}
 use Rattle.std.proofs.lemmas.List.Elements.{All-nil}
 use Rattle.enc_layout.specs.Clauses.{literal_in, counts, signed_clauses}

@@ -1,5 +1,4 @@
-use Rattle.std.proofs.Common.{◌≡◌, ◌≤◌, ap, refl, sym, ◌∙◌, subst, All, Contains}
-use Rattle.cdcl.specs.SolverValue.{SolverValue}
+use Rattle.std.proofs.Common.{◌≡◌, ◌≤◌, ap, sym, ◌∙◌, subst, All, Contains}
 use Rattle.enc_layout.specs.Letters.{LayoutValue, letters_through}
 use Rattle.enc_layout.specs.Clauses.{counts, state_clauses, signed_clauses}
 use Rattle.unravel.specs.Putting.{up_to, IsPartOf, HasMore}

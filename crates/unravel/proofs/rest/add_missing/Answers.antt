@@ -1,4 +1,4 @@
-use Rattle.std.proofs.Common.{◌≡◌, ◌+◌, ◌-◌, ◌<◌, [], length, get_or, sym, subst, ap, ◌∙◌, arith, All, Contains}
+use Rattle.std.proofs.Common.{◌≡◌, ◌+◌, ◌-◌, ◌<◌, [], length, get_or, subst, ◌∙◌, arith, All, Contains}
 use Rattle.std.proofs.lemmas.List.{take_all, map-id}
 use Rattle.std.proofs.lemmas.Slice.Zip.{AllZip-map}
 use Rattle.std.proofs.lemmas.List.Elements.{All-nil, All-contains}

@@ -1,6 +1,5 @@
 use Rattle.std.proofs.Common.{subst}
 use Rattle.clause_index.specs.Sections.{section_clauses}
-use Rattle.clause_index.specs.Numbers.{AreNumbersOf}
 use Rattle.unravel.specs.Putting.{AreNumbersIn}
 use Rattle.unravel.proofs.Listing.{numbers_in}
 use Rattle.unravel.proofs.listed.Listed.section.Goals as goal
