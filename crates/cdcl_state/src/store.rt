@@ -70,24 +70,60 @@ fn is_false(assigned: &Assigned, clause: &[Literal], place: usize) -> bool
     assigned.holds(clause[place].opposite())
 }
 
-/// Puts literals that are not false first, as far as there are two.
+/// When the literal at the place became false: the greater the later, and the greatest number where it is not
+/// false.
+fn lateness(assigned: &Assigned, clause: &[Literal], place: usize) -> usize
+    requires place { place < length clause.now }
+    requires known { All (λ l. l.letter.0 < length assigned.now.values) clause.now }
+{
+    if is_false(assigned, clause, place) {
+        return assigned.place_of(clause[place].letter.0 as usize);
+    }
+    usize::MAX
+}
+
+/// The place, from this one on, of a literal that is not false, or else of the one that became false last.
+fn latest(assigned: &Assigned, clause: &[Literal], from: usize) -> usize
+    requires from { from < length clause.now }
+    requires known { All (λ l. l.letter.0 < length assigned.now.values) clause.now }
+    ensures { result < length clause.now }
+{
+    let mut found = from;
+    'along: for place in from + 1..clause.len() {
+        if lateness(assigned, clause, found) < lateness(assigned, clause, place) {
+            found = place;
+        }
+    }
+    found
+}
+
+/// Brings the literal to this place which of those from there on is not false, or else became false last.
+fn bring(assigned: &Assigned, clause: &mut Vec<Literal>, to: usize)
+    requires to { to < length clause.old.items }
+    requires known { All (λ l. l.letter.0 < length assigned.now.values) clause.old.items }
+    requires apart { AreApart clause.old.items }
+    ensures size { length clause.new.items ≡ length clause.old.items }
+    ensures known { All (λ l. l.letter.0 < length assigned.now.values) clause.new.items }
+    ensures apart { AreApart clause.new.items }
+    ensures same { HaveSame clause.old.items clause.new.items }
+{
+    let from = latest(assigned, clause, to);
+    clause.swap(to, from);
+}
+
+/// Puts two literals first that are not false, or else became false last, so that the lists of what became false
+/// before them need not be visited again for this clause.
 pub fn lead(assigned: &Assigned, clause: &mut Vec<Literal>)
     requires known { All (λ l. l.letter.0 < length assigned.now.values) clause.old.items }
     requires apart { AreApart clause.old.items }
     ensures apart { AreApart clause.new.items }
     ensures same { HaveSame clause.old.items clause.new.items }
 {
-    let mut next = 0;
-    'along: for place in 0..clause.len() {
-        if next == 2 {
-            return;
-        }
-        if is_false(assigned, clause, place) {
-            continue 'along;
-        }
-        clause.swap(next, place);
-        next += 1;
+    if clause.len() < 2 {
+        return;
     }
+    bring(assigned, clause, 0);
+    bring(assigned, clause, 1);
 }
 
 /// Whether the clause may be watched by its first two literals as it stands: no letter is in it twice, and
