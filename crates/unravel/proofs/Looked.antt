@@ -28,6 +28,16 @@ use Rattle.unravel.specs.Depths.{IsThrough, IsFound, IsShowing, IsNeverAccepted,
 none_some : {X : Type 0} (x : X) → None ≡ Some x → ⊥
 none_some x e = cc
 
+-- what is found in the values of a list is found in the list
+module _ (kind own : Kind) (rows items : List StoredRow) (same : own ≡ kind) (are : items ≡ rows) where
+  pub close_is : (o : Option Close) → o ≡ close_of own (rows_in items) (length items - 1) → o ≡ close_of kind (rows_in rows) (length rows - 1)
+  close_is o is =
+      subst (λ (xs : List StoredRow). o ≡ close_of kind (rows_in xs) (length xs - 1)) are (subst (λ (q : Kind). o ≡ close_of q (rows_in items) (length items - 1)) same is)
+
+  pub prunings_are : (pruned : List Pruned) → pruned ≡ prunings_below own (rows_in items) (length items) → pruned ≡ prunings_below kind (rows_in rows) (length rows)
+  prunings_are pruned is =
+      subst (λ (xs : List StoredRow). pruned ≡ prunings_below kind (rows_in xs) (length xs)) are (subst (λ (q : Kind). pruned ≡ prunings_below q (rows_in items) (length items)) same is)
+
 module _ (f : Formula) (kind : Kind) (k : ℕ) (i : Inputs) (through : IsThrough f kind k i) (p : Meaning) (found : IsFound f kind k p i.solver) where
   module _ (rows : List StoredRow) (long : length rows ≡ k + 1) (read : AreRead f kind (value_of i.solver) k (rows_in rows)) where
     -- the last row is that of state k

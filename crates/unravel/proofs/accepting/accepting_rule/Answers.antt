@@ -12,13 +12,21 @@ take_turn-requires-clause-states c = subst (AreStatesTo c.args.closure.now.formu
 
 pub turns-preserved : goal.turns-preserved
 turns-preserved c = record {
-  through = c.in_ok-take_turn.ensures.through;
-  kept = kept_trans c.args.inputs.now.solver.log.inputs c.turns.inputs.solver.log.inputs c.take_turn.new.inputs.solver.log.inputs c.turns.invariant.kept c.in_ok-take_turn.ensures.kept;
-  states = c.in_ok-take_turn.ensures.states ∙ c.turns.invariant.states;
+  through = c.in_ok-close.ensures.through;
+  kept = kept_trans c.args.inputs.now.solver.log.inputs c.turns.inputs.solver.log.inputs c.take_turn.new.inputs.solver.log.inputs c.turns.invariant.kept c.in_ok-close.ensures.kept;
+  states = c.in_ok-close.ensures.states ∙ c.turns.invariant.states;
 }
 
-pub end-answer-requires-clause-states : goal.end-answer-requires-clause-states
-end-answer-requires-clause-states c = subst (AreStatesTo c.args.closure.now.formula c.args.closure.now.kind c.args.depth) (sym c.turns.invariant.states) c.requires.states
+pub returns-in-By-clause-kept : goal.returns-in-By-clause-kept
+returns-in-By-clause-kept c =
+    kept_trans c.args.inputs.now.solver.log.inputs c.turns.inputs.solver.log.inputs c.take_turn.new.inputs.solver.log.inputs c.turns.invariant.kept c.in_ok-close.ensures.kept
+
+pub returns-in-Never-clause-kept : goal.returns-in-Never-clause-kept
+returns-in-Never-clause-kept c =
+    kept_trans c.args.inputs.now.solver.log.inputs c.turns.inputs.solver.log.inputs c.take_turn.new.inputs.solver.log.inputs c.turns.invariant.kept c.in_ok-close.ensures.kept
+
+pub end-requires-clause-states : goal.end-requires-clause-states
+end-requires-clause-states c = subst (AreStatesTo c.args.closure.now.formula c.args.closure.now.kind c.args.depth) (sym c.turns.invariant.states) c.requires.states
 
 pub returns-clause-kept : goal.returns-clause-kept
-returns-clause-kept c = kept_trans c.args.inputs.now.solver.log.inputs c.turns.inputs.solver.log.inputs c.end-answer.new.inputs.solver.log.inputs c.turns.invariant.kept c.in_ok-answer.ensures.kept
+returns-clause-kept c = kept_trans c.args.inputs.now.solver.log.inputs c.turns.inputs.solver.log.inputs c.end.new.inputs.solver.log.inputs c.turns.invariant.kept c.in_ok-answer.ensures.kept

@@ -30,8 +30,8 @@ refuted-requires-clause-refused c =
     let k = c.loop-depth.depth in
     let before = c.loop-depth.inputs.solver in
     let asked = c.ask.new.inputs.solver in
-    let tells = subst (Tells f kind k asked) c.in-Pruned.is c.in_ok-ask.ensures.tells in
-    let kept = kept_trans before.log.inputs c.grow.new.inputs.solver.log.inputs asked.log.inputs c.in_ok-grow.ensures.kept c.in_ok-ask.ensures.kept in
+    let tells = subst (Tells f kind k asked) c.in-Pruned.is c.in_ok-close.ensures.tells in
+    let kept = kept_trans before.log.inputs c.grow.new.inputs.solver.log.inputs asked.log.inputs c.in_ok-grow.ensures.kept c.in_ok-close.ensures.kept in
     all_refused f kind k asked (still_rejected f kind k before asked kept c.loop-depth.invariant.rejected) tells.0.1 tells.1.1
 
 pub returns-in-Pruned : goal.returns-in-Pruned
@@ -39,7 +39,7 @@ returns-in-Pruned c =
     let f = c.args.closure.now.formula in
     let kind = c.args.closure.now.kind in
     let k = c.loop-depth.depth in
-    let tells = subst (Tells f kind k c.ask.new.inputs.solver) c.in-Pruned.is c.in_ok-ask.ensures.tells in
+    let tells = subst (Tells f kind k c.ask.new.inputs.solver) c.in-Pruned.is c.in_ok-close.ensures.tells in
     refuted_decided f kind c.args.limit k (within_limit k c.args.limit c.loop-depth-test.true) c.loop-depth.invariant.still tells.0.0 tells.1.0 c.in_ok-decision-in-Pruned.decision c.in_ok-decision-in-Pruned.ensures
 
 pub loop-depth-preserved : goal.loop-depth-preserved
@@ -49,13 +49,13 @@ loop-depth-preserved c =
     let k = c.loop-depth.depth in
     let before = c.loop-depth.inputs.solver in
     let asked = c.ask.new.inputs in
-    let tells = subst (Tells f kind k asked.solver) c.in-Open.is c.in_ok-ask.ensures.tells in
-    let kept = kept_trans before.log.inputs c.grow.new.inputs.solver.log.inputs asked.solver.log.inputs c.in_ok-grow.ensures.kept c.in_ok-ask.ensures.kept in
+    let tells = subst (Tells f kind k asked.solver) c.in-Open.is c.in_ok-close.ensures.tells in
+    let kept = kept_trans before.log.inputs c.grow.new.inputs.solver.log.inputs asked.solver.log.inputs c.in_ok-grow.ensures.kept c.in_ok-close.ensures.kept in
     record {
-      before = before_more f kind k asked c.in_ok-ask.ensures.through;
+      before = before_more f kind k asked c.in_ok-close.ensures.through;
       still = open_more f kind k c.loop-depth.invariant.still tells.0;
       rejected = rejected_more f kind k asked.solver (still_rejected f kind k before asked.solver kept c.loop-depth.invariant.rejected) tells.1;
-      states = c.in_ok-ask.ensures.states;
+      states = c.in_ok-close.ensures.states;
     }
 
 pub returns : goal.returns

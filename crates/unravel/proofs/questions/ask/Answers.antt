@@ -10,8 +10,8 @@ pub returns-in-Some-clause-states : goal.returns-in-Some-clause-states
 returns-in-Some-clause-states c =
     subst (AreStatesBelow c.args.closure.now.formula c.args.closure.now.kind (c.args.depth + 1)) (sym c.in_ok-rule.ensures.states) c.in_ok-assume.ensures.0
 
-pub is_unpruned-unpruned-requires-clause-states : goal.is_unpruned-unpruned-requires-clause-states
-is_unpruned-unpruned-requires-clause-states c =
+pub is_unpruned-requires-clause-states : goal.is_unpruned-requires-clause-states
+is_unpruned-requires-clause-states c =
     subst (AreStatesTo c.args.closure.now.formula c.args.closure.now.kind c.args.depth) (sym c.in_ok-rule.ensures.states) c.in_ok-assume.ensures
 
 pub returns-then-not-unpruned-clause-states : goal.returns-then-not-unpruned-clause-states
@@ -21,7 +21,7 @@ returns-then-not-unpruned-clause-states c =
 
 pub returns-then-not-unpruned-clause-kept : goal.returns-then-not-unpruned-clause-kept
 returns-then-not-unpruned-clause-kept c =
-    kept_trans c.args.inputs.now.solver.log.inputs c.accepting_rule-rule.new.inputs.solver.log.inputs c.is_unpruned-unpruned.new.inputs.solver.log.inputs c.in_ok-rule.ensures.kept c.in_ok-unpruned.ensures.kept
+    kept_trans c.args.inputs.now.solver.log.inputs c.accepting_rule.new.inputs.solver.log.inputs c.is_unpruned.new.inputs.solver.log.inputs c.in_ok-rule.ensures.kept c.in_ok-unpruned.ensures.kept
 
 -- pruned: what refused acceptance refuses it with what the second question has put in
 pub returns-then-not-unpruned-clause-tells : goal.returns-then-not-unpruned-clause-tells
@@ -29,8 +29,8 @@ returns-then-not-unpruned-clause-tells c =
     let f = c.args.closure.now.formula in
     let kind = c.args.closure.now.kind in
     let k = c.args.depth in
-    let first = c.accepting_rule-rule.new.inputs.solver in
-    let last = c.is_unpruned-unpruned.new.inputs.solver in
+    let first = c.accepting_rule.new.inputs.solver in
+    let last = c.is_unpruned.new.inputs.solver in
     let never = subst (IsAcceptedAnswer f kind k first) c.in_default.is c.in_ok-rule.ensures.answer in
     let pruned = subst (IsUnprunedAnswer f kind k last) c.if-not-unpruned.true c.in_ok-unpruned.ensures.answer in
     ((never.0, refuses_more first last (accepted_question f kind k) c.in_ok-unpruned.ensures.kept never.1), pruned)
@@ -42,19 +42,19 @@ returns-clause-states c =
     let n = c.args.depth + 1 in
     let same = c.in_ok-unpruned.ensures.states ∙ c.in_ok-rule.ensures.states in
     let below = subst (AreStatesBelow f kind n) (sym same) c.in_ok-assume.ensures.0 in
-    still_below f kind n c.is_unpruned-unpruned.new.states.items c.begin_anew.new.states.items below c.begin_anew.ensures
+    still_below f kind n c.is_unpruned.new.states.items c.begin_anew.new.states.items below c.begin_anew.ensures
 
 pub returns-clause-kept : goal.returns-clause-kept
 returns-clause-kept c =
-    kept_trans c.args.inputs.now.solver.log.inputs c.accepting_rule-rule.new.inputs.solver.log.inputs c.is_unpruned-unpruned.new.inputs.solver.log.inputs c.in_ok-rule.ensures.kept c.in_ok-unpruned.ensures.kept
+    kept_trans c.args.inputs.now.solver.log.inputs c.accepting_rule.new.inputs.solver.log.inputs c.is_unpruned.new.inputs.solver.log.inputs c.in_ok-rule.ensures.kept c.in_ok-unpruned.ensures.kept
 
 pub returns-clause-tells : goal.returns-clause-tells
 returns-clause-tells c =
     let f = c.args.closure.now.formula in
     let kind = c.args.closure.now.kind in
     let k = c.args.depth in
-    let first = c.accepting_rule-rule.new.inputs.solver in
-    let last = c.is_unpruned-unpruned.new.inputs.solver in
+    let first = c.accepting_rule.new.inputs.solver in
+    let last = c.is_unpruned.new.inputs.solver in
     let never = subst (IsAcceptedAnswer f kind k first) c.in_default.is c.in_ok-rule.ensures.answer in
     let has = subst (IsUnprunedAnswer f kind k last) c.if-not-unpruned.false c.in_ok-unpruned.ensures.answer in
     (open_told f kind k never.0 has, refuses_more first last (accepted_question f kind k) c.in_ok-unpruned.ensures.kept never.1)

@@ -9,4 +9,4 @@ returns-clause-states c =
     let kind = c.args.closure.now.kind in
     let n = c.args.depth + 1 in
     let below = subst (AreStatesBelow f kind n) (sym c.in_ok-close.ensures.states) c.in_ok-assume.ensures.0 in
-    still_below f kind n c.accepting_rule-close.new.states.items c.begin_anew.new.states.items below c.begin_anew.ensures
+    still_below f kind n c.accepting_rule.new.states.items c.begin_anew.new.states.items below c.begin_anew.ensures

@@ -5,19 +5,19 @@ use Rattle.unravel.proofs.Putting.{kept_trans, through_more}
 use Rattle.unravel.proofs.Looked.{unpruned_answer, whole_unpruned}
 use Rattle.unravel.proofs.unpruning.end.Goals as goal
 
-pub is_found-found-requires-clause-through : goal.is_found-found-requires-clause-through
-is_found-found-requires-clause-through c =
+pub is_found-requires-clause-through : goal.is_found-requires-clause-through
+is_found-requires-clause-through c =
     through_more c.args.closure.now.formula c.args.closure.now.kind c.args.depth c.args.inputs.now c.add_rest.new.inputs c.requires.through c.in_ok-add_rest.ensures.more
 
 pub returns-clause-kept : goal.returns-clause-kept
 returns-clause-kept c =
-    kept_trans c.args.inputs.now.solver.log.inputs c.add_rest.new.inputs.solver.log.inputs c.is_found-found.new.inputs.solver.log.inputs c.in_ok-add_rest.ensures.more.kept c.in_ok-found.ensures.kept
+    kept_trans c.args.inputs.now.solver.log.inputs c.add_rest.new.inputs.solver.log.inputs c.is_found.new.inputs.solver.log.inputs c.in_ok-add_rest.ensures.more.kept c.in_ok-found.ensures.kept
 
 pub returns-clause-answer : goal.returns-clause-answer
 returns-clause-answer c =
     let f = c.args.closure.now.formula in
     let kind = c.args.closure.now.kind in
     let k = c.args.depth in
-    let i = c.is_found-found.new.inputs in
+    let i = c.is_found.new.inputs in
     let whole = kept_trans (list_of (up_to f kind k)) c.add_rest.new.inputs.solver.log.inputs i.solver.log.inputs c.in_ok-add_rest.ensures.whole c.in_ok-found.ensures.kept in
     unpruned_answer f kind k i.solver c.in_ok-found.found (λ found. whole_unpruned f kind k i c.in_ok-found.ensures.through Unpruned found whole refl) c.in_ok-found.ensures.answer

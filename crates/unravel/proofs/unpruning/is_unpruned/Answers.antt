@@ -17,8 +17,16 @@ turns-preserved c = record {
   states = c.in_ok-take_turn.ensures.states ∙ c.turns.invariant.states;
 }
 
-pub end-answer-requires-clause-states : goal.end-answer-requires-clause-states
-end-answer-requires-clause-states c = subst (AreStatesTo c.args.closure.now.formula c.args.closure.now.kind c.args.depth) (sym c.turns.invariant.states) c.requires.states
+pub returns-in-Unpruned-clause-kept : goal.returns-in-Unpruned-clause-kept
+returns-in-Unpruned-clause-kept c =
+    kept_trans c.args.inputs.now.solver.log.inputs c.turns.inputs.solver.log.inputs c.take_turn.new.inputs.solver.log.inputs c.turns.invariant.kept c.in_ok-take_turn.ensures.kept
+
+pub returns-in-Never-clause-kept : goal.returns-in-Never-clause-kept
+returns-in-Never-clause-kept c =
+    kept_trans c.args.inputs.now.solver.log.inputs c.turns.inputs.solver.log.inputs c.take_turn.new.inputs.solver.log.inputs c.turns.invariant.kept c.in_ok-take_turn.ensures.kept
+
+pub end-requires-clause-states : goal.end-requires-clause-states
+end-requires-clause-states c = subst (AreStatesTo c.args.closure.now.formula c.args.closure.now.kind c.args.depth) (sym c.turns.invariant.states) c.requires.states
 
 pub returns-clause-kept : goal.returns-clause-kept
-returns-clause-kept c = kept_trans c.args.inputs.now.solver.log.inputs c.turns.inputs.solver.log.inputs c.end-answer.new.inputs.solver.log.inputs c.turns.invariant.kept c.in_ok-answer.ensures.kept
+returns-clause-kept c = kept_trans c.args.inputs.now.solver.log.inputs c.turns.inputs.solver.log.inputs c.end.new.inputs.solver.log.inputs c.turns.invariant.kept c.in_ok-answer.ensures.kept

@@ -5,6 +5,6 @@ pub invariant_of-result : goal.invariant_of-result
 invariant_of-result c =
     let closure = c.self.inside.closure.now in
     record {
-      before = before_more closure.formula closure.kind c.self.inside.depth c.ask_accepted.new.inputs c.in_ok-ask_accepted.ensures.through;
-      states = c.in_ok-ask_accepted.ensures.states;
+      before = before_more closure.formula closure.kind c.self.inside.depth c.ask_accepted.new.inputs c.in_ok-close.ensures.through;
+      states = c.in_ok-close.ensures.states;
     }
