@@ -13,7 +13,7 @@ use Rattle.enc_layout.proofs.Questions.{accepted_from, unpruned_from}
 use Rattle.demand.specs.declared.row.Row.{Row as StoredRow}
 use Rattle.demand.specs.declared.pruning.Pruned.{Pruned}
 use Rattle.demand.specs.Inputs.{states_list}
-use Rattle.demand.specs.Rows.{Rows, rows_in, rows_of}
+use Rattle.demand.specs.Rows.{rows_in, rows_of}
 use Rattle.demand.specs.Reading.{AreRead}
 use Rattle.demand.specs.Closing.{close_of}
 use Rattle.demand.specs.Pruning.{prunings_below}

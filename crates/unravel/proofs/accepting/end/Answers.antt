@@ -2,7 +2,7 @@ use Rattle.std.proofs.Common.{refl}
 use Rattle.enc_layout.specs.Letters.{Accepted}
 use Rattle.unravel.specs.Putting.{up_to, list_of}
 use Rattle.unravel.proofs.Putting.{kept_trans, through_more}
-use Rattle.unravel.proofs.Looked.{accepted_if, accepted_never, close_is, shows, some_rule}
+use Rattle.unravel.proofs.Looked.{accepted_if, close_is, shows, some_rule}
 use Rattle.unravel.proofs.accepting.end.Goals as goal
 
 pub is_found-requires-clause-through : goal.is_found-requires-clause-through

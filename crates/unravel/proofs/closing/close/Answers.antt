@@ -1,4 +1,4 @@
-use Rattle.std.proofs.Common.{◌≡◌, ◌+◌, ◌∙◌, arith, sym, subst, [], ◌∷◌, ◌++◌}
+use Rattle.std.proofs.Common.{◌≡◌, ◌+◌, ◌∙◌, arith, sym, subst}
 use Rattle.enc_layout.specs.Clauses.{layout_of}
 use Rattle.enc_layout.specs.Assigned.{accepted_question, unpruned_question}
 use Rattle.enc_layout.specs.Targets.{CloseTableau}

@@ -1,4 +1,4 @@
-use Rattle.std.proofs.Common.{◌+◌, sym, ◌∙◌, subst, None, false, true}
+use Rattle.std.proofs.Common.{◌+◌, sym, ◌∙◌, subst}
 use Rattle.enc_layout.specs.Assigned.{accepted_question}
 use Rattle.unravel.specs.Depths.{AreStatesBelow, AreStatesTo, IsAcceptedAnswer, IsUnprunedAnswer}
 use Rattle.unravel.proofs.Earlier.{still_below}
