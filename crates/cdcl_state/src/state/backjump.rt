@@ -28,7 +28,7 @@ impl State {
     }
 
     /// Takes back the first decision that is none of these literals, and all that came after it.
-    pub fn retreat(&mut self, kept: &[Literal])
+    fn leave(&mut self, kept: &[Literal])
         ensures front { IsFront self.old self.new }
         ensures decided { All (λ e. e.reason ≡ None → Contains kept.now e.literal) self.new.trail }
     {
@@ -36,6 +36,27 @@ impl State {
         if place < self.assigned.len() {
             self.backjump(place);
         }
+    }
+
+    /// Goes back to the level of the first entry whose list is not visited yet: what is visited on a level above
+    /// its own would be visited again at each conflict.
+    fn catch_up(&mut self)
+        ensures { IsFront self.old self.new }
+    {
+        if self.head < self.assigned.len() {
+            let level = self.assigned.level_at(self.head);
+            self.backjump(level);
+        }
+    }
+
+    /// Takes back the first decision that is none of these literals, and all that came after it, and of what is
+    /// left the levels above that of an entry whose list is not visited yet.
+    pub fn retreat(&mut self, kept: &[Literal])
+        ensures front { IsFront self.old self.new }
+        ensures decided { All (λ e. e.reason ≡ None → Contains kept.now e.literal) self.new.trail }
+    {
+        self.leave(kept);
+        self.catch_up();
     }
 
     /// Takes back all decisions and what they forced.

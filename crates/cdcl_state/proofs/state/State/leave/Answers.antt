@@ -2,7 +2,7 @@ use Rattle.std.proofs.Common.{◌≡◌, ◌≤◌, None, All, Contains, length,
 use Rattle.cdcl_state.specs.StateValue.{StateValue}
 use Rattle.cdcl_trail.specs.declared.assigned.Entry.{Entry}
 use Rattle.cdcl_state.proofs.Retreat.{kept_whole, kept_front}
-use Rattle.cdcl_state.proofs.state.State.retreat.Goals as goal
+use Rattle.cdcl_state.proofs.state.State.leave.Goals as goal
 
 pub returns-then-place-len-clause-decided : goal.returns-then-place-len-clause-decided
 returns-then-place-len-clause-decided c =
