@@ -33,4 +33,4 @@ derive-requires-2 c =
 
 pub of-requires : goal.of-requires
 of-requires c =
-    (clauses_of_false, rw (c.in_ok-derive-2.ensures.added.0, c.in_ok-derive.ensures.added.0, c.in_ok-log.ensures, c.in_ok-names.ensures) own_names)
+    (clauses_of_false, rw (c.in_ok-derive-2.ensures.added.0, c.in_ok-derive.ensures.added.0, c.in_ok-log.ensures, c.in_ok-names.ensures.items) own_names)

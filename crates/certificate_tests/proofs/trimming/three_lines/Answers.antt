@@ -41,4 +41,4 @@ named_five = record { count = refl; each = each }
 
 pub of-requires : goal.of-requires
 of-requires c =
-    (five, rw (c.in_ok-third.ensures.added.0, c.in_ok-second.ensures.added.0, c.in_ok-first.ensures.added.0, c.in_ok-log.ensures, c.in_ok-names.ensures) named_five)
+    (five, rw (c.in_ok-third.ensures.added.0, c.in_ok-second.ensures.added.0, c.in_ok-first.ensures.added.0, c.in_ok-log.ensures, c.in_ok-names.ensures.items) named_five)
