@@ -28,10 +28,7 @@ fn leaves_out_what_no_target_needs(rt: HostRuntime) -> Result<(), Fail> {
     assert_eq!(rt; numbers.as_slice(), [2, 1].as_slice());
     assert_eq!(rt; new.lines(), 2);
     assert_eq!(rt; new.literals(1), [minus(2)].as_slice());
-    assert_eq!(rt;
-        new.hints(1),
-        [Hint::Clause(3), Hint::Clause(1)].as_slice()
-    );
+    assert_eq!(rt; new.hints(1), [Hint::Clause(3), Hint::Clause(1)].as_slice());
     assert_eq!(rt; new.literals(2), [minus(2), minus(3)].as_slice());
     assert_eq!(rt; new.hints(2), [Hint::Line(1)].as_slice());
     Ok(())

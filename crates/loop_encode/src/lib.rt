@@ -1,6 +1,7 @@
 //! Appends the clauses that speak of pairs of states and of acceptance: where two states have one carry, what
 //! is fulfilled between them, when a run may loop from the later one to the earlier, and when it is accepted.
 #![tactic(auto)]
+
 ghost use Rattle.std.specs.Prelude.{◌≡◌, ◌≤◌, ◌++◌, OnOk, OnErr};
 ghost use Rattle.enc_layout.specs.Letters.{Fits};
 ghost use Rattle.enc_layout.specs.Clauses.{layout_of, loop_clauses, signed_clauses};

@@ -1,6 +1,7 @@
 //! Appends the clauses that speak of states: that each is there after the one before it, the gates of its
 //! entries, and its requests.
 #![tactic(auto)]
+
 ghost use Rattle.std.specs.Prelude.{◌≡◌, ◌≤◌, ◌++◌, OnOk, OnErr};
 ghost use Rattle.enc_layout.specs.Letters.{Fits};
 ghost use Rattle.enc_layout.specs.Clauses.{layout_of, state_clauses, signed_clauses};
