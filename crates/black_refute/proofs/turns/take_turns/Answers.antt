@@ -1,4 +1,4 @@
-use Rattle.std.proofs.Common.{subst}
+use Rattle.std.proofs.Common.{subst, ◌∙◌}
 use Rattle.ltl_word.specs.Trace.{IsTrace}
 use Rattle.report.specs.Texts.{ReadsBack}
 use Rattle.unravel.specs.Decision.{IsModel}
@@ -18,3 +18,6 @@ returns-in-Found-clause-found g c =
 
 pub returns-clause-found : goal.returns-clause-found
 returns-clause-found g c = shown (IsFound c.args.closure.now.kind c.args.options.cert c.args.closure.now.formula) undecided c.undecided.result open_yet c.undecided.ensures
+
+pub returns-in_err-exploration-in-Open-clause-silent : goal.returns-in_err-exploration-in-Open-clause-silent
+returns-in_err-exploration-in-Open-clause-silent g c off = c.tell_at.ensures off ∙ c.turns.invariant.silent off
