@@ -118,7 +118,7 @@ def with_header(text, draw):
 
 def with_formula(formula, draw):
     """A word of the formula dropped, doubled or put in place of another one."""
-    words = re.findall(r"\w+(?:\[[0-9,]*\])?|\W", formula.decode())
+    words = re.findall(r"\w+(?:\[[0-9,]*\])?|\W", formula.decode()) or [""]
     a, b = draw.randrange(len(words)), draw.randrange(len(words))
     words[a] = draw.choice(["", words[a] * 2, words[b], draw.choice("p q X G U R S T & | ! true false wX".split())])
     return "".join(words).encode()
