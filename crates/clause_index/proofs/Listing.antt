@@ -17,9 +17,9 @@ use Rattle.clause_index.specs.declared.numbers.Numbers.{Numbers}
 use Rattle.clause_index.specs.Rows.{row_at}
 use Rattle.clause_index.specs.Counts.{sizes_of, state_size, pairs_size, accept_size, before_step}
 use Rattle.clause_index.specs.Sections.{section_clauses, section_size, before_section}
-use Rattle.clause_index.specs.Numbers.{StandFrom, AreNumbersOf}
+use Rattle.clause_index.specs.Numbers.{AreNumbersOf}
 use Rattle.clause_index.specs.ByNumber.{gates_before, strong_before}
-use Rattle.clause_index.proofs.Stands.{stands_whole, stands_left, stands_right, stands_below, stands_at}
+use Rattle.clause_index.proofs.Stands.{Stand, stands_whole, stands_left, stands_right, stands_below, stands_at}
 use Rattle.clause_index.proofs.Gates.{gates_total}
 use Rattle.clause_index.proofs.Strong.{strong_total}
 use Rattle.std.specs.Prelude.{filter}
@@ -37,67 +37,75 @@ section_long f kind i sections.Pairs = length-d f kind i
 section_long f kind i sections.Acceptance = length-e f kind i
 section_long f kind i sections.Pruning = length-f f kind i
 
+-- the number of the first clause behind so many of step i
+abbrev pub number_behind : Formula → Kind → ℕ → ℕ → ℕ
+number_behind f kind i n = 1 + (before_step kind (sizes_of f kind) i + n)
+
 -- the clauses of a step and of its sections stand in the list from these numbers on
 module _ (f : Formula) (kind : Kind) (d i : ℕ) (le : i ≤ d) where
-  abbrev list : List (List Signed)
-  list = clause_list f kind d
+  abbrev s : Sizes
+  s = sizes_of f kind
 
-  abbrev start : ℕ
-  start = before_step kind (sizes_of f kind) i
+  abbrev last : List Clause
+  last = part_e f kind i ++ part_f f kind i
 
   abbrev late : List Clause
   late = part_d f kind i ++ (part_e f kind i ++ part_f f kind i)
 
-  pub step_stands : StandFrom (clause_list f kind d) (1 + before_step kind (sizes_of f kind) i) (signed_clauses f kind (step_clauses f kind i))
-  step_stands = stands_below list kind (counts f) 1 (suc d) (step_clauses f kind) i start (omega arith) (length-steps f kind i) (stands_whole list)
+  abbrev first : ℕ
+  first = 1 + before_step kind (sizes_of f kind) i
 
-  both_stand : StandFrom (clause_list f kind d) (1 + before_step kind (sizes_of f kind) i) (signed_clauses f kind (state_clauses f i ++ (part_d f kind i ++ (part_e f kind i ++ part_f f kind i))))
-  both_stand = subst (λ cs. StandFrom list (1 + start) (signed_clauses f kind cs)) (step_states f kind i) step_stands
+  both_stand : Stand f kind d first (state_clauses f i ++ late)
+  both_stand =
+      subst (Stand f kind d first) (step_states f kind i)
+      (stands_below f kind d 1 (suc d) (step_clauses f kind) i (before_step kind s i) (omega arith) (length-steps f kind i)
+      (stands_whole (clause_list f kind d)))
 
-  late_stand : StandFrom (clause_list f kind d) (1 + before_step kind (sizes_of f kind) i + state_size (sizes_of f kind) i) (signed_clauses f kind (part_d f kind i ++ (part_e f kind i ++ part_f f kind i)))
-  late_stand = stands_right list kind (counts f) (1 + start) (state_size (sizes_of f kind) i) (state_clauses f i) late (length-states f kind i) both_stand
+  late_stand : Stand f kind d (first + state_size s i) late
+  late_stand = stands_right f kind d first (state_size s i) (state_clauses f i) late (length-states f kind i) both_stand
 
-  last_stand : StandFrom (clause_list f kind d) (1 + before_step kind (sizes_of f kind) i + state_size (sizes_of f kind) i + pairs_size kind (sizes_of f kind) i) (signed_clauses f kind (part_e f kind i ++ part_f f kind i))
-  last_stand =
-      stands_right list kind (counts f) (1 + start + state_size (sizes_of f kind) i) (pairs_size kind (sizes_of f kind) i) (part_d f kind i) (part_e f kind i ++ part_f f kind i)
-      (length-d f kind i) late_stand
+  last_stand : Stand f kind d (first + state_size s i + pairs_size kind s i) last
+  last_stand = stands_right f kind d (first + state_size s i) (pairs_size kind s i) (part_d f kind i) last (length-d f kind i) late_stand
 
-  pub section_stands : (t : Section) → StandFrom (clause_list f kind d) (1 + (before_step kind (sizes_of f kind) i + before_section kind (sizes_of f kind) i t)) (signed_clauses f kind (section_clauses f kind i t))
-  section_stands sections.States = stands_at list kind (counts f) (1 + start) (1 + (start + 0)) (state_clauses f i) (omega arith) (stands_left list kind (counts f) (1 + start) (state_clauses f i) late both_stand)
+  abbrev at : Section → ℕ
+  at t = number_behind f kind i (before_section kind (sizes_of f kind) i t)
+
+  pub section_stands : (t : Section) → Stand f kind d (number_behind f kind i (before_section kind (sizes_of f kind) i t)) (section_clauses f kind i t)
+  section_stands sections.States =
+      stands_at f kind d first (at sections.States) (state_clauses f i) (omega arith) (stands_left f kind d first (state_clauses f i) late both_stand)
   section_stands sections.Pairs =
-      let s = state_size (sizes_of f kind) i in
-      stands_at list kind (counts f) (1 + start + s) (1 + (start + s)) (part_d f kind i) (omega arith)
-      (stands_left list kind (counts f) (1 + start + s) (part_d f kind i) (part_e f kind i ++ part_f f kind i) late_stand)
+      let n = first + state_size s i in
+      stands_at f kind d n (at sections.Pairs) (part_d f kind i) (omega arith) (stands_left f kind d n (part_d f kind i) last late_stand)
   section_stands sections.Acceptance =
-      let s = state_size (sizes_of f kind) i in
-      let p = pairs_size kind (sizes_of f kind) i in
-      stands_at list kind (counts f) (1 + start + s + p) (1 + (start + (s + p))) (part_e f kind i) (omega arith)
-      (stands_left list kind (counts f) (1 + start + s + p) (part_e f kind i) (part_f f kind i) last_stand)
+      let n = first + state_size s i + pairs_size kind s i in
+      stands_at f kind d n (at sections.Acceptance) (part_e f kind i) (omega arith)
+      (stands_left f kind d n (part_e f kind i) (part_f f kind i) last_stand)
   section_stands sections.Pruning =
-      let s = state_size (sizes_of f kind) i in
-      let p = pairs_size kind (sizes_of f kind) i in
-      let e = accept_size kind (sizes_of f kind) in
-      stands_at list kind (counts f) (1 + start + s + p + e) (1 + (start + (s + p + e))) (part_f f kind i) (omega arith)
-      (stands_right list kind (counts f) (1 + start + s + p) e (part_e f kind i) (part_f f kind i) (length-e f kind i) last_stand)
+      let n = first + state_size s i + pairs_size kind s i in
+      let e = accept_size kind s in
+      stands_at f kind d (n + e) (at sections.Pruning) (part_f f kind i) (omega arith)
+      (stands_right f kind d n e (part_e f kind i) (part_f f kind i) (length-e f kind i) last_stand)
 
-pub section_within : (f : Formula) (kind : Kind) (i : ℕ) (t : Section) (k : ℕ) (s : Sizes) → s ≡ sizes_of f kind → k < section_size s.kind s i t → k < length (section_clauses f kind i t)
+pub section_within : (f : Formula) (kind : Kind) (i : ℕ) (t : Section) (k : ℕ) (s : Sizes) → s ≡ sizes_of f kind → k < section_size s.kind s i t
+    → k < length (section_clauses f kind i t)
 section_within f kind i t k s is lt =
     let within : k < section_size kind (sizes_of f kind) i t = subst (λ z. k < section_size z.kind z i t) is lt in
     omega (arith, within, section_long f kind i t)
 
 -- the clause at a place is that of its number
 pub list_row : (layout : LayoutValue) (c : ClosureValue) → layout ≡ layout_of c → (s : Sizes) → s ≡ sizes_of c.formula c.kind
-    → (d i : ℕ) (t : Section) (k number : ℕ) → 1 ≤ number → i ≤ d → k < section_size s.kind s i t → before_step s.kind s i + (before_section s.kind s i t + k) ≡ number - 1
+    → (d i : ℕ) (t : Section) (k number : ℕ) → 1 ≤ number → i ≤ d → k < section_size s.kind s i t
+    → before_step s.kind s i + (before_section s.kind s i t + k) ≡ number - 1
     → row_at layout (section_clauses c.formula c.kind i t) k ≡ clause_at (clause_list c.formula c.kind d) number
 list_row layout c own s is d i t k number from le lt at =
     let f = c.formula in
     let kind = c.kind in
-    let before = before_step kind (sizes_of f kind) i in
-    let section = before_section kind (sizes_of f kind) i t in
     let inside = section_within f kind i t k s is lt in
-    let place : before_step c.kind (sizes_of c.formula c.kind) i + (before_section c.kind (sizes_of c.formula c.kind) i t + k) ≡ number - 1 = subst (λ z. before_step z.kind z i + (before_section z.kind z i t + k) ≡ number - 1) is at in
-    let long : length (signed_clauses c.formula c.kind (section_clauses c.formula c.kind i t)) ≡ length (section_clauses c.formula c.kind i t) = length-map (section_clauses f kind i t) (map (literal_in kind (counts f))) in
-    let here : 1 + (before_step c.kind (sizes_of c.formula c.kind) i + before_section c.kind (sizes_of c.formula c.kind) i t) + k ≡ number = omega arith in
+    let place : before_step c.kind (sizes_of c.formula c.kind) i + (before_section c.kind (sizes_of c.formula c.kind) i t + k) ≡ number - 1 =
+    subst (λ z. before_step z.kind z i + (before_section z.kind z i t + k) ≡ number - 1) is at in
+    let long : length (signed_clauses c.formula c.kind (section_clauses c.formula c.kind i t)) ≡ length (section_clauses c.formula c.kind i t) =
+    length-map (section_clauses f kind i t) (map (literal_in kind (counts f))) in
+    let here : number_behind c.formula c.kind i (before_section c.kind (sizes_of c.formula c.kind) i t) + k ≡ number = omega arith in
     ap (λ l. row_at l (section_clauses f kind i t) k) own
     ∙ sym ((section_stands f kind d i le t).each k (omega (arith, inside, long)))
     ∙ ap (clause_at (clause_list f kind d)) here
@@ -109,10 +117,10 @@ pub section_numbers_are : (c : ClosureValue) (s : Sizes) → s ≡ sizes_of c.fo
 section_numbers_are c s is d i t n le first count =
     let f = c.formula in
     let kind = c.kind in
+    let at = first ∙ ap (λ z. 1 + (before_step z.kind z i + before_section z.kind z i t)) is in
     record {
       count = count ∙ (ap (λ z. section_size z.kind z i t) is ∙ sym (section_long f kind i t));
-      stand = subst (λ m. StandFrom (clause_list f kind d) m (signed_clauses f kind (section_clauses f kind i t)))
-          (sym (first ∙ ap (λ z. 1 + (before_step z.kind z i + before_section z.kind z i t)) is)) (section_stands f kind d i le t);
+      stand = subst (λ m. Stand f kind d m (section_clauses f kind i t)) (sym at) (section_stands f kind d i le t);
     }
 
 -- the sizes that are counted are those of the formula

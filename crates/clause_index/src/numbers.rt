@@ -27,11 +27,11 @@ pub enum PairPart {
     Equal,
     /// Whether an eventuality, from 0, is fulfilled after the earlier step. Infinite traces only.
     Fulfilment(u32),
-    /// A run may loop where the carries are equal, the first clause, and each eventuality that is asked for is
-    /// fulfilled, one clause each. Infinite traces only.
+    /// A run may loop where the carries are equal, the first clause, and each eventuality that is asked for
+    /// is fulfilled, one clause each. Infinite traces only.
     Loop,
-    /// Equal carries make the later step one that repeats, the first clause, and what is fulfilled between
-    /// the two is seen there, one clause each. Infinite traces only.
+    /// Equal carries make the later step one that repeats, the first clause, and what is fulfilled between the
+    /// two is seen there, one clause each. Infinite traces only.
     Seen,
     /// What is new of each eventuality, three clauses each, and behind them that the pair prunes, which on
     /// finite traces is the only one.

@@ -27,10 +27,6 @@ with_input log clause = record { inputs = log.inputs ++ clause ∷ []; lines = l
 abbrev pub with_line : LogValue → List Literal → List Hint → LogValue
 with_line log clause hints = record { inputs = log.inputs; lines = log.lines ++ clause ∷ []; hints = log.hints ++ hints ∷ [] }
 
--- these lines and hints are put in place of the log's
-abbrev pub with_lines : LogValue → List (List Literal) → List (List Hint) → LogValue
-with_lines log lines hints = record { inputs = log.inputs; lines = lines; hints = hints }
-
 -- each line is a hinted step over the inputs and the lines before it
 pub record IsLog (log : LogValue) : Type 0 where
   pub paired : length log.hints ≡ length log.lines

@@ -3,7 +3,7 @@
 // for CNF formulas); `derive` asks for it, so what a log says can be trusted whatever search produced it.
 ghost use Rattle.std.specs.Prelude.{◌≡◌, ◌≤◌, [], length, IfOk, OnErr};
 ghost use Rattle.cnf_base.specs.Step.{IsHintedStep, clause_at};
-ghost use Rattle.clause_log.specs.LogValue.{LogValue, IsLog, IsInputAdded, IsLineAdded, with_input, with_line, with_lines, greatest_u32, hints_at};
+ghost use Rattle.clause_log.specs.LogValue.{LogValue, IsLog, IsInputAdded, IsLineAdded, with_input, with_line, greatest_u32, hints_at};
 
 use cnf_base::{Hint, Literal, Rows};
 use std::alloc::{AllocError, Global};
@@ -85,18 +85,6 @@ impl Log {
         let count = self.lines.len() - 1;
         self.lines.truncate(count);
         self.hints.truncate(count);
-    }
-
-    /// The log with other lines, and their hints, in place of its own. The inputs stay where they are.
-    pub fn with_lines(self, lines: Rows<Literal>, hints: Rows<Hint>) -> Log
-        requires { IsLog (with_lines self lines hints) }
-        ensures { result ≡ with_lines self lines hints }
-    {
-        Log {
-            inputs: self.inputs,
-            lines,
-            hints,
-        }
     }
 
     /// Lends the log for reading.

@@ -1,4 +1,4 @@
-pub mod ByStates
+pub mod StateRuns
 pub mod Finding
 pub mod Telling
 pub mod Closes

@@ -15,7 +15,7 @@ use Rattle.demand.specs.Rows.{Rows, rows_of}
 use Rattle.demand.specs.Reading.{AreRead}
 use Rattle.demand.specs.Closing.{close_of}
 use Rattle.demand.specs.Pruning.{prunings_below}
-use Rattle.demand.proofs.ByStates.{inputs_run, satisfied_part, row_read}
+use Rattle.demand.proofs.StateRuns.{inputs_run, satisfied_part, row_read}
 use Rattle.demand.proofs.Agreeing.{close_same, prunings_same}
 use Rattle.demand.proofs.Closes.{close_accepts}
 use Rattle.demand.proofs.PrunedStates.{no_prunings}

@@ -2,6 +2,7 @@
 use Rattle.std.proofs.Common.{◌≡◌, ℕ, ◌+◌, ◌<◌, true, false, IsTrue, refl, sym, ap, ◌∙◌, List, [], ◌∷◌, ◌++◌, length, map, take, get_or, cond, Contains}
 use Rattle.std.specs.Prelude.{filter}
 use Rattle.std.proofs.lemmas.List.{append-nil, map-append}
+use Rattle.std.proofs.lemmas.Simd.{map-map}
 use Rattle.std.proofs.lemmas.List.Elements.{filter_more, Contains-get_or}
 use Rattle.ltl_syntax.specs.Formula.{Formula, Name, Fresh}
 use Rattle.ltl_closure.specs.Norm.{Norm, NConst, NLetter, NNext, NWeakNext, NYesterday, NWeakYesterday, NUntil}
@@ -43,19 +44,15 @@ strong_stands names f (NNext a) x is = ap is_strong_by is
 strong_stands names f (NWeakNext a) x is = ap is_strong_by is
 strong_stands names f e x is = ap is_strong_by is
 
-pub map-map_both : {X Y Z : Type 0} (g : Y → Z) (h : X → Y) (xs : List X) → map g (map h xs) ≡ map (λ x. g (h x)) xs
-map-map_both g h [] = refl
-map-map_both g h (x ∷ xs) = ap (λ z. g (h x) ∷ z) (map-map_both g h xs)
-
 module _ (names : List (List ℕ)) (f : Formula) (entries : List Entry) (are : AreEntries names f entries) where
   -- those of all of some members
   operands_are : (o : Operand) (es : List Norm)
       → ((e : Norm) → Contains es e → operand_by o (place_in (closure f) e) (entry_at entries (place_in (closure f) e)) ≡ place_in (closure f) (operand_of o e))
       → map (λ t. operand_by o t (entry_at entries t)) (numbers_of f es) ≡ numbers_of f (map (operand_of o) es)
   operands_are o es each =
-      map-map_both (λ t. operand_by o t (entry_at entries t)) (place_in (closure f)) es
+      map-map (λ t. operand_by o t (entry_at entries t)) (place_in (closure f)) es
       ∙ (map_agree (λ e. operand_by o (place_in (closure f) e) (entry_at entries (place_in (closure f) e))) (λ e. place_in (closure f) (operand_of o e)) es each
-      ∙ sym (map-map_both (place_in (closure f)) (operand_of o) es))
+      ∙ sym (map-map (place_in (closure f)) (operand_of o) es))
 
   pub carry_numbers :
       numbers_of f (nexts f) ++ map (λ t. operand_by operands.Argument t (entry_at entries t)) (numbers_of f (yesterdays f)) ≡ numbers_of f (carried f)

@@ -13,7 +13,7 @@ use Rattle.enc_layout.proofs.Numbering.{list_range}
 use Rattle.enc_layout.specs.Letters.{letters_through}
 use Rattle.cnf_base.specs.Known.{IsKnown, AreKnown}
 use Rattle.demand.specs.Inputs.{AreOfList}
-use Rattle.demand.proofs.ByStates.{satisfied_part}
+use Rattle.demand.proofs.StateRuns.{satisfied_part}
 
 -- what has an assignment has one for each part
 part_satisfiable : (clauses part : List (List Signed)) (literals : List Signed) → All (Contains clauses) part → AreSatisfiable clauses literals

@@ -9,7 +9,7 @@ use Rattle.cnf_base.proofs.MoreClauses.{slice_get_append}
 use Rattle.enc_layout.specs.Clauses.{state_clauses, loop_clauses, prune_clauses, step_clauses, signed_clauses, clause_list}
 use Rattle.enc_layout.proofs.Steps.{list_more, step_parts}
 use Rattle.demand.specs.Inputs.{HasStates, AreOfList}
-use Rattle.demand.proofs.ByStates.{states_grow}
+use Rattle.demand.proofs.StateRuns.{states_grow}
 
 slice_get_behind : {X : Type 0} (xs ys : List X) (n j : ℕ) (x : X) → n ≡ length xs + j → slice_get ys j ≡ Some x → slice_get (xs ++ ys) n ≡ Some x
 slice_get_behind [] ys n j x e h = let same : j ≡ n = omega arith in subst (λ m. slice_get ys m ≡ Some x) same h

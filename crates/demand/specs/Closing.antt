@@ -17,19 +17,19 @@ abbrev pub is_done : Rows → ℕ → ℕ → ℕ → Bool
 is_done rows l zero m = false
 is_done rows l (suc i) m = nat_lt l (suc i) && (is_done rows l i m || value_at (rows (suc i)).fulfilled m)
 
--- eventuality m + 1 is fulfilled after state l, where it is pending at state k
+-- where eventuality m + 1 is pending at state k, it is fulfilled after state l
 abbrev pub is_met : Rows → ℕ → ℕ → ℕ → Bool
 is_met rows l k m = not (value_at (rows k).pending m) || is_done rows l k m
 
--- and so is each eventuality
+-- so it is with each eventuality
 abbrev pub all_met : Rows → ℕ → ℕ → Bool
 all_met rows l k = passes_below (length (rows k).pending) (is_met rows l k)
 
--- state k closes to state l
+-- state k closes to state l: they have one carry, and what is pending at k is fulfilled in between
 abbrev pub closes_to : Rows → ℕ → ℕ → Bool
 closes_to rows l k = is_one_carry rows l k && all_met rows l k
 
--- the rule by which it does
+-- and the rule by which it does
 abbrev pub loop_to : Rows → ℕ → ℕ → Option Close
 loop_to rows k l = where_true (closes_to rows l k) (Some (closes.Loop l))
 

@@ -24,6 +24,6 @@ IsWithin k places eventualities (constraints.Pruning p) = (p.state ≤ k) × Are
 abbrev pub IsOf : List StoredRow → Constraint → Type 0
 IsOf rows constraint = IsWithin (length rows - 1) (length (rows_in rows (length rows - 1)).carry) (length (rows_in rows (length rows - 1)).pending) constraint
 
--- eventualities of the last one
+-- of the eventualities of the last one
 abbrev pub AreWaiting : List StoredRow → List Waiting → Type 0
 AreWaiting rows waiting = All (λ w. w.eventuality < length (rows_in rows (length rows - 1)).pending) waiting

@@ -14,22 +14,23 @@ use Rattle.demand.specs.Rows.{Rows}
 use Rattle.demand.specs.Nearest.{nearest, where_true, all_found}
 use Rattle.demand.specs.Closing.{is_one_carry, is_done}
 
--- eventuality m + 1 was fulfilled between l and j already, where it is pending at state i and fulfilled after state j
+-- where eventuality m + 1 is pending at state i and fulfilled after state j, it was fulfilled between l and j already
 abbrev pub is_old : Rows → ℕ → ℕ → ℕ → ℕ → Bool
 is_old rows l j i m = not (value_at (rows i).pending m) || (not (is_done rows j i m) || is_done rows l j m)
 
--- and so was each eventuality
+-- so it is with each eventuality
 abbrev pub is_nothing_new : Rows → ℕ → ℕ → ℕ → Bool
 is_nothing_new rows l j i = passes_below (length (rows i).pending) (is_old rows l j i)
 
--- l and j prune state i, where j has its carry
+-- the triple of l and j, where it prunes state i; that j has the carry of state i is asked elsewhere
 abbrev pub triple_with : Rows → ℕ → ℕ → ℕ → Option Pruning
 triple_with rows i j l = where_true (is_one_carry rows l j && is_nothing_new rows l j i) (Some (prunings.Triple l j))
 
--- j and the nearest l prune it, and j alone does
+-- the triple of j and the nearest l, where one prunes state i
 abbrev pub triple_from : Rows → ℕ → ℕ → Option Pruning
 triple_from rows i j = where_true (is_one_carry rows j i) (nearest j (triple_with rows i j))
 
+-- the pair of j, where it prunes state i
 abbrev pub pair_from : Rows → ℕ → ℕ → Option Pruning
 pair_from rows i j = where_true (is_one_carry rows j i) (Some (prunings.Pair j))
 
@@ -43,6 +44,7 @@ abbrev pub pruned_by : ℕ → Option Pruning → Option Pruned
 pruned_by i (Some by) = Some (record { state = i; by = by })
 pruned_by i None = None
 
+-- state i and how it is pruned, where it is
 abbrev pub pruned_at : Kind → Rows → ℕ → Option Pruned
 pruned_at kind rows i = pruned_by i (pruning_at kind rows i)
 

@@ -39,10 +39,11 @@ row_of f kind s = record {
 abbrev pub rows_of : Formula → Kind → States → Rows
 rows_of f kind r i = row_of f kind (r i)
 
--- the values that are stored in a row, and those of no row
+-- the values that a row stores
 abbrev pub values_of : StoredRow → Row
 values_of row = record { carry = row.carry.items; pending = row.pending.items; fulfilled = row.fulfilled.items; refused = row.refused.items }
 
+-- and those of no row
 abbrev pub values_if : Option StoredRow → Row
 values_if (Some row) = values_of row
 values_if None = record { carry = []; pending = []; fulfilled = []; refused = [] }

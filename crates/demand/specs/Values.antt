@@ -5,10 +5,12 @@ use Rattle.std.specs.Prelude.{ℕ, zero, suc, Bool, true, false, not, ◌&&◌, 
 abbrev pub value_at : List Bool → ℕ → Bool
 value_at values place = slice_index_or values place false
 
+-- the two values are one
 abbrev pub is_same : Bool → Bool → Bool
 is_same true b = b
 is_same false b = not b
 
+-- the place behind it
 abbrev pub one_more : Option ℕ → Option ℕ
 one_more (Some n) = Some (suc n)
 one_more None = None

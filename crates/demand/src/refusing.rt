@@ -89,8 +89,11 @@ fn push_places(
     found.push(Constraint::Loop { earlier, later })?;
     let mut left = taken;
     for place in 0..places(rows, later as usize) {
+        if left == 0 {
+            break;
+        }
         let value = is_carried(rows, earlier as usize, place);
-        if left > 0 && value != is_carried(rows, later as usize, place) {
+        if value != is_carried(rows, later as usize, place) {
             left -= 1;
             found.push(Constraint::Place {
                 earlier,

@@ -1,6 +1,5 @@
 pub mod Each
 pub mod ByIndex
-pub mod Pieces
 pub mod Numbers
 pub mod ByKind
 pub mod Fitting
@@ -8,6 +7,7 @@ pub mod Counting
 pub mod Gates
 pub mod Carries
 pub mod Pairing
+pub mod ByStates
 pub mod Reading
 pub mod Meanings
 pub mod Writing

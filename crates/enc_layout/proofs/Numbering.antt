@@ -34,8 +34,12 @@ module _ (f : Formula) (kind : Kind) (w : ℕ → Bool) where
   to_numbers [] h = tt
   to_numbers (c ∷ cs) h = (clause_same c ∙ h.0, to_numbers cs h.1)
 
+  -- clauses that are true over the numbers are so over what the letters stand for
+  pub clauses_true : (cs : List Clause) → Satisfies w (signed_clauses f kind cs) → Each (IsTrueClause by_number) cs
+  clauses_true cs h = to_letters cs (recursion_from_All (λ c. clause_value w c ≡ true) (signed_clauses f kind cs) h)
+
   pub letters_true : (d : ℕ) → Satisfies w (clause_list f kind d) → Each (IsTrueClause by_number) (clauses_through f kind d)
-  letters_true d h = to_letters (clauses_through f kind d) (recursion_from_All (λ c. clause_value w c ≡ true) (clause_list f kind d) h)
+  letters_true d h = clauses_true (clauses_through f kind d) h
 
   pub numbers_true : (d : ℕ) → Each (IsTrueClause by_number) (clauses_through f kind d) → Satisfies w (clause_list f kind d)
   numbers_true d h = All-from_recursion (λ c. clause_value w c ≡ true) (clause_list f kind d) (to_numbers (clauses_through f kind d) h)

@@ -15,9 +15,10 @@ use Rattle.ltl_closure.proofs.Entries.{closure_root}
 use Rattle.ltl_closure.proofs.Known.{next_in, yesterday_in, eventuality_in}
 use Rattle.enc_layout.proofs.Pairing.{pair_from_triple}
 use Rattle.enc_layout.specs.Letters.{Meaning, Unpruned, Here, Accepted, EmptyAt, Repeated, Seen, Equal, LoopTo, Differs, Fulfilled, New, below}
-use Rattle.enc_layout.specs.Clauses.{Clause, Plus, Minus, clause_true, letter_of, carried, carried_letter, eventuality, part_a, part_b, start, next_clauses, before_clauses, part_c, place_clauses, equal_clause, fulfilled_clauses, loop_clause, closing_clauses, pair_clauses, part_d, is_strong_next, part_e, seen_clauses, new_clauses, pruned_clause, part_f, step_clauses, clauses_through}
-use Rattle.enc_layout.proofs.Each.{Each-left, Each-right, below-Each, flat_map-Each, map-Each}
-use Rattle.enc_layout.proofs.Gates.{IsTrueClause, gate_value}
+use Rattle.enc_layout.specs.Clauses.{Clause, Plus, Minus, clause_true, letter_of, carried, carried_letter, eventuality, part_a, part_b, start, next_clauses, before_clauses, part_c, place_clauses, equal_clause, fulfilled_clauses, loop_clause, closing_clauses, pair_clauses, part_d, is_strong_next, part_e, seen_clauses, new_clauses, pruned_clause, part_f, state_clauses, step_clauses, clauses_through}
+use Rattle.enc_layout.proofs.Each.{Each-append, Each-left, Each-right, Each-below, below-Each, map-Each}
+use Rattle.enc_layout.proofs.Gates.{IsTrueClause}
+use Rattle.enc_layout.proofs.ByStates.{state_value, gives_run}
 use Rattle.enc_layout.proofs.Carries.{place_of, argument_in, right_in, carried_in, carried_from, carried_same, then1, then_not, then2, then_either, back1, agree, differ, some_below}
 
 six : (P : Clause → Type 0) (a b c d e g : List Clause) → Each P (a ++ (b ++ (c ++ (d ++ (e ++ g))))) → Each P a × (Each P b × (Each P c × (Each P d × (Each P e × Each P g))))
@@ -36,33 +37,17 @@ module _ (f : Formula) (kind : Kind) (d : ℕ) (v : Meaning → Bool) (holds : E
   abbrev pub read : States
   read i e = v (letter_of f i e)
 
-  pub value : (i : ℕ) → i ≤ d → (e : Norm) → Contains (closure f) e → v (letter_of f i e) ≡ val (read i) e
-  value i le e m = gate_value f i v (in_parts i le).1.0 e m
+  -- the clauses of the states are among them
+  of_states : Each (IsTrueClause v) (below (suc d) (state_clauses f))
+  of_states = Each-below (IsTrueClause v) (suc d) (state_clauses f) (λ i lt.
+      let p = in_parts i (omega arith) in
+      Each-append (IsTrueClause v) (part_a i) (part_b f i ++ part_c f i) p.0 (Each-append (IsTrueClause v) (part_b f i) (part_c f i) p.1.0 p.1.1.0))
 
-  here_down : (k i : ℕ) → k ≤ d → IsTrue (v (Here k)) → i ≤ k → IsTrue (v (Here i))
-  here_down zero i le h ik = let e : zero ≡ i = omega arith in subst (λ n. IsTrue (v (Here n))) e h
-  here_down (suc k) i le h ik = elim (cases_lt i (suc k)) [
-    | inl before ↦ here_down k i (omega arith) (then1 (v (Here (suc k))) (v (Here k)) (in_parts (suc k) le).0.0 h) (omega arith)
-    | inr here ↦ let e : suc k ≡ i = omega arith in subst (λ n. IsTrue (v (Here n))) e h
-  ]
+  pub value : (i : ℕ) → i ≤ d → (e : Norm) → Contains (closure f) e → v (letter_of f i e) ≡ val (read i) e
+  value i le e m = state_value f d v of_states i le e m
 
   pub reads_run : (k : ℕ) → k ≤ d → IsTrue (v (Here k)) → IsRun f k read
-  reads_run k le h =
-      let first : IsTrue (v (Here 0)) = here_down k 0 le h (omega arith) in
-      let c = (in_parts 0 (omega arith)).1.1.0 in
-      record {
-        root = subst IsTrue (value 0 (omega arith) (pos_of f) (closure_root f)) (then1 (v (Here 0)) (v (letter_of f 0 (pos_of f))) c.0 first);
-        yesterday = λ a m. then_not (v (Here 0)) (v (letter_of f 0 (NYesterday a))) (flat_map-Each (IsTrueClause v) (start f) (yesterdays f) c.1 (NYesterday a) (Contains-filter is_yesterday (closure f) (NYesterday a) m refl)).0 first;
-        weak_yesterday = λ a m. then1 (v (Here 0)) (v (letter_of f 0 (NWeakYesterday a))) (flat_map-Each (IsTrueClause v) (start f) (yesterdays f) c.1 (NWeakYesterday a) (Contains-filter is_yesterday (closure f) (NWeakYesterday a) m refl)).0 first;
-        next = λ i lt e m.
-            let c = flat_map-Each (IsTrueClause v) (next_clauses f i) (nexts f) (Each-left (IsTrueClause v) (flat_map (next_clauses f i) (nexts f)) (flat_map (before_clauses f i) (yesterdays f)) (in_parts (suc i) (omega arith)).1.1.0) e m in
-            agree (v (Here (suc i))) (v (letter_of f i e)) (v (letter_of f (suc i) (argument e))) c.0 c.1.0 (here_down k (suc i) le h (omega arith))
-            ∙ value (suc i) (omega arith) (argument e) (argument_in f e (next_in f e m));
-        before = λ i lt e m.
-            let c = flat_map-Each (IsTrueClause v) (before_clauses f i) (yesterdays f) (Each-right (IsTrueClause v) (flat_map (next_clauses f i) (nexts f)) (flat_map (before_clauses f i) (yesterdays f)) (in_parts (suc i) (omega arith)).1.1.0) e m in
-            agree (v (Here (suc i))) (v (letter_of f (suc i) e)) (v (letter_of f i (argument e))) c.0 c.1.0 (here_down k (suc i) le h (omega arith))
-            ∙ value i (omega arith) (argument e) (argument_in f e (yesterday_in f e m));
-      }
+  reads_run k le h = gives_run f d v of_states k le h
 
   module _ (i l : ℕ) (le : i ≤ d) (lt : l < i) where
     of_pair : Each (IsTrueClause v) (pair_clauses f kind i l)

@@ -2,7 +2,6 @@ pub mod Letters
 pub mod Parts
 pub mod Clauses
 pub mod Limit
-pub mod Steps
 pub mod Assigned
 pub mod Pairs
 pub mod Laws

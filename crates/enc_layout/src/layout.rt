@@ -180,22 +180,6 @@ impl Layout {
         }
     }
 
-    /// How many places a carry has.
-    pub fn places(&self) -> u32
-        ensures count { result ≡ self.now.counts.places }
-        ensures few { result ≤ 196612 }
-    {
-        self.places
-    }
-
-    /// How many eventualities there are.
-    pub fn eventualities(&self) -> u32
-        ensures count { result ≡ self.now.counts.eventualities }
-        ensures few { result ≤ 98306 }
-    {
-        self.eventualities
-    }
-
     fn fits_first(&self)
         ensures { Fits self.now 0 }
     {

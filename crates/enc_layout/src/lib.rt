@@ -3,7 +3,5 @@
 
 pub mod laws;
 mod layout;
-mod one_step;
 
 pub use layout::{Layout, Part};
-pub use one_step::Step;

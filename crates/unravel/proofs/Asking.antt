@@ -17,10 +17,12 @@ use Rattle.enc_layout.specs.Assigned.{positive_of, accepted_question, unpruned_q
 use Rattle.enc_layout.specs.Targets.{negative_of}
 use Rattle.derivation.proofs.Names.{named_of}
 use Rattle.demand.specs.Inputs.{states_list, AreOfList}
-use Rattle.demand.proofs.ByStates.{satisfied_part}
+use Rattle.demand.proofs.StateRuns.{satisfied_part}
 use Rattle.demand.proofs.Parts.{no_accepted, no_unpruned}
 use Rattle.unravel.specs.declared.inputs.Inputs.{Inputs}
-use Rattle.unravel.specs.Depths.{IsThrough, AreStatesBelow, AreStatesTo, Refuses, IsFound, IsAcceptedFound, IsUnprunedFound, IsRejection, IsPruning}
+use Rattle.unravel.specs.declared.assuming.Question.{Question}
+use Rattle.unravel.specs.declared.assuming.Question.TheVariants as questions
+use Rattle.unravel.specs.Depths.{IsThrough, AreStatesBelow, AreStatesTo, Refuses, letter_of, IsFound, IsFoundOrNever, IsRejection, IsPruning}
 use Rattle.unravel.proofs.Earlier.{met_alone, met_under}
 use Rattle.unravel.proofs.Lines.{only_from}
 use Rattle.unravel.proofs.Negated.{opposite_of_two, consistent_two, known_two, consistent_under, known_under}
@@ -43,16 +45,17 @@ two_consistent layout c p q l m own is also =
     subst (λ (x : Signed). IsConsistent (x ∷ m ∷ [])) (sym (of_layout layout c p l own is))
     (subst (λ (y : Signed). IsConsistent (positive_of c.formula c.kind p ∷ y ∷ [])) (sym (of_layout layout c q m own also)) (consistent_two c.formula c.kind p q))
 
--- the same of states and one literal more
-pub under_known : (layout : LayoutValue) (c : ClosureValue) (k letters : ℕ) (states : List Signed) (p : Meaning) (l : Signed) → layout ≡ layout_of c → letters ≡ letters_through c.kind (counts c.formula) k
-    → AreStatesBelow c.formula c.kind (k + 1) states → IsLetter c.kind (counts c.formula) k p → l ≡ literal_in layout.kind layout.counts (Plus p) → All (IsKnown letters) (states ++ l ∷ [])
-under_known layout c k letters states p l own all below h is =
-    subst (λ (x : Signed). All (IsKnown letters) (states ++ x ∷ [])) (sym (of_layout layout c p l own is)) (known_under c.formula c.kind k letters all states p below h)
+-- the same of states and a question's own literal
+module _ (f : Formula) (kind : Kind) (k : ℕ) (q : Question) (states : List Signed) (below : AreStatesBelow f kind (k + 1) states) (l : Signed) (is : l ≡ positive_of f kind (letter_of k q)) where
+  own_letter : (p : Question) → IsLetter kind (counts f) k (letter_of k p)
+  own_letter questions.Accepted = omega arith
+  own_letter questions.Unpruned = tt
 
-pub under_consistent : (layout : LayoutValue) (c : ClosureValue) (n : ℕ) (states : List Signed) (p : Meaning) (l : Signed) → layout ≡ layout_of c
-    → AreStatesBelow c.formula c.kind n states → l ≡ literal_in layout.kind layout.counts (Plus p) → IsConsistent (states ++ l ∷ [])
-under_consistent layout c n states p l own below is =
-    subst (λ (x : Signed). IsConsistent (states ++ x ∷ [])) (sym (of_layout layout c p l own is)) (consistent_under c.formula c.kind n states p below)
+  pub under_known : (letters : ℕ) → letters ≡ letters_through kind (counts f) k → All (IsKnown letters) (states ++ l ∷ [])
+  under_known letters all = subst (λ (x : Signed). All (IsKnown letters) (states ++ x ∷ [])) (sym is) (known_under f kind k letters all states (letter_of k q) below (own_letter q))
+
+  pub under_consistent : IsConsistent (states ++ l ∷ [])
+  under_consistent = subst (λ (x : Signed). IsConsistent (states ++ x ∷ [])) (sym is) (consistent_under f kind (k + 1) states (letter_of k q) below)
 
 module _ (f : Formula) (kind : Kind) (k : ℕ) (i : Inputs) (through : IsThrough f kind k i) where
   -- what is in are clauses of the list
@@ -76,21 +79,19 @@ module _ (f : Formula) (kind : Kind) (k : ℕ) (i : Inputs) (through : IsThrough
     question_refused line (from, upto, negated, none) = λ w.
         none (w.0, w.1, met_under f kind k w.0 states to (positive_of f kind p) (satisfied_part w.0 i.solver.log.inputs (states_list f kind k) through.states w.1) w.2)
 
-  module _ (states : List Signed) (to : AreStatesTo f kind k states) where
-    pub accepted_yes : (answer : Answer) → answer ≡ answers.Sat → IsAnswer i.solver (states ++ positive_of f kind (Accepted k) ∷ []) answer → IsAcceptedFound f kind k i.solver true
-    accepted_yes answer e a = question_found states to (Accepted k) (subst (IsAnswer i.solver (states ++ positive_of f kind (Accepted k) ∷ [])) e a)
+  module _ (states : List Signed) (to : AreStatesTo f kind k states) (l : Signed) (answer : Answer) (a : IsAnswer i.solver (states ++ l ∷ []) answer) where
+    own : (q : Question) → l ≡ positive_of f kind (letter_of k q) → (b : Answer) → answer ≡ b → IsAnswer i.solver (states ++ positive_of f kind (letter_of k q) ∷ []) b
+    own q is b e = subst (λ (x : Signed). IsAnswer i.solver (states ++ x ∷ []) b) is (subst (IsAnswer i.solver (states ++ l ∷ [])) e a)
 
-    pub accepted_no : (answer : Answer) (line : ℕ) → answer ≡ answers.Unsat line → IsAnswer i.solver (states ++ positive_of f kind (Accepted k) ∷ []) answer → IsAcceptedFound f kind k i.solver false
-    accepted_no answer line e a =
-        let refused = question_refused states to (Accepted k) line (subst (IsAnswer i.solver (states ++ positive_of f kind (Accepted k) ∷ [])) e a) in
+    pub question_yes : (q : Question) → l ≡ positive_of f kind (letter_of k q) → answer ≡ answers.Sat → IsFoundOrNever f kind k q i.solver true
+    question_yes q is e = question_found states to (letter_of k q) (own q is answers.Sat e)
+
+    pub question_no : (q : Question) → l ≡ positive_of f kind (letter_of k q) → (line : ℕ) → answer ≡ answers.Unsat line → IsFoundOrNever f kind k q i.solver false
+    question_no questions.Accepted is line e =
+        let refused = question_refused states to (Accepted k) line (own questions.Accepted is (answers.Unsat line) e) in
         (no_accepted f kind k k i.solver.log.inputs (omega arith) of_list refused, refused)
-
-    pub unpruned_yes : (answer : Answer) → answer ≡ answers.Sat → IsAnswer i.solver (states ++ positive_of f kind Unpruned ∷ []) answer → IsUnprunedFound f kind k i.solver true
-    unpruned_yes answer e a = question_found states to Unpruned (subst (IsAnswer i.solver (states ++ positive_of f kind Unpruned ∷ [])) e a)
-
-    pub unpruned_no : (answer : Answer) (line : ℕ) → answer ≡ answers.Unsat line → IsAnswer i.solver (states ++ positive_of f kind Unpruned ∷ []) answer → IsUnprunedFound f kind k i.solver false
-    unpruned_no answer line e a =
-        let refused = question_refused states to Unpruned line (subst (IsAnswer i.solver (states ++ positive_of f kind Unpruned ∷ [])) e a) in
+    question_no questions.Unpruned is line e =
+        let refused = question_refused states to Unpruned line (own questions.Unpruned is (answers.Unsat line) e) in
         (no_unpruned f kind k i.solver.log.inputs of_list refused, refused)
 
 -- a question that was refused, asked once more
@@ -119,6 +120,3 @@ module _ (layout : LayoutValue) (c : ClosureValue) (own : layout ≡ layout_of c
   of_two p q l m is also a =
       subst (λ (x : Signed). IsAnswer s (positive_of c.formula c.kind p ∷ x ∷ []) answer) (of_layout layout c q m own also)
       (subst (λ (x : Signed). IsAnswer s (x ∷ m ∷ []) answer) (of_layout layout c p l own is) a)
-
-  pub of_under : (states : List Signed) (p : Meaning) (l : Signed) → l ≡ literal_in layout.kind layout.counts (Plus p) → IsAnswer s (states ++ l ∷ []) answer → IsAnswer s (states ++ positive_of c.formula c.kind p ∷ []) answer
-  of_under states p l is a = subst (λ (x : Signed). IsAnswer s (states ++ x ∷ []) answer) (of_layout layout c p l own is) a

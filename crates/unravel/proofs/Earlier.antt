@@ -1,6 +1,7 @@
 -- Where a state is there, so is each state before it. So a question may assume these as well.
-use Rattle.std.proofs.Common.{◌≡◌, ℕ, ◌+◌, Bool, true, IsTrue, ◌⊎◌, inl, inr, arith, sym, subst, List, [], ◌∷◌, ◌++◌, Contains}
+use Rattle.std.proofs.Common.{◌≡◌, ℕ, zero, suc, ◌+◌, ◌≤◌, Bool, true, IsTrue, ◌⊎◌, inl, inr, arith, sym, subst, List, [], ◌∷◌, ◌++◌, Contains}
 use Rattle.std.proofs.lemmas.List.Elements.{All-nil, All-cons, All-head, All-tail, All-append, All-weaker, All-contains, Contains-append_left, Contains-append_right}
+use Rattle.std.proofs.lemmas.Bool.{cases_lt}
 use Rattle.ltl_syntax.specs.declared.node.Kind.{Kind}
 use Rattle.ltl_syntax.specs.Formula.{Formula}
 use Rattle.ltl_closure.proofs.Lists.{Contains-here}
@@ -8,12 +9,29 @@ use Rattle.cnf_base.specs.declared.literal.Literal.{Literal as Signed}
 use Rattle.cnf_base.specs.Meaning.{Satisfies, literal_value}
 use Rattle.cdcl.specs.Solving.{AreTrue}
 use Rattle.enc_layout.specs.Letters.{Here}
-use Rattle.enc_layout.specs.Clauses.{number_in}
+use Rattle.enc_layout.specs.Clauses.{number_in, part_a, part_b, part_c, state_clauses}
 use Rattle.enc_layout.specs.Assigned.{positive_of}
-use Rattle.enc_layout.proofs.Numbering.{by_number}
-use Rattle.demand.specs.Inputs.{states_list}
-use Rattle.demand.proofs.ByStates.{here_down, states_true}
+use Rattle.enc_layout.proofs.Each.{Each-left, below-Each}
+use Rattle.enc_layout.proofs.Gates.{IsTrueClause}
+use Rattle.enc_layout.proofs.Carries.{then1}
+use Rattle.enc_layout.proofs.Numbering.{by_number, clauses_true}
+use Rattle.demand.specs.Inputs.{states_through, states_list}
 use Rattle.unravel.specs.Depths.{IsStateBelow, AreStatesBelow, AreStatesTo}
+
+-- the states before one that is there
+module _ (f : Formula) (kind : Kind) (d : ℕ) (v : ℕ → Bool) (holds : Satisfies v (states_list f kind d)) where
+  here_before : (k : ℕ) → suc k ≤ d → IsTrue (v (number_in f kind (Here (suc k)))) → IsTrue (v (number_in f kind (Here k)))
+  here_before k le here =
+      let w = by_number f kind v in
+      let all = below-Each (IsTrueClause w) (suc d) (state_clauses f) (clauses_true f kind v (states_through f d) holds) (suc k) (omega arith) in
+      then1 (w (Here (suc k))) (w (Here k)) (Each-left (IsTrueClause w) (part_a (suc k)) (part_b f (suc k) ++ part_c f (suc k)) all).0 here
+
+  here_down : (k i : ℕ) → k ≤ d → IsTrue (v (number_in f kind (Here k))) → i ≤ k → IsTrue (v (number_in f kind (Here i)))
+  here_down zero i le here ik = let e : zero ≡ i = omega arith in subst (λ n. IsTrue (v (number_in f kind (Here n)))) e here
+  here_down (suc k) i le here ik = elim (cases_lt i (suc k)) [
+    | inl before ↦ here_down k i (omega arith) (here_before k le here) (omega arith)
+    | inr same ↦ let e : suc k ≡ i = omega arith in subst (λ n. IsTrue (v (number_in f kind (Here n)))) e here
+  ]
 
 -- a literal of depth d is true beside the state's where it is true beside more of the states
 module _ (f : Formula) (kind : Kind) (d : ℕ) (v : ℕ → Bool) (states : List Signed) (to : AreStatesTo f kind d states) (l : Signed) where
@@ -30,7 +48,7 @@ module _ (f : Formula) (kind : Kind) (d : ℕ) (v : ℕ → Bool) (states : List
   met_under holds all =
       let here : IsTrue (v (number_in f kind (Here d))) = All-head IsMet (positive_of f kind (Here d)) (l ∷ []) all in
       let each : (m : Signed) → IsStateBelow f kind (d + 1) m → IsMet m =
-      λ m w. subst IsMet (sym w.2) (here_down f d (by_number f kind v) (states_true f kind v d holds) d w.0 (omega arith) here (omega (arith, w.1))) in
+      λ m w. subst IsMet (sym w.2) (here_down f kind d v holds d w.0 (omega arith) here (omega (arith, w.1))) in
       All-append IsMet states (l ∷ []) (All-weaker (IsStateBelow f kind (d + 1)) IsMet each states to.0) (All-tail IsMet (positive_of f kind (Here d)) (l ∷ []) all)
 
 -- the states of a depth are those of the one before, and one more

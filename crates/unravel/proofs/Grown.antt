@@ -12,7 +12,7 @@ use Rattle.enc_layout.specs.Letters.{letters_through}
 use Rattle.enc_layout.specs.Clauses.{counts, state_clauses, step_clauses, signed_clauses, clause_list}
 use Rattle.enc_layout.proofs.ByKind.{letters_less}
 use Rattle.enc_layout.proofs.Steps.{list_more}
-use Rattle.demand.proofs.ByStates.{states_grow}
+use Rattle.demand.proofs.StateRuns.{states_grow}
 use Rattle.unravel.specs.declared.inputs.Inputs.{Inputs}
 use Rattle.unravel.specs.Putting.{up_to, HasMore}
 use Rattle.unravel.specs.Depths.{IsBefore, IsThrough}

@@ -17,13 +17,15 @@ use Rattle.demand.specs.Rows.{rows_in, rows_of}
 use Rattle.demand.specs.Reading.{AreRead}
 use Rattle.demand.specs.Closing.{close_of}
 use Rattle.demand.specs.Pruning.{prunings_below}
-use Rattle.demand.proofs.ByStates.{inputs_run, satisfied_part, row_read}
+use Rattle.demand.proofs.StateRuns.{inputs_run, satisfied_part, row_read}
 use Rattle.demand.proofs.Agreeing.{close_same}
 use Rattle.demand.proofs.Closes.{accepted_closes}
 use Rattle.demand.proofs.Looks.{looking_accepts, looking_unpruned}
 use Rattle.unravel.specs.declared.inputs.Inputs.{Inputs}
 use Rattle.unravel.specs.Putting.{up_to, list_of}
-use Rattle.unravel.specs.Depths.{IsThrough, IsFound, IsShowing, IsNeverAccepted, IsAlwaysPruned, IsAcceptedFound, IsUnprunedFound, IsUnprunedAnswer}
+use Rattle.unravel.specs.declared.assuming.Question.{Question}
+use Rattle.unravel.specs.declared.assuming.Question.TheVariants as questions
+use Rattle.unravel.specs.Depths.{IsThrough, IsFound, IsShowing, letter_of, IsNever, IsFoundOrNever, IsUnprunedAnswer}
 
 none_some : {X : Type 0} (x : X) → None ≡ Some x → ⊥
 none_some x e = cc
@@ -93,18 +95,13 @@ module _ (f : Formula) (kind : Kind) (k : ℕ) (i : Inputs) (through : IsThrough
 
 -- ---- by cases of what was found
 
-pub accepted_if : (f : Formula) (kind : Kind) (k : ℕ) (s : SolverValue) (b : Bool) → b ≡ true → IsAcceptedFound f kind k s b → IsFound f kind k (Accepted k) s
-accepted_if f kind k s b e h = subst (IsAcceptedFound f kind k s) e h
+pub found_if : (f : Formula) (kind : Kind) (k : ℕ) (q : Question) (s : SolverValue) (b : Bool) → b ≡ true → IsFoundOrNever f kind k q s b → IsFound f kind k (letter_of k q) s
+found_if f kind k q s b e h = subst (IsFoundOrNever f kind k q s) e h
 
-pub accepted_never : (f : Formula) (kind : Kind) (k : ℕ) (s : SolverValue) (b : Bool) → b ≡ false → IsAcceptedFound f kind k s b → IsNeverAccepted f kind k s
-accepted_never f kind k s b e h = subst (IsAcceptedFound f kind k s) e h
+pub never_if : (f : Formula) (kind : Kind) (k : ℕ) (q : Question) (s : SolverValue) (b : Bool) → b ≡ false → IsFoundOrNever f kind k q s b → IsNever f kind k q s
+never_if f kind k q s b e h = subst (IsFoundOrNever f kind k q s) e h
 
-pub unpruned_if : (f : Formula) (kind : Kind) (k : ℕ) (s : SolverValue) (b : Bool) → b ≡ true → IsUnprunedFound f kind k s b → IsFound f kind k Unpruned s
-unpruned_if f kind k s b e h = subst (IsUnprunedFound f kind k s) e h
-
-pub unpruned_never : (f : Formula) (kind : Kind) (k : ℕ) (s : SolverValue) (b : Bool) → b ≡ false → IsUnprunedFound f kind k s b → IsAlwaysPruned f kind k s
-unpruned_never f kind k s b e h = subst (IsUnprunedFound f kind k s) e h
-
-pub unpruned_answer : (f : Formula) (kind : Kind) (k : ℕ) (s : SolverValue) (b : Bool) → (IsFound f kind k Unpruned s → HasUnpruned f kind k) → IsUnprunedFound f kind k s b → IsUnprunedAnswer f kind k s b
+pub unpruned_answer : (f : Formula) (kind : Kind) (k : ℕ) (s : SolverValue) (b : Bool) → (IsFound f kind k Unpruned s → HasUnpruned f kind k) → IsFoundOrNever f kind k questions.Unpruned s b
+    → IsUnprunedAnswer f kind k s b
 unpruned_answer f kind k s true has h = has h
 unpruned_answer f kind k s false has h = h

@@ -1,5 +1,5 @@
 -- Clauses of the list that are put in one after another, under their numbers in it.
-use Rattle.std.proofs.Common.{◌≡◌, ℕ, zero, suc, ◌+◌, ◌-◌, ◌<◌, arith, ap, sym, ◌∙◌, subst, List, [], ◌∷◌, ◌++◌, length, get_or, take, All, Contains, Some}
+use Rattle.std.proofs.Common.{◌≡◌, ℕ, zero, suc, ◌+◌, ◌-◌, ◌<◌, arith, ap, refl, sym, ◌∙◌, subst, List, [], ◌∷◌, ◌++◌, length, get_or, take, All, Contains, Some}
 use Rattle.std.proofs.lemmas.List.{get_or_default}
 use Rattle.std.proofs.lemmas.Option.{slice_get-get_or, get_or_from_slice_get}
 use Rattle.std.proofs.lemmas.List.Elements.{All-weaker, All-contains, All-contains_itself, All-more, Contains-append_left, Contains-push, Contains-get_or}
@@ -17,10 +17,10 @@ use Rattle.clause_index.specs.Indexed.{IndexedValue}
 use Rattle.demand.specs.Inputs.{states_list}
 use Rattle.demand.proofs.Parts.{inputs_known}
 use Rattle.demand.proofs.StateNumbers.{whole_of}
-use Rattle.demand.proofs.ByStates.{satisfied_part}
+use Rattle.demand.proofs.StateRuns.{satisfied_part}
 use Rattle.unravel.specs.declared.inputs.Inputs.{Inputs}
 use Rattle.unravel.specs.Putting.{up_to, list_of, IsNumberIn, IsPartOf, HasMore, IsAsked}
-use Rattle.unravel.specs.Depths.{IsThrough, Refuses}
+use Rattle.unravel.specs.Depths.{IsThrough, AreStatesTo, IsReady, IsStillThrough, Refuses}
 use Rattle.unravel.proofs.Lines.{numbered_at}
 
 -- ---- what stays
@@ -57,6 +57,34 @@ asked_more x old new part asked = record {
 
 pub asked_through : (f : Formula) (kind : Kind) (k : ℕ) (old new : Inputs) → IsThrough f kind k old → IsAsked old new → IsThrough f kind k new
 asked_through f kind k old new through asked = through_more f kind k old new through (asked_more (up_to f kind k) old new through.part asked)
+
+-- ---- the steps of a question
+
+module _ {f : Formula} {kind : Kind} {k : ℕ} {old new : Inputs} {before after : List Signed} where
+  pub ready_still : IsReady f kind k old before → IsStillThrough f kind k old new before after → IsReady f kind k new after
+  ready_still ready still = record { through = still.through; states = subst (AreStatesTo f kind k) (sym still.states) ready.states }
+
+  pub still_asked : IsThrough f kind k old → IsAsked old new → after ≡ before → IsStillThrough f kind k old new before after
+  still_asked through asked same = record {
+    through = asked_through f kind k old new through asked;
+    kept = (asked_more (up_to f kind k) old new through.part asked).kept;
+    states = same;
+  }
+
+module _ {f : Formula} {kind : Kind} {k : ℕ} {old : Inputs} {states : List Signed} (through : IsThrough f kind k old) where
+  pub still_more : {new : Inputs} → HasMore (up_to f kind k) old new → IsStillThrough f kind k old new states states
+  still_more {new} more = record { through = through_more f kind k old new through more; kept = more.kept; states = refl }
+
+  pub still_none : IsStillThrough f kind k old old states states
+  still_none = record { through = through; kept = All-contains_itself old.solver.log.inputs; states = refl }
+
+module _ {f : Formula} {kind : Kind} {k : ℕ} {a b c : Inputs} {l m n : List Signed} where
+  pub still_then : IsStillThrough f kind k a b l m → IsStillThrough f kind k b c m n → IsStillThrough f kind k a c l n
+  still_then one two = record {
+    through = two.through;
+    kept = kept_trans a.solver.log.inputs b.solver.log.inputs c.solver.log.inputs one.kept two.kept;
+    states = two.states ∙ one.states;
+  }
 
 -- ---- one clause
 

@@ -1,9 +1,11 @@
 -- The decisions, from what the questions of the depths were answered.
-use Rattle.std.proofs.Common.{◌≡◌, ◌∙◌, ℕ, suc, ◌+◌, ◌≤◌, arith, ap, inl, inr, sym, subst, List, ◌<◌, All, Contains}
+use Rattle.std.proofs.Common.{◌≡◌, ℕ, suc, ◌+◌, ◌≤◌, arith, inl, inr, sym, subst, List, [], ◌<◌, All, Contains}
 use Rattle.std.proofs.lemmas.Bool.{cases_lt}
+use Rattle.std.proofs.lemmas.List.Elements.{All-nil}
 use Rattle.ltl_syntax.specs.declared.node.Kind.{Kind}
 use Rattle.ltl_syntax.specs.Formula.{Formula}
-use Rattle.ltl_closure.specs.Run.{Sat, HasAccepted, HasUnpruned, IsOpen, IsVerdict, Unsat, Undecided, accepted, all_pruned, undecided, bound}
+use Rattle.ltl_word.specs.declared.trace.Trace.{Trace}
+use Rattle.ltl_closure.specs.Run.{HasAccepted, HasUnpruned, IsOpen, IsVerdict, Unsat, Undecided, accepted, all_pruned, undecided, bound}
 use Rattle.ltl_run.proofs.Closing.{accepted_by}
 use Rattle.ltl_run.proofs.Bounds.{settled}
 use Rattle.ltl_run.proofs.Least.{unsat_has_no_trace}
@@ -18,10 +20,10 @@ use Rattle.enc_layout.specs.Assigned.{accepted_question, unpruned_question}
 use Rattle.enc_layout.specs.Targets.{CloseTableau}
 use Rattle.unravel.specs.declared.decision.Decision.{Decision}
 use Rattle.unravel.specs.declared.decision.Decision.TheVariants as decisions
-use Rattle.unravel.specs.Decision.{IsTraceOfRun, HasNoTrace, IsRefutation, IsDecision, IsUnsat, IsUndecided}
-use Rattle.unravel.specs.Settling.{IsShown, IsRefuted}
+use Rattle.unravel.specs.Decision.{IsTraceOfRun, HasNoTrace, IsRefutation, IsModel, IsDecision, IsUnsat, IsUndecided}
+use Rattle.unravel.specs.Settling.{IsStillOpen, IsClosed, IsRefuted}
 use Rattle.unravel.specs.declared.inputs.Inputs.{Inputs}
-use Rattle.unravel.specs.Depths.{IsThrough, IsBefore, Refuses, AreOpen, AreRejected, AreRefused}
+use Rattle.unravel.specs.Depths.{IsThrough, IsEmpty, IsBefore, IsStateBelow, AreStatesBelow, Refuses, AreOpen, AreRejected, AreRefused}
 use Rattle.unravel.proofs.Putting.{refuses_more}
 
 pub within_limit : (k limit : ℕ) → k < limit + 1 → k ≤ limit
@@ -37,9 +39,6 @@ module _ (f : Formula) (kind : Kind) where
   pub before_more : (k : ℕ) (i : Inputs) → IsThrough f kind k i → IsBefore f kind (k + 1) i
   before_more k i h = let e : suc k ≡ k + 1 = omega arith in subst (λ n. IsBefore f kind n i) e h
 
-  pub rejected_none : (s : SolverValue) → AreRejected f kind 0 s
-  rejected_none s j lt = absurd (omega arith)
-
   pub rejected_more : (k : ℕ) (s : SolverValue) → AreRejected f kind k s → Refuses s (accepted_question f kind k) → AreRejected f kind (k + 1) s
   rejected_more k s before here j lt = elim (cases_lt j k) [
     | inl l ↦ before j l
@@ -51,11 +50,8 @@ module _ (f : Formula) (kind : Kind) where
   still_rejected k old new kept before j lt = refuses_more old new (accepted_question f kind j) kept (before j lt)
 
   module _ (limit k : ℕ) (le : k ≤ limit) (open' : AreOpen f kind k) where
-    pub shown_decided : (d : Decision) → IsShown f kind k d → IsDecision f kind limit d
-    shown_decided (decisions.Sat n t) (same, (r, run, close, acc, gives), model) =
-        (subst (λ m. IsVerdict f kind limit (Sat m)) (sym same) (accepted le open' (r, run, accepted_by f kind k r (close, acc))), subst (λ m. IsTraceOfRun f kind m t) (sym same) (r, run, close, acc, gives), model)
-    shown_decided (decisions.Unsat n log targets) h = absurd h
-    shown_decided (decisions.Undecided n) h = absurd h
+    pub shown_decided : (t : Trace) → IsTraceOfRun f kind k t × IsModel f kind t → IsDecision f kind limit (decisions.Sat k t)
+    shown_decided t ((r, run, close, acc, gives), model) = (accepted le open' (r, run, accepted_by f kind k r (close, acc)), (r, run, close, acc, gives), model)
 
     -- where there is no run at all, there is none that is accepted or pruned nowhere, so this serves there as well
     pub refuted_decided : (HasAccepted f kind k → ⊥) → (HasUnpruned f kind k → ⊥) → (d : Decision) → IsRefuted f kind k d → IsDecision f kind limit d
@@ -67,26 +63,44 @@ module _ (f : Formula) (kind : Kind) where
   pub all_refused : (k : ℕ) (s : SolverValue) → AreRejected f kind k s → Refuses s (accepted_question f kind k) → Refuses s (unpruned_question f kind k) → AreRefused f kind k s
   all_refused k s before here pruned = record { accepted = rejected_more k s before here; unpruned = pruned }
 
+  -- at the beginning
+  pub still_open_first : (i : Inputs) (states : List Literal) → IsEmpty i → states ≡ [] → IsStillOpen f kind 0 i states
+  still_open_first i states empty none = record {
+    before = empty;
+    still = λ j lt. absurd (omega arith);
+    rejected = λ j lt. absurd (omega arith);
+    states = subst (AreStatesBelow f kind 0) (sym none) (All-nil (IsStateBelow f kind 0));
+  }
+
+  -- and behind a depth that is open
+  pub still_open_more : (k : ℕ) (old new : Inputs) (earlier states : List Literal) → IsStillOpen f kind k old earlier → All (Contains new.solver.log.inputs) old.solver.log.inputs
+      → IsThrough f kind k new → IsOpen f kind k → Refuses new.solver (accepted_question f kind k) → AreStatesBelow f kind (k + 1) states → IsStillOpen f kind (k + 1) new states
+  still_open_more k old new earlier states before kept through here refuses below = record {
+    before = before_more k new through;
+    still = open_more k before.still here;
+    rejected = rejected_more k new.solver (still_rejected k old.solver new.solver kept before.rejected) refuses;
+    states = below;
+  }
+
   -- a depth with neither is open
   pub open_told : (k : ℕ) → (HasAccepted f kind k → ⊥) → HasUnpruned f kind k → IsOpen f kind k
   open_told k none (r, run, unpruned) = record { run = (r, run); rejected = none; unpruned = (r, run, unpruned) }
 
   -- the log that the solver leaves, under the names of its inputs
-  pub refutation : (k : ℕ) (i : Inputs) (s : SolverValue) (log : LogValue) (targets : List ℕ) → IsThrough f kind k i → s.letters ≡ i.solver.letters → s.log.inputs ≡ i.solver.log.inputs → log ≡ s.log → IsLog log
-      → AreKnown s.letters s.log.lines → CloseTableau f kind k s.log.lines targets → IsRefutation f kind k (derived log i.names.items) targets
-  refutation k i s log targets through letters inputs is log_is known closes =
-      let named = subst (λ (xs : List (List Literal)). AreNamed (clause_list f kind k) xs i.names.items) (sym (ap (λ (l : LogValue). l.inputs) is ∙ inputs)) through.part.named in
-      record {
-        steps = named_steps (clause_list f kind k) log i.names.items named log_is;
-        letters = subst (λ n. AreKnown n log.lines) (letters ∙ through.part.letters) (subst (λ (l : LogValue). AreKnown s.letters l.lines) (sym is) known);
-        closed = subst (λ (l : LogValue). CloseTableau f kind k l.lines targets) (sym is) closes;
-      }
+  module _ (k : ℕ) (i : Inputs) (targets : List ℕ) (is_closed : IsClosed f kind k i targets) (log : LogValue) (is : log ≡ i.solver.log) where
+    names_it : AreNamed (clause_list f kind k) log.inputs i.names.items
+    names_it = subst (λ (l : LogValue). AreNamed (clause_list f kind k) l.inputs i.names.items) (sym is) is_closed.through.part.named
 
-  -- its inputs are named by a list
-  pub log_named : (k : ℕ) (i : Inputs) (s : SolverValue) (log : LogValue) → IsThrough f kind k i → s.log.inputs ≡ i.solver.log.inputs → log ≡ s.log
-      → (list : List (List Literal)) × AreNamed list log.inputs i.names.items
-  log_named k i s log through inputs is =
-      (clause_list f kind k, subst (λ (xs : List (List Literal)). AreNamed (clause_list f kind k) xs i.names.items) (sym (ap (λ (l : LogValue). l.inputs) is ∙ inputs)) through.part.named)
+    -- its inputs are named by a list
+    pub log_named : (list : List (List Literal)) × AreNamed list log.inputs i.names.items
+    log_named = (clause_list f kind k, names_it)
+
+    pub refutation : IsLog log → AreKnown i.solver.letters i.solver.log.lines → IsRefutation f kind k (derived log i.names.items) targets
+    refutation log_is known = record {
+      steps = named_steps (clause_list f kind k) log i.names.items names_it log_is;
+      letters = subst (λ n. AreKnown n log.lines) is_closed.through.part.letters (subst (λ (l : LogValue). AreKnown i.solver.letters l.lines) (sym is) known);
+      closed = subst (λ (l : LogValue). CloseTableau f kind k l.lines targets) (sym is) is_closed.closed;
+    }
 
   pub open_through : (limit n : ℕ) → limit + 1 ≤ n → AreOpen f kind n → AreOpen f kind (limit + 1)
   open_through limit n all open' j lt = open' j (omega arith)

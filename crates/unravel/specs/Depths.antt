@@ -15,13 +15,15 @@ use Rattle.enc_layout.specs.Assigned.{positive_of, states_of, AreSatisfiable, ac
 use Rattle.enc_layout.specs.Targets.{negative_of}
 use Rattle.demand.specs.Inputs.{HasStates}
 use Rattle.unravel.specs.declared.inputs.Inputs.{Inputs}
+use Rattle.unravel.specs.declared.assuming.Question.{Question}
+use Rattle.unravel.specs.declared.assuming.Question.TheVariants as questions
 use Rattle.unravel.specs.declared.accepting.Turn.{Turn as AcceptedTurn}
 use Rattle.unravel.specs.declared.accepting.Turn.TheVariants as accepting
 use Rattle.unravel.specs.declared.unpruning.Turn.{Turn as UnprunedTurn}
 use Rattle.unravel.specs.declared.unpruning.Turn.TheVariants as unpruning
 use Rattle.unravel.specs.declared.questions.Depth.{Depth}
 use Rattle.unravel.specs.declared.questions.Depth.TheVariants as depths
-use Rattle.unravel.specs.Putting.{up_to, IsPartOf}
+use Rattle.unravel.specs.Putting.{up_to, IsPartOf, Keeps}
 
 -- clauses of the list through depth k were put in, those of the states among them
 pub record IsThrough (f : Formula) (kind : Kind) (k : ℕ) (i : Inputs) : Type 0 where
@@ -62,6 +64,22 @@ AreStatesBelow f kind n literals = All (IsStateBelow f kind n) literals
 abbrev pub AreStatesTo : Formula → Kind → ℕ → List Signed → Type 0
 AreStatesTo f kind k literals = AreStatesBelow f kind (k + 1) literals × Contains literals (positive_of f kind (Here k))
 
+-- a question of depth k can be asked: clauses of the list through it were put in, and the states are there that it assumes
+pub record IsReady (f : Formula) (kind : Kind) (k : ℕ) (i : Inputs) (literals : List Signed) : Type 0 where
+  pub through : IsThrough f kind k i
+  pub states : AreStatesTo f kind k literals
+
+-- the inputs are through depth k still, what was put in is there, and the same states are assumed
+pub record IsStillThrough (f : Formula) (kind : Kind) (k : ℕ) (old new : Inputs) (before after : List Signed) : Type 0 where
+  pub through : IsThrough f kind k new
+  pub kept : Keeps old new
+  pub states : after ≡ before
+
+-- the letter of a question of depth k
+abbrev pub letter_of : ℕ → Question → Meaning
+letter_of k questions.Accepted = Accepted k
+letter_of k questions.Unpruned = Unpruned
+
 -- no values make the inputs and the question's literals true
 abbrev pub Refuses : SolverValue → List Signed → Type 0
 Refuses s question = ¬ AreSatisfiable s.log.inputs question
@@ -87,14 +105,15 @@ IsNeverAccepted f kind k s = (¬ HasAccepted f kind k) × Refuses s (accepted_qu
 abbrev pub IsAlwaysPruned : Formula → Kind → ℕ → SolverValue → Type 0
 IsAlwaysPruned f kind k s = (¬ HasUnpruned f kind k) × Refuses s (unpruned_question f kind k)
 
--- values were found, or there are none
-abbrev pub IsAcceptedFound : Formula → Kind → ℕ → SolverValue → Bool → Type 0
-IsAcceptedFound f kind k s true = IsFound f kind k (Accepted k) s
-IsAcceptedFound f kind k s false = IsNeverAccepted f kind k s
+-- no run of k + 1 states is one that the question asks for, and the inputs refuse it
+abbrev pub IsNever : Formula → Kind → ℕ → Question → SolverValue → Type 0
+IsNever f kind k questions.Accepted s = IsNeverAccepted f kind k s
+IsNever f kind k questions.Unpruned s = IsAlwaysPruned f kind k s
 
-abbrev pub IsUnprunedFound : Formula → Kind → ℕ → SolverValue → Bool → Type 0
-IsUnprunedFound f kind k s true = IsFound f kind k Unpruned s
-IsUnprunedFound f kind k s false = IsAlwaysPruned f kind k s
+-- values were found, or there are none
+abbrev pub IsFoundOrNever : Formula → Kind → ℕ → Question → SolverValue → Bool → Type 0
+IsFoundOrNever f kind k q s true = IsFound f kind k (letter_of k q) s
+IsFoundOrNever f kind k q s false = IsNever f kind k q s
 
 -- the values show a run that the rule accepts, or there is none
 abbrev pub IsAcceptedAnswer : Formula → Kind → ℕ → SolverValue → Option Close → Type 0

@@ -1,21 +1,18 @@
 // The first question of a depth, whether a run of so many states is accepted, turn by turn: the solver is
 // asked, and the run that it finds is looked at. Where no rule accepts it, what refuses it, and other runs by
 // each of its states, is put in, and the question is asked again.
-ghost use Rattle.std.specs.Prelude.{◌≡◌, ◌≤◌, IfOk, OnOk};
+ghost use Rattle.std.specs.Prelude.{◌≤◌, IfOk, OnOk};
 ghost use Rattle.enc_layout.specs.Letters.{Fits};
 ghost use Rattle.enc_layout.specs.Clauses.{layout_of};
-ghost use Rattle.unravel.specs.Putting.{Keeps};
-ghost use Rattle.unravel.specs.Depths.{IsThrough, AreStatesTo, IsAcceptedFound, IsAcceptedTurn, IsAcceptedAnswer};
+ghost use Rattle.unravel.specs.Depths.{IsReady, IsStillThrough, IsAcceptedTurn, IsAcceptedAnswer};
 
-use crate::assuming::put;
+use crate::assuming::{Question, is_found};
 use crate::demanded::add_constraints;
 use crate::inputs::Inputs;
 use crate::looking::found_rows;
 use crate::rest::add_rest;
-use cdcl::Answer;
 use cnf_base::Literal;
 use demand::{close_of, refuse_loops};
-use enc_layout::{Layout, Part};
 use ltl_closure::Closure;
 use ltl_run::Close;
 use std::alloc::{AllocError, Global};
@@ -35,30 +32,6 @@ pub enum Turn {
     Again,
 }
 
-/// Asks whether values are found for an accepted run of depth + 1 states.
-fn is_found(
-    closure: &Closure<'_>,
-    inputs: &mut Inputs,
-    states: &mut Vec<Literal>,
-    depth: u32,
-) -> Result<bool, AllocError>
-    requires few { depth ≤ 1000 }
-    requires fits { Fits (layout_of closure.now) depth }
-    requires through { IsThrough closure.now.formula closure.now.kind depth inputs.old }
-    requires states { AreStatesTo closure.now.formula closure.now.kind depth states.old.items }
-    ensures through { OnOk result (IsThrough closure.now.formula closure.now.kind depth inputs.new) }
-    ensures kept { OnOk result (Keeps inputs.old inputs.new) }
-    ensures states { OnOk result (states.new.items ≡ states.old.items) }
-    ensures answer { IfOk result (IsAcceptedFound closure.now.formula closure.now.kind depth
-        inputs.new.solver) }
-{
-    let accepted = Layout::of(closure).positive(depth, Part::Accepted);
-    match put(inputs, states, accepted)? {
-        Answer::Sat => Ok(true),
-        Answer::Unsat(_) => Ok(false),
-    }
-}
-
 /// Takes a turn. Turns count from 0.
 fn take_turn(
     alloc: Global,
@@ -70,15 +43,13 @@ fn take_turn(
 ) -> Result<Turn, AllocError>
     requires few { depth ≤ 1000 }
     requires fits { Fits (layout_of closure.now) depth }
-    requires through { IsThrough closure.now.formula closure.now.kind depth inputs.old }
-    requires states { AreStatesTo closure.now.formula closure.now.kind depth states.old.items }
-    ensures through { OnOk result (IsThrough closure.now.formula closure.now.kind depth inputs.new) }
-    ensures kept { OnOk result (Keeps inputs.old inputs.new) }
-    ensures states { OnOk result (states.new.items ≡ states.old.items) }
+    requires ready { IsReady closure.now.formula closure.now.kind depth inputs.old states.old.items }
+    ensures still { OnOk result (IsStillThrough closure.now.formula closure.now.kind depth
+        inputs.old inputs.new states.old.items states.new.items) }
     ensures answer { IfOk result (IsAcceptedTurn closure.now.formula closure.now.kind depth
         inputs.new.solver) }
 {
-    let found = is_found(closure, inputs, states, depth)?;
+    let found = is_found(closure, inputs, states, depth, Question::Accepted)?;
     if !found {
         return Ok(Turn::Never);
     }
@@ -103,16 +74,14 @@ fn end(
 ) -> Result<Option<Close>, AllocError>
     requires few { depth ≤ 1000 }
     requires fits { Fits (layout_of closure.now) depth }
-    requires through { IsThrough closure.now.formula closure.now.kind depth inputs.old }
-    requires states { AreStatesTo closure.now.formula closure.now.kind depth states.old.items }
-    ensures through { OnOk result (IsThrough closure.now.formula closure.now.kind depth inputs.new) }
-    ensures kept { OnOk result (Keeps inputs.old inputs.new) }
-    ensures states { OnOk result (states.new.items ≡ states.old.items) }
+    requires ready { IsReady closure.now.formula closure.now.kind depth inputs.old states.old.items }
+    ensures still { OnOk result (IsStillThrough closure.now.formula closure.now.kind depth
+        inputs.old inputs.new states.old.items states.new.items) }
     ensures answer { IfOk result (IsAcceptedAnswer closure.now.formula closure.now.kind depth
         inputs.new.solver) }
 {
     add_rest(closure, depth, inputs)?;
-    let found = is_found(closure, inputs, states, depth)?;
+    let found = is_found(closure, inputs, states, depth, Question::Accepted)?;
     if !found {
         return Ok(None);
     }
@@ -134,11 +103,9 @@ pub fn accepting_rule(
 ) -> Result<Option<Close>, AllocError>
     requires few { depth ≤ 1000 }
     requires fits { Fits (layout_of closure.now) depth }
-    requires through { IsThrough closure.now.formula closure.now.kind depth inputs.old }
-    requires states { AreStatesTo closure.now.formula closure.now.kind depth states.old.items }
-    ensures through { OnOk result (IsThrough closure.now.formula closure.now.kind depth inputs.new) }
-    ensures kept { OnOk result (Keeps inputs.old inputs.new) }
-    ensures states { OnOk result (states.new.items ≡ states.old.items) }
+    requires ready { IsReady closure.now.formula closure.now.kind depth inputs.old states.old.items }
+    ensures still { OnOk result (IsStillThrough closure.now.formula closure.now.kind depth
+        inputs.old inputs.new states.old.items states.new.items) }
     ensures answer { IfOk result (IsAcceptedAnswer closure.now.formula closure.now.kind depth
         inputs.new.solver) }
 {

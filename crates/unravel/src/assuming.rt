@@ -1,14 +1,16 @@
-// What a question assumes besides its own letter: that the states of some steps are there, the last one at
-// least. That of each step since the search was last hard stays assumed, in order, so that the solver need not
-// go back over the earlier steps. A state is there only after the one before it, so the answer is the same.
+// How a question is asked, and what it assumes besides its own letter: that the states of some steps are there,
+// the last one at least. That of each step since the search was last hard stays assumed, in order, so that the
+// solver need not go back over the earlier steps. A state is there only after the one before it, so the answer
+// is the same.
 ghost use Rattle.std.specs.Prelude.{◌≡◌, ◌≤◌, ◌+◌, ◌++◌, ◌∷◌, ◌⊎◌, [], All, IfOk, OnOk};
 ghost use Rattle.cnf_base.specs.Known.{IsKnown};
 ghost use Rattle.cdcl.specs.Solving.{IsConsistent};
 ghost use Rattle.cdcl.specs.SolverValue.{IsAnswer};
 ghost use Rattle.enc_layout.specs.Letters.{Fits};
 ghost use Rattle.enc_layout.specs.Clauses.{layout_of};
+ghost use Rattle.enc_layout.specs.Assigned.{positive_of};
 ghost use Rattle.unravel.specs.Putting.{IsAsked};
-ghost use Rattle.unravel.specs.Depths.{AreStatesBelow, AreStatesTo};
+ghost use Rattle.unravel.specs.Depths.{AreStatesBelow, AreStatesTo, IsReady, IsStillThrough, letter_of, IsFoundOrNever};
 
 use crate::inputs::Inputs;
 use cdcl::Answer;
@@ -20,8 +22,53 @@ use std::alloc::AllocError;
 /// The search of a depth is hard where it adds this many lines to the log.
 const MANY: u64 = 30;
 
+/// What is asked of the runs of a depth.
+#[derive(Clone, Copy)]
+pub enum Question {
+    /// Whether one is accepted.
+    Accepted,
+    /// Whether one is pruned nowhere.
+    Unpruned,
+}
+
+/// Asks whether values are found for such a run of depth + 1 states.
+pub fn is_found(
+    closure: &Closure<'_>,
+    inputs: &mut Inputs,
+    states: &mut Vec<Literal>,
+    depth: u32,
+    question: Question,
+) -> Result<bool, AllocError>
+    requires few { depth ≤ 1000 }
+    requires fits { Fits (layout_of closure.now) depth }
+    requires ready { IsReady closure.now.formula closure.now.kind depth inputs.old states.old.items }
+    ensures still { OnOk result (IsStillThrough closure.now.formula closure.now.kind depth
+        inputs.old inputs.new states.old.items states.new.items) }
+    ensures answer { IfOk result (IsFoundOrNever closure.now.formula closure.now.kind depth question
+        inputs.new.solver) }
+{
+    let literal = own_literal(closure, depth, question);
+    match put(inputs, states, literal)? {
+        Answer::Sat => Ok(true),
+        Answer::Unsat(_) => Ok(false),
+    }
+}
+
+/// The literal of the question's own letter.
+fn own_literal(closure: &Closure<'_>, depth: u32, question: Question) -> Literal
+    requires few { depth ≤ 1000 }
+    requires fits { Fits (layout_of closure.now) depth }
+    ensures { result ≡ positive_of closure.now.formula closure.now.kind (letter_of depth question) }
+{
+    let layout = Layout::of(closure);
+    match question {
+        Question::Accepted => layout.positive(depth, Part::Accepted),
+        Question::Unpruned => layout.may_prune().opposite(),
+    }
+}
+
 /// Asks under the states' literals and one more.
-pub fn put(
+fn put(
     inputs: &mut Inputs,
     states: &mut Vec<Literal>,
     literal: Literal,

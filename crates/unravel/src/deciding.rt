@@ -6,8 +6,8 @@ ghost use Rattle.ltl_closure.specs.Run.{bound};
 ghost use Rattle.enc_layout.specs.Letters.{Fits};
 ghost use Rattle.enc_layout.specs.Clauses.{layout_of};
 ghost use Rattle.unravel.specs.Decision.{IsDecision, IsUnsat, IsUndecided, HasNoTrace};
-ghost use Rattle.unravel.specs.Depths.{IsShowing, IsThrough, AreRefused};
-ghost use Rattle.unravel.specs.Settling.{IsShown, IsRefuted, IsSettled};
+ghost use Rattle.unravel.specs.Depths.{IsEmpty};
+ghost use Rattle.unravel.specs.Settling.{IsStillOpen, IsClosed, IsOutcome, IsRefuted, IsSettled};
 
 use crate::closing::close;
 use crate::decision::Decision;
@@ -15,11 +15,12 @@ use crate::growing::grow;
 use crate::inputs::Inputs;
 use crate::questions::{Depth, ask};
 use crate::showing::shown_trace;
-use cdcl::Solver;
+use cnf_base::Literal;
 use derivation::NamedLog;
 use ltl_closure::Closure;
-use ltl_run::Close;
+use ltl_word::Trace;
 use std::alloc::{AllocError, Global};
+use std::mem::replace;
 
 /// Decides the closure's formula over its kind of trace, by depths from 0 up to the limit.
 pub fn decide(alloc: Global, closure: &Closure<'_>, limit: u32) -> Result<Decision, AllocError>
@@ -36,76 +37,101 @@ pub fn decide(alloc: Global, closure: &Closure<'_>, limit: u32) -> Result<Decisi
     }
 }
 
-/// The decision at the first depth that settles the formula, if there is one up to the limit. One solver
-/// lives through all depths, so what it has learnt at one serves the next.
+/// What a depth comes to.
+pub enum Outcome {
+    /// A run is accepted, and the trace is that of one.
+    Accepted(Trace),
+    /// No run is accepted, each is pruned, and these lines close the tableau.
+    Pruned(Vec<u64>),
+    /// Neither.
+    Open,
+}
+
+/// The decision at the first depth that settles the formula, if there is one up to the limit.
 fn settle(alloc: Global, closure: &Closure<'_>, limit: u32) -> Result<Option<Decision>, AllocError>
     requires few { limit ≤ 1000 }
     requires fits { Fits (layout_of closure.now) limit }
     ensures { IfOk result (IsSettled closure.now.formula closure.now.kind limit) }
 {
-    enc_layout::laws::numbering();
     let mut inputs = Inputs::new(alloc);
+    settle_with(alloc, closure, &mut inputs, limit)
+}
+
+/// The same with inputs that nothing was put in yet. One solver lives through all depths, so what it has
+/// learnt at one serves the next.
+fn settle_with(
+    alloc: Global,
+    closure: &Closure<'_>,
+    inputs: &mut Inputs,
+    limit: u32,
+) -> Result<Option<Decision>, AllocError>
+    requires few { limit ≤ 1000 }
+    requires fits { Fits (layout_of closure.now) limit }
+    requires empty { IsEmpty inputs.old }
+    ensures { IfOk result (IsSettled closure.now.formula closure.now.kind limit) }
+{
+    enc_layout::laws::numbering();
     let mut states = Vec::new(alloc);
     for depth in 0..limit + 1 {
-        grow(closure, depth, &mut inputs)?;
-        match ask(alloc, closure, &mut inputs, &mut states, depth)? {
-            Depth::Accepted(close) => {
-                let decision = shown(alloc, closure, depth, &inputs.solver, close)?;
+        match look(alloc, closure, inputs, &mut states, depth)? {
+            Outcome::Accepted(trace) => return Ok(Some(Decision::Sat { depth, trace })),
+            Outcome::Pruned(targets) => {
+                let decision = refuted(alloc, closure, depth, inputs, targets);
                 return Ok(Some(decision));
             }
-            Depth::Pruned => {
-                let decision = refuted(alloc, closure, depth, inputs)?;
-                return Ok(Some(decision));
-            }
-            Depth::Open => {}
+            Outcome::Open => {}
         }
     }
     Ok(None)
 }
 
-/// Satisfiable, by the trace of the solver's values.
-fn shown(
+/// Asks the questions of a depth, where each depth before it is open, and goes on to what shows the answer.
+fn look(
     alloc: Global,
     closure: &Closure<'_>,
+    inputs: &mut Inputs,
+    states: &mut Vec<Literal>,
     depth: u32,
-    solver: &Solver,
-    close: Close,
-) -> Result<Decision, AllocError>
+) -> Result<Outcome, AllocError>
     requires few { depth ≤ 1000 }
     requires fits { Fits (layout_of closure.now) depth }
-    requires showing { IsShowing closure.now.formula closure.now.kind depth solver.now close }
-    ensures { IfOk result (IsShown closure.now.formula closure.now.kind depth) }
+    requires still { IsStillOpen closure.now.formula closure.now.kind depth inputs.old states.old.items }
+    ensures { IfOk result (IsOutcome closure.now.formula closure.now.kind depth
+        inputs.new states.new.items) }
 {
-    let trace = shown_trace(alloc, closure, solver, depth, close)?;
-    Ok(Decision::Sat { depth, trace })
+    grow(closure, depth, inputs)?;
+    match ask(alloc, closure, inputs, states, depth)? {
+        Depth::Accepted(rule) => {
+            let trace = shown_trace(alloc, closure, &inputs.solver, depth, rule)?;
+            Ok(Outcome::Accepted(trace))
+        }
+        Depth::Pruned => {
+            let targets = close(alloc, closure, &mut inputs.solver, depth)?;
+            Ok(Outcome::Pruned(targets))
+        }
+        Depth::Open => Ok(Outcome::Open),
+    }
 }
 
 /// Unsatisfiable, by the solver's log under the names of its inputs, and the lines of it that close the
-/// tableau.
+/// tableau. Both are taken from the inputs.
 fn refuted(
     alloc: Global,
     closure: &Closure<'_>,
     depth: u32,
-    inputs: Inputs,
-) -> Result<Decision, AllocError>
-    requires few { depth ≤ 1000 }
-    requires fits { Fits (layout_of closure.now) depth }
-    requires through { IsThrough closure.now.formula closure.now.kind depth inputs }
-    requires refused { AreRefused closure.now.formula closure.now.kind depth inputs.solver }
-    ensures { IfOk result (IsRefuted closure.now.formula closure.now.kind depth) }
+    inputs: &mut Inputs,
+    targets: Vec<u64>,
+) -> Decision
+    requires closed { IsClosed closure.now.formula closure.now.kind depth inputs.old targets.items }
+    ensures { IsRefuted closure.now.formula closure.now.kind depth result }
 {
-    let Inputs {
-        mut solver,
-        names,
-        ..
-    } = inputs;
-    let targets = close(alloc, closure, &mut solver, depth)?;
+    let Inputs { solver, names, .. } = replace(inputs, Inputs::new(alloc));
     let log = solver.into_log();
     // What the view says of the log's lines.
     let _ = log.view();
-    Ok(Decision::Unsat {
+    Decision::Unsat {
         depth,
         log: NamedLog::of(log, names),
         targets,
-    })
+    }
 }

@@ -1,9 +1,11 @@
 // A search for a trace, depth after depth over one solver, without the questions that prune: it finds a trace
 // where there is one, and need not end where there is none. The caller asks for one depth at a time, and so
 // decides how long it goes on.
-ghost use Rattle.std.specs.Prelude.{◌≡◌, ◌↔◌, IsTrue, IfOk};
-ghost use Rattle.unravel.specs.Exploration.{CanGoOn};
-ghost use Rattle.unravel.specs.Exploring.{IsExplored};
+ghost use Rattle.std.specs.Prelude.{◌≡◌, ◌↔◌, ◌≤◌, IsTrue, IfOk};
+ghost use Rattle.enc_layout.specs.Letters.{Fits};
+ghost use Rattle.enc_layout.specs.Clauses.{layout_of};
+ghost use Rattle.unravel.specs.Exploration.{CanGoOn, IsPrepared};
+ghost use Rattle.unravel.specs.Exploring.{IsLooked, IsExplored};
 
 use crate::growing::grow;
 use crate::inputs::Inputs;
@@ -92,22 +94,44 @@ impl<'c> Exploration<'c> {
         requires { CanGoOn self }
         ensures { IfOk result (IsExplored self.entry) }
     {
-        let alloc = self.alloc;
-        let closure = self.closure;
-        let depth = self.depth;
-        let mut inputs = self.inputs;
-        let mut states = self.states;
-        grow(closure, depth, &mut inputs)?;
-        if let Some(close) = ask_accepted(alloc, closure, &mut inputs, &mut states, depth)? {
-            let trace = shown_trace(alloc, closure, &inputs.solver, depth, close)?;
-            return Ok(Explored::Found { depth, trace });
-        }
-        Ok(Explored::Open(Exploration {
+        let Exploration {
             alloc,
             closure,
-            inputs,
-            states,
-            depth: depth + 1,
-        }))
+            mut inputs,
+            mut states,
+            depth,
+        } = self;
+        match look(alloc, closure, &mut inputs, &mut states, depth) {
+            Ok(Some(trace)) => Ok(Explored::Found { depth, trace }),
+            Ok(None) => Ok(Explored::Open(Exploration {
+                alloc,
+                closure,
+                inputs,
+                states,
+                depth: depth + 1,
+            })),
+            Err(error) => Err(error),
+        }
     }
+}
+
+/// A trace of an accepted run of the depth, if there is one.
+fn look(
+    alloc: Global,
+    closure: &Closure<'_>,
+    inputs: &mut Inputs,
+    states: &mut Vec<Literal>,
+    depth: u32,
+) -> Result<Option<Trace>, AllocError>
+    requires few { depth ≤ 1000 }
+    requires fits { Fits (layout_of closure.now) depth }
+    requires prepared { IsPrepared closure.now depth inputs.old states.old.items }
+    ensures { IfOk result (IsLooked closure.now depth inputs.new states.new.items) }
+{
+    grow(closure, depth, inputs)?;
+    let Some(close) = ask_accepted(alloc, closure, inputs, states, depth)? else {
+        return Ok(None);
+    };
+    let trace = shown_trace(alloc, closure, &inputs.solver, depth, close)?;
+    Ok(Some(trace))
 }

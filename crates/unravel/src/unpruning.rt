@@ -1,21 +1,18 @@
 // The second question of a depth, whether a run of so many states is pruned nowhere, turn by turn as the
 // first: where the run that is found is pruned somewhere, how it is at each such state is put in.
-ghost use Rattle.std.specs.Prelude.{◌≡◌, ◌≤◌, IfOk, OnOk};
+ghost use Rattle.std.specs.Prelude.{◌≤◌, IfOk, OnOk};
 ghost use Rattle.enc_layout.specs.Letters.{Fits};
 ghost use Rattle.enc_layout.specs.Clauses.{layout_of};
-ghost use Rattle.unravel.specs.Putting.{Keeps};
-ghost use Rattle.unravel.specs.Depths.{IsThrough, AreStatesTo, IsUnprunedFound, IsUnprunedTurn, IsUnprunedAnswer};
+ghost use Rattle.unravel.specs.Depths.{IsReady, IsStillThrough, IsUnprunedTurn, IsUnprunedAnswer};
 
 use crate::accepting::TURNS;
-use crate::assuming::put;
+use crate::assuming::{Question, is_found};
 use crate::demanded::add_prunings;
 use crate::inputs::Inputs;
 use crate::looking::found_rows;
 use crate::rest::add_rest;
-use cdcl::Answer;
 use cnf_base::Literal;
 use demand::prunings;
-use enc_layout::Layout;
 use ltl_closure::Closure;
 use std::alloc::{AllocError, Global};
 
@@ -30,28 +27,6 @@ pub enum Turn {
     Again,
 }
 
-/// Asks whether values are found for a run of depth + 1 states that is pruned nowhere.
-fn is_found(
-    closure: &Closure<'_>,
-    inputs: &mut Inputs,
-    states: &mut Vec<Literal>,
-    depth: u32,
-) -> Result<bool, AllocError>
-    requires through { IsThrough closure.now.formula closure.now.kind depth inputs.old }
-    requires states { AreStatesTo closure.now.formula closure.now.kind depth states.old.items }
-    ensures through { OnOk result (IsThrough closure.now.formula closure.now.kind depth inputs.new) }
-    ensures kept { OnOk result (Keeps inputs.old inputs.new) }
-    ensures states { OnOk result (states.new.items ≡ states.old.items) }
-    ensures answer { IfOk result (IsUnprunedFound closure.now.formula closure.now.kind depth
-        inputs.new.solver) }
-{
-    let unpruned = Layout::of(closure).may_prune().opposite();
-    match put(inputs, states, unpruned)? {
-        Answer::Sat => Ok(true),
-        Answer::Unsat(_) => Ok(false),
-    }
-}
-
 /// Takes a turn.
 fn take_turn(
     alloc: Global,
@@ -62,15 +37,13 @@ fn take_turn(
 ) -> Result<Turn, AllocError>
     requires few { depth ≤ 1000 }
     requires fits { Fits (layout_of closure.now) depth }
-    requires through { IsThrough closure.now.formula closure.now.kind depth inputs.old }
-    requires states { AreStatesTo closure.now.formula closure.now.kind depth states.old.items }
-    ensures through { OnOk result (IsThrough closure.now.formula closure.now.kind depth inputs.new) }
-    ensures kept { OnOk result (Keeps inputs.old inputs.new) }
-    ensures states { OnOk result (states.new.items ≡ states.old.items) }
+    requires ready { IsReady closure.now.formula closure.now.kind depth inputs.old states.old.items }
+    ensures still { OnOk result (IsStillThrough closure.now.formula closure.now.kind depth
+        inputs.old inputs.new states.old.items states.new.items) }
     ensures answer { IfOk result (IsUnprunedTurn closure.now.formula closure.now.kind depth
         inputs.new.solver) }
 {
-    let found = is_found(closure, inputs, states, depth)?;
+    let found = is_found(closure, inputs, states, depth, Question::Unpruned)?;
     if !found {
         return Ok(Turn::Never);
     }
@@ -92,16 +65,14 @@ fn end(
 ) -> Result<bool, AllocError>
     requires few { depth ≤ 1000 }
     requires fits { Fits (layout_of closure.now) depth }
-    requires through { IsThrough closure.now.formula closure.now.kind depth inputs.old }
-    requires states { AreStatesTo closure.now.formula closure.now.kind depth states.old.items }
-    ensures through { OnOk result (IsThrough closure.now.formula closure.now.kind depth inputs.new) }
-    ensures kept { OnOk result (Keeps inputs.old inputs.new) }
-    ensures states { OnOk result (states.new.items ≡ states.old.items) }
+    requires ready { IsReady closure.now.formula closure.now.kind depth inputs.old states.old.items }
+    ensures still { OnOk result (IsStillThrough closure.now.formula closure.now.kind depth
+        inputs.old inputs.new states.old.items states.new.items) }
     ensures answer { IfOk result (IsUnprunedAnswer closure.now.formula closure.now.kind depth
         inputs.new.solver) }
 {
     add_rest(closure, depth, inputs)?;
-    let found = is_found(closure, inputs, states, depth)?;
+    let found = is_found(closure, inputs, states, depth, Question::Unpruned)?;
     Ok(found)
 }
 
@@ -115,11 +86,9 @@ pub fn is_unpruned(
 ) -> Result<bool, AllocError>
     requires few { depth ≤ 1000 }
     requires fits { Fits (layout_of closure.now) depth }
-    requires through { IsThrough closure.now.formula closure.now.kind depth inputs.old }
-    requires states { AreStatesTo closure.now.formula closure.now.kind depth states.old.items }
-    ensures through { OnOk result (IsThrough closure.now.formula closure.now.kind depth inputs.new) }
-    ensures kept { OnOk result (Keeps inputs.old inputs.new) }
-    ensures states { OnOk result (states.new.items ≡ states.old.items) }
+    requires ready { IsReady closure.now.formula closure.now.kind depth inputs.old states.old.items }
+    ensures still { OnOk result (IsStillThrough closure.now.formula closure.now.kind depth
+        inputs.old inputs.new states.old.items states.new.items) }
     ensures answer { IfOk result (IsUnprunedAnswer closure.now.formula closure.now.kind depth
         inputs.new.solver) }
 {

@@ -1,5 +1,5 @@
 use Rattle.demand.proofs.Parts.{no_run, no_accepted, no_unpruned, of_list_grows, inputs_known}
-use Rattle.demand.proofs.ByStates.{satisfied_part}
+use Rattle.demand.proofs.StateRuns.{satisfied_part}
 use Rattle.demand.proofs.StateNumbers.{whole_of, whole_has}
 use Rattle.demand.proofs.laws.asking.Goals as goal
 

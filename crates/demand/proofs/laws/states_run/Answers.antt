@@ -1,4 +1,4 @@
-use Rattle.demand.proofs.ByStates.{states_run, inputs_run, states_grow, row_read}
+use Rattle.demand.proofs.StateRuns.{states_run, inputs_run, states_grow, row_read}
 use Rattle.demand.proofs.laws.states_run.Goals as goal
 
 pub returns-clause-run : goal.returns-clause-run

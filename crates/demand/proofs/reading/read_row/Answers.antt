@@ -1,11 +1,11 @@
 use Rattle.std.proofs.Common.{◌∙◌, map}
+use Rattle.std.proofs.lemmas.Simd.{map-map}
 use Rattle.ltl_closure.specs.Closure.{eventualities}
 use Rattle.ltl_closure.specs.Run.{request_of, right_of}
 use Rattle.enc_layout.specs.Clauses.{carried}
 use Rattle.demand.specs.declared.row.Row.{Row as StoredRow}
 use Rattle.demand.specs.Rows.{refused_requests}
 use Rattle.demand.specs.Reading.{entry_value}
-use Rattle.demand.proofs.Operands.{map-map_both}
 use Rattle.demand.proofs.ReadRows.{values_are, row_is, carry_known, pending_known, fulfilled_known, refused_known}
 use Rattle.demand.proofs.reading.read_row.Goals as goal
 
@@ -46,7 +46,7 @@ returns g c =
     row_is f kind v i row
     (are (carried f) c.deref.result.now row.carry.items c.in_ok-entry_values.ensures (c.deref.ensures.value ∙ entries.carry))
     (are (map request_of (eventualities f)) c.deref-2.result.now row.pending.items c.in_ok-entry_values-2.ensures (c.deref-2.ensures.value ∙ entries.pending)
-    ∙ map-map_both (entry_value f kind v i) request_of (eventualities f))
+    ∙ map-map (entry_value f kind v i) request_of (eventualities f))
     (are (map right_of (eventualities f)) c.deref-3.result.now row.fulfilled.items c.in_ok-entry_values-3.ensures (c.deref-3.ensures.value ∙ entries.fulfilled)
-    ∙ map-map_both (entry_value f kind v i) right_of (eventualities f))
+    ∙ map-map (entry_value f kind v i) right_of (eventualities f))
     (are (refused_requests f kind) c.deref-4.result.now row.refused.items c.in_ok-entry_values-4.ensures (c.deref-4.ensures.value ∙ entries.refused))

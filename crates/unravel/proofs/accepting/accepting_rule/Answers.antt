@@ -1,32 +1,23 @@
-use Rattle.std.proofs.Common.{◌∙◌, sym, refl, subst}
-use Rattle.std.proofs.lemmas.List.Elements.{All-contains_itself}
-use Rattle.unravel.specs.Depths.{AreStatesTo}
-use Rattle.unravel.proofs.Putting.{kept_trans}
+use Rattle.unravel.proofs.Putting.{ready_still, still_none, still_then}
 use Rattle.unravel.proofs.accepting.accepting_rule.Goals as goal
 
 pub turns-init : goal.turns-init
-turns-init c = record { through = c.requires.through; kept = All-contains_itself c.args.inputs.now.solver.log.inputs; states = refl }
+turns-init c = record { still = still_none c.requires.ready.through }
 
-pub take_turn-requires-clause-states : goal.take_turn-requires-clause-states
-take_turn-requires-clause-states c = subst (AreStatesTo c.args.closure.now.formula c.args.closure.now.kind c.args.depth) (sym c.turns.invariant.states) c.requires.states
+pub take_turn-requires-clause-ready : goal.take_turn-requires-clause-ready
+take_turn-requires-clause-ready c = ready_still c.requires.ready c.turns.invariant.still
 
 pub turns-preserved : goal.turns-preserved
-turns-preserved c = record {
-  through = c.in_ok-close.ensures.through;
-  kept = kept_trans c.args.inputs.now.solver.log.inputs c.turns.inputs.solver.log.inputs c.take_turn.new.inputs.solver.log.inputs c.turns.invariant.kept c.in_ok-close.ensures.kept;
-  states = c.in_ok-close.ensures.states ∙ c.turns.invariant.states;
-}
+turns-preserved c = record { still = still_then c.turns.invariant.still c.in_ok-close.ensures.still }
 
-pub returns-in-By-clause-kept : goal.returns-in-By-clause-kept
-returns-in-By-clause-kept c =
-    kept_trans c.args.inputs.now.solver.log.inputs c.turns.inputs.solver.log.inputs c.take_turn.new.inputs.solver.log.inputs c.turns.invariant.kept c.in_ok-close.ensures.kept
+pub returns-in-By-clause-still : goal.returns-in-By-clause-still
+returns-in-By-clause-still c = still_then c.turns.invariant.still c.in_ok-close.ensures.still
 
-pub returns-in-Never-clause-kept : goal.returns-in-Never-clause-kept
-returns-in-Never-clause-kept c =
-    kept_trans c.args.inputs.now.solver.log.inputs c.turns.inputs.solver.log.inputs c.take_turn.new.inputs.solver.log.inputs c.turns.invariant.kept c.in_ok-close.ensures.kept
+pub returns-in-Never-clause-still : goal.returns-in-Never-clause-still
+returns-in-Never-clause-still c = still_then c.turns.invariant.still c.in_ok-close.ensures.still
 
-pub end-requires-clause-states : goal.end-requires-clause-states
-end-requires-clause-states c = subst (AreStatesTo c.args.closure.now.formula c.args.closure.now.kind c.args.depth) (sym c.turns.invariant.states) c.requires.states
+pub end-requires-clause-ready : goal.end-requires-clause-ready
+end-requires-clause-ready c = ready_still c.requires.ready c.turns.invariant.still
 
-pub returns-clause-kept : goal.returns-clause-kept
-returns-clause-kept c = kept_trans c.args.inputs.now.solver.log.inputs c.turns.inputs.solver.log.inputs c.end.new.inputs.solver.log.inputs c.turns.invariant.kept c.in_ok-answer.ensures.kept
+pub returns-clause-still : goal.returns-clause-still
+returns-clause-still c = still_then c.turns.invariant.still c.in_ok-answer.ensures.still

@@ -1,10 +1,8 @@
-use Rattle.unravel.proofs.Verdicts.{before_more}
+use Rattle.std.proofs.Common.{subst}
+use Rattle.unravel.specs.Exploring.{IsLooked}
 use Rattle.unravel.proofs.exploring.Exploration.explore.Goals as goal
 
 pub invariant_of-result : goal.invariant_of-result
 invariant_of-result c =
     let closure = c.self.inside.closure.now in
-    record {
-      before = before_more closure.formula closure.kind c.self.inside.depth c.ask_accepted.new.inputs c.in_ok-close.ensures.through;
-      states = c.in_ok-close.ensures.states;
-    }
+    (subst (IsLooked closure c.self.inside.depth c.look.new.inputs c.look.new.states.items) c.in-Ok-None.field-0-is c.in-Ok-None.ensures).1
