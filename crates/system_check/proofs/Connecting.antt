@@ -6,9 +6,8 @@ use Rattle.ltl_syntax.specs.declared.node.BinaryOp.TheVariants.{And}
 use Rattle.ltl_syntax.specs.Table.{Table, IsRoot, MayFollow, Pushes}
 use Rattle.system_check.specs.declared.joining.Copies.{Copies}
 use Rattle.system_check.specs.Formulas.{AreCopies}
-use Rattle.system_check.specs.Copy.{IsCopyOf}
-use Rattle.system_check.proofs.CopySteps.{unequal}
-use Rattle.system_check.proofs.CopyLoop.{pushed_length}
+use Rattle.formula_copy.specs.Copy.{IsCopyOf}
+use Rattle.formula_copy.proofs.Pushed.{pushed_length, unequal}
 
 -- the system and the negated goal are two roots
 pub last_two : (t t' t'' : Table) (start always goal system failing : ℕ) → Pushes t (Binary And start always) t' → Pushes t' (Unary Not goal) t'' → goal < length t.nodes → system ≡ length t.nodes → failing ≡ length t'.nodes → MayFollow t'' (Binary And system failing)

@@ -4,8 +4,4 @@ pub mod Paths
 pub mod Sizes
 pub mod AnswerLaws
 mod Joinings
-mod Sums
-mod MarkSteps
-mod CopySteps
-mod CopyLoop
 mod Connecting

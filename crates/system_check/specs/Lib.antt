@@ -1,7 +1,5 @@
 pub mod TwoStates
 pub mod System
-pub mod Under
-pub mod Copy
 pub mod Formulas
 pub mod Joining
 pub mod Answer

@@ -7,9 +7,8 @@ ghost use Rattle.system_check.specs.declared.joining.JoinRefused.TheVariants.{No
 ghost use Rattle.system_check.specs.Joining.{IsJoining};
 ghost use Rattle.system_check.specs.Formulas.{HasFormulas, AreCopies, IsPartOf};
 
-use crate::copying::{copy, put};
 use crate::forms::forms_of;
-use crate::parts::Part;
+use formula_copy::{Part, copy, put};
 use ltl_syntax::{BinaryOp, FormulaTable, Node, UnaryOp};
 use std::alloc::{AllocError, Global};
 

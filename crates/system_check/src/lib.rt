@@ -2,12 +2,10 @@
 //! satisfies a goal.
 #![tactic(auto)]
 
-mod copying;
 mod deciding;
 mod forms;
 mod joining;
 pub mod laws;
-mod parts;
 
 pub use deciding::{SystemAnswer, decide_system};
 pub use joining::{JoinRefused, Joined, join_parts};

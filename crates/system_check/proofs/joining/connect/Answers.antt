@@ -1,5 +1,5 @@
 use Rattle.std.proofs.Common.{arith}
-use Rattle.system_check.proofs.CopyLoop.{pushed_size, pushed_length}
+use Rattle.formula_copy.proofs.Pushed.{pushed_size, pushed_length}
 use Rattle.system_check.proofs.Connecting.{last_two}
 use Rattle.system_check.proofs.joining.connect.Goals as goal
 

@@ -1,7 +1,7 @@
 -- Sums of weights, where the weight of one number changes.
 use Rattle.std.proofs.Common.{◌≡◌, ◌≢◌, ℕ, zero, suc, ◌+◌, ◌<◌, ◌≤◌, ◌⊎◌, inl, inr, arith, ap, ap₂, refl}
 use Rattle.std.proofs.lemmas.Bool.{cases_lt}
-use Rattle.system_check.specs.Under.{sum_below}
+use Rattle.formula_copy.specs.Under.{sum_below}
 
 pub equal_or_not : (m n : ℕ) → (m ≡ n) ⊎ (m ≢ n)
 equal_or_not m n = elim (cases_lt m n) [

@@ -10,8 +10,9 @@ use Rattle.ltl_syntax.specs.declared.node.Node.TheVariants as nodes
 use Rattle.ltl_syntax.specs.Size.{HasOrder}
 use Rattle.ltl_syntax.specs.Formula.{Name, Letter, Unary, Binary}
 use Rattle.ltl_syntax.specs.Table.{Table, tree_at, tree_among, trees_of, made, has_child, IsRoot, MayFollow, IsFine, Pushes}
-use Rattle.system_check.specs.Copy.{Numbers, moved, done, IsNamed, KeepsTrees, StandsOnRoots, IsUnused, IsCopied, IsNode, IsNext, IsMore, IsSingle}
-use Rattle.system_check.specs.Under.{Marks}
+use Rattle.formula_copy.specs.Copy.{Numbers, moved, done, IsNamed, KeepsTrees, StandsOnRoots, IsUnused, IsCopied, IsNode, IsNext, IsMore, IsSingle}
+use Rattle.formula_copy.specs.Under.{Marks}
+use Rattle.formula_copy.proofs.Pushed.{unequal}
 
 -- ---- two places where a test holds count twice
 
@@ -35,13 +36,6 @@ two_counted p xs i j x y low gx gy px py =
     two_at p xs i j x low (slice_get_within xs j y gy) (ap p (get_or_from_slice_get xs i x x gx) ∙ px) (ap p (get_or_from_slice_get xs j y x gy) ∙ py)
 
 -- ---- tests
-
-pub unequal : (m n : ℕ) → (m ≡ n → ⊥) → eqb m n ≡ false
-unequal m n ne = go (eqb m n) refl
-  where
-    go : (b : Bool) → eqb m n ≡ b → b ≡ false
-    go true e = absurd (ne (eqb-true m n e))
-    go false e = refl
 
 pub true_or_false : (b : Bool) → (b ≡ true) ⊎ (b ≡ false)
 true_or_false true = inl refl

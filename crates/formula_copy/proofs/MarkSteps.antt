@@ -8,10 +8,11 @@ use Rattle.ltl_syntax.specs.declared.node.Node.{Node}
 use Rattle.ltl_syntax.specs.declared.node.Node.TheVariants as nodes
 use Rattle.ltl_syntax.specs.Size.{formula_size, node_size}
 use Rattle.ltl_syntax.specs.Table.{Table, tree_at, trees_of, made, has_child, IsFine}
-use Rattle.system_check.specs.Under.{Marks, marked, sum_below, size_at, marked_size, size_down_to, HasMarkedParent, AreMarkedFrom, AreUnder}
-use Rattle.system_check.specs.Copy.{IsSingle, IsNode}
-use Rattle.system_check.proofs.Sums.{equal_or_not, same_sum, one_changes}
-use Rattle.system_check.proofs.CopySteps.{two_counted, true_or_false, eqb-same, or_left_true, or_right_true, either, unequal, both_false, child_below}
+use Rattle.formula_copy.specs.Under.{Marks, marked, sum_below, size_at, marked_size, size_down_to, HasMarkedParent, AreMarkedFrom, AreUnder}
+use Rattle.formula_copy.specs.Copy.{IsSingle, IsNode}
+use Rattle.formula_copy.proofs.Sums.{equal_or_not, same_sum, one_changes}
+use Rattle.formula_copy.proofs.Pushed.{unequal}
+use Rattle.formula_copy.proofs.CopySteps.{two_counted, true_or_false, eqb-same, or_left_true, or_right_true, either, both_false, child_below}
 
 -- ---- weights
 

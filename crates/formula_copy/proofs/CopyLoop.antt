@@ -1,5 +1,5 @@
 -- The loop that copies marked nodes in the order of their numbers: one node, marked or not, and what it comes to.
-use Rattle.std.proofs.Common.{◌≡◌, ◌≢◌, ℕ, suc, ◌+◌, ◌<◌, ◌≤◌, ◌⊎◌, ◌↔◌, inl, inr, ◌&&◌, ltb, cond, Bool, true, false, IsTrue, IsFalse, List, [], ◌∷◌, ◌++◌, length, get_or, slice_get, Some, refl, sym, ap, subst, ◌∙◌, arith, add-one, length-append}
+use Rattle.std.proofs.Common.{◌≡◌, ◌≢◌, ℕ, suc, ◌+◌, ◌<◌, ◌≤◌, ◌⊎◌, ◌↔◌, inl, inr, ◌&&◌, ltb, cond, Bool, true, false, IsTrue, IsFalse, List, [], ◌∷◌, ◌++◌, length, get_or, slice_get, Some, refl, sym, ap, subst, ◌∙◌, arith, add-one}
 use Rattle.std.proofs.lemmas.Bool.Decides.{nat_tests}
 use Rattle.std.proofs.lemmas.Option.{get_or_from_slice_get}
 use Rattle.std.proofs.lemmas.List.{get_or_read}
@@ -9,11 +9,11 @@ use Rattle.ltl_syntax.specs.declared.node.Node.{Node}
 use Rattle.ltl_syntax.specs.declared.node.Node.TheVariants as nodes
 use Rattle.ltl_syntax.specs.Size.{sizes, node_size, formula_size, HasOrder}
 use Rattle.ltl_syntax.specs.Table.{Table, tree_at, IsRoot, MayFollow, Pushes}
-use Rattle.ltl_syntax.proofs.Sizes.{sizes-push}
-use Rattle.system_check.specs.Under.{Marks, sum_below, size_at, marked_size, AreUnder}
-use Rattle.system_check.specs.Copy.{Numbers, numbers_in, done, moved, IsMoved, IsCopyOfNode, StandsOnRoots, IsCopied, IsCopyOf, IsNode, IsNext, IsSingle, HasGrown}
-use Rattle.system_check.proofs.Sums.{equal_or_not, sum_grows}
-use Rattle.system_check.proofs.CopySteps.{child_below, stands, may_follow, names_stay, goes_on, ends}
+use Rattle.formula_copy.specs.Under.{Marks, sum_below, size_at, marked_size, AreUnder}
+use Rattle.formula_copy.specs.Copy.{Numbers, numbers_in, done, moved, IsMoved, IsCopyOfNode, StandsOnRoots, IsCopied, IsCopyOf, IsNode, IsNext, IsSingle, HasGrown}
+use Rattle.formula_copy.proofs.Pushed.{pushed_size, pushed_length}
+use Rattle.formula_copy.proofs.Sums.{equal_or_not, sum_grows}
+use Rattle.formula_copy.proofs.CopySteps.{child_below, stands, may_follow, names_stay, goes_on, ends}
 
 below_true : (n k : ℕ) → n < k → ltb n k ≡ true
 below_true n k h = grind (arith, nat_tests)
@@ -128,12 +128,6 @@ copied s old t root k number M list under high count read w =
     }
 
 -- ---- how much it takes
-
-pub pushed_size : {t t' : Table} {node : Node} → Pushes t node t' → sizes t'.nodes ≡ sizes t.nodes + node_size node
-pushed_size {t} {t'} {node} p = ap sizes p.nodes ∙ sizes-push t.nodes node
-
-pub pushed_length : {t t' : Table} {node : Node} → Pushes t node t' → length t'.nodes ≡ length t.nodes + 1
-pushed_length {t} {t'} {node} p = ap length p.nodes ∙ length-append t.nodes (node ∷ [])
 
 same_size : (new : Numbers) (letter : ℕ) (node : Node) → node_size (moved new letter node) ≡ node_size node
 same_size new letter (nodes.Const b) = refl

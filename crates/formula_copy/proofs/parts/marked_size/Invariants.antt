@@ -1,6 +1,6 @@
 use Rattle.std.proofs.Common.{◌≡◌, ◌*◌, ◌≤◌}
-use Rattle.system_check.specs.Under.{marked, marked_size, sum_below}
-use Rattle.system_check.proofs.parts.marked_size.Given as goal
+use Rattle.formula_copy.specs.Under.{marked, marked_size, sum_below}
+use Rattle.formula_copy.proofs.parts.marked_size.Given as goal
 
 abbrev pub invariant-nodes : goal.invariant-nodes
 invariant-nodes l = record {

@@ -1,10 +1,10 @@
 use Rattle.std.proofs.Common.{arith, ap, sym, ◌∙◌, subst, false, ◌≡◌, length, length-append, ◌<◌, ◌+◌, ◌++◌, [], ◌∷◌}
 use Rattle.std.proofs.lemmas.List.{get_or_read}
-use Rattle.system_check.specs.Under.{marked, marked_size, sum_below}
-use Rattle.system_check.specs.Copy.{numbers_in, done, IsCopied, HasGrown}
-use Rattle.system_check.proofs.CopyLoop.{stands_on, room_for, copied_on, skipped, grown_on, grown_skip}
-use Rattle.system_check.proofs.copying.copy.Goals as goal
-use Rattle.system_check.proofs.copying.copy.Goals.{then-index+in_ok-copied, else-index}
+use Rattle.formula_copy.specs.Under.{marked, marked_size, sum_below}
+use Rattle.formula_copy.specs.Copy.{numbers_in, done, IsCopied, HasGrown}
+use Rattle.formula_copy.proofs.CopyLoop.{stands_on, room_for, copied_on, skipped, grown_on, grown_skip}
+use Rattle.formula_copy.proofs.copying.copy.Goals as goal
+use Rattle.formula_copy.proofs.copying.copy.Goals.{then-index+in_ok-copied, else-index}
 
 pub copy_node-requires-clause-roots : goal.copy_node-requires-clause-roots
 copy_node-requires-clause-roots c =

@@ -1,8 +1,8 @@
 use Rattle.std.proofs.Common.{◌≡◌, suc, ◌+◌, ◌-◌, ◌<◌, arith, ap, sym, subst, ◌∙◌, true, false, length, length-set, add-one}
 use Rattle.std.proofs.lemmas.List.{get_or_read, length-replicate}
-use Rattle.system_check.specs.Under.{marked, AreMarkedFrom}
-use Rattle.system_check.proofs.MarkSteps.{marks_start, ends, passed, visited}
-use Rattle.system_check.proofs.parts.marks_under.Goals as goal
+use Rattle.formula_copy.specs.Under.{marked, AreMarkedFrom}
+use Rattle.formula_copy.proofs.MarkSteps.{marks_start, ends, passed, visited}
+use Rattle.formula_copy.proofs.parts.marks_under.Goals as goal
 
 pub nodes-init : goal.nodes-init
 nodes-init c =

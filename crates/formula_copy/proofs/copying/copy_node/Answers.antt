@@ -1,7 +1,7 @@
 use Rattle.std.proofs.lemmas.Result.{on_ok_weaker}
-use Rattle.system_check.specs.Copy.{numbers_in}
-use Rattle.system_check.proofs.CopyLoop.{may_put, grown_node}
-use Rattle.system_check.proofs.copying.copy_node.Goals as goal
+use Rattle.formula_copy.specs.Copy.{numbers_in}
+use Rattle.formula_copy.proofs.CopyLoop.{may_put, grown_node}
+use Rattle.formula_copy.proofs.copying.copy_node.Goals as goal
 
 pub put-requires-clause-may : goal.put-requires-clause-may
 put-requires-clause-may c =

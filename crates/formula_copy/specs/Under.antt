@@ -4,7 +4,7 @@ use Rattle.ltl_syntax.specs.declared.node.Node.{Node}
 use Rattle.ltl_syntax.specs.declared.node.Node.TheVariants as nodes
 use Rattle.ltl_syntax.specs.Table.{Table, tree_at, has_child}
 use Rattle.ltl_syntax.specs.Size.{formula_size, node_size}
-use Rattle.system_check.specs.declared.parts.Part.{Part}
+use Rattle.formula_copy.specs.declared.parts.Part.{Part}
 
 -- which numbers of nodes are marked
 abbrev pub Marks : Type 0

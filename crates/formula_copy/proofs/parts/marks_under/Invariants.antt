@@ -1,6 +1,6 @@
 use Rattle.std.proofs.Common.{◌≡◌, suc, length, ◌≤◌}
-use Rattle.system_check.specs.Under.{marked, AreMarkedFrom}
-use Rattle.system_check.proofs.parts.marks_under.Given as goal
+use Rattle.formula_copy.specs.Under.{marked, AreMarkedFrom}
+use Rattle.formula_copy.proofs.parts.marks_under.Given as goal
 
 abbrev pub invariant-nodes : goal.invariant-nodes
 invariant-nodes l = record {

@@ -1,11 +1,11 @@
 -- The marked nodes of a table, copied behind those of another: each under a new number, on top of roots.
-use Rattle.std.specs.Prelude.{◌≡◌, ◌≢◌, ℕ, ◌+◌, ◌<◌, ◌≤◌, ◌⊎◌, ◌↔◌, ◌&&◌, true, false, List, [], length, slice_get, slice_index_or, nat_lt, Some, IsTrue, IsFalse}
+use Rattle.std.specs.Prelude.{◌≡◌, ◌≢◌, ℕ, ◌+◌, ◌<◌, ◌≤◌, ◌⊎◌, ◌↔◌, ◌&&◌, true, false, List, [], length, slice_get, slice_index_or, nat_lt, Option, Some, None, IsTrue, IsFalse}
 use Rattle.std.specs.List.{count_by}
 use Rattle.ltl_syntax.specs.declared.node.Node.{Node}
 use Rattle.ltl_syntax.specs.declared.node.Node.TheVariants as nodes
-use Rattle.ltl_syntax.specs.Size.{HasOrder, sizes}
+use Rattle.ltl_syntax.specs.Size.{HasOrder, sizes, node_size, formula_size}
 use Rattle.ltl_syntax.specs.Table.{Table, tree_at, trees_of, made, has_child, IsRoot, IsFine, Pushes}
-use Rattle.system_check.specs.Under.{Marks}
+use Rattle.formula_copy.specs.Under.{Marks}
 
 -- the new number of each
 abbrev pub Numbers : Type 0
@@ -115,3 +115,13 @@ pub record IsCopyOf (s : Table) (root : ℕ) (old t : Table) (number : ℕ) : Ty
 pub record HasGrown (old t : Table) (size : ℕ) : Type 0 where
   pub sizes : sizes t.nodes ≡ sizes old.nodes + size
   pub names : length t.names ≤ length t.nodes
+
+-- the tree is put behind the nodes of old, or it would make the table too large, which then stays as it is
+abbrev pub IsPut : Table → ℕ → Table → Table → Option ℕ → Type 0
+IsPut s root old t (Some number) = IsCopyOf s root old t number × HasGrown old t (formula_size (tree_at s root))
+IsPut s root old t None = (t ≡ old) × (16384 < sizes old.nodes + formula_size (tree_at s root))
+
+-- so for one node on top of roots
+abbrev pub IsPutOn : Node → Table → Table → Option ℕ → Type 0
+IsPutOn node old t (Some number) = (number ≡ length old.nodes) × Pushes old node t
+IsPutOn node old t None = (t ≡ old) × (16384 < sizes old.nodes + node_size node)

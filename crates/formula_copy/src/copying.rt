@@ -2,8 +2,8 @@
 ghost use Rattle.std.specs.Prelude.{◌≡◌, ◌+◌, ◌<◌, ◌≤◌, length, IfOk, OnOk};
 ghost use Rattle.ltl_syntax.specs.Table.{MayFollow, IsFine, Pushes};
 ghost use Rattle.ltl_syntax.specs.Size.{sizes, node_size, HasOrder};
-ghost use Rattle.system_check.specs.Under.{IsPart};
-ghost use Rattle.system_check.specs.Copy.{numbers_in, IsMoved, IsCopyOfNode, StandsOnRoots, IsCopyOf, HasGrown};
+ghost use Rattle.formula_copy.specs.Under.{IsPart};
+ghost use Rattle.formula_copy.specs.Copy.{numbers_in, IsMoved, IsCopyOfNode, StandsOnRoots, IsCopyOf, HasGrown};
 
 use crate::parts::Part;
 use ltl_syntax::{FormulaTable, Node};

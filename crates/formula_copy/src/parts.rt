@@ -1,4 +1,4 @@
-// A part of a system: a formula of a table of its own, which may hold more than this formula.
+// A formula of a table, which may hold more than this formula.
 //
 // Children have lower numbers than their parents, so one walk from the root down marks all that stands under
 // it, with no stack.
@@ -6,7 +6,7 @@ ghost use Rattle.std.specs.Prelude.{◌≡◌, ℕ, suc, ◌+◌, ◌<◌, ◌�
 ghost use Rattle.ltl_syntax.specs.Table.{tree_at, has_child};
 ghost use Rattle.ltl_syntax.specs.Size.{formula_size};
 ghost use Rattle.ltl_syntax.specs.Roots.{HasChildrenBelow};
-ghost use Rattle.system_check.specs.Under.{marked, AreUnder, IsPart};
+ghost use Rattle.formula_copy.specs.Under.{marked, AreUnder, IsPart};
 
 use ltl_syntax::{FormulaTable, Node};
 use std::alloc::{AllocError, Global};

@@ -1,7 +1,7 @@
 use Rattle.std.proofs.Common.{◌≡◌, length}
-use Rattle.system_check.specs.Under.{marked, marked_size, sum_below}
-use Rattle.system_check.specs.Copy.{numbers_in, done, IsCopied, HasGrown}
-use Rattle.system_check.proofs.copying.copy.Given as goal
+use Rattle.formula_copy.specs.Under.{marked, marked_size, sum_below}
+use Rattle.formula_copy.specs.Copy.{numbers_in, done, IsCopied, HasGrown}
+use Rattle.formula_copy.proofs.copying.copy.Given as goal
 
 abbrev pub invariant-nodes : goal.invariant-nodes
 invariant-nodes l = record {

@@ -1,0 +1,5 @@
+pub mod Pushed
+mod Sums
+mod MarkSteps
+mod CopySteps
+mod CopyLoop
