@@ -13,6 +13,9 @@ mod setting;
 mod table;
 
 pub use asked::{Asked, asked_command};
+pub use decimal::decimal_number;
 pub use lines::{refutation_usage, usage};
+pub use matching::{flag, valued};
 pub use options::Options;
 pub use refutation::{Refutation, asked_refutation};
+pub use table::{Range, STEPS};

@@ -47,7 +47,7 @@ fn parsed(alloc: Global, words: &[String]) -> Result<ArgMatches<'_>, Error>
 }
 
 /// An option without a text.
-fn flag<'a>(alloc: Global, name: &'a str) -> Arg<'a>
+pub fn flag<'a>(alloc: Global, name: &'a str) -> Arg<'a>
     ensures rule { rule_of result ≡ flag_rule name.now }
     ensures own { result.global ≡ false }
 {
@@ -55,7 +55,7 @@ fn flag<'a>(alloc: Global, name: &'a str) -> Arg<'a>
 }
 
 /// An option with a text.
-fn valued<'a>(alloc: Global, name: &'a str) -> Arg<'a>
+pub fn valued<'a>(alloc: Global, name: &'a str) -> Arg<'a>
     ensures rule { rule_of result ≡ value_rule name.now }
     ensures own { result.global ≡ false }
 {
