@@ -1,0 +1,10 @@
+pub mod Items
+pub mod Asking
+pub mod Answers
+pub mod Checks
+pub mod Reports
+pub mod Inner
+pub mod Verdicts
+pub mod Laws
+pub mod Counting
+pub mod Worked

@@ -1,0 +1,22 @@
+//! All that is asked of a document of requirements: which of its items cannot be met together, what the others
+//! say, and which items the recorded behaviours keep.
+#![tactic(auto)]
+
+mod asking;
+mod checking;
+mod conflicts;
+mod counting;
+mod findings;
+mod judging;
+pub mod laws;
+mod numbers;
+mod planning;
+mod renumbering;
+mod replying;
+mod reporting;
+
+pub use asking::{Asking, Reply};
+pub use counting::{Counts, Tally, counts_of};
+pub use findings::{Break, Check, Report, ReportRefused, Scope};
+pub use judging::{Verdict, verdict_of};
+pub use reporting::report_on;

@@ -1,0 +1,108 @@
+// The formula that a text reads as, with definitions put in, or what is wrong with the text.
+ghost use Rattle.std.specs.Prelude.{◌≡◌, ◌↔◌, IfOk, IfErr, IsTrue, ℕ, List};
+ghost use Rattle.toml.specs.View.{view};
+ghost use Rattle.ltl_syntax.specs.Formula.{Letter, Name};
+ghost use Rattle.ltl_parser.specs.Text.{IsAccepted};
+ghost use Rattle.requirement_document.specs.declared.fault.Key.TheVariants as keys;
+ghost use Rattle.requirement_document.specs.declared.fault.Section.{Section};
+ghost use Rattle.requirement_document.specs.Keys.{HasFormulas};
+ghost use Rattle.requirement_document.specs.Substitution.{Definitions};
+ghost use Rattle.requirement_document.specs.Entry.{HasText, IsLetter, IsPutIn};
+ghost use Rattle.requirement_document.specs.Inner.{defined_in, tree_in, IsRefusedAt, IsRefusedText};
+
+use crate::fault::Refusal;
+use crate::formulas::Tree;
+use crate::putting::put_in;
+use crate::sizes::size_of;
+use crate::values::{TextAt, text_at};
+use crate::{Cause, Key};
+use indexmap::IndexMap;
+use ltl_lexer::{LexRefused, tokens};
+use ltl_parser::{ParseRefused, parse};
+use ltl_syntax::{FormulaTable, Node};
+use std::alloc::{AllocError, Global};
+use toml::Value;
+
+const MAX_TEXT: usize = 1_048_576;
+
+const MAX_SIZE: u64 = 16_384;
+
+/// The text of the formula of an entry.
+pub fn formula_text<'v>(entry: &'v Value) -> Result<&'v str, Refusal>
+    ensures ok { IfOk result (λ text. HasText (view entry.now) keys.Formula text.now) }
+    ensures err { (s : Section) (ds : Definitions) (taken : List (List ℕ)) → HasFormulas s
+        → IfErr result (IsRefusedAt s ds taken (view entry.now)) }
+{
+    match text_at(entry, Key::Formula) {
+        TextAt::Missing => Err(Refusal::Cause(Cause::Missing(Key::Formula))),
+        TextAt::Unfit => Err(Refusal::Cause(Cause::Unfit(Key::Formula))),
+        TextAt::Given(text) => Ok(text),
+    }
+}
+
+/// The formula as it is written.
+fn written(alloc: Global, text: &[u8]) -> Result<Tree, Refusal>
+    ensures ok { IfOk result (λ t. IsAccepted text.now (tree_in t)) }
+    ensures err { (ds : Definitions) → IfErr result (IsRefusedText ds text.now) }
+{
+    ltl_parser::laws::read_without_fault();
+    ltl_parser::laws::nodes_of_text();
+    if text.len() > MAX_TEXT {
+        return Err(Refusal::Cause(Cause::TooLong));
+    }
+    let tokens = match tokens(alloc, text) {
+        Ok(tokens) => tokens,
+        Err(LexRefused::Lexical(byte)) => return Err(Refusal::Cause(Cause::Lexical(byte))),
+        Err(LexRefused::NoMemory) => return Err(Refusal::NoMemory),
+    };
+    match parse(alloc, text, &tokens) {
+        Ok((table, root)) => {
+            let size = table.size() as u64;
+            Ok(Tree { table, root, size })
+        }
+        Err(ParseRefused::Grammar(byte)) => Err(Refusal::Cause(Cause::Grammar(byte))),
+        Err(ParseRefused::Nodes(count)) => Err(Refusal::Cause(Cause::Size(count as u64))),
+        Err(ParseRefused::NoMemory) => Err(Refusal::NoMemory),
+    }
+}
+
+/// The formula with the definitions put in.
+pub fn formula_of(
+    alloc: Global,
+    text: &str,
+    definitions: &IndexMap<String, Tree>,
+) -> Result<Tree, Refusal>
+    ensures ok { IfOk result (λ t. IsPutIn (defined_in definitions.now.entries) text.now (tree_in t)) }
+    ensures err { IfErr result (IsRefusedText (defined_in definitions.now.entries) text.now) }
+{
+    let own = written(alloc, text.as_bytes())?;
+    let size = size_of(alloc, &own.table, own.root, definitions)?;
+    if size > MAX_SIZE {
+        return Err(Refusal::Cause(Cause::Size(size)));
+    }
+    let mut table = FormulaTable::new(alloc);
+    let root = put_in(alloc, &own.table, own.root, definitions, &mut table)?;
+    Ok(Tree { table, root, size })
+}
+
+/// Whether the formula is the letter of this name.
+fn is_letter_of(tree: &Tree, name: &str) -> bool
+    ensures { IsTrue result ↔ (tree_in tree.now ≡ Letter (Name name.now)) }
+{
+    match tree.table.node(tree.root) {
+        Node::Letter(letter) => tree.table.name_of(letter) == name,
+        _ => false,
+    }
+}
+
+/// Whether the text is that of one letter, and of nothing around it.
+pub fn is_letter(alloc: Global, name: &str) -> Result<bool, AllocError>
+    ensures { IfOk result (λ b. IsTrue b ↔ IsLetter name.now) }
+{
+    ltl_parser::laws::one_outcome();
+    match written(alloc, name.as_bytes()) {
+        Ok(tree) => Ok(is_letter_of(&tree, name)),
+        Err(Refusal::Cause(_)) => Ok(false),
+        Err(Refusal::NoMemory) => Err(AllocError),
+    }
+}

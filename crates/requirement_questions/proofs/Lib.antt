@@ -1,0 +1,9 @@
+mod Conjunctions
+mod Putting
+mod Picking
+mod Steps
+mod LeftOut
+mod Least
+mod Settled
+mod Triggers
+mod Failing

@@ -1,0 +1,11 @@
+pub mod Formulas
+pub mod Members
+pub mod Sizing
+pub mod Joining
+pub mod Outcome
+pub mod Settling
+pub mod Answer
+pub mod Trigger
+pub mod Failure
+pub mod Laws
+pub mod Worked

@@ -1,0 +1,25 @@
+//! Questions about several formulas: whether some trace satisfies each of them, with the trace, or with a set of
+//! them that none satisfies, as small as can be shown.
+#![tactic(auto)]
+
+mod answering;
+mod asking;
+mod failure;
+mod joining;
+pub mod laws;
+mod leaving;
+mod members;
+mod questions;
+mod settling;
+mod sizing;
+mod triggering;
+mod turns;
+
+pub use answering::{Answer, answer_question};
+pub use asking::{Outcome, ask};
+pub use failure::first_failure;
+pub use leaving::Because;
+pub use members::Member;
+pub use questions::{Asked, DEFAULT_STEPS, Given, Limits, Question};
+pub use triggering::trigger;
+pub use turns::{Attempt, Attempted};

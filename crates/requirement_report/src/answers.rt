@@ -1,0 +1,120 @@
+// What is said of an answer.
+ghost use Rattle.std.specs.Prelude.{◌≡◌, ◌++◌, OnOk};
+ghost use Rattle.requirement_document.specs.Values.{document_in};
+ghost use Rattle.requirement_report.specs.Text.{question_words, can_word, cannot_word, word_of};
+ghost use Rattle.requirement_report.specs.Text.{because_line, tried_line, large_line, answer_lines};
+
+use crate::lines::{put_inner, put_worded};
+use crate::members::put_members;
+use crate::pictures::put_picture;
+use requirement_answers::Asking;
+use requirement_document::Document;
+use requirement_questions::{Answer, Limits, Member};
+use std::alloc::{AllocError, Global};
+
+/// The word that an answer begins with.
+pub fn word_of(asking: Asking, answer: &Answer) -> &'static [u8]
+    ensures { result.now ≡ word_of asking answer.now }
+{
+    match answer {
+        Answer::Can(_) => can_word(asking),
+        Answer::Cannot(_) => cannot_word(asking),
+        Answer::Undecided | Answer::TooLarge(_) => b"undecided",
+    }
+}
+
+fn can_word(asking: Asking) -> &'static [u8]
+    ensures { result.now ≡ can_word asking }
+{
+    match asking {
+        Asking::Together => b"consistent",
+        Asking::Triggered(_) => b"triggered",
+        Asking::New(_) => b"new",
+        Asking::Possible(_) => b"possible",
+        Asking::Follows(_) => b"fails",
+    }
+}
+
+fn cannot_word(asking: Asking) -> &'static [u8]
+    ensures { result.now ≡ cannot_word asking }
+{
+    match asking {
+        Asking::Together => b"conflict",
+        Asking::Triggered(_) => b"never triggered",
+        Asking::New(_) => b"follows from the others",
+        Asking::Possible(_) => b"impossible",
+        Asking::Follows(_) => b"follows",
+    }
+}
+
+fn question_words(asking: Asking) -> &'static [u8]
+    ensures { result.now ≡ question_words asking }
+{
+    match asking {
+        Asking::Together => b"can all of them be met together?",
+        Asking::Triggered(_) => b"is it ever triggered?",
+        Asking::New(_) => b"does it say anything new?",
+        Asking::Possible(_) => b"may it happen?",
+        Asking::Follows(_) => b"does it follow?",
+    }
+}
+
+/// Adds the lines under the head.
+pub fn put_answer(
+    alloc: Global,
+    document: &Document,
+    limits: Limits,
+    asking: Asking,
+    answer: &Answer,
+    out: &mut Vec<u8>,
+) -> Result<(), AllocError>
+    ensures { OnOk result (out.new.items
+        ≡ out.old.items ++ answer_lines (document_in document.now) limits.steps asking answer.now) }
+{
+    match answer {
+        Answer::Can(trace) => put_picture(alloc, trace, out),
+        Answer::Cannot(because) => put_because(alloc, document, &because.members, out),
+        Answer::Undecided => {
+            put_inner(question_words(asking), out)?;
+            put_tried(alloc, limits.steps, out)
+        }
+        Answer::TooLarge(size) => {
+            put_inner(question_words(asking), out)?;
+            put_large(alloc, *size, out)
+        }
+    }
+}
+
+fn put_because(
+    alloc: Global,
+    document: &Document,
+    members: &[Member],
+    out: &mut Vec<u8>,
+) -> Result<(), AllocError>
+    ensures { OnOk result (out.new.items
+        ≡ out.old.items ++ because_line (document_in document.now) members.now) }
+{
+    if members.is_empty() {
+        return put_inner(b"by itself", out);
+    }
+    let mut line = Vec::from_slice(alloc, b"because of: ")?;
+    put_members(alloc, document, members, &mut line)?;
+    put_inner(&line, out)
+}
+
+fn put_tried(alloc: Global, steps: u32, out: &mut Vec<u8>) -> Result<(), AllocError>
+    ensures { OnOk result (out.new.items ≡ out.old.items ++ tried_line steps) }
+{
+    let mut line = Vec::new(alloc);
+    put_worded(b"tried: ", steps as u128, &mut line)?;
+    line.extend_from_slice(b" steps")?;
+    put_inner(&line, out)
+}
+
+fn put_large(alloc: Global, size: u128, out: &mut Vec<u8>) -> Result<(), AllocError>
+    ensures { OnOk result (out.new.items ≡ out.old.items ++ large_line size) }
+{
+    let mut line = Vec::new(alloc);
+    put_worded(b"limit nodes 16384 have ", size, &mut line)?;
+    put_inner(&line, out)
+}

@@ -1,0 +1,121 @@
+// A conflict: its members, and why they cannot be met together.
+ghost use Rattle.std.specs.Prelude.{◌≡◌, ◌++◌, IfOk, OnOk};
+ghost use Rattle.std.specs.List.{flat_map};
+ghost use Rattle.requirement_document.specs.Values.{document_in};
+ghost use Rattle.requirement_report.specs.Flat.{flat};
+ghost use Rattle.requirement_report.specs.Lines.{inner, deeper_if};
+ghost use Rattle.requirement_report.specs.Shown.{CanBeShown};
+ghost use Rattle.requirement_report.specs.Text.{member_lines, more_lines, claim_lines, nevers_of};
+ghost use Rattle.requirement_report.specs.Text.{conflict_block};
+
+use crate::flat::put_flat;
+use crate::lines::{
+    first_lines, lines_in, put_deeper_if, put_head, put_indented, put_inner, put_worded,
+};
+use crate::members::put_members;
+use crate::subjects::{name_of, sentence_of, written_of};
+use claim_reading::never_lines;
+use ltl_closure::Closure;
+use ltl_syntax::Kind;
+use requirement_document::Document;
+use requirement_questions::{Because, Member};
+use std::alloc::{AllocError, Global};
+
+/// The most claims that are printed.
+const MOST_CLAIMS: usize = 12;
+
+pub fn put_conflict(
+    alloc: Global,
+    document: &Document,
+    because: &Because,
+    out: &mut Vec<u8>,
+) -> Result<(), AllocError>
+    requires { CanBeShown because.now }
+    ensures { OnOk result (out.new.items
+        ≡ out.old.items ++ conflict_block (document_in document.now) because.now) }
+{
+    let mut names = Vec::new(alloc);
+    put_members(alloc, document, &because.members, &mut names)?;
+    put_head(b"conflict", &names, out)?;
+    put_each(alloc, document, &because.members, out)?;
+    let nevers = nevers(alloc, document.kind, because)?;
+    put_claims(alloc, &nevers, out)
+}
+
+fn put_each(
+    alloc: Global,
+    document: &Document,
+    members: &[Member],
+    out: &mut Vec<u8>,
+) -> Result<(), AllocError>
+    ensures { OnOk result (out.new.items
+        ≡ out.old.items ++ flat_map (member_lines (document_in document.now)) members.now) }
+{
+    for member in members {
+        put_subject(alloc, document, *member, out)?;
+    }
+    Ok(())
+}
+
+fn put_subject(
+    alloc: Global,
+    document: &Document,
+    member: Member,
+    out: &mut Vec<u8>,
+) -> Result<(), AllocError>
+    ensures { OnOk result (out.new.items
+        ≡ out.old.items ++ member_lines (document_in document.now) member) }
+{
+    put_flat_inner(alloc, name_of(document, member.given), out)?;
+    put_flat_deeper(alloc, sentence_of(document, member.given), out)?;
+    put_flat_deeper(alloc, written_of(document, member.given), out)
+}
+
+fn put_flat_inner(alloc: Global, text: &str, out: &mut Vec<u8>) -> Result<(), AllocError>
+    ensures { OnOk result (out.new.items ≡ out.old.items ++ inner (flat text.now)) }
+{
+    let mut line = Vec::new(alloc);
+    put_flat(alloc, text, &mut line)?;
+    put_inner(&line, out)
+}
+
+fn put_flat_deeper(alloc: Global, text: &str, out: &mut Vec<u8>) -> Result<(), AllocError>
+    ensures { OnOk result (out.new.items ≡ out.old.items ++ deeper_if (flat text.now)) }
+{
+    let mut line = Vec::new(alloc);
+    put_flat(alloc, text, &mut line)?;
+    put_deeper_if(&line, out)
+}
+
+/// The lines of its claims.
+pub fn nevers(alloc: Global, kind: Kind, because: &Because) -> Result<Vec<u8>, AllocError>
+    requires { CanBeShown because.now }
+    ensures { IfOk result (λ lines. lines.items ≡ nevers_of because.now) }
+{
+    let closure = Closure::of(alloc, &because.table, because.root, kind)?;
+    never_lines(alloc, &closure, &because.certificate)
+}
+
+/// Adds the first lines of claims, and how many more there are.
+fn put_claims(alloc: Global, nevers: &[u8], out: &mut Vec<u8>) -> Result<(), AllocError>
+    ensures { OnOk result (out.new.items ≡ out.old.items ++ claim_lines nevers.now) }
+{
+    if nevers.is_empty() {
+        return put_inner(b"no first state meets them", out);
+    }
+    let first = first_lines(alloc, MOST_CLAIMS, nevers)?;
+    put_indented(&first, out)?;
+    put_more(alloc, lines_in(nevers), out)
+}
+
+fn put_more(alloc: Global, count: usize, out: &mut Vec<u8>) -> Result<(), AllocError>
+    ensures { OnOk result (out.new.items ≡ out.old.items ++ more_lines count) }
+{
+    if count <= MOST_CLAIMS {
+        return Ok(());
+    }
+    let mut line = Vec::new(alloc);
+    put_worded(b"and ", (count - MOST_CLAIMS) as u128, &mut line)?;
+    line.extend_from_slice(b" more")?;
+    put_inner(&line, out)
+}

@@ -1,0 +1,69 @@
+// The last block: the verdict, and counts.
+ghost use Rattle.std.specs.Prelude.{◌≡◌, ◌++◌, OnOk};
+ghost use Rattle.requirement_report.specs.Text.{verdict_text, met_line, count_line, later_counts};
+ghost use Rattle.requirement_report.specs.Text.{count_lines, ending};
+
+use crate::lines::{put_inner, put_of_all};
+use requirement_answers::{Counts, Tally, Verdict};
+use std::alloc::{AllocError, Global};
+
+pub fn put_ending(
+    alloc: Global,
+    verdict: Verdict,
+    counts: Counts,
+    out: &mut Vec<u8>,
+) -> Result<(), AllocError>
+    ensures { OnOk result (out.new.items ≡ out.old.items ++ ending verdict counts) }
+{
+    out.extend_from_slice(b"\n")?;
+    out.extend_from_slice(verdict_text(verdict))?;
+    out.extend_from_slice(b"\n")?;
+    put_counts(alloc, counts, out)
+}
+
+fn verdict_text(verdict: Verdict) -> &'static [u8]
+    ensures { result.now ≡ verdict_text verdict }
+{
+    match verdict {
+        Verdict::AsWished => b"as wished",
+        Verdict::NotAsWished => b"not as wished",
+        Verdict::Undecided => b"undecided",
+    }
+}
+
+fn put_counts(alloc: Global, counts: Counts, out: &mut Vec<u8>) -> Result<(), AllocError>
+    ensures { OnOk result (out.new.items ≡ out.old.items ++ count_lines counts) }
+{
+    put_met(alloc, counts.met, out)?;
+    put_count(alloc, b"triggered", counts.triggered, out)?;
+    put_count(alloc, b"says something new", counts.new, out)?;
+    put_later_counts(alloc, counts, out)
+}
+
+fn put_later_counts(alloc: Global, counts: Counts, out: &mut Vec<u8>) -> Result<(), AllocError>
+    ensures { OnOk result (out.new.items ≡ out.old.items ++ later_counts counts) }
+{
+    put_count(alloc, b"possible", counts.possible, out)?;
+    put_count(alloc, b"follows", counts.follows, out)?;
+    put_count(alloc, b"keeps all", counts.keeps, out)
+}
+
+fn put_met(alloc: Global, met: Tally, out: &mut Vec<u8>) -> Result<(), AllocError>
+    ensures { OnOk result (out.new.items ≡ out.old.items ++ met_line met) }
+{
+    let mut line = Vec::from_slice(alloc, b"met together: ")?;
+    put_of_all(met.good as u128, met.all as u128, &mut line)?;
+    put_inner(&line, out)
+}
+
+fn put_count(alloc: Global, words: &[u8], tally: Tally, out: &mut Vec<u8>) -> Result<(), AllocError>
+    ensures { OnOk result (out.new.items ≡ out.old.items ++ count_line words.now tally) }
+{
+    if tally.all == 0 {
+        return Ok(());
+    }
+    let mut line = Vec::from_slice(alloc, words)?;
+    line.extend_from_slice(b": ")?;
+    put_of_all(tally.good as u128, tally.all as u128, &mut line)?;
+    put_inner(&line, out)
+}

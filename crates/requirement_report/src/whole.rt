@@ -1,0 +1,97 @@
+// The text of a report.
+ghost use Rattle.std.specs.Prelude.{◌≡◌, ◌++◌, IfOk, OnOk, All};
+ghost use Rattle.std.specs.List.{flat_map};
+ghost use Rattle.requirement_document.specs.Values.{document_in};
+ghost use Rattle.requirement_report.specs.Shown.{CanBeShown, ReportCanBeShown};
+ghost use Rattle.requirement_report.specs.Text.{conflict_before, set_aside, answers_text, IsText};
+
+use crate::blocks::{Left, put_replies, put_together};
+use crate::checks::put_checks;
+use crate::conflicts::put_conflict;
+use crate::ending::put_ending;
+use crate::subjects::aside;
+use requirement_answers::{Counts, Report, Scope, counts_of, verdict_of};
+use requirement_document::Document;
+use requirement_questions::{Because, Limits, Member};
+use std::alloc::{AllocError, Global};
+
+/// The text of a report about a document, in the scope and within the limits in which it was asked.
+pub fn text(
+    alloc: Global,
+    document: &Document,
+    report: &Report,
+    scope: Scope,
+    limits: Limits,
+) -> Result<Vec<u8>, AllocError>
+    requires { ReportCanBeShown report.now }
+    ensures { IfOk result (λ text.
+        IsText (document_in document.now) report.now scope limits.steps text.items) }
+{
+    let mut out = Vec::new(alloc);
+    let counts = counts_of(document, report);
+    put_answers(alloc, document, report, scope, limits, counts, &mut out)?;
+    put_ending(alloc, verdict_of(report), counts, &mut out)?;
+    Ok(out)
+}
+
+/// Adds the blocks of all answers.
+fn put_answers(
+    alloc: Global,
+    document: &Document,
+    report: &Report,
+    scope: Scope,
+    limits: Limits,
+    counts: Counts,
+    out: &mut Vec<u8>,
+) -> Result<(), AllocError>
+    requires { ReportCanBeShown report.now }
+    ensures { OnOk result (out.new.items ≡ out.old.items
+        ++ answers_text (document_in document.now) report.now scope limits.steps counts) }
+{
+    let aside = set_aside(alloc, document, report)?;
+    let left = report.left.len();
+    let count = Left {
+        left,
+        all: counts.met.all,
+    };
+    put_conflicts(alloc, document, &report.conflicts, out)?;
+    put_together(
+        alloc,
+        document,
+        limits,
+        count,
+        &aside,
+        &report.together,
+        out,
+    )?;
+    put_replies(alloc, document, scope, limits, &report.replies, out)?;
+    put_checks(alloc, document, &report.checks, out)
+}
+
+/// The items that are set aside.
+fn set_aside(alloc: Global, document: &Document, report: &Report) -> Result<Vec<Member>, AllocError>
+    ensures { IfOk result (λ members. members.items
+        ≡ set_aside (document_in document.now) report.now) }
+{
+    if report.conflicts.is_empty() {
+        return Ok(Vec::new(alloc));
+    }
+    aside(alloc, document, &report.left)
+}
+
+fn put_conflicts(
+    alloc: Global,
+    document: &Document,
+    conflicts: &[Box<Because>],
+    out: &mut Vec<u8>,
+) -> Result<(), AllocError>
+    requires { All (λ b. CanBeShown b.value) conflicts.now }
+    ensures { OnOk result (out.new.items ≡ out.old.items
+        ++ flat_map (λ b. conflict_before (document_in document.now) b.value) conflicts.now) }
+{
+    for because in conflicts {
+        put_conflict(alloc, document, because, out)?;
+        out.extend_from_slice(b"\n")?;
+    }
+    Ok(())
+}
