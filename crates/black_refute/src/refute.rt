@@ -1,12 +1,13 @@
-// From the text of a formula to its answer, and from a certificate that was found to UNSAT: only what is judged
-// lawful is printed, whatever found it.
-ghost use Rattle.std.specs.Prelude.{◌≡◌, ◌<◌, true, false, length, IfOk, IfSome};
+// From the text of a formula to its answer, and from a certificate that was found and judged lawful to UNSAT.
+ghost use Rattle.std.specs.Prelude.{◌≡◌, ◌<◌, true, false, length, IfOk};
 ghost use Rattle.ltl_syntax.specs.Table.{tree_at};
+ghost use Rattle.claims.specs.Lawful.{IsLawful};
+ghost use Rattle.claim_check.specs.Data.{certificate_in};
 ghost use Rattle.black_refute.specs.Answer.{Answer};
 ghost use Rattle.black_refute.specs.Refuting.{IsFound, IsSettled};
 ghost use Rattle.black_refute.specs.Inner.{Shows};
 
-use crate::output::{Output, certified, refusal, unsat};
+use crate::output::{Output, certified, refusal, undecided, unsat};
 use crate::turns::take_turns;
 use claim_check::{Certificate, Verdict, check};
 use claim_reading::never_lines;
@@ -52,49 +53,42 @@ fn settle<N: Sink>(
     take_turns(alloc, &closure, options, notes)
 }
 
-/// UNSAT by a certificate, if it is lawful.
+/// UNSAT by a lawful certificate.
 pub fn refuted(
     alloc: Global,
     closure: &Closure<'_>,
     cert: bool,
     found: &Certificate,
-) -> Result<Option<Output>, AllocError>
-    ensures { IfOk result (λ shown. IfSome shown (λ out. (a : Answer)
-        × IsFound closure.now.kind cert closure.now.formula a × Shows out a)) }
+) -> Result<Output, AllocError>
+    requires { IsLawful closure.now.formula closure.now.kind (certificate_in found.now) }
+    ensures { IfOk result (λ out. (a : Answer)
+        × IsFound closure.now.kind cert closure.now.formula a × Shows out a) }
 {
     if cert {
         return refuted_by_text(alloc, closure, found);
     }
-    match check(alloc, closure, closure.kind(), found)? {
-        Verdict::Verified => {
-            let lines = never_lines(alloc, closure, found)?;
-            let output = unsat(alloc, &lines)?;
-            Ok(Some(output))
-        }
-        Verdict::Refused(_) => Ok(None),
-    }
+    let lines = never_lines(alloc, closure, found)?;
+    unsat(alloc, &lines)
 }
 
-/// The same by the certificate's text. What is judged is what the text is read as, as `--check` does it.
+/// The same by the certificate's text. What the text is read as is judged once more, as `--check` does it, since
+/// a lawful certificate need not have a text. Without a lawful one nothing is said.
 fn refuted_by_text(
     alloc: Global,
     closure: &Closure<'_>,
     found: &Certificate,
-) -> Result<Option<Output>, AllocError>
-    ensures { IfOk result (λ shown. IfSome shown (λ out. (a : Answer)
-        × IsFound closure.now.kind true closure.now.formula a × Shows out a)) }
+) -> Result<Output, AllocError>
+    ensures { IfOk result (λ out. (a : Answer)
+        × IsFound closure.now.kind true closure.now.formula a × Shows out a) }
 {
     let text = write(alloc, found)?;
     let again = match read(alloc, &text) {
         Ok(again) => again,
-        Err(TextRefused::Form(_)) => return Ok(None),
+        Err(TextRefused::Form(_)) => return undecided(alloc),
         Err(TextRefused::NoMemory) => return Err(AllocError),
     };
     match check(alloc, closure, closure.kind(), &again)? {
-        Verdict::Verified => {
-            let output = certified(alloc, &text)?;
-            Ok(Some(output))
-        }
-        Verdict::Refused(_) => Ok(None),
+        Verdict::Verified => certified(alloc, &text),
+        Verdict::Refused(_) => undecided(alloc),
     }
 }

@@ -1,9 +1,9 @@
--- Members of which one is left out, or marked as needed.
-use Rattle.std.proofs.Common.{◌≡◌, ◌≢◌, ◌∙◌, ◌⊎◌, inl, inr, ℕ, zero, suc, ◌<◌, ◌≤◌, true, false, List, [], ◌∷◌, ◌++◌, length, take, drop, set, get_or, slice_get, Some, refl, sym, ap, ap₂, subst, arith, length-append, add-one}
+-- Members of which some are left out, or one is marked as needed.
+use Rattle.std.proofs.Common.{◌≡◌, ◌≢◌, ◌∙◌, ◌⊎◌, inl, inr, ℕ, zero, suc, ◌+◌, ◌<◌, ◌≤◌, true, false, List, [], ◌∷◌, ◌++◌, length, take, drop, set, get_or, slice_get, Some, refl, sym, ap, ap₂, subst, arith, length-append, add-one}
 use Rattle.std.specs.List.{All}
 use Rattle.std.proofs.lemmas.Bool.{cases_lt}
 use Rattle.std.proofs.lemmas.Option.{slice_get-get_or}
-use Rattle.std.proofs.lemmas.List.{take_more, take_all, length-map}
+use Rattle.std.proofs.lemmas.List.{take_more, take_all, take-append-drop, length-map}
 use Rattle.ltl_syntax.specs.Formula.{Const}
 use Rattle.ltl_syntax.specs.Table.{Table, tree_at}
 use Rattle.ltl_word.specs.declared.trace.Trace.{Trace}
@@ -17,8 +17,8 @@ use Rattle.requirement_questions.specs.declared.members.Member.{Member}
 use Rattle.requirement_questions.specs.declared.leaving.Because.{Because}
 use Rattle.requirement_questions.specs.declared.settling.Refuted.{Refuted}
 use Rattle.requirement_questions.specs.Formulas.{all_of, formula_in, given_formulas, asked_formulas, some_formulas, all_formulas, SatisfiesEach, NoneSatisfies}
-use Rattle.requirement_questions.specs.Members.{places, counted, without, marked}
-use Rattle.requirement_questions.specs.Settling.{IsRefuted, IsMade}
+use Rattle.requirement_questions.specs.Members.{places, counted, without, without_some, marked, noted}
+use Rattle.requirement_questions.specs.Settling.{IsRefuted, IsMade, IsNoted}
 use Rattle.requirement_questions.specs.Answer.{given_at, AreMembers, IsNeeded, IsBecause}
 use Rattle.requirement_questions.proofs.Conjunctions.{each_says_all}
 use Rattle.requirement_questions.proofs.Picking.{picked, picked_append, picked_each, left_all, right_all}
@@ -81,17 +81,61 @@ without_needed q k j ms w = record {
   asked = w.asked;
 }
 
+-- ---- all but some
+
+take_without : (k : ℕ) (ms : List Member) → take k (without k ms) ≡ take k ms
+take_without k [] = refl
+take_without zero (m ∷ ms) = refl
+take_without (suc k) (m ∷ ms) = ap (λ xs. m ∷ xs) (take_without k ms)
+
+none_dropped : (n : ℕ) → drop {A = Member} n [] ≡ []
+none_dropped zero = refl
+none_dropped (suc n) = refl
+
+drop_without : (k n : ℕ) (ms : List Member) → drop (k + n) (without k ms) ≡ drop (suc (k + n)) ms
+drop_without k n [] = none_dropped (k + n) ∙ sym (none_dropped (suc (k + n)))
+drop_without zero n (m ∷ ms) = refl
+drop_without (suc k) n (m ∷ ms) =
+    let e : suc k + n ≡ suc (k + n) = omega arith in
+    subst (λ s. drop s (without (suc k) (m ∷ ms)) ≡ drop (suc s) (m ∷ ms)) (sym e) (drop_without k n ms)
+
+pub without_some_is : (k count : ℕ) (ms : List Member) → take k ms ++ drop (k + count) ms ≡ without_some k count ms
+without_some_is k zero ms = ap (λ n. take k ms ++ drop n ms) (let e : k + 0 ≡ k = omega arith in e) ∙ take-append-drop k ms
+without_some_is k (suc count) ms =
+    let more : k + suc count ≡ suc (k + count) = omega arith in
+    ap (λ n. take k ms ++ drop n ms) more
+    ∙ (ap₂ (λ xs ys. xs ++ ys) (sym (take_without k ms)) (sym (drop_without k count ms)) ∙ without_some_is k count (without k ms))
+
+without_some_length : (k count : ℕ) (ms : List Member) → k + count ≤ length ms → length (without_some k count ms) + count ≡ length ms
+without_some_length k zero ms le = omega arith
+without_some_length k (suc count) ms le =
+    let one = without_length k ms (omega (arith, le)) in
+    let rest = without_some_length k count (without k ms) (omega (arith, one, le)) in omega (arith, one, rest)
+
+some_are : (q : Question) (k count : ℕ) (ms : List Member) → AreMembers q ms → AreMembers q (without_some k count ms)
+some_are q k zero ms w = w
+some_are q k (suc count) ms w = some_are q k count (without k ms) (without_are q k ms w)
+
+-- what is marked is needed
+abbrev AreNeeded : Question → List Member → Type 0
+AreNeeded q ms = (k : ℕ) (m : Member) → slice_get ms k ≡ Some m → m.needed ≡ true → IsNeeded q ms k
+
+some_needed : (q : Question) (k count : ℕ) (ms : List Member) → AreNeeded q ms → AreNeeded q (without_some k count ms)
+some_needed q k zero ms w = w
+some_needed q k (suc count) ms w =
+    some_needed q k count (without k ms) (λ j m e y. without_needed q k j ms (w (shift k j) m (sym (without_get k ms j) ∙ e) y))
+
 -- each is a given formula
 pub members_all : (q : Question) (ms : List Member) → AreMembers q ms → All (λ m. m.given < length q.given.now) ms
 members_all q ms w k d lt = w.there k (get_or ms k d) (slice_get-get_or ms k d lt)
 
-pub rest_all : (q : Question) (k : ℕ) (ms rest : List Member) → AreMembers q ms → rest ≡ without k ms → All (λ m. m.given < length q.given.now) rest
-rest_all q k ms rest w e = subst (All (λ m. m.given < length q.given.now)) (sym e) (members_all q (without k ms) (without_are q k ms w))
+pub rest_all : (q : Question) (k count : ℕ) (ms rest : List Member) → AreMembers q ms → rest ≡ without_some k count ms → All (λ m. m.given < length q.given.now) rest
+rest_all q k count ms rest w e = subst (All (λ m. m.given < length q.given.now)) (sym e) (members_all q (without_some k count ms) (some_are q k count ms w))
 
-pub left_many : (k : ℕ) (ms rest : List Member) (r : Refuted) (b : Because) → k < length ms → rest ≡ without k ms → IsMade rest r b → length ms ≤ suc (length b.members.items)
-left_many k ms rest r b lt e made =
-    let long = without_length k ms lt in
-    let same : length b.members.items ≡ length (without k ms) = ap length (made.members ∙ e) in omega (arith, long, same)
+pub left_many : (k count : ℕ) (ms rest : List Member) (r : Refuted) (b : Because) → k + count ≤ length ms → rest ≡ without_some k count ms → IsMade rest r b → length ms ≤ length b.members.items + count
+left_many k count ms rest r b le e made =
+    let long = without_some_length k count ms le in
+    let same : length b.members.items ≡ length (without_some k count ms) = ap length (made.members ∙ e) in omega (arith, long, same)
 
 -- what satisfies the others and what is asked shows that the one is needed
 pub shows_needed : (q : Question) (k : ℕ) (ms : List Member) (t : Trace) → SatisfiesEach q.kind (some_formulas q (places (without k ms))) t → IsNeeded q ms k
@@ -130,11 +174,11 @@ module _ (q : Question) (ms : List Member) (r : Refuted) (b : Because) (law : La
     needed = λ k m e y. subst (λ xs. IsNeeded q xs k) (sym made.members) (needed k m (subst (λ xs. slice_get xs k ≡ Some m) made.members e) y);
   }
 
--- one is left out
-pub left_out : (q : Question) (k : ℕ) (before after : Because) (r : Refuted) → LawfulHasNoTrace → IsBecause q before → IsMade (without k before.members.items) r after → IsRefuted q (places (without k before.members.items)) r.certificate r.table r.root → IsBecause q after
-left_out q k before after r law w made refuted =
-    is_because q (without k before.members.items) r after law made refuted (without_are q k before.members.items w.members)
-    (λ j m e y. without_needed q k j before.members.items (w.needed (shift k j) m (sym (without_get k before.members.items j) ∙ e) y))
+-- some are left out
+pub left_out : (q : Question) (k count : ℕ) (before after : Because) (r : Refuted) → LawfulHasNoTrace → IsBecause q before → IsMade (without_some k count before.members.items) r after
+    → IsRefuted q (places (without_some k count before.members.items)) r.certificate r.table r.root → IsBecause q after
+left_out q k count before after r law w made refuted =
+    is_because q (without_some k count before.members.items) r after law made refuted (some_are q k count before.members.items w.members) (some_needed q k count before.members.items w.needed)
 
 -- ---- one marked as needed
 
@@ -187,7 +231,7 @@ marked_needed q k j ms w = record {
   asked = w.asked;
 }
 
-pub is_marked : (q : Question) (k : ℕ) (before after : Because) → IsBecause q before → IsNeeded q before.members.items k → after.members.items ≡ marked k before.members.items → after.certificate ≡ before.certificate → after.table ≡ before.table → after.root ≡ before.root
+is_marked : (q : Question) (k : ℕ) (before after : Because) → IsBecause q before → IsNeeded q before.members.items k → after.members.items ≡ marked k before.members.items → after.certificate ≡ before.certificate → after.table ≡ before.table → after.root ≡ before.root
     → IsBecause q after
 is_marked q k before after w shown e certificate table root =
     let numbers : places after.members.items ≡ places before.members.items = ap places e ∙ same_places k before.members.items in
@@ -202,6 +246,37 @@ is_marked q k before after w shown e certificate table root =
           let h = was k j before.members.items m (subst (λ xs. slice_get xs j ≡ Some m) e at) in
           subst (λ xs. IsNeeded q xs j) (sym e) (marked_needed q k j before.members.items (elim (h.needed y) [ inl was_so ↦ w.needed j h.before h.there was_so | inr here ↦ subst (IsNeeded q before.members.items) (sym here) shown ]));
     }
+
+same_because : (q : Question) (before after : Because) → IsBecause q before → after.members.items ≡ before.members.items → after.certificate ≡ before.certificate → after.table ≡ before.table → after.root ≡ before.root → IsBecause q after
+same_because q before after w e certificate table root = record {
+  members = subst (AreMembers q) (sym e) w.members;
+  there = subst (λ t. after.root < length t.nodes) (sym table) (subst (λ n. n < length before.table.nodes) (sym root) w.there);
+  formula = ap₂ tree_at table root ∙ (w.formula ∙ ap (λ ms. all_of (some_formulas q (places ms))) (sym e));
+  lawful = let same : tree_at after.table after.root ≡ tree_at before.table before.root = ap₂ tree_at table root in
+      subst (λ c. IsLawful (tree_at after.table after.root) q.kind (certificate_in c)) (sym certificate) (subst (λ f. IsLawful f q.kind (certificate_in before.certificate)) (sym same) w.lawful);
+  none = subst (λ ms. NoneSatisfies q.kind (some_formulas q (places ms))) (sym e) w.none;
+  needed = subst (AreNeeded q) (sym e) w.needed;
+}
+
+-- one is noted as needed where what satisfies the others was found
+pub is_noted : (q : Question) (k count : ℕ) (before after : Because) (t : Trace) → IsBecause q before → SatisfiesEach q.kind (some_formulas q (places (without_some k count before.members.items))) t → IsNoted before k count after → IsBecause q after
+is_noted q k zero before after t w found noted = same_because q before after w noted.members noted.certificate noted.table noted.root
+is_noted q k (suc zero) before after t w found noted =
+    is_marked q k before after w (shows_needed q k before.members.items t found) noted.members noted.certificate noted.table noted.root
+is_noted q k (suc (suc n)) before after t w found noted = same_because q before after w noted.members noted.certificate noted.table noted.root
+
+pub noted_one : (k count : ℕ) (ms : List Member) → count ≡ 1 → noted k count ms ≡ marked k ms
+noted_one k count ms e = subst (λ n. noted k n ms ≡ marked k ms) (sym e) refl
+
+pub noted_none : (k count : ℕ) (ms : List Member) → ¬ (count ≡ 1) → noted k count ms ≡ ms
+noted_none k zero ms ne = refl
+noted_none k (suc zero) ms ne = absurd (ne refl)
+noted_none k (suc (suc n)) ms ne = refl
+
+pub noted_many : (k count : ℕ) (before after : Because) → IsNoted before k count after → length after.members.items ≡ length before.members.items
+noted_many k zero before after w = ap length w.members
+noted_many k (suc zero) before after w = ap length w.members ∙ marked_length k before.members.items
+noted_many k (suc (suc n)) before after w = ap length w.members
 
 -- ---- all of them
 

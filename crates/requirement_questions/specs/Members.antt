@@ -17,8 +17,19 @@ without k [] = []
 without zero (m ∷ rest) = rest
 without (suc k) (m ∷ rest) = m ∷ without k rest
 
+-- all but this many, from this place on
+abbrev pub without_some : ℕ → ℕ → List Member → List Member
+without_some k zero ms = ms
+without_some k (suc count) ms = without_some k count (without k ms)
+
 -- the one at this place is marked as needed
 abbrev pub marked : ℕ → List Member → List Member
 marked k [] = []
 marked zero (m ∷ rest) = record { given = m.given; needed = true } ∷ rest
 marked (suc k) (m ∷ rest) = m ∷ marked k rest
+
+-- so where it is one, from this place on
+abbrev pub noted : ℕ → ℕ → List Member → List Member
+noted k zero ms = ms
+noted k (suc zero) ms = marked k ms
+noted k (suc (suc n)) ms = ms

@@ -12,6 +12,7 @@ use Rattle.requirement_questions.specs.declared.settling.Refuted.{Refuted}
 use Rattle.requirement_questions.specs.declared.settling.Settled.{Settled}
 use Rattle.requirement_questions.specs.declared.settling.Settled.TheVariants as settled
 use Rattle.requirement_questions.specs.Formulas.{all_of, SatisfiesEach, some_formulas}
+use Rattle.requirement_questions.specs.Members.{noted}
 
 -- the certificate is lawful for the formula that says that these given formulas hold, and what is asked
 pub record IsRefuted (q : Question) (numbers : List ℕ) (c : Certificate) (t : Table) (root : ℕ) : Type 0 where
@@ -25,6 +26,13 @@ pub record IsMade (ms : List Member) (r : Refuted) (b : Because) : Type 0 where
   pub certificate : b.certificate ≡ r.certificate
   pub table : b.table ≡ r.table
   pub root : b.root ≡ r.root
+
+-- the same but for members that are noted as needed
+pub record IsNoted (before : Because) (k count : ℕ) (after : Because) : Type 0 where
+  pub members : after.members.items ≡ noted k count before.members.items
+  pub certificate : after.certificate ≡ before.certificate
+  pub table : after.table ≡ before.table
+  pub root : after.root ≡ before.root
 
 -- a trace that satisfies each; a certificate that none does; neither; or the formula that says all of it is too large
 abbrev pub IsSettled : Question → List ℕ → Settled → Type 0

@@ -24,7 +24,7 @@ pub enum Answer {
     TooLarge(u128),
 }
 
-/// Answers a question. Where it cannot be, given formulas are left out, one by one from the last to the first:
+/// Answers a question. Where it cannot be, given formulas are left out, from the last to the first:
 /// one stays out where the rest still cannot be.
 pub fn answer_question(
     alloc: Global,

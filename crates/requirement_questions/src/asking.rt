@@ -11,9 +11,6 @@ use ltl_syntax::{FormulaTable, Kind};
 use ltl_word::Trace;
 use std::alloc::{AllocError, Global};
 
-/// How many questions the search for claims asks in a turn.
-const QUESTIONS_IN_A_TURN: u64 = 20;
-
 /// What is found of a formula.
 #[derive(Drop)]
 pub enum Outcome {
@@ -37,7 +34,7 @@ pub fn ask(alloc: Global, closure: &Closure<'_>, limits: Limits) -> Result<Outco
         if asked >= steps {
             break;
         }
-        match attempt.turn(QUESTIONS_IN_A_TURN.min(steps - asked))? {
+        match attempt.turn(steps - asked)? {
             Attempted::Possible(trace) => return Ok(Outcome::Possible(trace)),
             Attempted::Impossible(certificate) => return Ok(Outcome::Impossible(certificate)),
             Attempted::Open(next) => attempt = next,

@@ -1,10 +1,11 @@
-// Given formulas that cannot be with what is asked: as few as can be shown. They are left out one by one, from
-// the last to the first, and one stays out where the rest still cannot be.
-ghost use Rattle.std.specs.Prelude.{◌≡◌, ◌<◌, ◌≤◌, suc, length, IfOk};
+// Given formulas that cannot be with what is asked: as few as can be shown. They are left out from the last to the
+// first, and one stays out where the rest still cannot be. Several at once are tried where those behind them could
+// be left out, so few questions are asked where most of them stay out.
+ghost use Rattle.std.specs.Prelude.{◌≡◌, ◌<◌, ◌≤◌, ◌+◌, ◌-◌, ◌*◌, true, length, IfOk};
 ghost use Rattle.requirement_questions.specs.Formulas.{IsQuestion};
 ghost use Rattle.requirement_questions.specs.Members.{places, counted};
 ghost use Rattle.requirement_questions.specs.Answer.{IsBecause};
-ghost use Rattle.requirement_questions.specs.Settling.{IsRefuted, IsMade};
+ghost use Rattle.requirement_questions.specs.Settling.{IsRefuted, IsMade, IsNoted};
 
 use crate::members::{Member, mark, others};
 use crate::questions::{Limits, Question};
@@ -26,6 +27,13 @@ pub struct Because {
     pub root: u32,
 }
 
+/// What is tried next: members before this place, at most this many at once.
+#[derive(Clone, Copy)]
+struct Stretch {
+    end: usize,
+    width: usize,
+}
+
 /// As few of them as can be shown.
 pub fn fewest(
     alloc: Global,
@@ -38,40 +46,86 @@ pub fn fewest(
     ensures { IfOk result (λ fewer. IsBecause question.now fewer.value) }
 {
     let mut because = because;
-    let mut place = because.members.len();
-    'places: while place > 0 {
-        place -= 1;
-        because = tried(alloc, question, limits, because, place)?;
+    let mut next = Stretch {
+        end: because.members.len(),
+        width: 1,
+    };
+    'stretches: while next.end > 0 {
+        let count = because.members.len();
+        let first = next.end.saturating_sub(next.width);
+        because = tried(alloc, question, limits, because, first, next.end)?;
+        next = behind(first, next.end, because.members.len() < count);
     }
     Ok(because)
 }
 
-/// What is left of them where the one at this place is left out, or marked as needed, if either is shown.
+/// What is tried behind a stretch: one before it, twice as long, where it was left out, and else half of it, or
+/// what stands before the one.
+fn behind(first: usize, end: usize, is_left_out: bool) -> Stretch
+    requires { first < end }
+    ensures some { 0 < result.width }
+    ensures low { result.end ≤ end }
+    ensures left_out { is_left_out ≡ true → result.end ≡ first }
+    ensures less { 3 * result.end + result.width < 3 * end + (end - first) }
+{
+    let width = end - first;
+    if is_left_out {
+        return Stretch {
+            end: first,
+            width: width.saturating_add(width),
+        };
+    }
+    if width == 1 {
+        return Stretch {
+            end: first,
+            width: 1,
+        };
+    }
+    Stretch {
+        end,
+        width: width / 2,
+    }
+}
+
+/// What is left of them where those from the first place on to before the end are left out, if that is shown.
+/// Where it is one, and it is shown that it cannot be, it is marked as needed.
 fn tried(
     alloc: Global,
     question: &Question<'_>,
     limits: Limits,
     because: Box<Because>,
-    place: usize,
+    first: usize,
+    end: usize,
 ) -> Result<Box<Because>, AllocError>
     requires question { IsQuestion question.now }
     requires because { IsBecause question.now because.value }
-    requires place { place < length because.value.members.items }
+    requires order { first < end }
+    requires there { end ≤ length because.value.members.items }
     ensures because { IfOk result (λ rest. IsBecause question.now rest.value) }
     ensures many { IfOk result (λ rest. length because.value.members.items
-        ≤ suc (length rest.value.members.items)) }
+        ≤ length rest.value.members.items + (end - first)) }
 {
     laws::nothing_satisfies();
-    let rest = others(alloc, &because.members, place)?;
+    let rest = others(alloc, &because.members, first, end)?;
     match settle(alloc, question, &rest, limits)? {
         Settled::Impossible(refuted) => because_of(alloc, rest, refuted),
-        Settled::Possible(_) => {
-            let mut because = because;
-            mark(&mut because.members, place);
-            Ok(because)
-        }
+        Settled::Possible(_) => Ok(noted(because, first, end)),
         Settled::Undecided | Settled::TooLarge => Ok(because),
     }
+}
+
+/// The same, and where one was tried, that it is needed.
+fn noted(because: Box<Because>, first: usize, end: usize) -> Box<Because>
+    requires order { first < end }
+    requires there { end ≤ length because.value.members.items }
+    ensures { IsNoted because.value first (end - first) result.value }
+{
+    if end - first != 1 {
+        return because;
+    }
+    let mut because = because;
+    mark(&mut because.members, first);
+    because
 }
 
 /// All given formulas, none of which is marked as needed.

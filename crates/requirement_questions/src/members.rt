@@ -1,6 +1,6 @@
 // Members: some of the given formulas, in the order in which they are given.
-ghost use Rattle.std.specs.Prelude.{◌≡◌, ◌<◌, ◌≤◌, length, IfOk};
-ghost use Rattle.requirement_questions.specs.Members.{counted, without, marked};
+ghost use Rattle.std.specs.Prelude.{◌≡◌, ◌<◌, ◌≤◌, ◌-◌, length, IfOk};
+ghost use Rattle.requirement_questions.specs.Members.{counted, without_some, marked};
 
 use std::alloc::{AllocError, Global};
 
@@ -28,14 +28,20 @@ pub fn first_members(alloc: Global, count: usize) -> Result<Vec<Member>, AllocEr
     Ok(members)
 }
 
-/// All but the one at this place.
-pub fn others(alloc: Global, members: &[Member], place: usize) -> Result<Vec<Member>, AllocError>
-    requires { place < length members.now }
-    ensures { IfOk result (λ rest. rest.items ≡ without place members.now) }
+/// All but those from the first place on to before the end.
+pub fn others(
+    alloc: Global,
+    members: &[Member],
+    first: usize,
+    end: usize,
+) -> Result<Vec<Member>, AllocError>
+    requires order { first ≤ end }
+    requires there { end ≤ length members.now }
+    ensures { IfOk result (λ rest. rest.items ≡ without_some first (end - first) members.now) }
 {
     let mut rest = Vec::new(alloc);
-    rest.extend_from_slice(&members[..place])?;
-    rest.extend_from_slice(&members[place + 1..])?;
+    rest.extend_from_slice(&members[..first])?;
+    rest.extend_from_slice(&members[end..])?;
     Ok(rest)
 }
 

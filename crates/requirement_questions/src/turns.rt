@@ -16,6 +16,9 @@ use std::alloc::{AllocError, Global};
 use std::marker::Model;
 use unravel::{Exploration, Explored};
 
+/// How many questions the search for claims asks in a turn.
+const QUESTIONS_IN_A_TURN: u64 = 20;
+
 /// Both searches for one formula, where they stand.
 ///
 /// Contracts see the closure whose formula it is.
@@ -77,9 +80,24 @@ impl<'c> Attempt<'c> {
         self.search.asked().saturating_add(depths)
     }
 
-    /// One turn more: the next depth, or so many questions of the search for claims. Nothing is left where
-    /// memory runs out.
-    pub fn turn(self, questions: u64) -> Result<Attempted<'c>, AllocError>
+    /// The depth that the search for a trace asks next. Nothing is promised of it, nor of the next two.
+    pub fn depth(&self) -> u32 {
+        self.exploration.depth()
+    }
+
+    /// How many levels the search for claims has.
+    pub fn levels(&self) -> u32 {
+        self.search.levels()
+    }
+
+    /// How many claims it has, each of some frame.
+    pub fn claims(&self) -> u64 {
+        self.search.claims()
+    }
+
+    /// One turn more: the next depth, or some questions of the search for claims, at most so many. Nothing is
+    /// left where memory runs out.
+    pub fn turn(self, most: u64) -> Result<Attempted<'c>, AllocError>
         ensures { IfOk result (IsAttempted self.entry) }
     {
         let alloc = self.alloc;
@@ -91,6 +109,7 @@ impl<'c> Attempt<'c> {
             return deepened(alloc, closure, search, searches, exploration);
         }
         if searches {
+            let questions = QUESTIONS_IN_A_TURN.min(most);
             return advanced(alloc, closure, search, exploration, questions);
         }
         Ok(Attempted::Ended)

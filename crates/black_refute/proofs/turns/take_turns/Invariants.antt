@@ -3,6 +3,6 @@ use Rattle.black_refute.proofs.turns.take_turns.Given as goal
 
 abbrev pub invariant-turns : goal.invariant-turns
 invariant-turns g l = record {
-  same : l.exploration.value.closure ≡ l.closure;
+  same : l.attempt ≡ l.closure;
   silent : l.options.progress ≡ false → l.notes ≡ l.fn.notes;
 }
