@@ -54,7 +54,7 @@ module _ (laws : ExistenceLaws) where
       (summary (summary_of n v.0), shown limit.0 v.0 limit.1 v.1)
 
   number_few : (words : List (List ℕ)) (n : ℕ) → Asks words (Demo n) → n ≤ 64
-  number_few words n ((more, e, (digits, number, is)), offered) = number.to
+  number_few words n (more, e, (digits, number, is)) = number.to
 
   -- ---- `depast`, without a trace
 

@@ -1,10 +1,11 @@
 -- `demo` keeps what it promises.
 use Rattle.std.proofs.Common.{◌≡◌, ℕ, inl, inr, List, Option, refl, subst}
 use Rattle.command_words.specs.Words.{Demo, Asks, ReadsNothing}
+use Rattle.command_words.proofs.OneCommand.{command_one}
 use Rattle.report.specs.declared.status.Status.{Status}
 use Rattle.black_top.specs.Demo.{PrintsSummary, DemoPromise}
 use Rattle.black_top.specs.Run.{IsAnswered, NeedsNothing}
-use Rattle.black_top.proofs.Asking.{same_command, command_given}
+use Rattle.black_top.proofs.Asking.{command_given}
 use Rattle.black_top.proofs.Promising.{IsBroken, broken_not}
 
 pub demo_broken : (n : ℕ) (IsQuiet : Type 0) (rest left before after : Option (List ℕ)) (status : Status) → IsBroken IsQuiet status → left ≡ rest → DemoPromise n IsQuiet rest left before after status
@@ -29,4 +30,4 @@ demo_kept n IsQuiet words rest left before after status asks answer same = recor
 
 -- `demo` needs nothing of the source
 pub demo_needs_nothing : (n : ℕ) (words : List (List ℕ)) → Asks words (Demo n) → NeedsNothing words
-demo_needs_nothing n words asks c also = subst ReadsNothing (same_command words (Demo n) c asks also) refl
+demo_needs_nothing n words asks c also = subst ReadsNothing (command_one words (Demo n) c asks also) refl

@@ -3,7 +3,8 @@ use Rattle.std.specs.Prelude.{◌≡◌, ◌≤◌, ℕ, List, Option, Some, Non
 use Rattle.black_top.specs.declared.output.Output.{Output}
 use Rattle.command_words.specs.declared.asked.Asked.{Asked}
 use Rattle.command_words.specs.declared.asked.Asked.TheVariants as asked
-use Rattle.command_words.specs.Asked.{IsDepth, AreWorkers}
+use Rattle.command_words.specs.Asked.{IsDepth, AreWorkers, name_asked}
+use Rattle.command_words.specs.Table.{Extent, Nothing, UpTo, Whole, command_row}
 use Rattle.program_input.specs.Claims.{IsLeft as IsLeftOf}
 use Rattle.black_top.specs.Answer.{Answer, status_of, text_of}
 use Rattle.black_top.specs.Reading.{IsParted}
@@ -16,7 +17,7 @@ use Rattle.black_top.specs.Batch.{IsBatched}
 use Rattle.black_top.specs.System.{IsSystemAnswer}
 use Rattle.black_top.specs.Depast.{IsDepasted}
 
--- the numbers that the words ask for, where they do, are in their ranges. A command that is not built is not asked for
+-- the numbers that the words ask for, where they do, are in their ranges
 abbrev pub IsInBounds : Asked → Type 0
 IsInBounds (asked.Solve options) = IsDepth options.depth × AreWorkers options.workers
 IsInBounds (asked.Check options) = AreWorkers options.workers
@@ -38,16 +39,15 @@ Gives (asked.System options) bytes answer = IsSystemAnswer options.depth options
 Gives asked.Monitor bytes answer = IsParted IsMonitored bytes answer
 Gives asked.Depast bytes answer = IsDepasted bytes answer
 
--- after how many bytes the command reads no further, where it reads: `solve` knows then that the text is too long
+-- after how many bytes the source is read no further, where it is read: no more than 18446744073709551615 are ever there
+abbrev pub stop_of : Extent → Option ℕ
+stop_of Nothing = None
+stop_of (UpTo most) = Some most
+stop_of Whole = Some 18446744073709551615
+
+-- after how many bytes the command reads no further, where it reads
 abbrev pub stop_after : Asked → Option ℕ
-stop_after (asked.Solve options) = Some 1048576
-stop_after (asked.Check options) = Some 18446744073709551615
-stop_after asked.Trace = Some 18446744073709551615
-stop_after (asked.Demo n) = None
-stop_after (asked.Batch options) = Some 16777216
-stop_after (asked.System options) = Some 18446744073709551615
-stop_after asked.Monitor = Some 18446744073709551615
-stop_after asked.Depast = Some 18446744073709551615
+stop_after command = stop_of (command_row (name_asked command)).reads
 
 -- the answer comes of what the source had left
 abbrev pub IsLeft : (List ℕ → Answer → Type 0) → Option (List ℕ) → Answer → Type 0

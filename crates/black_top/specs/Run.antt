@@ -16,7 +16,7 @@ use Rattle.black_top.specs.Batch.{IsBatched}
 use Rattle.black_top.specs.System.{IsSystemAnswer}
 use Rattle.black_top.specs.Depast.{IsDepasted}
 
--- the answer of a command to the bytes. A command that is not built has none
+-- the answer of a command to the bytes
 abbrev pub Answers : Command → List ℕ → Answer → Type 0
 Answers (Solve settings) bytes answer = IsSolved (kind_of settings) (depth_of settings) (core_of settings) (cert_of settings) bytes answer
 Answers (Check settings) bytes answer = IsParted (IsChecked (kind_of settings)) bytes answer

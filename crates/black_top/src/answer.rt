@@ -3,7 +3,7 @@
 ghost use Rattle.std.specs.Prelude.{◌≡◌, map, string_bytes, IfOk, OnOk, IsErrOf};
 ghost use Rattle.ltl_io.specs.Count.{Rose, Counts};
 ghost use Rattle.ltl_io.specs.declared.source.ReadRefused.TheVariants as read_refused;
-ghost use Rattle.command_words.specs.Words.{Command, Asks};
+ghost use Rattle.command_words.specs.Words.{Command, Asks, row_of};
 ghost use Rattle.black_top.specs.Answer.{Answer};
 ghost use Rattle.black_top.specs.Inner.{Shows};
 ghost use Rattle.black_top.specs.Run.{IsGiven, NeedsNothing};
@@ -33,12 +33,12 @@ pub fn answer<R: Threads + Sync, S: Source, G: Gate + Sync>(
     ensures counts { Counts (S.faults source.old) (S.faults source.new) }
     ensures unread { NeedsNothing (map string_bytes words.now) → source.new ≡ source.old }
     ensures most { (command : Command) → Asks (map string_bytes words.now) command
-        → TakesAtMost command (S.rest source.old) (S.rest source.new) }
+        → TakesAtMost (row_of command).reads (S.rest source.old) (S.rest source.new) }
     ensures before_fault { IsErrOf result read_refused.Fault → (command : Command)
         → Asks (map string_bytes words.now) command
-        → TakesBeforeFault command (S.rest source.old) (S.rest source.new) }
+        → TakesBeforeFault (row_of command).reads (S.rest source.old) (S.rest source.new) }
     ensures left { (command : Command) → Asks (map string_bytes words.now) command
-        → OnOk result (Takes command (S.rest source.old) (S.rest source.new)) }
+        → OnOk result (Takes (row_of command).reads (S.rest source.old) (S.rest source.new)) }
 {
     let Some(asked) = asked_command(alloc, words)? else {
         return Ok(refusal(alloc, Fault::Usage)?);

@@ -1,6 +1,6 @@
 -- Each list of words asks for a command or for none. Which of both is found as the code finds it, over plain lists.
 use Rattle.std.proofs.Common.{◌≡◌, ◌∙◌, ℕ, zero, suc, ◌<◌, ◌==◌, ◌||◌, ◌⊎◌, inl, inr, Bool, true, false, List, [], ◌∷◌, ◌++◌}
-use Rattle.std.proofs.Common.{length, length-append, Option, Some, None, All, arith, refl, sym, ap, subst}
+use Rattle.std.proofs.Common.{length, length-append, Option, Some, None, arith, refl, sym, ap, subst}
 use Rattle.std.specs.List.{find}
 use Rattle.std.specs.Char.{digit_value}
 use Rattle.std.specs.Str.Parse.{AllDigits, digits_value}
@@ -13,15 +13,15 @@ use Rattle.command_words.specs.declared.table.OptionName.{OptionName}
 use Rattle.command_words.specs.declared.table.CommandName.{CommandName}
 use Rattle.command_words.specs.declared.table.CommandName.TheVariants as commands
 use Rattle.command_words.specs.declared.options.Seen.{Seen}
-use Rattle.command_words.specs.Table.{Offer, option_row, option_word, command_row, has_built, solve_command, check_command, demo_command, batch_command, system_command}
+use Rattle.command_words.specs.Table.{all_options, option_row, option_word, all_commands, command_row, has_option, demo_command}
 use Rattle.command_words.specs.Words.{Setting, Command, Solve, Check, Trace, Demo, Batch, System, Monitor, Depast, IsNumberIn, IsNumberOf, Says}
-use Rattle.command_words.specs.Words.{SayNumber, IsBuilt, name_of, Follow, IsOffered, Asks}
-use Rattle.command_words.specs.Said.{SayOnce, SomeAreSaid, NoneAreSaid, is_seen, with_seen, SaysFirst, SaysNothing, GoesOn}
+use Rattle.command_words.specs.Words.{SayNumber, SaySettings, name_of, Follow, Asks}
+use Rattle.command_words.specs.Said.{SomeAreSaid, NoneAreSaid, is_seen, with_seen, SaysFirst, SaysNothing, GoesOn}
 use Rattle.command_words.specs.Said.{FollowsNothing}
-use Rattle.command_words.proofs.OneCommand.{all_options, option_at_word, word_one, has_equals, says_some}
-use Rattle.command_words.proofs.Saying.{IsSaidBefore, said_at_first, said_at_last, said_next, none_behind, unbuilt_behind, repeated_behind}
+use Rattle.command_words.proofs.OneCommand.{option_at_word, word_one, has_equals, says_some}
+use Rattle.command_words.proofs.Saying.{IsSaidBefore, said_at_first, said_at_last, said_next, none_behind, other_behind, repeated_behind}
 use Rattle.command_words.proofs.Saying.{empty_says_nothing, joined_first, joined_nothing, apart_first, apart_nothing}
-use Rattle.command_words.proofs.Asking.{all_commands, command_at_word, takes_options, takes_nothing, all_among, no_offers, no_settings, more_words, no_number}
+use Rattle.command_words.proofs.Asking.{command_at_word, takes_options, takes_nothing, no_settings, more_words, no_number}
 use Rattle.command_words.proofs.Asking.{asks_unknown, asks_nothing, no_words_asked}
 
 -- something has the property, or nothing has it
@@ -153,7 +153,7 @@ first_said (w ∷ more) = elim (cut w) [ inl c ↦ joined_said w more c | inr la
 
 -- ---- the settings
 
-abbrev AreDecided : List Offer → List (List ℕ) → Type 0
+abbrev AreDecided : List OptionName → List (List ℕ) → Type 0
 AreDecided offers words = SomeAreSaid offers words ⊎ NoneAreSaid offers words
 
 -- what stands behind an option is shorter
@@ -163,16 +163,16 @@ shorter words behind option first = by first.front first.whole first.says where
   by [] e says = absurd (says_some (record { option = option; number = first.number }) says)
   by (w ∷ ws) e says = let l = ap length e in let m = length-append ws behind in omega arith
 
--- a first option that is built and new is read, and what stands behind it decides
-one_said : (offers : List Offer) (words rest behind : List (List ℕ)) (seen : Seen) (option : OptionName) → IsSaidBefore offers words rest seen
+-- a first option that is offered and new is read, and what stands behind it decides
+one_said : (offers : List OptionName) (words rest behind : List (List ℕ)) (seen : Seen) (option : OptionName) → IsSaidBefore offers words rest seen
     → SaysFirst rest option behind → (IsSaidBefore offers words behind (with_seen seen option) → AreDecided offers words) → AreDecided offers words
-one_said offers words rest behind seen option h first further = by (has_built offers option) refl (is_seen seen option) refl where
-  by : (b : Bool) → has_built offers option ≡ b → (s : Bool) → is_seen seen option ≡ s → AreDecided offers words
-  by false b s e = inr (unbuilt_behind offers words rest behind seen option h first b)
+one_said offers words rest behind seen option h first further = by (has_option offers option) refl (is_seen seen option) refl where
+  by : (b : Bool) → has_option offers option ≡ b → (s : Bool) → is_seen seen option ≡ s → AreDecided offers words
+  by false b s e = inr (other_behind offers words rest behind seen option h first b)
   by true b true e = inr (repeated_behind offers words rest behind seen option h first e)
   by true b false e = further (said_next offers words rest behind seen option h first b e)
 
-said_on : (left : ℕ) (offers : List Offer) (words rest : List (List ℕ)) (seen : Seen) → length rest < left
+said_on : (left : ℕ) (offers : List OptionName) (words rest : List (List ℕ)) (seen : Seen) → length rest < left
     → IsSaidBefore offers words rest seen → AreDecided offers words
 said_on zero offers words rest seen less h = absurd (omega arith)
 said_on (suc left) offers words [] seen less h = inl (said_at_last offers words [] seen h refl)
@@ -183,7 +183,7 @@ said_on (suc left) offers words (w ∷ ws) seen less h = elim (first_said (w ∷
       said_on left offers words f.1 (with_seen seen f.0) (omega arith) k)
 ]
 
-settings_said : (offers : List Offer) (words : List (List ℕ)) → AreDecided offers words
+settings_said : (offers : List OptionName) (words : List (List ℕ)) → AreDecided offers words
 settings_said offers words = said_on (suc (length words)) offers words words _ (omega arith) (said_at_first offers words)
 
 -- ---- the command
@@ -192,38 +192,32 @@ settings_said offers words = said_on (suc (length words)) offers words words _ (
 record IsFurther (name : CommandName) (words : List (List ℕ)) : Type 0 where
   command : Command
   is : name_of command ≡ name
-  offered : IsOffered command
   follow : Follow command words
 
 with_options : (name : CommandName) (of : List Setting → Command) → takes_options name ≡ true
     → ((settings : List Setting) → name_of (of settings) ≡ name)
-    → ((settings : List Setting) (words : List (List ℕ)) → SayOnce settings words → All (IsBuilt (command_row name).options) settings
-    → IsOffered (of settings) × Follow (of settings) words)
+    → ((settings : List Setting) (words : List (List ℕ)) → SaySettings (command_row name).options settings words → Follow (of settings) words)
     → (words : List (List ℕ)) → IsFurther name words ⊎ FollowsNothing name words
 with_options name of takes is good words = elim (settings_said (command_row name).options words) [
-  | inl s ↦ let g = good s.0 words s.1 s.2 in inl (record { command = of s.0; is = is s.0; offered = g.0; follow = g.1 })
+  | inl s ↦ inl (record { command = of s.0; is = is s.0; follow = good s.0 words s.1 })
   | inr none ↦ inr (no_settings name words takes none)
 ]
 
-without_words : (name : CommandName) (c : Command) → takes_nothing name ≡ true → name_of c ≡ name → IsOffered c → Follow c []
+without_words : (name : CommandName) (c : Command) → takes_nothing name ≡ true → name_of c ≡ name → Follow c []
     → (words : List (List ℕ)) → IsFurther name words ⊎ FollowsNothing name words
-without_words name c takes is offered follow [] = inl (record { command = c; is = is; offered = offered; follow = follow })
-without_words name c takes is offered follow (w ∷ ws) = inr (more_words name (w ∷ ws) takes (λ e. cc))
+without_words name c takes is follow [] = inl (record { command = c; is = is; follow = follow })
+without_words name c takes is follow (w ∷ ws) = inr (more_words name (w ∷ ws) takes (λ e. cc))
 
 further : (name : CommandName) (words : List (List ℕ)) → IsFurther name words ⊎ FollowsNothing name words
-further commands.Solve = with_options commands.Solve Solve refl (λ cs. refl) (λ cs ws say built.
-    ((refl, built), (say.0, say.1, all_among solve_command.options cs built)))
-further commands.Check = with_options commands.Check Check refl (λ cs. refl) (λ cs ws say built.
-    ((refl, built), (say.0, say.1, all_among check_command.options cs built)))
-further commands.Batch = with_options commands.Batch Batch refl (λ cs. refl) (λ cs ws say built.
-    ((refl, built), (say.0, say.1, all_among batch_command.options cs built)))
-further commands.System = with_options commands.System System refl (λ cs. refl) (λ cs ws say built.
-    ((refl, built), (say.0, say.1, all_among system_command.options cs built)))
-further commands.Trace = without_words commands.Trace Trace refl refl (refl, no_offers commands.Trace) refl
-further commands.Monitor = without_words commands.Monitor Monitor refl refl (refl, no_offers commands.Monitor) refl
-further commands.Depast = without_words commands.Depast Depast refl refl (refl, no_offers commands.Depast) refl
+further commands.Solve = with_options commands.Solve Solve refl (λ cs. refl) (λ cs ws say. say)
+further commands.Check = with_options commands.Check Check refl (λ cs. refl) (λ cs ws say. say)
+further commands.Batch = with_options commands.Batch Batch refl (λ cs. refl) (λ cs ws say. say)
+further commands.System = with_options commands.System System refl (λ cs. refl) (λ cs ws say. say)
+further commands.Trace = without_words commands.Trace Trace refl refl refl
+further commands.Monitor = without_words commands.Monitor Monitor refl refl refl
+further commands.Depast = without_words commands.Depast Depast refl refl refl
 further commands.Demo = λ words. elim (said_number words) [
-  | inl n ↦ inl (record { command = Demo n.0; is = refl; offered = (refl, no_offers commands.Demo); follow = n.1 })
+  | inl n ↦ inl (record { command = Demo n.0; is = refl; follow = n.1 })
   | inr none ↦ inr (no_number words none)
 ]
 
@@ -233,7 +227,7 @@ asks_or_not [] = inr no_words_asked
 asks_or_not (w ∷ more) = elim (command_named w) [
   | inr unknown ↦ inr (asks_unknown (w ∷ more) more w refl unknown)
   | inl n ↦ elim (further n.0 more) [
-    | inl f ↦ inl (f.command, ((more, ap (λ z. z ∷ more) (n.1 ∙ ap (λ name. (command_row name).word) (sym f.is)), f.follow), f.offered))
+    | inl f ↦ inl (f.command, (more, ap (λ z. z ∷ more) (n.1 ∙ ap (λ name. (command_row name).word) (sym f.is)), f.follow))
     | inr none ↦ inr (asks_nothing (w ∷ more) more w n.0 refl n.1 none)
   ]
 ]

@@ -7,8 +7,8 @@ use Rattle.std.proofs.lemmas.Slice.Eq.{bytes_eq-Decides}
 use Rattle.command_words.specs.declared.table.Range.{Range}
 use Rattle.command_words.specs.declared.table.OptionName.{OptionName}
 use Rattle.command_words.specs.declared.table.OptionName.TheVariants as names
-use Rattle.command_words.specs.Table.{option_row, option_word, solve_command, check_command, batch_command, system_command}
-use Rattle.command_words.specs.Words.{Setting, Command, Solve, Check, Trace, Demo, Batch, System, Monitor, Depast, IsNumberIn, name, SaysOption, Says, SayAll, Taken, command_word}
+use Rattle.command_words.specs.Table.{all_options, option_row, option_word, solve_command, check_command, batch_command, system_command}
+use Rattle.command_words.specs.Words.{Setting, Command, Solve, Check, Trace, Demo, Batch, System, Monitor, Depast, IsNumberIn, name, SaysOption, Says, SayAll, Asks, command_word}
 
 pub false_not_true : false ≡ true → ⊥
 false_not_true e = cc
@@ -18,9 +18,6 @@ pub apart : (a b : List ℕ) → bytes_eq a b ≡ false → a ≡ b → ⊥
 apart a b n e = false_not_true (sym n ∙ (bytes_eq-Decides a b).1 e)
 
 -- ---- the words of the options
-
-abbrev pub all_options : List OptionName
-all_options = names.Finite ∷ names.Depth ∷ names.Cert ∷ names.Core ∷ names.Workers ∷ names.Check ∷ names.Steps ∷ names.Progress ∷ []
 
 -- the option of a word
 abbrev pub option_at : List ℕ → Option OptionName
@@ -164,7 +161,7 @@ settings_one (c ∷ cs) (d ∷ ds) words (front, back, whole, says, more) (front
 -- ---- one command
 
 -- words are not taken as two commands whose first words differ
-pub not_both : (words : List (List ℕ)) (c d : Command) → bytes_eq (command_word c) (command_word d) ≡ false → Taken words c → Taken words d → ⊥
+pub not_both : (words : List (List ℕ)) (c d : Command) → bytes_eq (command_word c) (command_word d) ≡ false → Asks words c → Asks words d → ⊥
 not_both words c d n (more, e, follow) (more', e', follow') =
     let s : command_word c ∷ more ≡ command_word d ∷ more' = sym e ∙ e' in apart (command_word c) (command_word d) n (cc)
 
@@ -177,7 +174,7 @@ settings_behind : (word : List ℕ) (words more more' : List (List ℕ)) (cs ds 
 settings_behind word words more more' cs ds e e' says says' =
     settings_one cs ds more says (let P : List (List ℕ) → Type 0 = λ ws. SayAll ds ws in subst P (behind_one word words more more' e e') says')
 
-pub command_one : (words : List (List ℕ)) (c d : Command) → Taken words c → Taken words d → c ≡ d
+pub command_one : (words : List (List ℕ)) (c d : Command) → Asks words c → Asks words d → c ≡ d
 command_one words (Solve cs) (Solve ds) (more, e, (says, once, among)) (more', e', (says', once', among')) = ap Solve (settings_behind solve_command.word words more more' cs ds e e' says says')
 command_one words (Check cs) (Check ds) (more, e, (says, once, among)) (more', e', (says', once', among')) = ap Check (settings_behind check_command.word words more more' cs ds e e' says says')
 command_one words (Batch cs) (Batch ds) (more, e, (says, once, among)) (more', e', (says', once', among')) = ap Batch (settings_behind batch_command.word words more more' cs ds e e' says says')

@@ -6,17 +6,16 @@ use Rattle.command_words.specs.declared.table.OptionName.{OptionName}
 use Rattle.command_words.specs.declared.table.OptionName.TheVariants as names
 use Rattle.command_words.specs.declared.options.Options.{Options}
 use Rattle.command_words.specs.declared.refutation.Refutation.TheVariants as refutation
-use Rattle.command_words.specs.Table.{Offer, option_word, same_option, has_option, refute_row, verify_row}
+use Rattle.command_words.specs.Table.{option_word, same_option, has_option, refute_row, verify_row}
 use Rattle.command_words.specs.Words.{Setting, IsAmong, stands, check_of}
 use Rattle.command_words.specs.Refutation.{RefutationAsked, Refute, Verify, AsksRefutation, IsRefutationAsked}
 use Rattle.command_words.specs.Said.{AreSaid, NoneAreSaid}
 use Rattle.command_words.proofs.OneCommand.{false_not_true, word_one, settings_one}
-use Rattle.command_words.proofs.Asking.{all_among}
 
 -- ---- --check among the settings
 
 -- an option that is not offered stands nowhere among the settings of what is
-not_among : (offers : List Offer) (o : OptionName) (cs : List Setting) → has_option offers o ≡ false → All (IsAmong offers) cs → stands o cs ≡ true → ⊥
+not_among : (offers : List OptionName) (o : OptionName) (cs : List Setting) → has_option offers o ≡ false → All (IsAmong offers) cs → stands o cs ≡ true → ⊥
 not_among offers o [] n among s = false_not_true s
 not_among offers o (c ∷ cs) n among s = by (same_option c.option o) refl (not_among offers o cs n) where
   by : (b : Bool) → same_option c.option o ≡ b → (All (IsAmong offers) cs → stands o cs ≡ true → ⊥) → ⊥
@@ -49,17 +48,13 @@ checked cs among never = by (check_of cs) refl where
 
 -- ---- what is asked for
 
-pub asks_to_refute : (words : List (List ℕ)) (options : Options) → AreSaid refute_row words options → IsRefutationAsked words (refutation.Refute options)
-asks_to_refute words options (settings, (say, once), built, are) = (settings, (say, once, all_among refute_row settings built), are)
-
 pub asks_to_verify : (words : List (List ℕ)) → NoneAreSaid refute_row words → (options : Options) → AreSaid verify_row words options → IsRefutationAsked words (refutation.Check options)
-asks_to_verify words none options (settings, (say, once), built, are) =
-    let among = all_among verify_row settings built in
-    (settings, ((say, once, among), checked settings among (λ other. none settings (say, once) other)), are)
+asks_to_verify words none options (settings, (say, once, among), are) =
+    (settings, ((say, once, among), checked settings among (λ other. none settings (say, once, other))), are)
 
 pub asks_neither : (words : List (List ℕ)) → NoneAreSaid refute_row words → NoneAreSaid verify_row words → (c : RefutationAsked) → AsksRefutation words c → ⊥
-asks_neither words none never (Refute settings) (say, once, among) = none settings (say, once) among
-asks_neither words none never (Verify settings) ((say, once, among), check) = never settings (say, once) among
+asks_neither words none never (Refute settings) say = none settings say
+asks_neither words none never (Verify settings) (say, check) = never settings say
 
 -- ---- one of both
 

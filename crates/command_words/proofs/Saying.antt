@@ -8,8 +8,8 @@ use Rattle.command_words.specs.declared.table.Range.{Range}
 use Rattle.command_words.specs.declared.table.OptionName.{OptionName}
 use Rattle.command_words.specs.declared.table.OptionName.TheVariants as names
 use Rattle.command_words.specs.declared.options.Seen.{Seen}
-use Rattle.command_words.specs.Table.{Offer, option_row, option_word, same_option, has_built}
-use Rattle.command_words.specs.Words.{Setting, Says, SayAll, Once, IsBuilt, IsNumberIn, IsNumberOf, name, stands}
+use Rattle.command_words.specs.Table.{option_row, option_word, same_option, has_option}
+use Rattle.command_words.specs.Words.{Setting, Says, SayAll, Once, IsAmong, IsNumberIn, IsNumberOf, name, stands}
 use Rattle.command_words.specs.Said.{SayOnce, SomeAreSaid, NoneAreSaid, is_seen, with_seen, SaysFirst, SaysNothing, AreRoundEquals, GoesOn, IsApart}
 use Rattle.command_words.proofs.OneCommand.{false_not_true, apart, no_equals, has_equals, before_equals, before_joined, joined_equals, Form, alone, two, one, form, form_option, first_one, says_some, not_joined, same_behind}
 
@@ -88,13 +88,13 @@ seen_more seen o names.Progress = refl
 
 -- ---- reading on
 
--- the words before these say settings of what is offered and built, and these options were seen
-pub record IsSaidBefore (offers : List Offer) (words rest : List (List ℕ)) (seen : Seen) : Type 0 where
+-- the words before these are settings of options that are offered, and these options were seen
+pub record IsSaidBefore (offers : List OptionName) (words rest : List (List ℕ)) (seen : Seen) : Type 0 where
   pub front : List (List ℕ)
   pub whole : words ≡ front ++ rest
   pub settings : List Setting
   pub said : SayOnce settings front
-  pub built : All (IsBuilt offers) settings
+  pub among : All (IsAmong offers) settings
   pub seen_are : (o : OptionName) → is_seen seen o ≡ stands o settings
 
 none_seen : (o : OptionName) → is_seen (record { finite = false; depth = false; cert = false; core = false; workers = false; check = false; steps = false; progress = false }) o ≡ false
@@ -107,35 +107,35 @@ none_seen names.Check = refl
 none_seen names.Steps = refl
 none_seen names.Progress = refl
 
-pub said_at_first : (offers : List Offer) (words : List (List ℕ)) → IsSaidBefore offers words words (record { finite = false; depth = false; cert = false; core = false; workers = false; check = false; steps = false; progress = false })
-said_at_first offers words = record { front = []; whole = refl; settings = []; said = (refl, none_once); built = All-nil (IsBuilt offers); seen_are = none_seen }
+pub said_at_first : (offers : List OptionName) (words : List (List ℕ)) → IsSaidBefore offers words words (record { finite = false; depth = false; cert = false; core = false; workers = false; check = false; steps = false; progress = false })
+said_at_first offers words = record { front = []; whole = refl; settings = []; said = (refl, none_once); among = All-nil (IsAmong offers); seen_are = none_seen }
 
-pub said_at_last : (offers : List Offer) (words rest : List (List ℕ)) (seen : Seen) → IsSaidBefore offers words rest seen → rest ≡ [] → SomeAreSaid offers words
+pub said_at_last : (offers : List OptionName) (words rest : List (List ℕ)) (seen : Seen) → IsSaidBefore offers words rest seen → rest ≡ [] → SomeAreSaid offers words
 said_at_last offers words rest seen h e =
     let same : words ≡ h.front = h.whole ∙ ap (λ ws. h.front ++ ws) e ∙ append-nil h.front in
-    (h.settings, ((let P : List (List ℕ) → Type 0 = λ ws. SayAll h.settings ws in subst P (sym same) h.said.0), h.said.1), h.built)
+    (h.settings, ((let P : List (List ℕ) → Type 0 = λ ws. SayAll h.settings ws in subst P (sym same) h.said.0), h.said.1, h.among))
 
-pub said_next : (offers : List Offer) (words rest behind : List (List ℕ)) (seen : Seen) (option : OptionName) → IsSaidBefore offers words rest seen → SaysFirst rest option behind
-    → has_built offers option ≡ true → is_seen seen option ≡ false → IsSaidBefore offers words behind (with_seen seen option)
-said_next offers words rest behind seen option h first built new =
+pub said_next : (offers : List OptionName) (words rest behind : List (List ℕ)) (seen : Seen) (option : OptionName) → IsSaidBefore offers words rest seen → SaysFirst rest option behind
+    → has_option offers option ≡ true → is_seen seen option ≡ false → IsSaidBefore offers words behind (with_seen seen option)
+said_next offers words rest behind seen option h first offered new =
     let c : Setting = record { option = option; number = first.number } in
     record {
       front = h.front ++ first.front;
       whole = h.whole ∙ ap (λ ws. h.front ++ ws) first.whole ∙ sym (append_assoc h.front first.front behind);
       settings = h.settings ++ c ∷ [];
       said = (said_more h.settings c h.front first.front h.said.0 first.says, once_more h.settings c h.said.1 (not_standing option h.settings (sym (h.seen_are option) ∙ new)));
-      built = All-push (IsBuilt offers) h.settings c h.built built;
+      among = All-push (IsAmong offers) h.settings c h.among offered;
       seen_are = λ o. seen_more seen option o ∙ ap (λ t. same_option option o || t) (h.seen_are o) ∙ sym (stands_more o h.settings c);
     }
 
 -- ---- words that are not taken
 
 -- another reading of the words goes on behind those that were read
-behind_read : (offers : List Offer) (words rest : List (List ℕ)) (seen : Seen) (h : IsSaidBefore offers words rest seen) (settings : List Setting) → SayAll settings words → (es : List Setting) × (settings ≡ h.settings ++ es) × SayAll es rest
+behind_read : (offers : List OptionName) (words rest : List (List ℕ)) (seen : Seen) (h : IsSaidBefore offers words rest seen) (settings : List Setting) → SayAll settings words → (es : List Setting) × (settings ≡ h.settings ++ es) × SayAll es rest
 behind_read offers words rest seen h settings all = said_behind h.settings settings h.front rest h.said.0 (let P : List (List ℕ) → Type 0 = λ ws. SayAll settings ws in subst P h.whole all)
 
-pub none_behind : (offers : List Offer) (words rest : List (List ℕ)) (seen : Seen) → IsSaidBefore offers words rest seen → rest ≢ [] → SaysNothing rest → NoneAreSaid offers words
-none_behind offers words rest seen h some nothing settings (all, once) built =
+pub none_behind : (offers : List OptionName) (words rest : List (List ℕ)) (seen : Seen) → IsSaidBefore offers words rest seen → rest ≢ [] → SaysNothing rest → NoneAreSaid offers words
+none_behind offers words rest seen h some nothing settings (all, once, among) =
     let r = behind_read offers words rest seen h settings all in stop r.0 r.2 where
       stop : (es : List Setting) → SayAll es rest → ⊥
       stop [] e = some e
@@ -161,17 +161,17 @@ all_behind : (P : Setting → Type 0) (cs es : List Setting) → All P (cs ++ es
 all_behind P [] es all = all
 all_behind P (c ∷ cs) es all = all_behind P cs es (All-tail P c (cs ++ es) all)
 
-pub unbuilt_behind : (offers : List Offer) (words rest behind : List (List ℕ)) (seen : Seen) (option : OptionName) → IsSaidBefore offers words rest seen → SaysFirst rest option behind
-    → has_built offers option ≡ false → NoneAreSaid offers words
-unbuilt_behind offers words rest behind seen option h first unbuilt settings (all, once) built =
+pub other_behind : (offers : List OptionName) (words rest behind : List (List ℕ)) (seen : Seen) (option : OptionName) → IsSaidBefore offers words rest seen → SaysFirst rest option behind
+    → has_option offers option ≡ false → NoneAreSaid offers words
+other_behind offers words rest behind seen option h first other settings (all, once, among) =
     let r = behind_read offers words rest seen h settings all in
     let n = next_read rest behind option r.0 first r.2 in
-    let there = all_behind (IsBuilt offers) h.settings (n.next ∷ n.more) (subst (All (IsBuilt offers)) (r.1 ∙ ap (λ es. h.settings ++ es) n.whole) built) in
-    false_not_true (sym unbuilt ∙ ap (has_built offers) (sym n.is) ∙ All-head (IsBuilt offers) n.next n.more there)
+    let there = all_behind (IsAmong offers) h.settings (n.next ∷ n.more) (subst (All (IsAmong offers)) (r.1 ∙ ap (λ es. h.settings ++ es) n.whole) among) in
+    false_not_true (sym other ∙ ap (has_option offers) (sym n.is) ∙ All-head (IsAmong offers) n.next n.more there)
 
-pub repeated_behind : (offers : List Offer) (words rest behind : List (List ℕ)) (seen : Seen) (option : OptionName) → IsSaidBefore offers words rest seen → SaysFirst rest option behind
+pub repeated_behind : (offers : List OptionName) (words rest behind : List (List ℕ)) (seen : Seen) (option : OptionName) → IsSaidBefore offers words rest seen → SaysFirst rest option behind
     → is_seen seen option ≡ true → NoneAreSaid offers words
-repeated_behind offers words rest behind seen option h first there settings (all, once) built =
+repeated_behind offers words rest behind seen option h first there settings (all, once, among) =
     let r = behind_read offers words rest seen h settings all in
     let n = next_read rest behind option r.0 first r.2 in
     let new = new_behind h.settings n.more n.next (subst Once (r.1 ∙ ap (λ es. h.settings ++ es) n.whole) once) in

@@ -14,9 +14,8 @@ use Rattle.clap.specs.declared.builder.value_parser.ValueParser.TheVariants as p
 use Rattle.command_words.specs.declared.table.Range.{Range}
 use Rattle.command_words.specs.declared.table.OptionName.{OptionName}
 use Rattle.command_words.specs.declared.table.OptionName.TheVariants as names
-use Rattle.command_words.specs.Table.{option_row, option_word}
+use Rattle.command_words.specs.Table.{all_options, option_row, option_word}
 use Rattle.command_words.specs.Matching.{option_id, flag_rule, value_rule, options_shape, options_app}
-use Rattle.command_words.proofs.OneCommand.{all_options}
 
 -- ---- the command as `clap` builds it
 

@@ -1,5 +1,7 @@
 -- What is handed on of the words that are taken.
 use Rattle.std.specs.Prelude.{◌≡◌, ◌≤◌, ℕ, List, Option, Some, None}
+use Rattle.command_words.specs.declared.table.CommandName.{CommandName}
+use Rattle.command_words.specs.declared.table.CommandName.TheVariants as commands
 use Rattle.command_words.specs.declared.options.Options.{Options}
 use Rattle.command_words.specs.declared.asked.Asked.{Asked}
 use Rattle.command_words.specs.declared.asked.Asked.TheVariants as asked
@@ -33,6 +35,17 @@ pub record AreOptions (settings : List Setting) (options : Options) : Type 0 whe
   pub small : IsDepth options.depth
   pub few : AreWorkers options.workers
   pub counted : IsSteps options.steps
+
+-- which command is asked for
+abbrev pub name_asked : Asked → CommandName
+name_asked (asked.Solve options) = commands.Solve
+name_asked (asked.Check options) = commands.Check
+name_asked asked.Trace = commands.Trace
+name_asked (asked.Demo n) = commands.Demo
+name_asked (asked.Batch options) = commands.Batch
+name_asked (asked.System options) = commands.System
+name_asked asked.Monitor = commands.Monitor
+name_asked asked.Depast = commands.Depast
 
 -- the words ask for the command
 abbrev pub IsAsked : List (List ℕ) → Asked → Type 0

@@ -1,13 +1,12 @@
 -- All options as one command of `clap`.
-use Rattle.std.specs.Prelude.{◌≡◌, ℕ, Bool, true, false, List, [], ◌∷◌, codes, Option, Some, None, map, drop}
+use Rattle.std.specs.Prelude.{◌≡◌, ℕ, Bool, true, false, List, [], codes, Option, Some, None, map, drop}
 use Rattle.clap.specs.Words.{App, Rule, new_rule, first_value, one_text, found_of}
 use Rattle.clap.specs.Simple.{Shape, new_shape}
 use Rattle.clap.specs.declared.builder.action.ArgAction.TheVariants.{Set, SetTrue}
 use Rattle.clap.specs.declared.parser.matches.ArgMatches.{ArgMatches}
 use Rattle.command_words.specs.declared.table.Range.{Range}
 use Rattle.command_words.specs.declared.table.OptionName.{OptionName}
-use Rattle.command_words.specs.declared.table.OptionName.TheVariants as names
-use Rattle.command_words.specs.Table.{option_row, option_word}
+use Rattle.command_words.specs.Table.{all_options, option_row, option_word}
 use Rattle.command_words.specs.Words.{Setting, IsNumberIn, stands, number_of}
 use Rattle.command_words.specs.Said.{SayOnce}
 
@@ -34,7 +33,7 @@ option_rule option = rule_with (option_row option).number (option_id option)
 -- the options, behind no name of a program, with no flag of `clap`'s own
 abbrev pub options_shape : Shape
 options_shape = record (new_shape (codes "black")) {
-  rules = map option_rule (names.Finite ∷ names.Depth ∷ names.Cert ∷ names.Core ∷ names.Workers ∷ names.Check ∷ names.Steps ∷ names.Progress ∷ []);
+  rules = map option_rule all_options;
   no_binary_name = true;
   disable_help_flag = true;
   disable_version_flag = true;

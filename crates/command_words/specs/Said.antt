@@ -1,17 +1,16 @@
 -- What the private calls on words give. No public contract cites this file.
-use Rattle.std.specs.Prelude.{◌≡◌, ◌||◌, ℕ, Bool, List, [], ◌∷◌, ◌++◌, All, Option, Some, None}
+use Rattle.std.specs.Prelude.{◌≡◌, ◌||◌, ℕ, Bool, List, [], ◌∷◌, ◌++◌, Option, Some, None}
 use Rattle.command_words.specs.declared.table.Range.{Range}
 use Rattle.command_words.specs.declared.table.OptionName.{OptionName}
 use Rattle.command_words.specs.declared.table.OptionName.TheVariants as names
 use Rattle.command_words.specs.declared.table.CommandName.{CommandName}
-use Rattle.command_words.specs.declared.table.CommandName.TheVariants as commands
 use Rattle.command_words.specs.declared.options.Options.{Options}
 use Rattle.command_words.specs.declared.options.Seen.{Seen}
 use Rattle.command_words.specs.declared.asked.Asked.{Asked}
 use Rattle.command_words.specs.declared.asked.Asked.TheVariants as asked
-use Rattle.command_words.specs.Table.{Offer, CommandRow, option_row, option_word, same_option, solve_command, check_command, demo_command, batch_command, system_command}
-use Rattle.command_words.specs.Words.{Setting, Command, IsNumberIn, IsNumberOf, Says, SayAll, Once, IsBuilt, SayNumber, name_of, Follow, IsOffered}
-use Rattle.command_words.specs.Asked.{AreOptions}
+use Rattle.command_words.specs.Table.{CommandRow, option_row, option_word, same_option, solve_command, check_command, demo_command, batch_command, system_command}
+use Rattle.command_words.specs.Words.{Setting, Command, IsNumberIn, IsNumberOf, Says, SayAll, Once, SaySettings, SayNumber, name_of, Follow}
+use Rattle.command_words.specs.Asked.{AreOptions, name_asked}
 
 -- ---- settings
 
@@ -19,21 +18,21 @@ use Rattle.command_words.specs.Asked.{AreOptions}
 abbrev pub SayOnce : List Setting → List (List ℕ) → Type 0
 SayOnce settings words = SayAll settings words × Once settings
 
--- the words say settings of what is offered and built
-abbrev pub SomeAreSaid : List Offer → List (List ℕ) → Type 0
-SomeAreSaid offers words = (settings : List Setting) × SayOnce settings words × All (IsBuilt offers) settings
+-- the words are settings of options that are offered, whichever
+abbrev pub SomeAreSaid : List OptionName → List (List ℕ) → Type 0
+SomeAreSaid offers words = (settings : List Setting) × SaySettings offers settings words
 
--- the words say no settings of what is offered and built
-abbrev pub NoneAreSaid : List Offer → List (List ℕ) → Type 0
-NoneAreSaid offers words = (settings : List Setting) → SayOnce settings words → All (IsBuilt offers) settings → ⊥
+-- the words are no settings of options that are offered
+abbrev pub NoneAreSaid : List OptionName → List (List ℕ) → Type 0
+NoneAreSaid offers words = (settings : List Setting) → ¬ (SaySettings offers settings words)
 
 -- the options are what the words say, whatever they are read as
 abbrev pub AreTold : List (List ℕ) → Options → Type 0
 AreTold words options = (settings : List Setting) → SayOnce settings words → AreOptions settings options
 
--- the words say settings of what is offered and built, which are these options
-abbrev pub AreSaid : List Offer → List (List ℕ) → Options → Type 0
-AreSaid offers words options = (settings : List Setting) × SayOnce settings words × All (IsBuilt offers) settings × AreOptions settings options
+-- the words are settings of options that are offered, and these options are what they say
+abbrev pub AreSaid : List OptionName → List (List ℕ) → Options → Type 0
+AreSaid offers words options = (settings : List Setting) × SaySettings offers settings words × AreOptions settings options
 
 -- ---- one option
 
@@ -87,17 +86,6 @@ IsApart word more option behind = (word ≡ option_word option) × GoesOn (optio
 
 -- ---- the command
 
--- which command is asked for
-abbrev pub name_asked : Asked → CommandName
-name_asked (asked.Solve options) = commands.Solve
-name_asked (asked.Check options) = commands.Check
-name_asked asked.Trace = commands.Trace
-name_asked (asked.Demo n) = commands.Demo
-name_asked (asked.Batch options) = commands.Batch
-name_asked (asked.System options) = commands.System
-name_asked asked.Monitor = commands.Monitor
-name_asked asked.Depast = commands.Depast
-
 -- the words behind the first one say the rest of what is asked for
 abbrev pub Tell : List (List ℕ) → Asked → Type 0
 Tell words (asked.Solve options) = AreSaid solve_command.options words options
@@ -115,7 +103,7 @@ Follows command words asked = (name_asked asked ≡ command) × Tell words asked
 
 -- behind the command's word, the words ask for nothing
 abbrev pub FollowsNothing : CommandName → List (List ℕ) → Type 0
-FollowsNothing name words = (command : Command) → name_of command ≡ name → IsOffered command → Follow command words → ⊥
+FollowsNothing name words = (command : Command) → name_of command ≡ name → ¬ (Follow command words)
 
 -- the words are no number of the command
 abbrev pub SayNoNumber : CommandRow → List (List ℕ) → Type 0

@@ -1,5 +1,5 @@
--- The table of the commands, of the calls of the second program, and of their options, with what of it is built. The usage lines show it, and words are judged by it.
-use Rattle.std.specs.Prelude.{ℕ, Bool, true, false, ◌&&◌, List, [], ◌∷◌, codes, Option, Some, None, bytes_eq}
+-- The table of the commands, of the calls of the second program, and of their options. The usage lines show it, and words are judged by it.
+use Rattle.std.specs.Prelude.{ℕ, Bool, List, [], ◌∷◌, codes, Option, Some, None, bytes_eq}
 use Rattle.std.specs.List.{list_any}
 use Rattle.command_words.specs.declared.table.Range.{Range}
 use Rattle.command_words.specs.declared.table.OptionName.{OptionName}
@@ -14,18 +14,18 @@ pub record OptionRow : Type 0 where
   pub word : List ℕ
   pub number : Option Range
 
--- an option that is offered, and whether it is built there
-pub record Offer : Type 0 where
-  pub option : OptionName
-  pub built : Bool
+-- how far the source is read: not at all, until more than so many bytes were taken, or to its end
+pub data Extent : Type 0 where
+  Nothing : Extent
+  UpTo : ℕ → Extent
+  Whole : Extent
 
--- a command: its word, its options, its number where it has one, whether it reads the source, and whether it is built
+-- a command: its word, its options, its number where it has one, and how far it reads the source
 pub record CommandRow : Type 0 where
   pub word : List ℕ
-  pub options : List Offer
+  pub options : List OptionName
   pub number : Option Range
-  pub reads : Bool
-  pub built : Bool
+  pub reads : Extent
 
 -- the row of each option. --finite asks about finite traces, --depth is the greatest depth that is gone through, --cert asks for a
 -- certificate, --core for a core, --workers says how many workers there are, --check asks whether a certificate is one, --steps says how many
@@ -44,33 +44,31 @@ option_row names.Progress = record { word = codes "--progress"; number = None }
 abbrev pub option_word : OptionName → List ℕ
 option_word option = (option_row option).word
 
--- an option that is built
-abbrev pub ready : OptionName → Offer
-ready option = record { option = option; built = true }
+-- the options, in the order in which `clap` is told of them
+abbrev pub all_options : List OptionName
+all_options = names.Finite ∷ names.Depth ∷ names.Cert ∷ names.Core ∷ names.Workers ∷ names.Check ∷ names.Steps ∷ names.Progress ∷ []
 
--- whether a formula has a trace
+-- whether a formula has a trace. Behind 1,048,576 bytes a text is known to be too long
 abbrev pub solve_command : CommandRow
 solve_command = record {
   word = codes "solve";
-  options = ready names.Finite ∷ ready names.Depth ∷ ready names.Cert ∷ ready names.Core ∷ ready names.Workers ∷ [];
+  options = names.Finite ∷ names.Depth ∷ names.Cert ∷ names.Core ∷ names.Workers ∷ [];
   number = None;
-  reads = true;
-  built = true;
+  reads = UpTo 1048576;
 }
 
 -- whether a certificate is one
 abbrev pub check_command : CommandRow
 check_command = record {
   word = codes "check";
-  options = ready names.Finite ∷ ready names.Workers ∷ [];
+  options = names.Finite ∷ names.Workers ∷ [];
   number = None;
-  reads = true;
-  built = true;
+  reads = Whole;
 }
 
 -- whether a formula holds on a trace
 abbrev pub trace_command : CommandRow
-trace_command = record { word = codes "trace"; options = []; number = None; reads = true; built = true }
+trace_command = record { word = codes "trace"; options = []; number = None; reads = Whole }
 
 -- what comes of a formula of the program's own, by its size
 abbrev pub demo_command : CommandRow
@@ -78,37 +76,34 @@ demo_command = record {
   word = codes "demo";
   options = [];
   number = Some (record { digits = 2; low = 2; high = 64 });
-  reads = false;
-  built = true;
+  reads = Nothing;
 }
 
 -- what each line of a text is, as a formula
 abbrev pub batch_command : CommandRow
 batch_command = record {
   word = codes "batch";
-  options = ready names.Finite ∷ ready names.Depth ∷ ready names.Workers ∷ [];
+  options = names.Finite ∷ names.Depth ∷ names.Workers ∷ [];
   number = None;
-  reads = true;
-  built = true;
+  reads = UpTo 16777216;
 }
 
 -- whether each path of a system satisfies a formula
 abbrev pub system_command : CommandRow
 system_command = record {
   word = codes "system";
-  options = ready names.Depth ∷ ready names.Cert ∷ [];
+  options = names.Depth ∷ names.Cert ∷ [];
   number = None;
-  reads = true;
-  built = true;
+  reads = Whole;
 }
 
 -- where a formula about the past holds, state by state
 abbrev pub monitor_command : CommandRow
-monitor_command = record { word = codes "monitor"; options = []; number = None; reads = true; built = true }
+monitor_command = record { word = codes "monitor"; options = []; number = None; reads = Whole }
 
 -- a formula without operators of the past
 abbrev pub depast_command : CommandRow
-depast_command = record { word = codes "depast"; options = []; number = None; reads = true; built = true }
+depast_command = record { word = codes "depast"; options = []; number = None; reads = Whole }
 
 -- the row of each command
 abbrev pub command_row : CommandName → CommandRow
@@ -121,20 +116,24 @@ command_row commands.System = system_command
 command_row commands.Monitor = monitor_command
 command_row commands.Depast = depast_command
 
+-- the commands, in the order in which they are shown
+abbrev pub all_commands : List CommandName
+all_commands = commands.Solve ∷ commands.Check ∷ commands.Trace ∷ commands.Demo ∷ commands.Batch ∷ commands.System ∷ commands.Monitor ∷ commands.Depast ∷ []
+
 -- what the second program takes where it refutes a formula
-abbrev pub refute_row : List Offer
-refute_row = ready names.Finite ∷ ready names.Cert ∷ ready names.Steps ∷ ready names.Progress ∷ []
+abbrev pub refute_row : List OptionName
+refute_row = names.Finite ∷ names.Cert ∷ names.Steps ∷ names.Progress ∷ []
 
 -- what may stand beside --check
-abbrev pub beside_check : List Offer
-beside_check = ready names.Finite ∷ []
+abbrev pub beside_check : List OptionName
+beside_check = names.Finite ∷ []
 
 -- what the second program takes where it judges a certificate
-abbrev pub verify_row : List Offer
-verify_row = ready names.Check ∷ beside_check
+abbrev pub verify_row : List OptionName
+verify_row = names.Check ∷ beside_check
 
 -- the options of a command, or of a call of the second program
-abbrev pub offers_of : Offering → List Offer
+abbrev pub offers_of : Offering → List OptionName
 offers_of (offerings.Command name) = (command_row name).options
 offers_of offerings.Refute = refute_row
 offers_of offerings.Verify = verify_row
@@ -144,9 +143,5 @@ abbrev pub same_option : OptionName → OptionName → Bool
 same_option a b = bytes_eq (option_word a) (option_word b)
 
 -- whether the option is offered
-abbrev pub has_option : List Offer → OptionName → Bool
-has_option offers option = list_any (λ offer. same_option offer.option option) offers
-
--- whether the option is offered, and it is built
-abbrev pub has_built : List Offer → OptionName → Bool
-has_built offers option = list_any (λ offer. offer.built && same_option offer.option option) offers
+abbrev pub has_option : List OptionName → OptionName → Bool
+has_option offers option = list_any (λ offer. same_option offer option) offers

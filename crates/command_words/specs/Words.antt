@@ -1,5 +1,5 @@
 -- The lists of words that are taken, and what they say.
-use Rattle.std.specs.Prelude.{◌≡◌, ◌≢◌, ◌≤◌, ◌⊎◌, ◌++◌, ℕ, List, [], ◌∷◌, length, codes, AllPairs, All, Option, Some, None, is_some, option_and_then, Bool, false, IsTrue, find, if◌then◌else◌}
+use Rattle.std.specs.Prelude.{◌≡◌, ◌≢◌, ◌≤◌, ◌⊎◌, ◌++◌, ℕ, List, [], ◌∷◌, length, codes, AllPairs, All, Option, Some, None, is_some, option_and_then, Bool, IsTrue, find, if◌then◌else◌}
 use Rattle.std.specs.Str.Parse.{IsNumeral, digits_value}
 use Rattle.ltl_syntax.specs.declared.node.Kind.{Kind}
 use Rattle.ltl_syntax.specs.declared.node.Kind.TheVariants as kinds
@@ -8,7 +8,7 @@ use Rattle.command_words.specs.declared.table.OptionName.{OptionName}
 use Rattle.command_words.specs.declared.table.OptionName.TheVariants as names
 use Rattle.command_words.specs.declared.table.CommandName.{CommandName}
 use Rattle.command_words.specs.declared.table.CommandName.TheVariants as commands
-use Rattle.command_words.specs.Table.{Offer, CommandRow, option_row, option_word, command_row, same_option, has_option, has_built, solve_command, check_command, demo_command, batch_command, system_command}
+use Rattle.command_words.specs.Table.{CommandRow, Nothing, option_row, option_word, command_row, same_option, has_option, solve_command, check_command, demo_command, batch_command, system_command}
 
 -- what one option says: which it is, and its number where it has one
 pub record Setting : Type 0 where
@@ -70,12 +70,8 @@ abbrev pub Once : List Setting → Type 0
 Once settings = AllPairs (λ a b. name a ≢ name b) settings
 
 -- the setting is of an option that is offered
-abbrev pub IsAmong : List Offer → Setting → Type 0
+abbrev pub IsAmong : List OptionName → Setting → Type 0
 IsAmong offers setting = IsTrue (has_option offers setting.option)
-
--- the setting is of an option that is offered and built
-abbrev pub IsBuilt : List Offer → Setting → Type 0
-IsBuilt offers setting = IsTrue (has_built offers setting.option)
 
 -- which command it is
 abbrev pub name_of : Command → CommandName
@@ -96,19 +92,8 @@ row_of command = command_row (name_of command)
 abbrev pub command_word : Command → List ℕ
 command_word command = (row_of command).word
 
--- the settings of a command
-abbrev pub settings_of : Command → List Setting
-settings_of (Solve settings) = settings
-settings_of (Check settings) = settings
-settings_of Trace = []
-settings_of (Demo n) = []
-settings_of (Batch settings) = settings
-settings_of (System settings) = settings
-settings_of Monitor = []
-settings_of Depast = []
-
 -- the words are settings of options that are offered
-abbrev pub SaySettings : List Offer → List Setting → List (List ℕ) → Type 0
+abbrev pub SaySettings : List OptionName → List Setting → List (List ℕ) → Type 0
 SaySettings offers settings words = SayAll settings words × Once settings × All (IsAmong offers) settings
 
 -- the words are the command's number
@@ -126,17 +111,9 @@ Follow (System settings) words = SaySettings system_command.options settings wor
 Follow Monitor words = words ≡ []
 Follow Depast words = words ≡ []
 
--- the words that each command takes
-abbrev pub Taken : List (List ℕ) → Command → Type 0
-Taken words command = (more : List (List ℕ)) × (words ≡ command_word command ∷ more) × Follow command more
-
--- the command is built, with the options that it has
-abbrev pub IsOffered : Command → Type 0
-IsOffered command = IsTrue (row_of command).built × All (IsBuilt (row_of command).options) (settings_of command)
-
 -- the words are taken as this command
 abbrev pub Asks : List (List ℕ) → Command → Type 0
-Asks words command = Taken words command × IsOffered command
+Asks words command = (more : List (List ℕ)) × (words ≡ command_word command ∷ more) × Follow command more
 
 -- the setting of the option, where it stands there
 abbrev pub setting_of : OptionName → List Setting → Option Setting
@@ -184,4 +161,4 @@ progress_of settings = stands names.Progress settings
 
 -- the command reads nothing of the source
 abbrev pub ReadsNothing : Command → Type 0
-ReadsNothing command = (row_of command).reads ≡ false
+ReadsNothing command = (row_of command).reads ≡ Nothing

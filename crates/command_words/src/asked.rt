@@ -7,7 +7,7 @@ ghost use Rattle.command_words.specs.Said.{Follows, FollowsNothing, SayNoNumber}
 
 use crate::decimal::decimal_number;
 use crate::options::{Options, said_options};
-use crate::table::{CommandName, DEMO_NUMBERS, Offering, command_named, is_built};
+use crate::table::{CommandName, DEMO_NUMBERS, Offering, command_named};
 use std::alloc::{AllocError, Global};
 
 /// A command that is asked for.
@@ -24,7 +24,7 @@ pub enum Asked {
     Depast,
 }
 
-/// The command that the words ask for. None where they are not taken, or ask for what is not built.
+/// The command that the words ask for. None where they are not taken.
 pub fn asked_command(alloc: Global, words: &[String]) -> Result<Option<Asked>, AllocError>
     ensures { IfOk result (λ asked. MatchOption asked
         ((c : Command) → ¬ (Asks (map string_bytes words.now) c))
@@ -34,8 +34,8 @@ pub fn asked_command(alloc: Global, words: &[String]) -> Result<Option<Asked>, A
         return Ok(None);
     };
     match command_named(word.as_str()) {
-        Some(command) if is_built(command) => asked_further(alloc, command, more),
-        _ => Ok(None),
+        Some(command) => asked_further(alloc, command, more),
+        None => Ok(None),
     }
 }
 

@@ -1,11 +1,11 @@
 //! Laws of the definitions: the contract of each function is the law.
 ghost use Rattle.std.specs.Prelude.{◌≡◌, ◌⊎◌, ℕ, List};
-ghost use Rattle.command_words.specs.Words.{Command, Taken, Asks};
+ghost use Rattle.command_words.specs.Words.{Command, Asks};
 ghost use Rattle.command_words.specs.Refutation.{RefutationAsked, AsksRefutation};
 
 /// A list of words is taken as one command at most, with one list of settings and one number.
 pub fn one_command()
-    ensures { (words : List (List ℕ)) (c d : Command) → Taken words c → Taken words d → c ≡ d }
+    ensures { (words : List (List ℕ)) (c d : Command) → Asks words c → Asks words d → c ≡ d }
 {}
 
 /// Each list of words asks for a command, or for none, which is refused as usage.

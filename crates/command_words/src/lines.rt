@@ -4,8 +4,7 @@ ghost use Rattle.command_words.specs.Usage.{usage_text, refutation_usage_text};
 
 use std::alloc::{AllocError, Global};
 
-/// The usage lines of `black`: those of `solve`, `check`, `trace` and `demo`, and behind them those of the other
-/// commands that are built.
+/// The usage lines of `black`.
 pub fn usage(alloc: Global) -> Result<Vec<u8>, AllocError>
     ensures { IfOk result (λ text. text.items ≡ usage_text) }
 {

@@ -1,9 +1,9 @@
 // The table of the commands, of the calls of the second program, and of their options: their words, their
-// numbers, and what of them is built.
+// numbers, and which option is offered where.
 ghost use Rattle.std.specs.Prelude.{◌≡◌, ◌≢◌, ◌≤◌, MatchOption, IfSome};
 ghost use Rattle.command_words.specs.declared.table.OptionName.{OptionName};
 ghost use Rattle.command_words.specs.declared.table.CommandName.{CommandName};
-ghost use Rattle.command_words.specs.Table.{option_row, option_word, command_row, offers_of, has_built};
+ghost use Rattle.command_words.specs.Table.{option_row, option_word, command_row, offers_of, has_option};
 
 /// A number in a word: one to `digits` decimal digits, whose value goes from `low` to `high`.
 #[derive(Clone, Copy)]
@@ -125,22 +125,9 @@ pub fn command_named(word: &str) -> Option<CommandName>
     }
 }
 
-/// Whether the command is built.
-pub fn is_built(command: CommandName) -> bool
-    ensures { result ≡ (command_row command).built }
-{
-    match command {
-        CommandName::Solve | CommandName::Check | CommandName::Trace | CommandName::Demo => true,
-        CommandName::Batch => true,
-        CommandName::System => true,
-        CommandName::Monitor => true,
-        CommandName::Depast => true,
-    }
-}
-
-/// Whether the option is offered there, and is built.
+/// Whether the option is offered there.
 pub fn offers_option(offering: Offering, option: OptionName) -> bool
-    ensures { result ≡ has_built (offers_of offering) option }
+    ensures { result ≡ has_option (offers_of offering) option }
 {
     match (offering, option) {
         (Offering::Command(command), _) => command_offers(command, option),
@@ -151,9 +138,9 @@ pub fn offers_option(offering: Offering, option: OptionName) -> bool
     }
 }
 
-/// Whether the command has the option, and it is built there.
+/// Whether the command has the option.
 fn command_offers(command: CommandName, option: OptionName) -> bool
-    ensures { result ≡ has_built (command_row command).options option }
+    ensures { result ≡ has_option (command_row command).options option }
 {
     match (command, option) {
         (CommandName::Solve, OptionName::Finite | OptionName::Depth | OptionName::Workers) => true,

@@ -3,6 +3,7 @@ use Rattle.ltl_io.specs.Outside.{LosesAtMost}
 use Rattle.report.specs.declared.fault.Fault.TheVariants as faults
 use Rattle.black_top.specs.Answer.{refused}
 use Rattle.black_top.specs.Run.{not_taken}
+use Rattle.command_words.specs.Words.{row_of}
 use Rattle.command_words.specs.Asked.{IsAsked}
 use Rattle.black_top.specs.Inner.{Gives}
 use Rattle.program_input.proofs.Leaving.{some_left}
@@ -27,7 +28,7 @@ returns-in_default-stop_after-clause-given g c =
 pub returns-in_default-stop_after-clause-left : goal.returns-in_default-stop_after-clause-left
 returns-in_default-stop_after-clause-left g c command asks =
     let is : IsAsked (map string_bytes c.args.words.now) c.in-Some.asked = rw c.in-Some.is at c.in_ok-asked.ensures in
-    takes_none command (g.S.Source.rest c.args.source.now) (stops (map string_bytes c.args.words.now) c.in-Some.asked command is asks ∙ sym c.in_default-stop_after.ensures)
+    takes_none (row_of command).reads (g.S.Source.rest c.args.source.now) (stops (map string_bytes c.args.words.now) c.in-Some.asked command is asks ∙ sym c.in_default-stop_after.ensures)
 
 pub returns-in_err-bytes-clause-unread : goal.returns-in_err-bytes-clause-unread
 returns-in_err-bytes-clause-unread g c nothing =
@@ -62,7 +63,7 @@ returns-clause-left g c command asks =
     let text = c.in_ok-bytes.bytes.items in
     let is : IsAsked (map string_bytes c.args.words.now) c.in-Some.asked = rw c.in-Some.is at c.in_ok-asked.ensures in
     let fits : length text ≤ 18446744073709551615 = omega (arith, c.in_ok-bytes.bytes.ok, c.in_ok-bytes.bytes.small, c.deref.ensures.len) in
-    takes command c.in-Some-stop_after.most text rest after (stops (map string_bytes c.args.words.now) c.in-Some.asked command is asks ∙ sym c.in-Some-stop_after.ensures) c.in_ok-bytes.ensures.bytes fits c.in_ok-bytes.ensures.bounded
+    takes (row_of command).reads c.in-Some-stop_after.most text rest after (stops (map string_bytes c.args.words.now) c.in-Some.asked command is asks ∙ sym c.in-Some-stop_after.ensures) c.in_ok-bytes.ensures.bytes fits c.in_ok-bytes.ensures.bounded
 
 pub returns-in_err-bytes-clause-before_fault : goal.returns-in_err-bytes-clause-before_fault
 returns-in_err-bytes-clause-before_fault g c fault command asks =
@@ -70,4 +71,4 @@ returns-in_err-bytes-clause-before_fault g c fault command asks =
     let after = g.S.Source.rest c.read_whole.new.source in
     let is : IsAsked (map string_bytes c.args.words.now) c.in-Some.asked = rw c.in-Some.is at c.in_ok-asked.ensures in
     let lost : LosesAtMost c.in-Some-stop_after.most rest after = search (rules, fault) in
-    lost_before_fault command c.in-Some-stop_after.most rest after (stops (map string_bytes c.args.words.now) c.in-Some.asked command is asks ∙ sym c.in-Some-stop_after.ensures) lost
+    lost_before_fault (row_of command).reads c.in-Some-stop_after.most rest after (stops (map string_bytes c.args.words.now) c.in-Some.asked command is asks ∙ sym c.in-Some-stop_after.ensures) lost

@@ -1,6 +1,6 @@
 use Rattle.std.proofs.Common.{◌≢◌, ◌∙◌, [], map, string_bytes, sym}
 use Rattle.command_words.specs.Table.{offers_of}
-use Rattle.command_words.proofs.Saying.{said_at_first, none_behind, repeated_behind, unbuilt_behind, said_next, some_words}
+use Rattle.command_words.proofs.Saying.{said_at_first, none_behind, repeated_behind, other_behind, said_next, some_words}
 use Rattle.command_words.proofs.options.are_taken.Goals as goal
 use Rattle.command_words.proofs.options.are_taken.Goals.{then-not-offers_option-via-then-not-offers_option, then-not-offers_option-via-else-not-offers_option+then-is_seen}
 
@@ -14,7 +14,7 @@ returns-in_default c =
 
 pub returns-then-not-offers_option : goal.returns-then-not-offers_option
 returns-then-not-offers_option c = elim c.then-not-offers_option.branch [
-  | then-not-offers_option-via-then-not-offers_option w ↦ unbuilt_behind (offers_of c.args.offering) (map string_bytes c.args.words.now) (map string_bytes c.words.rest.now)
+  | then-not-offers_option-via-then-not-offers_option w ↦ other_behind (offers_of c.args.offering) (map string_bytes c.args.words.now) (map string_bytes c.words.rest.now)
       (map string_bytes c.in-Some.behind.now) c.words.seen c.in-Some.option c.words.invariant c.in-Some.ensures (sym c.offers_option.ensures ∙ w.if-not-offers_option.true)
   | then-not-offers_option-via-else-not-offers_option+then-is_seen w ↦ repeated_behind (offers_of c.args.offering) (map string_bytes c.args.words.now) (map string_bytes c.words.rest.now)
       (map string_bytes c.in-Some.behind.now) c.words.seen c.in-Some.option c.words.invariant c.in-Some.ensures (sym w.is_seen.ensures ∙ w.if-is_seen.true)
