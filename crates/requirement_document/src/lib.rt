@@ -24,3 +24,4 @@ mod words;
 pub use document::{Behaviour, Document, Item, Role};
 pub use fault::{Cause, DocumentFault, Key, Place, Refused, Section};
 pub use reading::read;
+pub use words::{key_word, section_word};

@@ -1,5 +1,5 @@
 -- The letters of a trace, and its grid: there is one of each.
-use Rattle.std.proofs.Common.{◌≡◌, ◌↔◌, ℕ, zero, suc, ◌-◌, ◌<◌, ◌≤◌, Bool, true, false, ◌||◌, ◌⊎◌, Option, codes, Result, Ok, Err, IfOk, List, [], ◌∷◌, ◌++◌, map, length, length-append, get_or, All, Contains, bytes_eq, leb, refl, sym, ap, ◌∙◌, subst, arith, inl, inr, lt-ltb, le-ltb}
+use Rattle.std.proofs.Common.{◌≡◌, ◌↔◌, ℕ, zero, suc, ◌-◌, ◌<◌, ◌≤◌, Bool, true, false, ◌||◌, ◌⊎◌, Option, codes, Result, Ok, Err, IfOk, List, [], ◌∷◌, ◌++◌, map, length, length-append, get_or, All, Contains, bytes_eq, refl, sym, ap, ◌∙◌, subst, arith, inl, inr, lt-ltb, le-ltb}
 use Rattle.std.specs.declared.alloc.AllocError.{AllocError}
 use Rattle.std.proofs.Math.Nat.{mod-eq_of_lt}
 use Rattle.std.proofs.lemmas.Bool.{cases_lt, cond-true, cond-false, le-leb, lt-leb}
@@ -14,7 +14,7 @@ use Rattle.trace_view.specs.Grid.{RowValue, GridValue, IsRowOf, IsGridOf, Occurs
 use Rattle.trace_view.specs.Letters.{all_names}
 use Rattle.trace_view.specs.Text as view
 use Rattle.requirement_report.specs.Lines.{inner, indented}
-use Rattle.requirement_report.specs.Pictures.{states_of, has, letters_in, row_of, grid_of, picture}
+use Rattle.requirement_report.specs.Pictures.{states_of, has, letters_in, row_of, grid_of, picture_with}
 use Rattle.requirement_report.proofs.Ascending.{here, later, first_or_later, is_ascending}
 
 -- ---- the states that are shown
@@ -75,21 +75,21 @@ or_right : (a b : Bool) → b ≡ true → a || b ≡ true
 or_right true b e = refl
 or_right false b e = e
 
-has_some : (name : List ℕ) (state : Names) → has name state ≡ true → Contains state name
+pub has_some : (name : List ℕ) (state : Names) → has name state ≡ true → Contains state name
 has_some name [] e = absurd (cc)
 has_some name (n ∷ ns) e = elim (or_cases (bytes_eq name n) (has name ns) e) [
   | inl same ↦ subst (Contains (n ∷ ns)) (sym ((bytes_eq-Decides name n).0 same)) (here n ns)
   | inr among ↦ later n ns name (has_some name ns among)
 ]
 
-some_has : (name : List ℕ) (state : Names) → Contains state name → has name state ≡ true
+pub some_has : (name : List ℕ) (state : Names) → Contains state name → has name state ≡ true
 some_has name [] (k, lt, e) = absurd (omega arith)
 some_has name (n ∷ ns) c = elim (first_or_later n ns name c) [
   | inl same ↦ or_left (bytes_eq name n) (has name ns) ((bytes_eq-Decides name n).1 (sym same))
   | inr d ↦ or_right (bytes_eq name n) (has name ns) (some_has name ns d)
 ]
 
-bool_is : (a b : Bool) → (a ≡ true → b ≡ true) → (b ≡ true → a ≡ true) → a ≡ b
+pub bool_is : (a b : Bool) → (a ≡ true → b ≡ true) → (b ≡ true → a ≡ true) → a ≡ b
 bool_is true b f g = sym (f refl)
 bool_is false true f g = g refl
 bool_is false false f g = refl
@@ -127,15 +127,11 @@ grid_is t letters g h =
 
 -- ---- what is put
 
-pub shown_picture : (t : Trace) (letters : Names) (g : GridValue) (old new lines : List ℕ) → letters ≡ letters_in t → IsGridOf t letters g → cells_for t letters ≤ 16777216
-    → lines ≡ view.text g 76 → new ≡ old ++ indented true lines → new ≡ old ++ picture t
-shown_picture t letters g old new lines l h few text put =
-    let grid : g ≡ grid_of t (letters_in t) = grid_is t letters g h ∙ ap (grid_of t) l in
-    let fits : leb (cells_for t (letters_in t)) 16777216 ≡ true = le-leb _ _ (subst (λ ls. cells_for t ls ≤ 16777216) l few) in
-    put ∙ ap (λ ls. old ++ indented true ls) (text ∙ ap (λ x. view.text x 76) grid) ∙ ap (λ x. old ++ x) (sym (cond-true _ _ _ fits))
+pub shown_rows : (t : Trace) (letters : Names) (g : GridValue) (old new lines : List ℕ) → IsGridOf t letters g → cells_for t letters ≤ 16777216
+    → lines ≡ view.text g 76 → new ≡ old ++ indented true lines → new ≡ old ++ picture_with t letters
+shown_rows t letters g old new lines h few text put =
+    put ∙ ap (λ ls. old ++ indented true ls) (text ∙ ap (λ x. view.text x 76) (grid_is t letters g h)) ∙ ap (λ x. old ++ x) (sym (cond-true _ _ _ (le-leb _ _ few)))
 
-pub no_picture : (t : Trace) (letters : Names) (old new : List ℕ) → letters ≡ letters_in t → 16777216 < cells_for t letters
-    → new ≡ old ++ inner (codes "limit cells 16777216") → new ≡ old ++ picture t
-no_picture t letters old new l many put =
-    let large : leb (cells_for t (letters_in t)) 16777216 ≡ false = lt-leb _ _ (subst (λ ls. 16777216 < cells_for t ls) l many) in
-    put ∙ ap (λ x. old ++ x) (sym (cond-false _ _ _ large))
+pub no_rows : (t : Trace) (letters : Names) (old new : List ℕ) → 16777216 < cells_for t letters
+    → new ≡ old ++ inner (codes "limit cells 16777216") → new ≡ old ++ picture_with t letters
+no_rows t letters old new many put = put ∙ ap (λ x. old ++ x) (sym (cond-false _ _ _ (lt-leb _ _ many)))

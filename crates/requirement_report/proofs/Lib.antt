@@ -1,4 +1,10 @@
--- Lemmas on names in order, on pictures, and on texts that grow.
+-- Lemmas on names in order, on pictures, on walks and sets of letters, on letters that differ, on texts that grow, and on what can be shown.
+mod Apart
 mod Ascending
-mod Gridded
+mod Differing
+pub mod Gridded
 mod Pieces
+mod Showable
+mod Slipped
+mod Stacks
+mod Using

@@ -1,6 +1,10 @@
 pub mod Flat
+pub mod Known
+pub mod Letters
 pub mod Lines
 pub mod Pictures
 pub mod Shown
+pub mod Slips
 pub mod Subjects
 pub mod Text
+pub mod Walk

@@ -1,5 +1,5 @@
 -- The picture of a trace, with the letters that are true in some state.
-use Rattle.std.specs.Prelude.{ℕ, nat_le, Bool, if◌then◌else◌, List, [], ◌∷◌, ◌++◌, map, codes, bytes_eq, true}
+use Rattle.std.specs.Prelude.{ℕ, ◌+◌, ◌-◌, ◌%◌, ◌==◌, ◌&&◌, ◌||◌, nat_le, nat_lt, Bool, if◌then◌else◌, List, [], ◌∷◌, ◌++◌, map, length, codes, bytes_eq, true}
 use Rattle.std.specs.Cmp.Lexicographic.{slice_cmp}
 use Rattle.std.specs.Ordering.{nat_cmp}
 use Rattle.std.specs.declared.cmp.Ordering.{Ordering}
@@ -48,9 +48,52 @@ row_of t name = record { name = name; cells = map (has name) (states_of t) }
 abbrev pub grid_of : Trace → Names → GridValue
 grid_of t letters = record { rows = map (row_of t) letters; states = states_in t; loop_at = loop_in t }
 
--- the lines of a grid, and a line in their place where it would have too many cells
-abbrev pub picture : Trace → List ℕ
-picture t =
-    if nat_le (cells_for t (letters_in t)) 16777216
-    then indented true (view.text (grid_of t (letters_in t)) 76)
+-- the lines of a grid with some letters, and a line in their place where it would have too many cells
+abbrev pub picture_with : Trace → Names → List ℕ
+picture_with t letters =
+    if nat_le (cells_for t letters) 16777216
+    then indented true (view.text (grid_of t letters) 76)
     else inner (codes "limit cells 16777216")
+
+abbrev pub picture : Trace → List ℕ
+picture t = picture_with t (letters_in t)
+
+-- ---- a picture with marks
+
+-- the column in which a position stands
+abbrev pub looped_column : ℕ → ℕ → ℕ → ℕ
+looped_column stem loop_part p = if nat_lt p stem || loop_part == 0 then p else stem + (p - stem) % loop_part
+
+abbrev pub column : Trace → ℕ → ℕ
+column (Infinite stem loop_part) p = looped_column (length stem) (length loop_part) p
+column (Finite states) p = p
+
+-- a column is that of the state at place k of a part that begins in the column `from`
+abbrev pub is_column : ℕ → ℕ → ℕ → Bool
+is_column from k c = nat_le from c && c - from == k
+
+abbrev pub is_marked : List ℕ → ℕ → ℕ → Bool
+is_marked columns from k = list_any (is_column from k) columns
+
+-- a mark is a letter of its own
+abbrev pub mark : List ℕ
+mark = codes "!"
+
+abbrev pub mark_if : Bool → Names
+mark_if wanted = if wanted then mark ∷ [] else []
+
+abbrev pub with_mark : Bool → Names → Names
+with_mark wanted state = ascending (state ++ mark_if wanted)
+
+abbrev pub marked_states : List ℕ → ℕ → ℕ → List Names → List Names
+marked_states columns from k [] = []
+marked_states columns from k (state ∷ states) = with_mark (is_marked columns from k) state ∷ marked_states columns from (k + 1) states
+
+-- the trace in which that letter is true in the states of these columns
+abbrev pub marked : List ℕ → Trace → Trace
+marked columns (Infinite stem loop_part) = Infinite (marked_states columns 0 0 stem) (marked_states columns (length stem) 0 loop_part)
+marked columns (Finite states) = Finite (marked_states columns 0 0 states)
+
+-- the picture with a last row for the marks of some positions
+abbrev pub marked_picture : Trace → List ℕ → List ℕ
+marked_picture t positions = picture_with (marked (map (column t) positions) t) (letters_in t ++ mark ∷ [])

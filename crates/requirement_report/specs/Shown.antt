@@ -8,7 +8,10 @@ use Rattle.claim_reading.specs.Never.{AreOfEntries}
 use Rattle.requirement_questions.specs.declared.leaving.Because.{Because}
 use Rattle.requirement_questions.specs.declared.answering.Answer.{Answer}
 use Rattle.requirement_questions.specs.declared.answering.Answer.TheVariants as answers
+use Rattle.requirement_document.specs.Values.{DocumentValue}
 use Rattle.requirement_answers.specs.declared.findings.Report.{Report}
+use Rattle.requirement_answers.specs.declared.findings.Scope.{Scope}
+use Rattle.requirement_answers.specs.Reports.{IsReport}
 
 pub record CanBeShown (b : Because) : Type 0 where
   pub there : b.root < length b.table.nodes
@@ -29,3 +32,7 @@ pub record ReportCanBeShown (r : Report) : Type 0 where
 abbrev pub LawfulCanBeShown : Type 0
 LawfulCanBeShown = (b : Because) (kind : Kind)
     → b.root < length b.table.nodes → IsLawful (tree_at b.table b.root) kind (certificate_in b.certificate) → CanBeShown b
+
+-- whatever a right report says can be shown
+abbrev pub ReportsCanBeShown : Type 0
+ReportsCanBeShown = (d : DocumentValue) (scope : Scope) (r : Report) → IsReport d scope r → ReportCanBeShown r

@@ -1,5 +1,5 @@
 -- The text of a report.
-use Rattle.std.specs.Prelude.{◌≡◌, ℕ, ◌-◌, ◌==◌, ◌&&◌, nat_le, Bool, true, false, if◌then◌else◌, List, [], ◌∷◌, ◌++◌, length, slice_get, codes, Option, Some, None}
+use Rattle.std.specs.Prelude.{◌≡◌, ℕ, ◌-◌, ◌==◌, ◌&&◌, nat_le, Bool, true, false, if◌then◌else◌, List, [], ◌∷◌, ◌++◌, map, length, slice_get, codes, Option, Some, None}
 use Rattle.std.specs.List.{flat_map}
 use Rattle.ltl_syntax.specs.declared.node.UnaryOp.TheVariants.{Always}
 use Rattle.ltl_syntax.specs.declared.node.BinaryOp.TheVariants.{Implies}
@@ -29,7 +29,8 @@ use Rattle.requirement_answers.specs.Verdicts.{verdict, is_can}
 use Rattle.requirement_answers.specs.Counting.{AreCounts}
 use Rattle.requirement_report.specs.Flat.{flat}
 use Rattle.requirement_report.specs.Lines.{worded, of_all, inner, deeper, inner_if, deeper_if, head, first_lines, lines_in, indented}
-use Rattle.requirement_report.specs.Pictures.{picture}
+use Rattle.requirement_report.specs.Pictures.{picture, marked_picture}
+use Rattle.requirement_report.specs.Slips.{SlipValue, slips_of}
 use Rattle.requirement_report.specs.Subjects.{name_of, sentence_of, written_of, behaviour_name, behaviour_sentence, members_text, aside}
 
 -- ---- a conflict
@@ -175,18 +176,52 @@ abbrev pub keeps_word : List Break → List ℕ
 keeps_word [] = codes "keeps"
 keeps_word (b ∷ bs) = codes "breaks"
 
-abbrev pub behaviour_picture : Option BehaviourValue → List ℕ
-behaviour_picture None = []
-behaviour_picture (Some b) = picture b.trace
+-- the picture of a behaviour, with marks where it first breaks something
+abbrev pub behaviour_picture : Option BehaviourValue → List ℕ → List ℕ
+behaviour_picture None positions = []
+behaviour_picture (Some b) positions = marked_picture b.trace positions
+
+abbrev pub positions_of : List Break → List ℕ
+positions_of breaks = map (λ (b : Break). b.position) breaks
 
 abbrev pub broken_picture : DocumentValue → ℕ → List Break → List ℕ
 broken_picture d n [] = []
-broken_picture d n (b ∷ bs) = behaviour_picture (slice_get d.behaviours n)
+broken_picture d n (b ∷ bs) = behaviour_picture (slice_get d.behaviours n) (positions_of (b ∷ bs))
 
 abbrev pub check_block : DocumentValue → Check → List ℕ
 check_block d c =
     named_head (keeps_word c.breaks.items) (behaviour_name d c.behaviour) (behaviour_sentence d c.behaviour)
     ++ (flat_map (break_lines d) c.breaks.items ++ broken_picture d c.behaviour c.breaks.items)
+
+-- ---- letters that may be slips
+
+-- the item in which a letter stands alone
+abbrev pub alone_text : DocumentValue → List ℕ → List ℕ
+alone_text d [] = []
+alone_text d (n ∷ []) = codes "in " ++ (flat (name_of d n) ++ codes " alone")
+alone_text d (n ∷ m ∷ more) = []
+
+-- the letter that it is nearly
+abbrev pub nearly_text : Option (List ℕ) → List ℕ
+nearly_text None = []
+nearly_text (Some other) = codes "nearly " ++ flat other
+
+-- two remarks, of which either may be missing
+abbrev pub both_texts : List ℕ → List ℕ → List ℕ
+both_texts [] later = later
+both_texts (b ∷ bs) [] = b ∷ bs
+both_texts (b ∷ bs) (c ∷ cs) = (b ∷ bs) ++ (codes "; " ++ (c ∷ cs))
+
+abbrev pub slip_line : DocumentValue → SlipValue → List ℕ
+slip_line d s = inner (flat s.letter ++ (codes ": " ++ both_texts (alone_text d s.items) (nearly_text s.nearly)))
+
+abbrev pub slips_block : DocumentValue → List SlipValue → List ℕ
+slips_block d [] = []
+slips_block d (s ∷ ss) = codes "\nperhaps a slip\n" ++ flat_map (slip_line d) (s ∷ ss)
+
+-- they are shown where all is asked
+abbrev pub slips_text : DocumentValue → Scope → List ℕ
+slips_text d scope = if is_all scope then slips_block d (slips_of d) else []
 
 -- ---- the end
 
@@ -225,7 +260,7 @@ answers_text d r scope steps counts =
 
 -- and the whole text, where these are the counts
 abbrev pub text_of : DocumentValue → Report → Scope → ℕ → Counts → List ℕ
-text_of d r scope steps counts = answers_text d r scope steps counts ++ ending (verdict r) counts
+text_of d r scope steps counts = answers_text d r scope steps counts ++ (slips_text d scope ++ ending (verdict r) counts)
 
 -- the text of a report: there is one, since a report has one list of counts
 abbrev pub IsText : DocumentValue → Report → Scope → ℕ → List ℕ → Type 0

@@ -47,7 +47,8 @@ fn cannot_word(asking: Asking) -> &'static [u8]
     }
 }
 
-fn question_words(asking: Asking) -> &'static [u8]
+/// The question in words.
+pub fn question_words(asking: Asking) -> &'static [u8]
     ensures { result.now ≡ question_words asking }
 {
     match asking {

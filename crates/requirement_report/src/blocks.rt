@@ -124,7 +124,8 @@ pub fn put_named_head(
     put_inner_if(&line, out)
 }
 
-fn item_asked(asking: Asking) -> u32
+/// The item that is asked about.
+pub fn item_asked(asking: Asking) -> u32
     ensures { result ≡ item_asked asking }
 {
     match asking {
@@ -136,13 +137,15 @@ fn item_asked(asking: Asking) -> u32
     }
 }
 
-fn is_hidden(scope: Scope, asking: Asking, answer: &Answer) -> bool
+/// Whether the answer goes without saying where all is asked.
+pub fn is_hidden(scope: Scope, asking: Asking, answer: &Answer) -> bool
     ensures { result ≡ is_hidden scope asking answer.now }
 {
     is_all(scope) && is_remark(asking) && is_can(answer)
 }
 
-fn is_all(scope: Scope) -> bool
+/// Whether no item and no behaviour is chosen.
+pub fn is_all(scope: Scope) -> bool
     ensures { result ≡ is_all scope }
 {
     match scope {

@@ -5,12 +5,13 @@ ghost use Rattle.ltl_syntax.specs.Table.{tree_at};
 ghost use Rattle.requirement_document.specs.Values.{document_in};
 ghost use Rattle.requirement_report.specs.Lines.{deeper};
 ghost use Rattle.requirement_report.specs.Text.{is_joined, bare, asked_lines, asked_in, break_lines};
-ghost use Rattle.requirement_report.specs.Text.{keeps_word, behaviour_picture, broken_picture, check_block};
+ghost use Rattle.requirement_report.specs.Text.{keeps_word, positions_of, behaviour_picture};
+ghost use Rattle.requirement_report.specs.Text.{broken_picture, check_block};
 
 use crate::blocks::put_named_head;
 use crate::flat::put_flat;
 use crate::lines::{put_deeper, put_inner, put_worded};
-use crate::pictures::put_picture;
+use crate::pictures::put_marked_picture;
 use crate::subjects::{behaviour_name, behaviour_sentence, name_of};
 use ltl_syntax::{BinaryOp, FormulaTable, Node, UnaryOp, print};
 use requirement_answers::{Break, Check};
@@ -52,7 +53,8 @@ fn put_check(
     put_broken_picture(alloc, document, check.behaviour, &check.breaks, out)
 }
 
-fn keeps_word(breaks: &[Break]) -> &'static [u8]
+/// Whether a behaviour keeps all.
+pub fn keeps_word(breaks: &[Break]) -> &'static [u8]
     ensures { result.now ≡ keeps_word breaks.now }
 {
     if breaks.is_empty() {
@@ -181,20 +183,32 @@ fn put_broken_picture(
     if breaks.is_empty() {
         return Ok(());
     }
-    put_behaviour_picture(alloc, document, number, out)
+    let positions = positions_of(alloc, breaks)?;
+    put_behaviour_picture(alloc, document, number, &positions, out)
+}
+
+fn positions_of(alloc: Global, breaks: &[Break]) -> Result<Vec<u32>, AllocError>
+    ensures { IfOk result (λ positions. positions.items ≡ positions_of breaks.now) }
+{
+    let mut positions = Vec::new(alloc);
+    for broken in breaks {
+        positions.push(broken.position)?;
+    }
+    Ok(positions)
 }
 
 fn put_behaviour_picture(
     alloc: Global,
     document: &Document,
     number: u32,
+    positions: &[u32],
     out: &mut Vec<u8>,
 ) -> Result<(), AllocError>
-    ensures { OnOk result (out.new.items
-        ≡ out.old.items ++ behaviour_picture (slice_get (document_in document.now).behaviours number)) }
+    ensures { OnOk result (out.new.items ≡ out.old.items
+        ++ behaviour_picture (slice_get (document_in document.now).behaviours number) positions.now) }
 {
     match document.behaviours.get(number as usize) {
-        Some(behaviour) => put_picture(alloc, &behaviour.trace, out),
+        Some(behaviour) => put_marked_picture(alloc, &behaviour.trace, positions, out),
         None => Ok(()),
     }
 }

@@ -21,7 +21,8 @@ pub fn put_ending(
     put_counts(alloc, counts, out)
 }
 
-fn verdict_text(verdict: Verdict) -> &'static [u8]
+/// The line of a verdict.
+pub fn verdict_text(verdict: Verdict) -> &'static [u8]
     ensures { result.now ≡ verdict_text verdict }
 {
     match verdict {

@@ -14,7 +14,7 @@ pub fn put_flat(alloc: Global, text: &str, out: &mut Vec<u8>) -> Result<(), Allo
 }
 
 /// The text with blanks for white space, and U+FFFD for what no line shows.
-fn plain(alloc: Global, text: &str) -> Result<String, AllocError>
+pub fn plain(alloc: Global, text: &str) -> Result<String, AllocError>
     ensures { IfOk result (λ made. string_bytes made ≡ plain text.now) }
 {
     text.chars().map(|c| plain_char(c)).collect(alloc)

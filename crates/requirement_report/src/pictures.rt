@@ -1,9 +1,10 @@
 // The picture of a trace.
 ghost use Rattle.std.specs.Prelude.{◌≡◌, ◌++◌, IfOk, OnOk};
-ghost use Rattle.requirement_report.specs.Pictures.{picture, letters_in, grid_of};
+ghost use Rattle.requirement_report.specs.Pictures.{picture, picture_with, marked_picture, letters_in};
 
 use crate::lines::{put_indented, put_inner};
-use ltl_word::{StateSet, Trace};
+use crate::marking::{marked, put_mark, put_names};
+use ltl_word::{Name, StateSet, Trace};
 use std::alloc::{AllocError, Global};
 use trace_view::{Grid, GridRefused, letters_of, text};
 
@@ -15,7 +16,36 @@ pub fn put_picture(alloc: Global, trace: &Trace, out: &mut Vec<u8>) -> Result<()
     ensures { OnOk result (out.new.items ≡ out.old.items ++ picture trace.now) }
 {
     let letters = letters(alloc, trace)?;
-    match Grid::of(alloc, trace, letters.names()) {
+    put_rows(alloc, trace, letters.names(), out)
+}
+
+/// The same, with a last row that is filled in the columns of some positions.
+pub fn put_marked_picture(
+    alloc: Global,
+    trace: &Trace,
+    positions: &[u32],
+    out: &mut Vec<u8>,
+) -> Result<(), AllocError>
+    ensures { OnOk result (out.new.items ≡ out.old.items ++ marked_picture trace.now positions.now) }
+{
+    let letters = letters(alloc, trace)?;
+    let mut names = Vec::new(alloc);
+    put_names(alloc, letters.names(), &mut names)?;
+    put_mark(alloc, true, &mut names)?;
+    let marked = marked(alloc, trace, positions)?;
+    put_rows(alloc, &marked, &names, out)
+}
+
+/// Adds the rows of these letters.
+fn put_rows(
+    alloc: Global,
+    trace: &Trace,
+    letters: &[Name],
+    out: &mut Vec<u8>,
+) -> Result<(), AllocError>
+    ensures { OnOk result (out.new.items ≡ out.old.items ++ picture_with trace.now letters.now) }
+{
+    match Grid::of(alloc, trace, letters) {
         Ok(grid) => {
             let lines = text(alloc, &grid, WIDTH)?;
             put_indented(&lines, out)

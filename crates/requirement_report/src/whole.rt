@@ -9,6 +9,7 @@ use crate::blocks::{Left, put_replies, put_together};
 use crate::checks::put_checks;
 use crate::conflicts::put_conflict;
 use crate::ending::put_ending;
+use crate::remarks::put_slips;
 use crate::subjects::aside;
 use requirement_answers::{Counts, Report, Scope, counts_of, verdict_of};
 use requirement_document::Document;
@@ -30,6 +31,7 @@ pub fn text(
     let mut out = Vec::new(alloc);
     let counts = counts_of(document, report);
     put_answers(alloc, document, report, scope, limits, counts, &mut out)?;
+    put_slips(alloc, document, scope, &mut out)?;
     put_ending(alloc, verdict_of(report), counts, &mut out)?;
     Ok(out)
 }
@@ -68,8 +70,12 @@ fn put_answers(
     put_checks(alloc, document, &report.checks, out)
 }
 
-/// The items that are set aside.
-fn set_aside(alloc: Global, document: &Document, report: &Report) -> Result<Vec<Member>, AllocError>
+/// The items that are set aside. None is marked as not needed.
+pub fn set_aside(
+    alloc: Global,
+    document: &Document,
+    report: &Report,
+) -> Result<Vec<Member>, AllocError>
     ensures { IfOk result (λ members. members.items
         ≡ set_aside (document_in document.now) report.now) }
 {

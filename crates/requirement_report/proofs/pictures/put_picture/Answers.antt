@@ -1,22 +1,10 @@
-use Rattle.std.proofs.Common.{◌≡◌, ◌∙◌, Err, ap, arith}
+use Rattle.std.proofs.Common.{◌++◌, ◌∙◌, ap}
 use Rattle.std.proofs.lemmas.Result.{on_ok_weaker}
-use Rattle.requirement_report.specs.Pictures.{letters_in}
-use Rattle.requirement_report.proofs.Gridded.{shown_picture, no_picture}
+use Rattle.requirement_report.specs.Pictures.{picture_with}
 use Rattle.requirement_report.proofs.pictures.put_picture.Goals as goal
 
-pub returns-in-Ok : goal.returns-in-Ok
-returns-in-Ok c =
-    let letters = c.names.result.now in
-    let l : letters ≡ letters_in c.args.trace.now = grind (arith, c.names.ensures.names, c.letters-2.view_is, c.in_ok-letters.ensures) in
-    on_ok_weaker c.put_indented.result
-    (shown_picture c.args.trace.now letters c.in-Ok.grid c.args.out.now.items c.put_indented.new.out.items c.deref.result.now l
-    c.in-Ok.ensures.grid c.in-Ok.ensures.fits (c.deref.ensures.value ∙ c.in_ok-lines-in-Ok.ensures))
-    c.put_indented.ensures
-
-pub returns-in-Err-TooLarge : goal.returns-in-Err-TooLarge
-returns-in-Err-TooLarge c =
-    let letters = c.names.result.now in
-    let l : letters ≡ letters_in c.args.trace.now = grind (arith, c.names.ensures.names, c.letters-2.view_is, c.in_ok-letters.ensures) in
-    on_ok_weaker c.put_inner.result
-    (no_picture c.args.trace.now letters c.args.out.now.items c.put_inner.new.out.items l
-    (c.of.ensures.too_large (c.in-Err-TooLarge.is ∙ ap Err c.in-Err-TooLarge.field-0-is))) c.put_inner.ensures
+pub returns : goal.returns
+returns c =
+    on_ok_weaker c.put_rows.result
+    (λ e. e ∙ ap (λ ls. c.args.out.now.items ++ picture_with c.args.trace.now ls) (c.names.ensures.names ∙ c.in_ok-letters.ensures))
+    c.put_rows.ensures

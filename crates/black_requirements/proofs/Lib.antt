@@ -1,0 +1,6 @@
+mod Wording
+mod Showing
+mod Leaving
+mod Named
+mod Promising
+mod Wishing

@@ -1,0 +1,63 @@
+-- An answer has no status of a fault of the outside, nor of want of memory.
+use Rattle.std.proofs.Common.{◌≡◌, ◌∙◌, ℕ, true, false, List, Option, refl, sym, ap}
+use Rattle.report.specs.declared.status.Status.{Status}
+use Rattle.report.specs.Status.{is_answer}
+use Rattle.requirement_document.specs.declared.fault.Cause.{Cause}
+use Rattle.requirement_document.specs.declared.fault.Cause.TheVariants as causes
+use Rattle.requirement_document.specs.declared.document.Document.{Document}
+use Rattle.requirement_answers.specs.declared.judging.Verdict.{Verdict}
+use Rattle.requirement_answers.specs.declared.judging.Verdict.TheVariants as verdicts
+use Rattle.requirement_answers.specs.Verdicts.{verdict}
+use Rattle.black_requirements.specs.Words.{Request, Query, Letters, About}
+use Rattle.black_requirements.specs.Refusing.{cause_status}
+use Rattle.black_requirements.specs.Answer.{verdict_status, IsReported, IsPrinted, report, no_item, cells, IsOutput, refused, printed, IsAnswer, not_taken}
+use Rattle.black_requirements.specs.Answer.{helped, taken}
+use Rattle.black_requirements.specs.Run.{IsGiven}
+
+cause_answers : (c : Cause) → is_answer (cause_status c) ≡ true
+cause_answers causes.TooLong = refl
+cause_answers (causes.NotText byte) = refl
+cause_answers (causes.NotToml line column message) = refl
+cause_answers (causes.UnknownKey key) = refl
+cause_answers (causes.Unfit key) = refl
+cause_answers (causes.TooMany section) = refl
+cause_answers causes.NotTable = refl
+cause_answers (causes.Missing key) = refl
+cause_answers causes.EmptyName = refl
+cause_answers causes.NameTwice = refl
+cause_answers causes.NoLetter = refl
+cause_answers (causes.Lexical byte) = refl
+cause_answers (causes.Grammar byte) = refl
+cause_answers (causes.Size count) = refl
+cause_answers causes.Form = refl
+cause_answers causes.NoState = refl
+cause_answers causes.EmptyLoop = refl
+
+verdict_answers : (v : Verdict) → is_answer (verdict_status v) ≡ true
+verdict_answers verdicts.AsWished = refl
+verdict_answers verdicts.NotAsWished = refl
+verdict_answers verdicts.Undecided = refl
+
+reported_answers : (d : Document) (request : Request) (status : Status) (text : List ℕ) → IsReported d request status text → is_answer status ≡ true
+reported_answers d request status text (report scope r t asked is shows) = verdict_answers (verdict r)
+reported_answers d request status text (no_item name only missing) = refl
+reported_answers d request status text (cells scope behaviour item asked is) = refl
+
+printed_answers : (d : Document) (query : Query) (status : Status) (text : List ℕ) → IsPrinted d query status text → is_answer status ≡ true
+printed_answers d Letters status text is = ap is_answer is.0
+printed_answers d (About request) status text is = reported_answers d request status text is
+
+output_answers : (query : Query) (bytes : List ℕ) (status : Status) (text : List ℕ) → IsOutput query bytes status text → is_answer status ≡ true
+output_answers query bytes status text (refused f h) = cause_answers f.cause
+output_answers query bytes status text (printed d s t is h) = printed_answers d query s t h
+
+answer_answers : (words : List (List ℕ)) (bytes : List ℕ) (status : Status) (text : List ℕ) → IsAnswer words bytes status text → is_answer status ≡ true
+answer_answers words bytes status text (not_taken nothing) = refl
+answer_answers words bytes status text (helped asks) = refl
+answer_answers words bytes status text (taken query s t asks h) = output_answers query bytes s t h
+
+-- what is given has another status than each of those
+pub given_not : {words : List (List ℕ)} {rest : Option (List ℕ)} {status : Status} {text : List ℕ} (other : Status) → is_answer other ≡ false
+    → IsGiven words rest status text → status ≡ other → ⊥
+given_not {words} {rest} {status} {text} other none given same =
+    let e : true ≡ false = sym (answer_answers words given.bytes status text given.lawful) ∙ (ap is_answer same ∙ none) in cc

@@ -1,0 +1,25 @@
+use Rattle.report.specs.declared.status.Status.TheVariants as statuses
+use Rattle.requirement_document.specs.Values.{document_in}
+use Rattle.requirement_answers.specs.declared.findings.ReportRefused.TheVariants as refusals
+use Rattle.requirement_answers.specs.Reports.{IsRefused}
+use Rattle.black_requirements.specs.Said.{request_of}
+use Rattle.black_requirements.specs.Texts.{cells_text}
+use Rattle.black_requirements.specs.Answer.{IsReported, cells}
+use Rattle.black_requirements.proofs.Showing.{shown, reported}
+use Rattle.black_requirements.proofs.reporting.scoped.Goals as goal
+
+pub shown-requires : goal.shown-requires
+shown-requires c = c.reports_can_be_shown.ensures (document_in c.args.document.now) c.args.scope c.in-Ok.report c.in-Ok.ensures.report
+
+pub returns-in-Ok : goal.returns-in-Ok
+returns-in-Ok c = reported c.args.document.now (request_of c.args.request)
+    c.args.scope c.in-Ok.report c.shown.result c.requires.asked c.in-Ok.ensures.report c.shown.ensures
+
+pub returns-in-Err-Cells : goal.returns-in-Err-Cells
+returns-in-Err-Cells c =
+    let d = document_in c.args.document.now in
+    let behaviour = c.in-Err-Cells.behaviour in
+    let item = c.in-Err-Cells.field-0-1 in
+    let is : IsRefused d c.args.scope (refusals.Cells behaviour item) = rw c.in-Err-Cells.field-0-is at c.in-Err-Cells.ensures.refused in
+    shown (IsReported c.args.document.now (request_of c.args.request)) statuses.Limit (cells_text d behaviour) c.cells.result
+    (cells c.args.scope behaviour item c.requires.asked is) (rw c.in-Err-Cells.behaviour-is at c.cells.ensures)

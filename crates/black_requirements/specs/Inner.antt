@@ -1,0 +1,18 @@
+-- What the private calls give. No public contract cites this file.
+use Rattle.std.specs.Prelude.{◌≡◌, ℕ, List, Option}
+use Rattle.report.specs.declared.status.Status.{Status}
+use Rattle.program_input.specs.Taking.{AreLeft}
+use Rattle.black_requirements.specs.Words.{Query}
+use Rattle.black_requirements.specs.Answer.{IsOutput}
+use Rattle.black_requirements.specs.declared.output.Output.{Output}
+
+-- the output has the status and the text
+pub record Shows (output : Output) (status : Status) (text : List ℕ) : Type 0 where
+  pub same_status : output.status ≡ status
+  pub same_text : output.text.items ≡ text
+
+-- what is printed of what the source had left, where this is asked of it
+pub record IsGivenTo (query : Query) (rest : Option (List ℕ)) (status : Status) (text : List ℕ) : Type 0 where
+  pub bytes : List ℕ
+  pub left : AreLeft rest bytes
+  pub lawful : IsOutput query bytes status text

@@ -1,0 +1,11 @@
+pub mod Words
+pub mod Pointing
+pub mod Hints
+pub mod Refusing
+pub mod Texts
+pub mod Naming
+pub mod Answer
+pub mod Run
+pub mod Wished
+pub mod Said
+pub mod Inner

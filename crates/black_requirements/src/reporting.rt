@@ -1,0 +1,131 @@
+// What is printed of a document: its report in one of its forms, whole or about one name, or its letters.
+ghost use Rattle.std.specs.Prelude.{◌≡◌, IfOk};
+ghost use Rattle.report.specs.declared.status.Status.TheVariants as statuses;
+ghost use Rattle.requirement_document.specs.Values.{document_in};
+ghost use Rattle.requirement_answers.specs.Reports.{IsReport, RecordsTraces};
+ghost use Rattle.requirement_answers.specs.Verdicts.{verdict};
+ghost use Rattle.requirement_report.specs.Letters.{letters_text};
+ghost use Rattle.requirement_report.specs.Shown.{ReportCanBeShown};
+ghost use Rattle.black_requirements.specs.Said.{face_of, request_of, query_of};
+ghost use Rattle.black_requirements.specs.Inner.{Shows};
+ghost use Rattle.black_requirements.specs.Naming.{IsAskedAbout};
+ghost use Rattle.black_requirements.specs.Answer.{IsFaceOf, IsReported, IsPrinted, verdict_status};
+
+use crate::naming::scope_named;
+use crate::output::{Output, cells, no_item};
+use crate::words::{Face, Query, Request};
+use report::Status;
+use requirement_answers::{Report, ReportRefused, Scope, Verdict, report_on, verdict_of};
+use requirement_document::Document;
+use requirement_json::json;
+use requirement_page::page;
+use requirement_questions::Limits;
+use requirement_report::laws::reports_can_be_shown;
+use requirement_report::{letters_text, text};
+use std::alloc::{AllocError, Global};
+
+/// What is asked of a document.
+pub fn printed(alloc: Global, query: Query<'_>, document: &Document) -> Result<Output, AllocError>
+    requires { RecordsTraces (document_in document.now) }
+    ensures { IfOk result (λ out. IsPrinted document.now (query_of query.entry) out.status out.text.items) }
+{
+    match query {
+        Query::Letters => letters(alloc, document),
+        Query::About(request) => report(alloc, request, document),
+    }
+}
+
+/// The letters of a document.
+fn letters(alloc: Global, document: &Document) -> Result<Output, AllocError>
+    ensures { IfOk result (λ out. Shows out statuses.Good (letters_text (document_in document.now))) }
+{
+    Ok(Output {
+        status: Status::Good,
+        text: letters_text(alloc, document)?,
+    })
+}
+
+/// The report on a document, or on what has the name in it.
+fn report(alloc: Global, request: Request<'_>, document: &Document) -> Result<Output, AllocError>
+    requires { RecordsTraces (document_in document.now) }
+    ensures { IfOk result (λ out.
+        IsReported document.now (request_of request.entry) out.status out.text.items) }
+{
+    let Some(name) = request.only else {
+        return scoped(alloc, request, document, Scope::All);
+    };
+    match scope_named(document, name)? {
+        Some(scope) => scoped(alloc, request, document, scope),
+        None => no_item(alloc, name),
+    }
+}
+
+/// The report within the scope.
+fn scoped(
+    alloc: Global,
+    request: Request<'_>,
+    document: &Document,
+    scope: Scope,
+) -> Result<Output, AllocError>
+    requires traces { RecordsTraces (document_in document.now) }
+    requires asked { IsAskedAbout (document_in document.now) (request_of request).only scope }
+    ensures { IfOk result (λ out.
+        IsReported document.now (request_of request.entry) out.status out.text.items) }
+{
+    reports_can_be_shown();
+    match report_on(alloc, document, scope, request.limits) {
+        Ok(report) => shown(alloc, document, &report, scope, request),
+        Err(ReportRefused::Cells { behaviour, .. }) => cells(alloc, document, behaviour),
+        Err(ReportRefused::NoMemory) => Err(AllocError),
+    }
+}
+
+/// A report in its form, and its verdict's status.
+fn shown(
+    alloc: Global,
+    document: &Document,
+    report: &Report,
+    scope: Scope,
+    request: Request<'_>,
+) -> Result<Output, AllocError>
+    requires { ReportCanBeShown report.now }
+    ensures { IfOk result (λ out. (out.status ≡ verdict_status (verdict report.now))
+        × IsFaceOf (face_of request.entry.face) (document_in document.now) report.now scope
+        request.entry.limits.steps out.text.items) }
+{
+    let text = faced(alloc, document, report, scope, request.face, request.limits)?;
+    Ok(Output {
+        status: verdict_status(verdict_of(report)),
+        text,
+    })
+}
+
+/// A report in a form.
+fn faced(
+    alloc: Global,
+    document: &Document,
+    report: &Report,
+    scope: Scope,
+    face: Face,
+    limits: Limits,
+) -> Result<Vec<u8>, AllocError>
+    requires { ReportCanBeShown report.now }
+    ensures { IfOk result (λ text.
+        IsFaceOf (face_of face) (document_in document.now) report.now scope limits.steps text.items) }
+{
+    match face {
+        Face::Text => text(alloc, document, report, scope, limits),
+        Face::Json => json(alloc, document, report, limits),
+        Face::Page => page(alloc, document, report, scope, limits),
+    }
+}
+
+fn verdict_status(verdict: Verdict) -> Status
+    ensures { result ≡ verdict_status verdict }
+{
+    match verdict {
+        Verdict::AsWished => Status::Good,
+        Verdict::NotAsWished => Status::Negative,
+        Verdict::Undecided => Status::Undecided,
+    }
+}

@@ -1,0 +1,5 @@
+mod First
+mod Judged
+mod Printable
+mod Formulas
+mod Written

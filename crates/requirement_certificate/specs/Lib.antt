@@ -1,0 +1,4 @@
+pub mod Chosen
+pub mod Text
+pub mod Verified
+pub mod Laws

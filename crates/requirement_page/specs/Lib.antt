@@ -1,0 +1,12 @@
+pub mod Marks
+pub mod Style
+pub mod Pictures
+pub mod Reasons
+pub mod Answers
+pub mod Checks
+pub mod Places
+pub mod Slips
+pub mod Items
+pub mod Counts
+pub mod Page
+pub mod Laws

@@ -1,0 +1,175 @@
+// What is met together, and the answers to the further questions.
+ghost use Rattle.std.specs.Prelude.{◌≡◌, ◌++◌, OnOk};
+ghost use Rattle.requirement_document.specs.Values.{document_in};
+ghost use Rattle.requirement_answers.specs.declared.asking.Asking.TheVariants.{Together};
+ghost use Rattle.requirement_report.specs.Lines.{of_all};
+ghost use Rattle.requirement_report.specs.Text.{word_of, item_asked};
+ghost use Rattle.requirement_page.specs.Marks.{item_link, begun};
+ghost use Rattle.requirement_page.specs.Answers.{can_sort, cannot_sort, sort_of, undecided, tried, large};
+ghost use Rattle.requirement_page.specs.Answers.{answered, together_article, reply_article};
+
+use crate::marks::{ENDED, put_begun, put_item_link, put_paragraph};
+use crate::pictures::put_picture;
+use crate::reasons::{put_because, put_described, put_without};
+use requirement_answers::{Asking, Reply};
+use requirement_document::Document;
+use requirement_questions::{Answer, Limits, Member};
+use requirement_report::{item_asked, put_of_all, put_worded, question_words, word_of};
+use std::alloc::{AllocError, Global};
+
+/// So many items, and of how many.
+#[derive(Clone, Copy)]
+pub struct Left {
+    pub left: usize,
+    pub all: usize,
+}
+
+/// The sort of an answer, which is a class of the style.
+fn sort_of(asking: Asking, answer: &Answer) -> &'static [u8]
+    ensures { result.now ≡ sort_of asking answer.now }
+{
+    match answer {
+        Answer::Can(_) => can_sort(asking),
+        Answer::Cannot(_) => cannot_sort(asking),
+        Answer::Undecided | Answer::TooLarge(_) => b"open",
+    }
+}
+
+fn can_sort(asking: Asking) -> &'static [u8]
+    ensures { result.now ≡ can_sort asking }
+{
+    match asking {
+        Asking::Together | Asking::Triggered(_) | Asking::New(_) | Asking::Possible(_) => b"good",
+        Asking::Follows(_) => b"bad",
+    }
+}
+
+fn cannot_sort(asking: Asking) -> &'static [u8]
+    ensures { result.now ≡ cannot_sort asking }
+{
+    match asking {
+        Asking::Together | Asking::Possible(_) => b"bad",
+        Asking::Triggered(_) | Asking::New(_) => b"remark",
+        Asking::Follows(_) => b"good",
+    }
+}
+
+/// Adds the article that says whether what is left can be met together.
+pub fn put_together(
+    alloc: Global,
+    document: &Document,
+    limits: Limits,
+    number: u128,
+    count: Left,
+    aside: &[Member],
+    answer: &Answer,
+    out: &mut Vec<u8>,
+) -> Result<(), AllocError>
+    ensures { OnOk result (out.new.items ≡ out.old.items
+        ++ together_article (document_in document.now) limits.steps number count.left count.all aside.now
+        answer.now) }
+{
+    put_together_begun(alloc, number, count, answer, out)?;
+    put_without(alloc, document, aside, out)?;
+    put_answered(alloc, document, limits, Asking::Together, answer, out)?;
+    out.extend_from_slice(ENDED)
+}
+
+fn put_together_begun(
+    alloc: Global,
+    number: u128,
+    count: Left,
+    answer: &Answer,
+    out: &mut Vec<u8>,
+) -> Result<(), AllocError>
+    ensures { OnOk result (out.new.items ≡ out.old.items ++ begun (sort_of Together answer.now) number
+        (word_of Together answer.now) (of_all count.left count.all)) }
+{
+    let mut subject = Vec::new(alloc);
+    put_of_all(count.left as u128, count.all as u128, &mut subject)?;
+    let sort = sort_of(Asking::Together, answer);
+    let word = word_of(Asking::Together, answer);
+    put_begun(sort, number, word, &subject, out)
+}
+
+/// Adds the article of the answer to a further question.
+pub fn put_reply(
+    alloc: Global,
+    document: &Document,
+    limits: Limits,
+    number: u128,
+    reply: &Reply,
+    out: &mut Vec<u8>,
+) -> Result<(), AllocError>
+    ensures { OnOk result (out.new.items
+        ≡ out.old.items ++ reply_article (document_in document.now) limits.steps number reply.now) }
+{
+    let item = item_asked(reply.asking);
+    put_reply_begun(alloc, document, number, reply, out)?;
+    put_described(alloc, document, item, out)?;
+    put_answered(alloc, document, limits, reply.asking, &reply.answer, out)?;
+    out.extend_from_slice(ENDED)
+}
+
+fn put_reply_begun(
+    alloc: Global,
+    document: &Document,
+    number: u128,
+    reply: &Reply,
+    out: &mut Vec<u8>,
+) -> Result<(), AllocError>
+    ensures { OnOk result (out.new.items ≡ out.old.items
+        ++ begun (sort_of reply.now.asking reply.now.answer) number
+        (word_of reply.now.asking reply.now.answer)
+        (item_link (document_in document.now) (item_asked reply.now.asking))) }
+{
+    let mut subject = Vec::new(alloc);
+    put_item_link(alloc, document, item_asked(reply.asking), &mut subject)?;
+    let sort = sort_of(reply.asking, &reply.answer);
+    let word = word_of(reply.asking, &reply.answer);
+    put_begun(sort, number, word, &subject, out)
+}
+
+/// Adds what an answer says.
+fn put_answered(
+    alloc: Global,
+    document: &Document,
+    limits: Limits,
+    asking: Asking,
+    answer: &Answer,
+    out: &mut Vec<u8>,
+) -> Result<(), AllocError>
+    ensures { OnOk result (out.new.items
+        ≡ out.old.items ++ answered (document_in document.now) limits.steps asking answer.now) }
+{
+    match answer {
+        Answer::Can(trace) => put_picture(alloc, trace, out),
+        Answer::Cannot(because) => put_because(alloc, document, &because.members, out),
+        Answer::Undecided => put_tried(alloc, asking, limits.steps, out),
+        Answer::TooLarge(size) => put_large(alloc, asking, *size, out),
+    }
+}
+
+fn put_tried(alloc: Global, asking: Asking, steps: u32, out: &mut Vec<u8>) -> Result<(), AllocError>
+    ensures { OnOk result (out.new.items ≡ out.old.items ++ undecided asking (tried steps)) }
+{
+    let mut line = Vec::new(alloc);
+    put_worded(b"tried: ", steps as u128, &mut line)?;
+    line.extend_from_slice(b" steps")?;
+    put_undecided(asking, &line, out)
+}
+
+fn put_large(alloc: Global, asking: Asking, size: u128, out: &mut Vec<u8>) -> Result<(), AllocError>
+    ensures { OnOk result (out.new.items ≡ out.old.items ++ undecided asking (large size)) }
+{
+    let mut line = Vec::new(alloc);
+    put_worded(b"limit nodes 16384 have ", size, &mut line)?;
+    put_undecided(asking, &line, out)
+}
+
+fn put_undecided(asking: Asking, why: &[u8], out: &mut Vec<u8>) -> Result<(), AllocError>
+    ensures { OnOk result (out.new.items ≡ out.old.items ++ undecided asking why.now) }
+{
+    put_paragraph(question_words(asking), out)?;
+    put_paragraph(why, out)
+}
