@@ -7,7 +7,7 @@ ghost use Rattle.ltl_run.specs.Laws.{HasNoTrace};
 ghost use Rattle.core_extract.specs.Core.{IsRefuted, IsCore, tableau};
 
 use crate::passing::passes;
-use crate::present::present;
+use crate::presenting::present;
 use crate::task::Task;
 use ltl_io::Gate;
 use ltl_syntax::{FormulaTable, Kind};

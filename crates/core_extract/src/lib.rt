@@ -4,9 +4,12 @@
 mod extracting;
 pub mod laws;
 mod passing;
-mod present;
+mod presenting;
 mod task;
 mod testing;
 
 pub use extracting::core;
+pub use passing::gather;
+pub use presenting::{mark, present};
+pub use task::Task;
 pub use testing::is_refuted;

@@ -8,7 +8,7 @@ ghost use Rattle.ltl_syntax.specs.Replacement.{IsClear};
 ghost use Rattle.core_extract.specs.Core.{IsReached};
 ghost use Rattle.core_extract.specs.Testing.{IsTask, AreMarks, AreNext, IsStep, IsSettled, IsPassed, formula_of, test_of, marked};
 
-use crate::present::mark;
+use crate::presenting::mark;
 use crate::task::Task;
 use crate::testing::{first_closed, test_group};
 use ltl_io::Gate;
@@ -25,7 +25,7 @@ pub enum Advance {
 
 /// The next kept occurrences from a place on, and the place behind them: at most so many, and none from `end`
 /// on.
-fn gather(
+pub fn gather(
     task: &Task<'_>,
     marks: &Vec<bool>,
     at: u32,

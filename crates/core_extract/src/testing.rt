@@ -9,7 +9,7 @@ ghost use Rattle.enc_layout.specs.Limit.{IsInForce};
 ghost use Rattle.core_extract.specs.Core.{IsRefuted, tableau};
 ghost use Rattle.core_extract.specs.Testing.{IsTask, AreMarks, IsGroup, IsTold, IsTested, AreTested, IsFirstClosed, formula_of, marked};
 
-use crate::present::{mark, present};
+use crate::presenting::{mark, present};
 use crate::task::Task;
 use enc_layout::Layout;
 use ltl_closure::Closure;

@@ -5,5 +5,7 @@ mod Steps
 mod LeftOut
 mod Least
 mod Settled
+mod Parts
+mod Passing
 mod Triggers
 mod Failing

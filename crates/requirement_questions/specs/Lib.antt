@@ -5,6 +5,8 @@ pub mod Joining
 pub mod Outcome
 pub mod Settling
 pub mod Answer
+pub mod Replacing
+pub mod Core
 pub mod Trigger
 pub mod Failure
 pub mod Laws

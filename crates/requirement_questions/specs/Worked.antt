@@ -1,8 +1,9 @@
 -- Small cases that were worked by hand.
-use Rattle.std.specs.Prelude.{◌≡◌, ℕ, true, false, [], ◌∷◌, Some, None}
-use Rattle.ltl_syntax.specs.declared.node.UnaryOp.TheVariants.{Always, Eventually}
+use Rattle.std.specs.Prelude.{◌≡◌, ◌==◌, ℕ, true, false, [], ◌∷◌, Some, None}
+use Rattle.ltl_syntax.specs.declared.node.UnaryOp.TheVariants.{Not, Always, Eventually}
 use Rattle.ltl_syntax.specs.declared.node.BinaryOp.TheVariants.{And, Implies}
-use Rattle.ltl_syntax.specs.Formula.{Formula, Name, Const, Letter, Unary, Binary}
+use Rattle.ltl_syntax.specs.Formula.{Formula, Name, Fresh, Const, Letter, Unary, Binary}
+use Rattle.ltl_syntax.specs.Replacement.{rep}
 use Rattle.requirement_questions.specs.declared.members.Member.{Member}
 use Rattle.requirement_questions.specs.Formulas.{all_of, chosen}
 use Rattle.requirement_questions.specs.Members.{without, marked}
@@ -34,3 +35,5 @@ pub record WorkedQuestions : Type 0 where
   pub triggered : trigger_of (Unary Always (Binary Implies p q)) ≡ Some (Unary Eventually p)
   pub always_alone : trigger_of (Unary Always p) ≡ None
   pub implies_alone : trigger_of (Binary Implies p q) ≡ None
+  -- `p & q` and `!p`: the core does without `q`, which stands at place 3 behind the joint, `p & q` and `p`
+  pub replaced : rep (all_of (Binary And p q ∷ Unary Not p ∷ [])) (λ n. n == 3) ≡ all_of (Binary And p (Letter (Fresh 0)) ∷ Unary Not p ∷ [])

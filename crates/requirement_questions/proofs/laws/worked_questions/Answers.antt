@@ -12,4 +12,5 @@ returns c = record {
   triggered = refl;
   always_alone = refl;
   implies_alone = refl;
+  replaced = refl;
 }

@@ -1,6 +1,6 @@
 use Rattle.std.proofs.Common.{◌<◌, All, length}
 use Rattle.core_extract.proofs.Marks.{AreNodes}
-use Rattle.core_extract.proofs.present.marked_nodes.Given as goal
+use Rattle.core_extract.proofs.presenting.marked_nodes.Given as goal
 
 abbrev pub invariant-places : goal.invariant-places
 invariant-places l = record {

@@ -2,7 +2,7 @@ use Rattle.std.proofs.Common.{◌≡◌, ◌+◌, ◌<◌, ◌∙◌, false, tru
 use Rattle.core_extract.proofs.Members.{read}
 use Rattle.core_extract.proofs.Tasks.{size_some, size_within}
 use Rattle.core_extract.proofs.Marks.{cleared_none, cleared_more, mark_added}
-use Rattle.core_extract.proofs.present.mark.Goals as goal
+use Rattle.core_extract.proofs.presenting.mark.Goals as goal
 
 pub index_mut-requires : goal.index_mut-requires
 index_mut-requires c =

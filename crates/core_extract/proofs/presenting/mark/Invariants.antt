@@ -1,6 +1,6 @@
 use Rattle.std.proofs.Common.{◌≡◌, length}
 use Rattle.core_extract.proofs.Marks.{AreCleared}
-use Rattle.core_extract.proofs.present.mark.Given as goal
+use Rattle.core_extract.proofs.presenting.mark.Given as goal
 
 abbrev pub invariant-under : goal.invariant-under
 invariant-under l = record {

@@ -2,7 +2,7 @@ use Rattle.std.proofs.Common.{◌≡◌, ◌+◌, ◌<◌, ◌∷◌, ◌++◌, 
 use Rattle.core_extract.proofs.Members.{read}
 use Rattle.core_extract.proofs.Tasks.{node_within}
 use Rattle.core_extract.proofs.Marks.{AreNodes, nodes_none, nodes_on, nodes_more, nodes_places, within_more}
-use Rattle.core_extract.proofs.present.marked_nodes.Goals as goal
+use Rattle.core_extract.proofs.presenting.marked_nodes.Goals as goal
 
 pub places-init : goal.places-init
 places-init c = record {

@@ -4,7 +4,7 @@ use Rattle.ltl_syntax.specs.Flat.{places_of}
 use Rattle.ltl_syntax.specs.Replacement.{rep}
 use Rattle.ltl_syntax.proofs.Places.{one_set}
 use Rattle.core_extract.specs.Testing.{formula_of, marked}
-use Rattle.core_extract.proofs.present.present.Goals as goal
+use Rattle.core_extract.proofs.presenting.present.Goals as goal
 
 pub returns-clause-tree : goal.returns-clause-tree
 returns-clause-tree c =
