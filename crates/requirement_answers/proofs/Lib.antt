@@ -6,3 +6,5 @@ mod Checked
 mod Wished
 mod Counted
 mod Recorded
+mod Told
+mod Shared

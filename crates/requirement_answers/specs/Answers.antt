@@ -1,5 +1,5 @@
 -- When an answer about a document is right.
-use Rattle.std.specs.Prelude.{◌≡◌, ℕ, ◌<◌, ◌≤◌, true, List, [], ◌∷◌, ◌++◌, length, slice_get, Some, All, Contains, ⊤}
+use Rattle.std.specs.Prelude.{◌≡◌, ℕ, ◌<◌, ◌≤◌, true, List, [], ◌∷◌, ◌++◌, length, slice_get, Option, Some, IfSome, All, Contains, ⊤}
 use Rattle.std.specs.Global.{Box}
 use Rattle.std.specs.List.Sorted.{IsStrictlyIncreasing}
 use Rattle.ltl_syntax.specs.Formula.{Formula}
@@ -10,9 +10,11 @@ use Rattle.claims.specs.Lawful.{IsLawful}
 use Rattle.claim_check.specs.Data.{certificate_in}
 use Rattle.requirement_questions.specs.declared.members.Member.{Member}
 use Rattle.requirement_questions.specs.declared.leaving.Because.{Because}
+use Rattle.requirement_questions.specs.declared.parting.Core.{Core}
 use Rattle.requirement_questions.specs.declared.answering.Answer.{Answer}
 use Rattle.requirement_questions.specs.declared.answering.Answer.TheVariants as answers
 use Rattle.requirement_questions.specs.Formulas.{all_of, SatisfiesEach, NoneSatisfies}
+use Rattle.requirement_questions.specs.Core.{IsCoreOf}
 use Rattle.requirement_questions.specs.Members as members
 use Rattle.requirement_questions.specs.Members.{places}
 use Rattle.requirement_document.specs.Values.{DocumentValue}
@@ -54,6 +56,13 @@ IsReply d left r = IsAnswerTo d (given_for left r.asking) (asked_of d r.asking) 
 abbrev pub AreConflicts : DocumentValue → List ℕ → List (Box Because) → List ℕ → Type 0
 AreConflicts d given [] left = left ≡ given
 AreConflicts d given (b ∷ rest) left = IsReason d given [] b.value × (0 < length b.value.members.items) × AreConflicts d (without (places b.value.members.items) given) rest left
+
+-- what of the members of each conflict matters for it, where that is told
+abbrev pub AreCores : DocumentValue → List (Box Because) → List (Option (Box Core)) → Type 0
+AreCores d [] [] = ⊤
+AreCores d [] (c ∷ cores) = ⊥
+AreCores d (b ∷ conflicts) [] = ⊥
+AreCores d (b ∷ conflicts) (c ∷ cores) = IfSome c (λ c. IsCoreOf d.kind (formulas_of d (places b.value.members.items)) c.value) × AreCores d conflicts cores
 
 -- it is not known that these items cannot be met together
 abbrev pub IsOpen : Answer → Type 0

@@ -1,10 +1,16 @@
 -- What holds of a report while it is made.
-use Rattle.std.specs.Prelude.{◌≡◌, ℕ, ◌<◌, List, [], ◌∷◌, ◌++◌, map, length, slice_index, All, Contains, Bool, if◌then◌else◌, ⊤}
+use Rattle.std.specs.Prelude.{◌≡◌, ℕ, ◌<◌, List, [], ◌∷◌, ◌++◌, map, length, slice_index, All, Contains, Bool, if◌then◌else◌, ⊤, Result, Ok, Err, IsOk}
+use Rattle.std.specs.Global.{Vec, Box}
+use Rattle.std.specs.declared.alloc.AllocError.{AllocError}
+use Rattle.std.specs.List.{flat_map}
 use Rattle.std.specs.List.Sorted.{IsStrictlyIncreasing}
+use Rattle.ltl_syntax.specs.Table.{tree_at}
 use Rattle.lasso_eval.specs.Cells.{cells, max_cells}
 use Rattle.ltl_word.specs.declared.trace.Trace.{Trace}
 use Rattle.requirement_questions.specs.declared.members.Member.{Member}
 use Rattle.requirement_questions.specs.declared.leaving.Because.{Because}
+use Rattle.requirement_questions.specs.Formulas.{all_of}
+use Rattle.requirement_questions.specs.Members.{places}
 use Rattle.requirement_document.specs.Values.{DocumentValue}
 use Rattle.requirement_answers.specs.declared.asking.Asking.{Asking}
 use Rattle.requirement_answers.specs.declared.asking.Asking.TheVariants as askings
@@ -18,7 +24,7 @@ use Rattle.requirement_answers.specs.declared.conflicts.Together.{Together}
 use Rattle.requirement_answers.specs.declared.findings.Break.{Break}
 use Rattle.requirement_answers.specs.declared.findings.ReportRefused.{ReportRefused}
 use Rattle.requirement_answers.specs.declared.findings.ReportRefused.TheVariants as refusals
-use Rattle.requirement_answers.specs.Items.{formula_of, given_numbers}
+use Rattle.requirement_answers.specs.Items.{formula_of, formulas_of, given_numbers}
 use Rattle.requirement_answers.specs.Answers.{IsAnswerTo, IsReply, IsReason, AreConflicts, IsOpen}
 use Rattle.requirement_answers.specs.Checks.{trace_of, IsFinding, AreFindings, IsCheckAgainst}
 
@@ -82,6 +88,21 @@ asks_covered d scope left n = if covers_item scope n then asks_about d left n el
 pub record AreReplies (d : DocumentValue) (left : List ℕ) (asks : List Asking) (replies : List Reply) : Type 0 where
   pub asked : map (λ r. r.asking) replies ≡ asks
   pub answered : All (IsReply d left) replies
+
+-- the formula says that the members of a conflict hold
+pub record SaysMembers (d : DocumentValue) (b : Box Because) : Type 0 where
+  pub there : b.value.root < length b.value.table.nodes
+  pub formula : tree_at b.value.table b.value.root ≡ all_of (formulas_of d (places b.value.members.items))
+
+-- the answers of a piece of the questions, where there was memory for them
+abbrev pub of_piece : Result (Vec Reply) AllocError → List Reply
+of_piece (Ok v) = v.items
+of_piece (Err e) = []
+
+-- the answers of all pieces, one piece after the other
+pub record AreJoined (pieces : List (Result (Vec Reply) AllocError)) (found : List Reply) : Type 0 where
+  pub whole : All IsOk pieces
+  pub joined : found ≡ flat_map of_piece pieces
 
 -- the checks of these behaviours against these items
 pub record AreChecks (d : DocumentValue) (numbers behaviours : List ℕ) (checks : List Check) : Type 0 where

@@ -10,13 +10,14 @@ use Rattle.requirement_answers.specs.declared.findings.ReportRefused.{ReportRefu
 use Rattle.requirement_answers.specs.declared.findings.ReportRefused.TheVariants as refusals
 use Rattle.requirement_answers.specs.Items.{formula_of, given_numbers}
 use Rattle.requirement_answers.specs.Asking.{questions_of}
-use Rattle.requirement_answers.specs.Answers.{IsReply, AreConflicts, IsOpen}
+use Rattle.requirement_answers.specs.Answers.{IsReply, AreConflicts, AreCores, IsOpen}
 use Rattle.requirement_answers.specs.Checks.{trace_of, IsCheck, behaviours_of}
 
 -- the conflicts, and what is left without them, of which it is not known that it cannot be met together; the answers to the further questions in their
 -- order; and the check of each behaviour
 pub record IsReport (d : DocumentValue) (scope : Scope) (r : Report) : Type 0 where
   pub conflicts : AreConflicts d (given_numbers d) r.conflicts.items r.left.items
+  pub cores : AreCores d r.conflicts.items r.cores.items
   pub together : IsReply d r.left.items (record { asking = askings.Together; answer = r.together })
   pub settled : IsOpen r.together
   pub asked : map (λ p. p.asking) r.replies.items ≡ questions_of d scope r.left.items

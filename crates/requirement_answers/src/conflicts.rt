@@ -6,6 +6,8 @@ ghost use Rattle.requirement_questions.specs.Members.{places};
 ghost use Rattle.requirement_answers.specs.Items.{without};
 ghost use Rattle.requirement_answers.specs.Inner.{AreItems, IsMet, IsTogether};
 
+use crate::asking::Asking;
+use crate::effort::Watch;
 use crate::numbers::{given_numbers, without};
 use crate::replying::answer_given;
 use requirement_document::Document;
@@ -27,11 +29,12 @@ pub struct Together {
     pub answer: Answer,
 }
 
-/// Sets aside what cannot be met together.
-pub fn set_aside(
+/// Sets aside what cannot be met together. `watch` is told each time before it is asked.
+pub fn set_aside<W: Watch>(
     alloc: Global,
     document: &Document,
     limits: Limits,
+    watch: &mut W,
 ) -> Result<Box<Together>, AllocError>
     requires { length document.now.items.items < 4294967296 }
     ensures { IfOk result (λ m. IsTogether (document_in document.now) m.value) }
@@ -39,6 +42,7 @@ pub fn set_aside(
     let mut conflicts = Vec::new(alloc);
     let mut left = given_numbers(alloc, document)?;
     'conflicts: loop {
+        watch.begin(document, Asking::Together, 0);
         match met_together(alloc, document, &left, limits)? {
             Met::Open(answer) => {
                 let together = Together {

@@ -3,7 +3,7 @@ ghost use Rattle.std.specs.Prelude.{◌≡◌};
 ghost use Rattle.requirement_answers.specs.declared.findings.ReportRefused.TheVariants.{NoMemory};
 
 use crate::asking::Reply;
-use requirement_questions::{Answer, Because};
+use requirement_questions::{Answer, Because, Core};
 use std::alloc::{AllocError, AllocFailed};
 
 /// An item that a behaviour does not keep, and where it fails first.
@@ -34,6 +34,8 @@ pub enum Scope {
 pub struct Report {
     /// In the order in which they were found, each among what was left then.
     pub conflicts: Vec<Box<Because>>,
+    /// What of the members of each conflict matters for it, in the same order, where that could be told.
+    pub cores: Vec<Option<Box<Core>>>,
     /// The assumed and required items that are in no conflict, ascending.
     pub left: Vec<u32>,
     /// Whether these can be met together. It is never `Cannot`.

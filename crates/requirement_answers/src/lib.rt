@@ -5,7 +5,9 @@
 mod asking;
 mod checking;
 mod conflicts;
+mod cores;
 mod counting;
+mod effort;
 mod findings;
 mod judging;
 pub mod laws;
@@ -14,9 +16,12 @@ mod planning;
 mod renumbering;
 mod replying;
 mod reporting;
+mod sharing;
 
 pub use asking::{Asking, Reply};
 pub use counting::{Counts, Tally, counts_of};
+pub use effort::{Effort, NoWatch, Watch};
 pub use findings::{Break, Check, Report, ReportRefused, Scope};
 pub use judging::{Verdict, verdict_of};
+pub use numbers::{given_numbers, without};
 pub use reporting::report_on;

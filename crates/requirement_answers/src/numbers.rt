@@ -19,7 +19,8 @@ pub fn is_given(role: Role) -> bool
     }
 }
 
-/// The numbers of the given items, ascending.
+/// The numbers of the items that are assumed or required, ascending. Items are counted from 0 in the
+/// document's order.
 pub fn given_numbers(alloc: Global, document: &Document) -> Result<Vec<u32>, AllocError>
     requires { length document.now.items.items < 4294967296 }
     ensures { IfOk result (λ numbers. numbers.items ≡ given_numbers (document_in document.now)) }
@@ -50,7 +51,8 @@ pub fn is_among(numbers: &[u32], number: u32) -> bool
     numbers.contains(&number)
 }
 
-/// These numbers without those that are taken away.
+/// These numbers without those that are taken away, in the same order: ascending where they were. They are
+/// numbers of items, which are counted from 0 in the document's order.
 pub fn without(alloc: Global, away: &[u32], numbers: &[u32]) -> Result<Vec<u32>, AllocError>
     ensures { IfOk result (λ rest. rest.items ≡ without away.now numbers.now) }
 {

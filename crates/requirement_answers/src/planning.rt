@@ -1,39 +1,19 @@
-// The further questions of a document, and their answers.
-ghost use Rattle.std.specs.Prelude.{◌≡◌, ◌++◌, ◌<◌, [], ◌∷◌, length, All, IfOk, OnOk};
+// The further questions of a document.
+ghost use Rattle.std.specs.Prelude.{◌≡◌, ◌++◌, ◌<◌, [], ◌∷◌, length, IfOk, OnOk};
 ghost use Rattle.requirement_document.specs.Values.{document_in};
 ghost use Rattle.requirement_document.specs.declared.document.Role.TheVariants.{Require};
 ghost use Rattle.requirement_questions.specs.Trigger.{trigger_of};
 ghost use Rattle.requirement_answers.specs.Items.{formula_of};
 ghost use Rattle.requirement_answers.specs.Asking.{questions_of, asks_about, asks_of, asks_trigger, covers_item};
-ghost use Rattle.requirement_answers.specs.Inner.{AreItems, IsAbout, asks_covered, AreReplies};
+ghost use Rattle.requirement_answers.specs.Inner.{asks_covered};
 
-use crate::asking::{Asking, Reply};
+use crate::asking::Asking;
 use crate::findings::Scope;
 use crate::numbers::is_among;
-use crate::replying::{item_at, reply};
+use crate::replying::item_at;
 use requirement_document::{Document, Role};
-use requirement_questions::{Limits, trigger};
+use requirement_questions::trigger;
 use std::alloc::{AllocError, Global};
-
-/// The answers to these questions, where these items are left.
-pub fn replies(
-    alloc: Global,
-    document: &Document,
-    left: &[u32],
-    asks: &[Asking],
-    limits: Limits,
-) -> Result<Vec<Reply>, AllocError>
-    requires left { AreItems (document_in document.now) left.now }
-    requires about { All (IsAbout (document_in document.now)) asks.now }
-    ensures { IfOk result (λ found. AreReplies (document_in document.now) left.now asks.now found.items) }
-{
-    let mut found = Vec::with_capacity(alloc, asks.len())?;
-    'asks: for k in 0..asks.len() {
-        let answered = reply(alloc, document, left, asks[k], limits)?;
-        found.push(answered)?;
-    }
-    Ok(found)
-}
 
 /// The questions about the items that the scope covers, in the document's order.
 pub fn questions(

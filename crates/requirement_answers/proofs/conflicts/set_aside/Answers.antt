@@ -10,7 +10,7 @@ use Rattle.requirement_answers.proofs.Conflict.{conflicts_more, less_left}
 use Rattle.requirement_answers.proofs.conflicts.set_aside.Goals as goal
 
 pub conflicts-init : goal.conflicts-init
-conflicts-init c =
+conflicts-init g c =
     let d = document_in c.args.document.now in
     record {
       items = subst (AreItems d) (sym c.in_ok-left.ensures) (given_items d);
@@ -18,7 +18,7 @@ conflicts-init c =
     }
 
 pub conflicts-preserved : goal.conflicts-preserved
-conflicts-preserved c =
+conflicts-preserved g c =
     let d = document_in c.args.document.now in
     let left = c.conflicts.left.items in
     let b = c.in-Conflict.because in
@@ -33,7 +33,7 @@ conflicts-preserved c =
     }
 
 pub conflicts-smaller : goal.conflicts-smaller
-conflicts-smaller c =
+conflicts-smaller g c =
     let d = document_in c.args.document.now in
     let left = c.conflicts.left.items in
     let b = c.in-Conflict.because in
@@ -43,7 +43,7 @@ conflicts-smaller c =
     subst (λ xs. length xs < length left) (sym rest) (less_left d left b.value here.0 here.1)
 
 pub returns-in-Open : goal.returns-in-Open
-returns-in-Open c =
+returns-in-Open g c =
     let d = document_in c.args.document.now in
     let left = c.conflicts.left.items in
     let a = c.in-Open.answer in

@@ -6,10 +6,10 @@ use Rattle.requirement_answers.specs.Inner.{AreItems}
 use Rattle.requirement_answers.proofs.conflicts.set_aside.Given as goal
 
 abbrev pub invariant-conflicts : goal.invariant-conflicts
-invariant-conflicts l = record {
+invariant-conflicts g l = record {
   items : AreItems (document_in l.document) l.left.items;
   found : AreConflicts (document_in l.document) (given_numbers (document_in l.document)) l.conflicts.items l.left.items;
 }
 
 abbrev pub decreases-conflicts : goal.decreases-conflicts
-decreases-conflicts l = length l.left.items
+decreases-conflicts g l = length l.left.items

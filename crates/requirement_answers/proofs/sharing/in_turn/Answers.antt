@@ -1,6 +1,6 @@
 use Rattle.requirement_document.specs.Values.{document_in}
 use Rattle.requirement_answers.proofs.Planned.{replies_more}
-use Rattle.requirement_answers.proofs.planning.replies.Goals as goal
+use Rattle.requirement_answers.proofs.sharing.in_turn.Goals as goal
 
 pub asks-preserved : goal.asks-preserved
 asks-preserved c = record {
