@@ -1,5 +1,6 @@
 -- What is written of a report has no float.
-use Rattle.std.proofs.Common.{◌≡◌, ℕ, List, [], ◌++◌, map, refl, false, codes, slice_get, Option, Some, None}
+use Rattle.std.proofs.Common.{◌≡◌, ℕ, ◌+◌, List, [], ◌∷◌, ◌++◌, map, refl, false, codes, slice_get, Option, Some, None}
+use Rattle.std.specs.Global.{Box}
 use Rattle.ltl_syntax.specs.declared.node.UnaryOp.TheVariants.{Always}
 use Rattle.ltl_syntax.specs.declared.node.BinaryOp.TheVariants.{Implies}
 use Rattle.ltl_syntax.specs.Formula.{Formula, Unary, Binary}
@@ -10,6 +11,7 @@ use Rattle.ltl_word.specs.Json.{state_data, states_data, trace_data}
 use Rattle.requirement_document.specs.Values.{ItemValue, BehaviourValue, DocumentValue}
 use Rattle.requirement_questions.specs.declared.members.Member.{Member}
 use Rattle.requirement_questions.specs.declared.leaving.Because.{Because}
+use Rattle.requirement_questions.specs.declared.parting.Core.{Core}
 use Rattle.requirement_questions.specs.declared.answering.Answer.{Answer}
 use Rattle.requirement_questions.specs.declared.answering.Answer.TheVariants as answers
 use Rattle.requirement_answers.specs.declared.asking.Asking.{Asking}
@@ -20,14 +22,15 @@ use Rattle.requirement_answers.specs.declared.findings.Report.{Report}
 use Rattle.requirement_answers.specs.declared.judging.Verdict.{Verdict}
 use Rattle.requirement_answers.specs.Verdicts.{verdict}
 use Rattle.requirement_report.specs.Letters.{UseValue, uses_of}
+use Rattle.requirement_report.specs.Parts.{part_of, core_at}
 use Rattle.requirement_report.specs.Slips.{SlipValue, slips_of}
 use Rattle.requirement_report.specs.Text.{bare, nevers_of, set_aside, word_of}
 use Rattle.serde_json.specs.Data.{Data, number, unsigned, string, Members, put}
 use Rattle.serde_json.specs.View.{items_of}
 use Rattle.serde_json.specs.Written.{has_float, items_have_float, members_have_float}
 use Rattle.requirement_json.specs.Items.{kind_text, text_data, item_data, name_data, names_data, items_data}
-use Rattle.requirement_json.specs.Because.{member_data, members_data, lines_behind, claim_data, claims_data, with_because}
-use Rattle.requirement_json.specs.Answers.{question_text, said, with_found, with_name, answer_data, reply_data, conflict_data}
+use Rattle.requirement_json.specs.Because.{member_members, with_part, member_data, members_from, members_data, lines_behind, claim_data, claims_data, with_because}
+use Rattle.requirement_json.specs.Answers.{question_text, said, with_found, with_name, answer_data, reply_data, conflict_data, conflicts_from}
 use Rattle.requirement_json.specs.Checks.{with_asked, with_asked_of, place_members, break_data, breaks_data, behaviour_data, check_data}
 use Rattle.requirement_json.specs.Letters.{use_data, letters_data, nearly_data, slip_data, slips_data}
 use Rattle.requirement_json.specs.Whole.{answers_of, told, with_letters, with_document, json_of}
@@ -69,14 +72,26 @@ slip_plain d s = rw (names_plain d s.items, nearly_plain s.nearly) refl
 
 -- ---- answers
 
-because_plain : (d : DocumentValue) (members : List Member) (nevers : List ℕ) (ms : Members) → members_have_float ms ≡ false → members_have_float (with_because d members nevers ms) ≡ false
-because_plain d members nevers ms h =
-    put_plain (codes "because") (members_data d members) (put (codes "claims") (claims_data nevers) ms) (map_plain (member_data d) (λ m. refl) members)
+part_plain : (part : Option (List ℕ)) (ms : Members) → members_have_float ms ≡ false → members_have_float (with_part part ms) ≡ false
+part_plain None ms h = h
+part_plain (Some part) ms h = put_plain (codes "matters") (string part) ms refl h
+
+member_plain : (d : DocumentValue) (part : Option (List ℕ)) (m : Member) → has_float (member_data d part m) ≡ false
+member_plain d part m = part_plain part (member_members d m) refl
+
+members_plain : (d : DocumentValue) (parts : ℕ → Option (List ℕ)) (k : ℕ) (members : List Member) → items_have_float (items_of (members_from d parts k members)) ≡ false
+members_plain d parts k [] = refl
+members_plain d parts k (m ∷ ms) = rw (member_plain d (parts k) m) (members_plain d parts (k + 1) ms)
+
+because_plain : (d : DocumentValue) (parts : ℕ → Option (List ℕ)) (members : List Member) (nevers : List ℕ) (ms : Members) → members_have_float ms ≡ false
+    → members_have_float (with_because d parts members nevers ms) ≡ false
+because_plain d parts members nevers ms h =
+    put_plain (codes "because") (members_data d parts members) (put (codes "claims") (claims_data nevers) ms) (members_plain d parts 0 members)
     (put_plain (codes "claims") (claims_data nevers) ms (map_plain claim_data (λ line. refl) (lines_behind [] nevers)) h)
 
 found_plain : (d : DocumentValue) (steps : ℕ) (a : Answer) (ms : Members) → members_have_float ms ≡ false → members_have_float (with_found d steps a ms) ≡ false
 found_plain d steps (answers.Can t) ms h = put_plain (codes "trace") (trace_data t) ms (trace_plain t) h
-found_plain d steps (answers.Cannot b) ms h = because_plain d b.value.members.items (nevers_of b.value) ms h
+found_plain d steps (answers.Cannot b) ms h = because_plain d (part_of None) b.value.members.items (nevers_of b.value) ms h
 found_plain d steps answers.Undecided ms h = put_plain (codes "steps") (number (unsigned steps)) ms refl h
 found_plain d steps (answers.TooLarge size) ms h = put_plain (codes "nodes") (number (unsigned size)) ms refl h
 
@@ -92,8 +107,12 @@ answer_plain d steps a answer =
     let words = said (word_of a answer) (question_text a) in
     name_plain d a (with_found d steps answer words) (found_plain d steps answer words refl)
 
-conflict_plain : (d : DocumentValue) (b : Because) → has_float (conflict_data d b) ≡ false
-conflict_plain d b = because_plain d b.members.items (nevers_of b) (said (codes "conflict") (codes "consistent")) refl
+conflict_plain : (d : DocumentValue) (core : Option Core) (b : Because) → has_float (conflict_data d core b) ≡ false
+conflict_plain d core b = because_plain d (part_of core) b.members.items (nevers_of b) (said (codes "conflict") (codes "consistent")) refl
+
+conflicts_plain : (d : DocumentValue) (cores : List (Option (Box Core))) (k : ℕ) (bs : List (Box Because)) → items_have_float (items_of (conflicts_from d cores k bs)) ≡ false
+conflicts_plain d cores k [] = refl
+conflicts_plain d cores k (b ∷ bs) = rw (conflict_plain d (core_at cores k) b.value) (conflicts_plain d cores (k + 1) bs)
 
 -- ---- behaviours
 
@@ -128,8 +147,8 @@ later_plain d r steps =
 
 answers_plain : (d : DocumentValue) (r : Report) (steps : ℕ) → items_have_float (items_of (answers_of d r steps)) ≡ false
 answers_plain d r steps =
-    append_plain (map (λ b. conflict_data d b.value) r.conflicts.items) _
-    (map_plain (λ b. conflict_data d b.value) (λ b. conflict_plain d b.value) r.conflicts.items)
+    append_plain (conflicts_from d r.cores.items 0 r.conflicts.items) _
+    (conflicts_plain d r.cores.items 0 r.conflicts.items)
     (rw (answer_plain d steps askings.Together r.together) (later_plain d r steps))
 
 letters_plain : (d : DocumentValue) (ms : Members) → members_have_float ms ≡ false → members_have_float (with_letters d ms) ≡ false

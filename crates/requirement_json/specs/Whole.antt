@@ -10,7 +10,7 @@ use Rattle.requirement_report.specs.Letters.{uses_of}
 use Rattle.requirement_report.specs.Slips.{slips_of}
 use Rattle.requirement_report.specs.Text.{verdict_text, set_aside}
 use Rattle.requirement_json.specs.Items.{kind_text, items_data, name_data}
-use Rattle.requirement_json.specs.Answers.{answer_data, reply_data, conflict_data}
+use Rattle.requirement_json.specs.Answers.{answer_data, reply_data, conflicts_from}
 use Rattle.requirement_json.specs.Checks.{check_data}
 use Rattle.requirement_json.specs.Letters.{letters_data, slips_data}
 use Rattle.serde_json.specs.Data.{Data, string, array, object, Members, member, no_members, put}
@@ -20,7 +20,7 @@ use Rattle.serde_json.specs.Written.{compact_text}
 -- the answers in the order of the text, all of them
 abbrev pub answers_of : DocumentValue → Report → ℕ → List Data
 answers_of d r steps =
-    map (λ b. conflict_data d b.value) r.conflicts.items
+    conflicts_from d r.cores.items 0 r.conflicts.items
     ++ answer_data d steps askings.Together r.together
     ∷ (map (reply_data d steps) r.replies.items ++ map (check_data d) r.checks.items)
 

@@ -1,5 +1,5 @@
 -- Texts of two small documents that were written by hand.
-use Rattle.std.specs.Prelude.{◌≡◌, List, [], ◌∷◌, ◌++◌, codes, true, false, Some, None}
+use Rattle.std.specs.Prelude.{◌≡◌, ℕ, zero, suc, List, [], ◌∷◌, ◌++◌, codes, true, false, Option, Some, None}
 use Rattle.ltl_syntax.specs.declared.node.Kind.TheVariants as Kinds
 use Rattle.ltl_syntax.specs.declared.node.UnaryOp.TheVariants.{Always, Eventually, Not}
 use Rattle.ltl_syntax.specs.declared.node.BinaryOp.TheVariants.{Implies}
@@ -56,7 +56,7 @@ pump_answers =
     ∷ checked_data pump 0 (record { item = 0; position = 0 } ∷ record { item = 1; position = 0 } ∷ [])
     ∷ []
 
--- ---- a door that is to be shut and to open, with a letter that is written in two ways
+-- ---- a door that is to be shut and to open, with a letter that is written in two ways, and what matters of one of two members
 
 abbrev pub door : Formula
 door = Letter (Name (codes "door"))
@@ -76,9 +76,13 @@ doors = record { kind = Kinds.Finite; items = shut ∷ opens ∷ hot ∷ []; beh
 abbrev pub both : List Member
 both = record { given = 0; needed = true } ∷ record { given = 1; needed = false } ∷ []
 
+abbrev pub parts : ℕ → Option (List ℕ)
+parts zero = Some (codes "G door")
+parts (suc k) = None
+
 abbrev pub door_answers : List Data
 door_answers =
-    object (with_because doors both (codes "never wX F !door\nnever G door & !door\n") (said (codes "conflict") (codes "consistent")))
+    object (with_because doors parts both (codes "never wX F !door\nnever G door & !door\n") (said (codes "conflict") (codes "consistent")))
     ∷ answer_data doors 5 Together Undecided
     ∷ answer_data doors 5 (Possible 2) (TooLarge 16390)
     ∷ []
@@ -98,7 +102,7 @@ pub record WorkedTexts : Type 0 where
       ++ (codes "\"text\":null}],\"letters\":[{\"items\":[\"pump out\",\"still\"],\"letter\":\"p\"},{\"items\":[\"dry\",\"pump out\"],"
       ++ codes "\"letter\":\"w\"}],\"slips\":[],\"traces\":\"infinite\",\"verdict\":\"not as wished\"}\n"))))))))))
   pub conflict : line_of (whole_data doors door_answers both NotAsWished)
-      ≡ codes "{\"answers\":[{\"answer\":\"conflict\",\"because\":[{\"name\":\"shut\",\"needed\":true},{\"name\":\"open\","
+      ≡ codes "{\"answers\":[{\"answer\":\"conflict\",\"because\":[{\"matters\":\"G door\",\"name\":\"shut\",\"needed\":true},{\"name\":\"open\","
       ++ (codes "\"needed\":false}],\"claims\":[\"wX F !door\",\"G door & !door\"],\"question\":\"consistent\"},"
       ++ (codes "{\"answer\":\"undecided\",\"question\":\"consistent\",\"steps\":5},{\"answer\":\"undecided\",\"name\":\"hot\","
       ++ (codes "\"nodes\":16390,\"question\":\"possible\"}],\"aside\":[\"shut\",\"open\"],\"items\":[{\"formula\":\"G door\","

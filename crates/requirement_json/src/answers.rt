@@ -1,5 +1,6 @@
 // The answers to questions about formulas as JSON.
 ghost use Rattle.std.specs.Prelude.{◌≡◌, IfOk, OnOk};
+ghost use Rattle.std.specs.Option.{option_copied};
 ghost use Rattle.serde_json.specs.Data.{number, unsigned};
 ghost use Rattle.serde_json.specs.View.{view, members_view};
 ghost use Rattle.requirement_document.specs.Values.{document_in};
@@ -13,7 +14,7 @@ use crate::texts::text_value;
 use crate::traces::trace_value;
 use requirement_answers::Asking;
 use requirement_document::Document;
-use requirement_questions::{Answer, Because, Limits};
+use requirement_questions::{Answer, Because, Core, Limits};
 use requirement_report::{nevers, word_of};
 use serde_json::{Map, Value, put};
 use std::alloc::{AllocError, Global};
@@ -41,13 +42,14 @@ pub fn conflict_value(
     alloc: Global,
     document: &Document,
     because: &Because,
+    core: Option<&Core>,
 ) -> Result<Value, AllocError>
     requires { CanBeShown because.now }
-    ensures { IfOk result (λ value.
-        view value ≡ conflict_data (document_in document.now) because.now) }
+    ensures { IfOk result (λ value. view value
+        ≡ conflict_data (document_in document.now) (option_copied core.entry) because.now) }
 {
     let mut members = said(alloc, b"conflict", "consistent")?;
-    put_reason(alloc, document, because, &mut members)?;
+    put_reason(alloc, document, core, because, &mut members)?;
     Ok(Value::Object(members))
 }
 
@@ -93,7 +95,7 @@ fn put_found(
             let trace = trace_value(alloc, trace)?;
             put(members, alloc, "trace", trace)
         }
-        Answer::Cannot(because) => put_reason(alloc, document, because, members),
+        Answer::Cannot(because) => put_reason(alloc, document, None, because, members),
         Answer::Undecided => put(members, alloc, "steps", Value::from(limits.steps)),
         Answer::TooLarge(size) => {
             let nodes = size_value(*size)?;
@@ -117,15 +119,16 @@ fn size_value(size: u128) -> Result<Value, AllocError>
 fn put_reason(
     alloc: Global,
     document: &Document,
+    core: Option<&Core>,
     because: &Because,
     members: &mut Map<String, Value>,
 ) -> Result<(), AllocError>
     requires { CanBeShown because.now }
     ensures { OnOk result (members_view members.new.entries ≡ with_reason (document_in document.now)
-        because.now (members_view members.old.entries)) }
+        (option_copied core.entry) because.now (members_view members.old.entries)) }
 {
     let nevers = nevers(alloc, document.kind, because)?;
-    put_because(alloc, document, &because.members, &nevers, members)
+    put_because(alloc, document, core, &because.members, &nevers, members)
 }
 
 /// Puts in the name of the item that is asked about.

@@ -1,33 +1,37 @@
 // Why there is no trace, as JSON: members, and claims.
 ghost use Rattle.std.specs.Prelude.{◌≡◌, ◌∷◌, ◌++◌, ℕ, List, map, drop, IfOk, OnOk};
+ghost use Rattle.std.specs.Option.{option_copied};
 ghost use Rattle.serde_json.specs.View.{view, members_view};
 ghost use Rattle.requirement_document.specs.Values.{document_in};
-ghost use Rattle.requirement_json.specs.Because.{member_data, members_data, lines_behind};
-ghost use Rattle.requirement_json.specs.Because.{claim_data, claims_data, with_because};
+ghost use Rattle.requirement_report.specs.Parts.{part_of};
+ghost use Rattle.requirement_json.specs.Because.{member_members, with_part, member_data, members_data};
+ghost use Rattle.requirement_json.specs.Because.{lines_behind, claim_data, claims_data, with_because};
 
-use crate::texts::text_value;
+use crate::texts::{put_text, text_value};
 use requirement_document::Document;
-use requirement_questions::Member;
-use requirement_report::name_of;
-use serde_json::{Map, Value, json, put};
+use requirement_questions::{Core, Member};
+use requirement_report::{name_of, part_of};
+use serde_json::{Map, Value, put};
 use std::alloc::{AllocError, Global};
 
 /// How long `never ` is, with which each line of claims begins.
 const NEVER: usize = 6;
 
-/// Puts in the members of a set that no trace satisfies, and the lines of claims.
+/// Puts in the members of a set that no trace satisfies, each with its part where there is a core, and the lines
+/// of claims.
 pub fn put_because(
     alloc: Global,
     document: &Document,
+    core: Option<&Core>,
     because: &[Member],
     nevers: &[u8],
     members: &mut Map<String, Value>,
 ) -> Result<(), AllocError>
     ensures { OnOk result (members_view members.new.entries ≡ with_because (document_in document.now)
-        because.now nevers.now (members_view members.old.entries)) }
+        (part_of (option_copied core.entry)) because.now nevers.now (members_view members.old.entries)) }
 {
     let claims = claims_value(alloc, nevers)?;
-    let because = members_value(alloc, document, because)?;
+    let because = members_value(alloc, document, core, because)?;
     put(members, alloc, "claims", claims)?;
     put(members, alloc, "because", because)
 }
@@ -35,24 +39,65 @@ pub fn put_because(
 fn members_value(
     alloc: Global,
     document: &Document,
+    core: Option<&Core>,
     members: &[Member],
 ) -> Result<Value, AllocError>
-    ensures { IfOk result (λ value.
-        view value ≡ members_data (document_in document.now) members.now) }
+    ensures { IfOk result (λ value. view value
+        ≡ members_data (document_in document.now) (part_of (option_copied core.entry)) members.now) }
 {
     let mut values = Vec::with_capacity(alloc, members.len())?;
-    for member in members {
-        values.push(member_value(alloc, document, *member)?)?;
+    'members: for place in 0..members.len() {
+        let value = member_value(alloc, document, core, place, members[place])?;
+        values.push(value)?;
     }
     Ok(Value::Array(values))
 }
 
-fn member_value(alloc: Global, document: &Document, member: Member) -> Result<Value, AllocError>
-    ensures { IfOk result (λ value.
-        view value ≡ member_data (document_in document.now) member) }
+/// The member at this place.
+fn member_value(
+    alloc: Global,
+    document: &Document,
+    core: Option<&Core>,
+    place: usize,
+    member: Member,
+) -> Result<Value, AllocError>
+    ensures { IfOk result (λ value. view value ≡ member_data (document_in document.now)
+        (part_of (option_copied core.entry) place) member) }
 {
-    let name = name_of(document, member.given);
-    json!(in alloc; {"name": name, "needed": member.needed})
+    let mut members = member_members(alloc, document, member)?;
+    put_part(alloc, core, place, &mut members)?;
+    Ok(Value::Object(members))
+}
+
+fn member_members(
+    alloc: Global,
+    document: &Document,
+    member: Member,
+) -> Result<Map<String, Value>, AllocError>
+    ensures { IfOk result (λ members.
+        members_view members.entries ≡ member_members (document_in document.now) member) }
+{
+    let name = Value::try_from_str(alloc, name_of(document, member.given))?;
+    let mut members = Map::new(alloc);
+    put(&mut members, alloc, "name", name)?;
+    put(&mut members, alloc, "needed", Value::Bool(member.needed))?;
+    Ok(members)
+}
+
+/// Puts in what matters of the member at this place, where that is known.
+fn put_part(
+    alloc: Global,
+    core: Option<&Core>,
+    place: usize,
+    members: &mut Map<String, Value>,
+) -> Result<(), AllocError>
+    ensures { OnOk result (members_view members.new.entries
+        ≡ with_part (part_of (option_copied core.entry) place) (members_view members.old.entries)) }
+{
+    match part_of(alloc, core, place)? {
+        Some(part) => put_text(alloc, "matters", &part, members),
+        None => Ok(()),
+    }
 }
 
 /// What each line says behind `never `.

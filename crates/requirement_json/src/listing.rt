@@ -5,7 +5,7 @@ ghost use Rattle.serde_json.specs.View.{view, items_of};
 ghost use Rattle.requirement_document.specs.Values.{document_in};
 ghost use Rattle.requirement_report.specs.Shown.{CanBeShown, AnswerCanBeShown, ReportCanBeShown};
 ghost use Rattle.requirement_answers.specs.declared.asking.Asking.TheVariants.{Together};
-ghost use Rattle.requirement_json.specs.Answers.{answer_data, conflict_data, reply_data};
+ghost use Rattle.requirement_json.specs.Answers.{answer_data, conflicts_from, reply_data};
 ghost use Rattle.requirement_json.specs.Checks.{check_data};
 ghost use Rattle.requirement_json.specs.Whole.{answers_of};
 
@@ -13,7 +13,8 @@ use crate::answers::{answer_value, conflict_value};
 use crate::checks::check_value;
 use requirement_answers::{Asking, Check, Reply, Report};
 use requirement_document::Document;
-use requirement_questions::{Because, Limits};
+use requirement_questions::{Because, Core, Limits};
+use requirement_report::core_at;
 use serde_json::Value;
 use std::alloc::{AllocError, Global};
 
@@ -28,7 +29,13 @@ pub fn answers_value(
         ≡ array (items_of (answers_of (document_in document.now) report.now limits.steps))) }
 {
     let mut answers = Vec::new(alloc);
-    push_conflicts(alloc, document, &report.conflicts, &mut answers)?;
+    push_conflicts(
+        alloc,
+        document,
+        &report.conflicts,
+        &report.cores,
+        &mut answers,
+    )?;
     push_together(alloc, document, limits, report, &mut answers)?;
     push_replies(alloc, document, limits, &report.replies, &mut answers)?;
     push_checks(alloc, document, &report.checks, &mut answers)?;
@@ -39,14 +46,18 @@ fn push_conflicts(
     alloc: Global,
     document: &Document,
     conflicts: &[Box<Because>],
+    cores: &[Option<Box<Core>>],
     answers: &mut Vec<Value>,
 ) -> Result<(), AllocError>
     requires { All (λ b. CanBeShown b.value) conflicts.now }
     ensures { OnOk result (map view answers.new.items ≡ map view answers.old.items
-        ++ map (λ b. conflict_data (document_in document.now) b.value) conflicts.now) }
+        ++ conflicts_from (document_in document.now) cores.now 0 conflicts.now) }
 {
+    let mut place: usize = 0;
     for because in conflicts {
-        answers.push(conflict_value(alloc, document, because)?)?;
+        let value = conflict_value(alloc, document, because, core_at(cores, place))?;
+        answers.push(value)?;
+        place += 1;
     }
     Ok(())
 }

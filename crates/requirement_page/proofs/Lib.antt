@@ -1,6 +1,5 @@
 -- Lemmas on texts that grow piece by piece, on pictures, and on the marks of a page.
 mod Pieces
-mod Loops
 mod Suspects
 mod Drawn
 mod Harmless

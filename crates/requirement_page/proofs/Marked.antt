@@ -14,6 +14,7 @@ use Rattle.requirement_document.specs.declared.document.Role.TheVariants as role
 use Rattle.requirement_document.specs.Values.{ItemValue, BehaviourValue, DocumentValue}
 use Rattle.requirement_questions.specs.declared.members.Member.{Member}
 use Rattle.requirement_questions.specs.declared.leaving.Because.{Because}
+use Rattle.requirement_questions.specs.declared.parting.Core.{Core}
 use Rattle.requirement_questions.specs.declared.answering.Answer.{Answer}
 use Rattle.requirement_questions.specs.declared.answering.Answer.TheVariants as kinds
 use Rattle.requirement_answers.specs.declared.asking.Asking.{Asking}
@@ -30,6 +31,7 @@ use Rattle.requirement_answers.specs.declared.counting.Counts.{Counts}
 use Rattle.requirement_answers.specs.Verdicts.{verdict}
 use Rattle.requirement_report.specs.Flat.{flat}
 use Rattle.requirement_report.specs.Lines.{of_all, first_lines, lines_in}
+use Rattle.requirement_report.specs.Parts.{part_of, core_at}
 use Rattle.requirement_report.specs.Pictures.{letters_in, grid_of}
 use Rattle.requirement_report.specs.Slips.{SlipValue, slips_of}
 use Rattle.requirement_report.specs.Subjects.{name_of, sentence_of, written_of, behaviour_name, behaviour_sentence, perhaps}
@@ -37,7 +39,7 @@ use Rattle.requirement_report.specs.Text.{question_words, can_word, cannot_word,
 use Rattle.requirement_page.specs.Marks.{turned, said, code, paragraph, paragraph_if, link, item_link, behaviour_link, badge, begun, ended}
 use Rattle.requirement_page.specs.Style.{style}
 use Rattle.requirement_page.specs.Pictures.{picture}
-use Rattle.requirement_page.specs.Reasons.{described, member_link, behind_comma, member_links, because_of, without, claim_begins, claim_byte, left_behind, claims_from, more, claims, member_described, conflict_article}
+use Rattle.requirement_page.specs.Reasons.{described, member_link, behind_comma, member_links, because_of, without, claim_begins, claim_byte, left_behind, claims_from, more, claims, matters, member_described, members_described, conflict_article}
 use Rattle.requirement_page.specs.Answers.{can_sort, cannot_sort, sort_of, undecided, tried, large, answered, together_article, reply_article}
 use Rattle.requirement_page.specs.Checks.{keeps_sort, asked, asked_in, broken_item, behaviour_picture, check_article}
 use Rattle.requirement_page.specs.Places.{next_number, together_number, first_reply, first_check}
@@ -217,15 +219,24 @@ claims_tame : (text : List ℕ) → Tame (claims text)
 claims_tame [] = paragraph_tame (codes "no first state meets them") (word (codes "no first state meets them") refl)
 claims_tame (b ∷ bs) = join (claims_from_tame 6 (first_lines 12 (b ∷ bs))) (more_tame (lines_in (b ∷ bs)))
 
-member_described_tame : (d : DocumentValue) (m : Member) → Tame (member_described d m)
-member_described_tame d m =
-    join (word (codes "<p><strong>") refl) (join (item_link_tame d m.given) (join (word (codes "</strong></p>\n") refl) (described_tame d m.given)))
+matters_tame : (part : Option (List ℕ)) → Tame (matters part)
+matters_tame None = nothing
+matters_tame (Some part) = paragraph_tame _ (join (word (codes "matters: ") refl) (code_tame part))
 
-conflict_tame : (d : DocumentValue) (n : ℕ) (b : Because) → Tame (conflict_article d n b)
-conflict_tame d n b =
+member_described_tame : (d : DocumentValue) (part : Option (List ℕ)) (m : Member) → Tame (member_described d part m)
+member_described_tame d part m =
+    join (word (codes "<p><strong>") refl)
+    (join (item_link_tame d m.given) (join (word (codes "</strong></p>\n") refl) (join (described_tame d m.given) (matters_tame part))))
+
+members_described_tame : (d : DocumentValue) (core : Option Core) (k : ℕ) (ms : List Member) → Tame (members_described d core k ms)
+members_described_tame d core k [] = nothing
+members_described_tame d core k (m ∷ ms) = join (member_described_tame d (part_of core k) m) (members_described_tame d core (k + 1) ms)
+
+conflict_tame : (d : DocumentValue) (n : ℕ) (core : Option Core) (b : Because) → Tame (conflict_article d n core b)
+conflict_tame d n core b =
     join (begun_tame (codes "bad") n (codes "conflict") (member_links d b.members.items) (word (codes "bad") refl) (word (codes "conflict") refl)
     (member_links_tame d b.members.items))
-    (join (each (member_described d) (member_described_tame d) b.members.items) (join (claims_tame (nevers_of b)) ended_tame))
+    (join (members_described_tame d core 0 b.members.items) (join (claims_tame (nevers_of b)) ended_tame))
 
 -- ---- answers
 
@@ -508,9 +519,9 @@ head_of_tame v =
     (join (word (codes "<h1>Requirements: ") refl) (join (badge_tame (verdict_sort v) (verdict_text v) (verdict_sort_tame v) (verdict_tame v)) (word
     (codes "</h1>\n") refl)))))
 
-conflicts_tame : (d : DocumentValue) (n : ℕ) (bs : List (Box Because)) → Tame (conflict_articles d n bs)
-conflicts_tame d n [] = nothing
-conflicts_tame d n (b ∷ bs) = join (conflict_tame d n b.value) (conflicts_tame d (n + 1) bs)
+conflicts_tame : (d : DocumentValue) (cores : List (Option (Box Core))) (k : ℕ) (bs : List (Box Because)) → Tame (conflict_articles d cores k bs)
+conflicts_tame d cores k [] = nothing
+conflicts_tame d cores k (b ∷ bs) = join (conflict_tame d (k + 1) (core_at cores k) b.value) (conflicts_tame d cores (k + 1) bs)
 
 replies_tame : (d : DocumentValue) (scope : Scope) (steps n : ℕ) (rs : List Reply) → Tame (reply_articles d scope steps n rs)
 replies_tame d scope steps n [] = nothing
@@ -525,7 +536,7 @@ checks_tame d n (c ∷ cs) = join (check_tame d n c) (checks_tame d (n + 1) cs)
 answers_tame : (d : DocumentValue) (r : Report) (scope : Scope) (steps : ℕ) (counts : Counts) → Tame (answer_articles d r scope steps counts)
 answers_tame d r scope steps counts =
     join (word (codes "<h2>Answers</h2>\n") refl)
-    (join (conflicts_tame d 1 r.conflicts.items)
+    (join (conflicts_tame d r.cores.items 0 r.conflicts.items)
     (join (together_tame d steps (together_number r) (length r.left.items) counts.met.all (set_aside d r) r.together)
     (join (replies_tame d scope steps (first_reply r) r.replies.items) (checks_tame d (first_check scope r) r.checks.items))))
 

@@ -1,8 +1,9 @@
 -- The page of a report.
-use Rattle.std.specs.Prelude.{◌≡◌, ℕ, ◌+◌, if◌then◌else◌, List, [], ◌∷◌, ◌++◌, length, codes}
+use Rattle.std.specs.Prelude.{◌≡◌, ℕ, ◌+◌, if◌then◌else◌, List, [], ◌∷◌, ◌++◌, length, codes, Option}
 use Rattle.std.specs.Global.{Box}
 use Rattle.requirement_document.specs.Values.{DocumentValue}
 use Rattle.requirement_questions.specs.declared.leaving.Because.{Because}
+use Rattle.requirement_questions.specs.declared.parting.Core.{Core}
 use Rattle.requirement_answers.specs.declared.asking.Reply.{Reply}
 use Rattle.requirement_answers.specs.declared.findings.Check.{Check}
 use Rattle.requirement_answers.specs.declared.findings.Report.{Report}
@@ -12,6 +13,7 @@ use Rattle.requirement_answers.specs.declared.judging.Verdict.TheVariants as ver
 use Rattle.requirement_answers.specs.declared.counting.Counts.{Counts}
 use Rattle.requirement_answers.specs.Verdicts.{verdict}
 use Rattle.requirement_answers.specs.Counting.{AreCounts}
+use Rattle.requirement_report.specs.Parts.{core_at}
 use Rattle.requirement_report.specs.Text.{verdict_text, set_aside, is_hidden}
 use Rattle.requirement_page.specs.Marks.{badge}
 use Rattle.requirement_page.specs.Style.{style}
@@ -49,9 +51,10 @@ head v = declared ++ (titled v ++ (styled ++ judged v))
 
 -- ---- the answers in the order of the questions, where the first of them has a number
 
-abbrev pub conflict_articles : DocumentValue → ℕ → List (Box Because) → List ℕ
-conflict_articles d number [] = []
-conflict_articles d number (b ∷ bs) = conflict_article d number b.value ++ conflict_articles d (number + 1) bs
+-- conflicts from the one at this place on, each with its core
+abbrev pub conflict_articles : DocumentValue → List (Option (Box Core)) → ℕ → List (Box Because) → List ℕ
+conflict_articles d cores k [] = []
+conflict_articles d cores k (b ∷ bs) = conflict_article d (k + 1) (core_at cores k) b.value ++ conflict_articles d cores (k + 1) bs
 
 -- where all is asked, what is triggered and what is new goes without saying
 abbrev pub reply_if : DocumentValue → Scope → ℕ → ℕ → Reply → List ℕ
@@ -68,7 +71,7 @@ check_articles d number (c ∷ cs) = check_article d number c ++ check_articles 
 abbrev pub answer_articles : DocumentValue → Report → Scope → ℕ → Counts → List ℕ
 answer_articles d r scope steps counts =
     codes "<h2>Answers</h2>\n"
-    ++ (conflict_articles d 1 r.conflicts.items
+    ++ (conflict_articles d r.cores.items 0 r.conflicts.items
     ++ (together_article d steps (together_number r) (length r.left.items) counts.met.all (set_aside d r) r.together
     ++ (reply_articles d scope steps (first_reply r) r.replies.items
     ++ check_articles d (first_check scope r) r.checks.items)))

@@ -1,12 +1,14 @@
 -- What is said of an item, and of items that cannot be met together.
-use Rattle.std.specs.Prelude.{ℕ, ◌-◌, ◌==◌, nat_le, if◌then◌else◌, List, [], ◌∷◌, ◌++◌, codes}
+use Rattle.std.specs.Prelude.{ℕ, ◌+◌, ◌-◌, ◌==◌, nat_le, if◌then◌else◌, List, [], ◌∷◌, ◌++◌, codes, Option, Some, None}
 use Rattle.std.specs.List.{flat_map}
 use Rattle.trace_view.specs.Diagram.{escaped_byte}
 use Rattle.requirement_document.specs.Values.{DocumentValue}
 use Rattle.requirement_questions.specs.declared.members.Member.{Member}
 use Rattle.requirement_questions.specs.declared.leaving.Because.{Because}
+use Rattle.requirement_questions.specs.declared.parting.Core.{Core}
 use Rattle.requirement_report.specs.Flat.{flat}
 use Rattle.requirement_report.specs.Lines.{worded, first_lines, lines_in}
+use Rattle.requirement_report.specs.Parts.{part_of}
 use Rattle.requirement_report.specs.Subjects.{sentence_of, written_of, perhaps}
 use Rattle.requirement_report.specs.Text.{nevers_of}
 use Rattle.requirement_page.specs.Marks.{code, paragraph, paragraph_if, item_link, begun, ended}
@@ -65,12 +67,27 @@ abbrev pub claims : List ℕ → List ℕ
 claims [] = paragraph (codes "no first state meets them")
 claims (b ∷ bs) = claims_from 6 (first_lines 12 (b ∷ bs)) ++ more (lines_in (b ∷ bs))
 
-abbrev pub member_described : DocumentValue → Member → List ℕ
-member_described d m = codes "<p><strong>" ++ (item_link d m.given ++ (codes "</strong></p>\n" ++ described d m.given))
+-- what matters of a member, where that is known
+abbrev pub matters : Option (List ℕ) → List ℕ
+matters None = []
+matters (Some part) = paragraph (codes "matters: " ++ code part)
 
-abbrev pub conflict_article : DocumentValue → ℕ → Because → List ℕ
-conflict_article d number b =
+abbrev pub member_described : DocumentValue → Option (List ℕ) → Member → List ℕ
+member_described d part m =
+    codes "<p><strong>"
+    ++ (item_link d m.given
+    ++ (codes "</strong></p>\n"
+    ++ (described d m.given
+    ++ matters part)))
+
+-- members from the one at this place on
+abbrev pub members_described : DocumentValue → Option Core → ℕ → List Member → List ℕ
+members_described d core k [] = []
+members_described d core k (m ∷ ms) = member_described d (part_of core k) m ++ members_described d core (k + 1) ms
+
+abbrev pub conflict_article : DocumentValue → ℕ → Option Core → Because → List ℕ
+conflict_article d number core b =
     begun (codes "bad") number (codes "conflict") (member_links d b.members.items)
-    ++ (flat_map (member_described d) b.members.items
+    ++ (members_described d core 0 b.members.items
     ++ (claims (nevers_of b)
     ++ ended))

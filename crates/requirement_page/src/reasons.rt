@@ -1,23 +1,28 @@
 // What is said of an item, and of items that cannot be met together.
 ghost use Rattle.std.specs.Prelude.{◌≡◌, ◌++◌, codes, OnOk};
 ghost use Rattle.std.specs.List.{flat_map};
+ghost use Rattle.std.specs.Option.{option_copied};
 ghost use Rattle.requirement_document.specs.Values.{document_in};
 ghost use Rattle.requirement_report.specs.Shown.{CanBeShown};
+ghost use Rattle.requirement_report.specs.Parts.{part_of};
 ghost use Rattle.requirement_report.specs.Subjects.{perhaps};
 ghost use Rattle.requirement_report.specs.Text.{nevers_of};
 ghost use Rattle.requirement_page.specs.Marks.{begun};
 ghost use Rattle.requirement_page.specs.Reasons.{described, member_link, behind_comma, member_links};
 ghost use Rattle.requirement_page.specs.Reasons.{because_of, without, claim_byte, claim_begins, left_behind};
-ghost use Rattle.requirement_page.specs.Reasons.{claims_from, more, claims, member_described};
-ghost use Rattle.requirement_page.specs.Reasons.{conflict_article};
+ghost use Rattle.requirement_page.specs.Reasons.{claims_from, more, claims, matters, member_described};
+ghost use Rattle.requirement_page.specs.Reasons.{members_described, conflict_article};
 
 use crate::marks::{
-    ENDED, put_begun, put_escaped_byte, put_item_link, put_paragraph, put_said_code, put_sentence,
+    ENDED, put_begun, put_code, put_escaped_byte, put_item_link, put_paragraph, put_said_code,
+    put_sentence,
 };
 use ltl_syntax::Kind;
 use requirement_document::Document;
-use requirement_questions::{Because, Member};
-use requirement_report::{first_lines, lines_in, nevers, put_worded, sentence_of, written_of};
+use requirement_questions::{Because, Core, Member};
+use requirement_report::{
+    first_lines, lines_in, nevers, part_of, put_worded, sentence_of, written_of,
+};
 use std::alloc::{AllocError, Global};
 
 /// The most claims that are printed.
@@ -136,14 +141,15 @@ pub fn put_conflict(
     document: &Document,
     number: u128,
     because: &Because,
+    core: Option<&Core>,
     out: &mut Vec<u8>,
 ) -> Result<(), AllocError>
     requires { CanBeShown because.now }
-    ensures { OnOk result (out.new.items
-        ≡ out.old.items ++ conflict_article (document_in document.now) number because.now) }
+    ensures { OnOk result (out.new.items ≡ out.old.items
+        ++ conflict_article (document_in document.now) number (option_copied core.entry) because.now) }
 {
     put_conflict_begun(alloc, document, number, &because.members, out)?;
-    put_each(alloc, document, &because.members, out)?;
+    put_each(alloc, document, &because.members, core, out)?;
     put_nevers(alloc, document.kind, because, out)?;
     out.extend_from_slice(ENDED)
 }
@@ -167,30 +173,53 @@ fn put_each(
     alloc: Global,
     document: &Document,
     members: &[Member],
+    core: Option<&Core>,
     out: &mut Vec<u8>,
 ) -> Result<(), AllocError>
-    ensures { OnOk result (out.new.items
-        ≡ out.old.items ++ flat_map (member_described (document_in document.now)) members.now) }
+    ensures { OnOk result (out.new.items ≡ out.old.items
+        ++ members_described (document_in document.now) (option_copied core.entry) 0 members.now) }
 {
-    for member in members {
-        put_member(alloc, document, *member, out)?;
+    'members: for place in 0..members.len() {
+        put_member(alloc, document, members[place], core, place, out)?;
     }
     Ok(())
 }
 
+/// Adds what is said of the member at this place.
 fn put_member(
     alloc: Global,
     document: &Document,
     member: Member,
+    core: Option<&Core>,
+    place: usize,
     out: &mut Vec<u8>,
 ) -> Result<(), AllocError>
-    ensures { OnOk result (out.new.items
-        ≡ out.old.items ++ member_described (document_in document.now) member) }
+    ensures { OnOk result (out.new.items ≡ out.old.items ++ member_described
+        (document_in document.now) (part_of (option_copied core.entry) place) member) }
 {
     out.extend_from_slice(b"<p><strong>")?;
     put_item_link(alloc, document, member.given, out)?;
     out.extend_from_slice(b"</strong></p>\n")?;
-    put_described(alloc, document, member.given, out)
+    put_described(alloc, document, member.given, out)?;
+    put_matters(alloc, core, place, out)
+}
+
+/// Adds what matters of the member at this place, where that is known.
+fn put_matters(
+    alloc: Global,
+    core: Option<&Core>,
+    place: usize,
+    out: &mut Vec<u8>,
+) -> Result<(), AllocError>
+    ensures { OnOk result (out.new.items
+        ≡ out.old.items ++ matters (part_of (option_copied core.entry) place)) }
+{
+    let Some(part) = part_of(alloc, core, place)? else {
+        return Ok(());
+    };
+    let mut line = Vec::from_slice(alloc, b"matters: ")?;
+    put_code(&part, &mut line)?;
+    put_paragraph(&line, out)
 }
 
 fn put_nevers(

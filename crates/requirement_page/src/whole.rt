@@ -21,8 +21,8 @@ use crate::slips::put_slips;
 use crate::style::put_style;
 use requirement_answers::{Check, Counts, Reply, Report, Scope, Verdict, counts_of, verdict_of};
 use requirement_document::Document;
-use requirement_questions::{Because, Limits};
-use requirement_report::{is_hidden, set_aside, verdict_text};
+use requirement_questions::{Because, Core, Limits};
+use requirement_report::{core_at, is_hidden, set_aside, verdict_text};
 use std::alloc::{AllocError, Global};
 
 /// A report as a page of HTML that needs nothing else and runs nothing.
@@ -129,7 +129,7 @@ fn put_answers(
         ++ answer_articles (document_in document.now) report.now scope limits.steps counts) }
 {
     out.extend_from_slice(b"<h2>Answers</h2>\n")?;
-    put_conflicts(alloc, document, &report.conflicts, out)?;
+    put_conflicts(alloc, document, &report.conflicts, &report.cores, out)?;
     put_left(alloc, document, report, limits, counts, out)?;
     put_all_replies(alloc, document, report, scope, limits, out)?;
     put_all_checks(alloc, document, report, scope, out)
@@ -212,16 +212,19 @@ fn put_conflicts(
     alloc: Global,
     document: &Document,
     conflicts: &[Box<Because>],
+    cores: &[Option<Box<Core>>],
     out: &mut Vec<u8>,
 ) -> Result<(), AllocError>
     requires { All (λ b. CanBeShown b.value) conflicts.now }
-    ensures { OnOk result (out.new.items
-        ≡ out.old.items ++ conflict_articles (document_in document.now) 1 conflicts.now) }
+    ensures { OnOk result (out.new.items ≡ out.old.items
+        ++ conflict_articles (document_in document.now) cores.now 0 conflicts.now) }
 {
-    let mut number: u128 = 1;
+    let mut place: usize = 0;
     for because in conflicts {
-        put_conflict(alloc, document, number, because, out)?;
-        number += 1;
+        let number = place as u128 + 1;
+        let core = core_at(cores, place);
+        put_conflict(alloc, document, number, because, core, out)?;
+        place += 1;
     }
     Ok(())
 }

@@ -2,6 +2,7 @@ pub mod Flat
 pub mod Known
 pub mod Letters
 pub mod Lines
+pub mod Parts
 pub mod Pictures
 pub mod Shown
 pub mod Slips

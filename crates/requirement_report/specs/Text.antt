@@ -1,5 +1,6 @@
 -- The text of a report.
-use Rattle.std.specs.Prelude.{◌≡◌, ℕ, ◌-◌, ◌==◌, ◌&&◌, nat_le, Bool, true, false, if◌then◌else◌, List, [], ◌∷◌, ◌++◌, map, length, slice_get, codes, Option, Some, None}
+use Rattle.std.specs.Prelude.{◌≡◌, ℕ, ◌+◌, ◌-◌, ◌==◌, ◌&&◌, nat_le, Bool, true, false, if◌then◌else◌, List, [], ◌∷◌, ◌++◌, map, length, slice_get, codes, Option, Some, None}
+use Rattle.std.specs.Global.{Box}
 use Rattle.std.specs.List.{flat_map}
 use Rattle.ltl_syntax.specs.declared.node.UnaryOp.TheVariants.{Always}
 use Rattle.ltl_syntax.specs.declared.node.BinaryOp.TheVariants.{Implies}
@@ -11,6 +12,7 @@ use Rattle.claim_reading.specs.Never.{never_text}
 use Rattle.requirement_document.specs.Values.{ItemValue, BehaviourValue, DocumentValue}
 use Rattle.requirement_questions.specs.declared.members.Member.{Member}
 use Rattle.requirement_questions.specs.declared.leaving.Because.{Because}
+use Rattle.requirement_questions.specs.declared.parting.Core.{Core}
 use Rattle.requirement_questions.specs.declared.answering.Answer.{Answer}
 use Rattle.requirement_questions.specs.declared.answering.Answer.TheVariants as answers
 use Rattle.requirement_answers.specs.declared.asking.Asking.{Asking}
@@ -29,15 +31,30 @@ use Rattle.requirement_answers.specs.Verdicts.{verdict, is_can}
 use Rattle.requirement_answers.specs.Counting.{AreCounts}
 use Rattle.requirement_report.specs.Flat.{flat}
 use Rattle.requirement_report.specs.Lines.{worded, of_all, inner, deeper, inner_if, deeper_if, head, first_lines, lines_in, indented}
+use Rattle.requirement_report.specs.Parts.{part_of, core_at}
 use Rattle.requirement_report.specs.Pictures.{picture, marked_picture}
 use Rattle.requirement_report.specs.Slips.{SlipValue, slips_of}
 use Rattle.requirement_report.specs.Subjects.{name_of, sentence_of, written_of, behaviour_name, behaviour_sentence, members_text, aside}
 
 -- ---- a conflict
 
+-- what matters of a member, where that is known
+abbrev pub matters_line : Option (List ℕ) → List ℕ
+matters_line None = []
+matters_line (Some part) = deeper (codes "matters: " ++ part)
+
 -- a member: its name, its sentence, and its formula as it is written
-abbrev pub member_lines : DocumentValue → Member → List ℕ
-member_lines d m = inner (flat (name_of d m.given)) ++ (deeper_if (flat (sentence_of d m.given)) ++ deeper_if (flat (written_of d m.given)))
+abbrev pub subject_lines : DocumentValue → Member → List ℕ
+subject_lines d m = inner (flat (name_of d m.given)) ++ (deeper_if (flat (sentence_of d m.given)) ++ deeper_if (flat (written_of d m.given)))
+
+-- and what matters of it
+abbrev pub member_lines : DocumentValue → Option (List ℕ) → Member → List ℕ
+member_lines d part m = subject_lines d m ++ matters_line part
+
+-- members from the one at this place on
+abbrev pub members_lines : DocumentValue → Option Core → ℕ → List Member → List ℕ
+members_lines d core k [] = []
+members_lines d core k (m ∷ ms) = member_lines d (part_of core k) m ++ members_lines d core (k + 1) ms
 
 -- the lines of claims behind the first 12
 abbrev pub more_lines : ℕ → List ℕ
@@ -51,12 +68,17 @@ claim_lines (b ∷ bs) = indented true (first_lines 12 (b ∷ bs)) ++ more_lines
 abbrev pub nevers_of : Because → List ℕ
 nevers_of b = never_text (tree_at b.table b.root) (certificate_in b.certificate)
 
-abbrev pub conflict_block : DocumentValue → Because → List ℕ
-conflict_block d b = head (codes "conflict") (members_text d b.members.items) ++ (flat_map (member_lines d) b.members.items ++ claim_lines (nevers_of b))
+abbrev pub conflict_block : DocumentValue → Option Core → Because → List ℕ
+conflict_block d core b = head (codes "conflict") (members_text d b.members.items) ++ (members_lines d core 0 b.members.items ++ claim_lines (nevers_of b))
 
 -- and the empty line behind it
-abbrev pub conflict_before : DocumentValue → Because → List ℕ
-conflict_before d b = conflict_block d b ++ codes "\n"
+abbrev pub conflict_before : DocumentValue → Option Core → Because → List ℕ
+conflict_before d core b = conflict_block d core b ++ codes "\n"
+
+-- conflicts from the one at this place on, each with its core
+abbrev pub conflict_blocks : DocumentValue → List (Option (Box Core)) → ℕ → List (Box Because) → List ℕ
+conflict_blocks d cores k [] = []
+conflict_blocks d cores k (b ∷ bs) = conflict_before d (core_at cores k) b.value ++ conflict_blocks d cores (k + 1) bs
 
 -- ---- what is said of an answer
 
@@ -253,7 +275,7 @@ set_aside d r = if length r.conflicts.items == 0 then [] else aside d r.left.ite
 -- the blocks of all answers
 abbrev pub answers_text : DocumentValue → Report → Scope → ℕ → Counts → List ℕ
 answers_text d r scope steps counts =
-    flat_map (λ b. conflict_before d b.value) r.conflicts.items
+    conflict_blocks d r.cores.items 0 r.conflicts.items
     ++ (together_block d steps (length r.left.items) counts.met.all (set_aside d r) r.together
     ++ (flat_map (reply_block d scope steps) r.replies.items
     ++ flat_map (check_block d) r.checks.items))

@@ -1,24 +1,26 @@
 // A conflict: its members, and why they cannot be met together.
 ghost use Rattle.std.specs.Prelude.{◌≡◌, ◌++◌, IfOk, OnOk};
-ghost use Rattle.std.specs.List.{flat_map};
+ghost use Rattle.std.specs.Option.{option_copied};
 ghost use Rattle.requirement_document.specs.Values.{document_in};
 ghost use Rattle.requirement_report.specs.Flat.{flat};
 ghost use Rattle.requirement_report.specs.Lines.{inner, deeper_if};
 ghost use Rattle.requirement_report.specs.Shown.{CanBeShown};
-ghost use Rattle.requirement_report.specs.Text.{member_lines, more_lines, claim_lines, nevers_of};
-ghost use Rattle.requirement_report.specs.Text.{conflict_block};
+ghost use Rattle.requirement_report.specs.Parts.{part_of};
+ghost use Rattle.requirement_report.specs.Text.{matters_line, subject_lines, member_lines, members_lines};
+ghost use Rattle.requirement_report.specs.Text.{more_lines, claim_lines, nevers_of, conflict_block};
 
 use crate::flat::put_flat;
 use crate::lines::{
-    first_lines, lines_in, put_deeper_if, put_head, put_indented, put_inner, put_worded,
+    first_lines, lines_in, put_deeper, put_deeper_if, put_head, put_indented, put_inner, put_worded,
 };
 use crate::members::put_members;
+use crate::parts::part_of;
 use crate::subjects::{name_of, sentence_of, written_of};
 use claim_reading::never_lines;
 use ltl_closure::Closure;
 use ltl_syntax::Kind;
 use requirement_document::Document;
-use requirement_questions::{Because, Member};
+use requirement_questions::{Because, Core, Member};
 use std::alloc::{AllocError, Global};
 
 /// The most claims that are printed.
@@ -28,16 +30,17 @@ pub fn put_conflict(
     alloc: Global,
     document: &Document,
     because: &Because,
+    core: Option<&Core>,
     out: &mut Vec<u8>,
 ) -> Result<(), AllocError>
     requires { CanBeShown because.now }
-    ensures { OnOk result (out.new.items
-        ≡ out.old.items ++ conflict_block (document_in document.now) because.now) }
+    ensures { OnOk result (out.new.items ≡ out.old.items
+        ++ conflict_block (document_in document.now) (option_copied core.entry) because.now) }
 {
     let mut names = Vec::new(alloc);
     put_members(alloc, document, &because.members, &mut names)?;
     put_head(b"conflict", &names, out)?;
-    put_each(alloc, document, &because.members, out)?;
+    put_each(alloc, document, &because.members, core, out)?;
     let nevers = nevers(alloc, document.kind, because)?;
     put_claims(alloc, &nevers, out)
 }
@@ -46,15 +49,32 @@ fn put_each(
     alloc: Global,
     document: &Document,
     members: &[Member],
+    core: Option<&Core>,
     out: &mut Vec<u8>,
 ) -> Result<(), AllocError>
-    ensures { OnOk result (out.new.items
-        ≡ out.old.items ++ flat_map (member_lines (document_in document.now)) members.now) }
+    ensures { OnOk result (out.new.items ≡ out.old.items
+        ++ members_lines (document_in document.now) (option_copied core.entry) 0 members.now) }
 {
-    for member in members {
-        put_subject(alloc, document, *member, out)?;
+    'members: for place in 0..members.len() {
+        put_member(alloc, document, members[place], core, place, out)?;
     }
     Ok(())
+}
+
+/// Adds what is said of the member at this place.
+fn put_member(
+    alloc: Global,
+    document: &Document,
+    member: Member,
+    core: Option<&Core>,
+    place: usize,
+    out: &mut Vec<u8>,
+) -> Result<(), AllocError>
+    ensures { OnOk result (out.new.items ≡ out.old.items ++ member_lines
+        (document_in document.now) (part_of (option_copied core.entry) place) member) }
+{
+    put_subject(alloc, document, member, out)?;
+    put_matters(alloc, core, place, out)
 }
 
 fn put_subject(
@@ -64,11 +84,29 @@ fn put_subject(
     out: &mut Vec<u8>,
 ) -> Result<(), AllocError>
     ensures { OnOk result (out.new.items
-        ≡ out.old.items ++ member_lines (document_in document.now) member) }
+        ≡ out.old.items ++ subject_lines (document_in document.now) member) }
 {
     put_flat_inner(alloc, name_of(document, member.given), out)?;
     put_flat_deeper(alloc, sentence_of(document, member.given), out)?;
     put_flat_deeper(alloc, written_of(document, member.given), out)
+}
+
+/// Adds what matters of the member at this place, where that is known.
+fn put_matters(
+    alloc: Global,
+    core: Option<&Core>,
+    place: usize,
+    out: &mut Vec<u8>,
+) -> Result<(), AllocError>
+    ensures { OnOk result (out.new.items
+        ≡ out.old.items ++ matters_line (part_of (option_copied core.entry) place)) }
+{
+    let Some(part) = part_of(alloc, core, place)? else {
+        return Ok(());
+    };
+    let mut line = Vec::from_slice(alloc, b"matters: ")?;
+    line.extend_from_slice(&part)?;
+    put_deeper(&line, out)
 }
 
 fn put_flat_inner(alloc: Global, text: &str, out: &mut Vec<u8>) -> Result<(), AllocError>

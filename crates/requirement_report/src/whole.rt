@@ -1,19 +1,21 @@
 // The text of a report.
 ghost use Rattle.std.specs.Prelude.{◌≡◌, ◌++◌, IfOk, OnOk, All};
-ghost use Rattle.std.specs.List.{flat_map};
+ghost use Rattle.std.specs.Option.{option_copied};
 ghost use Rattle.requirement_document.specs.Values.{document_in};
 ghost use Rattle.requirement_report.specs.Shown.{CanBeShown, ReportCanBeShown};
-ghost use Rattle.requirement_report.specs.Text.{conflict_before, set_aside, answers_text, IsText};
+ghost use Rattle.requirement_report.specs.Text.{conflict_before, conflict_blocks, set_aside};
+ghost use Rattle.requirement_report.specs.Text.{answers_text, IsText};
 
 use crate::blocks::{Left, put_replies, put_together};
 use crate::checks::put_checks;
 use crate::conflicts::put_conflict;
 use crate::ending::put_ending;
+use crate::parts::core_at;
 use crate::remarks::put_slips;
 use crate::subjects::aside;
 use requirement_answers::{Counts, Report, Scope, counts_of, verdict_of};
 use requirement_document::Document;
-use requirement_questions::{Because, Limits, Member};
+use requirement_questions::{Because, Core, Limits, Member};
 use std::alloc::{AllocError, Global};
 
 /// The text of a report about a document, in the scope and within the limits in which it was asked.
@@ -56,7 +58,7 @@ fn put_answers(
         left,
         all: counts.met.all,
     };
-    put_conflicts(alloc, document, &report.conflicts, out)?;
+    put_conflicts(alloc, document, &report.conflicts, &report.cores, out)?;
     put_together(
         alloc,
         document,
@@ -89,15 +91,33 @@ fn put_conflicts(
     alloc: Global,
     document: &Document,
     conflicts: &[Box<Because>],
+    cores: &[Option<Box<Core>>],
     out: &mut Vec<u8>,
 ) -> Result<(), AllocError>
     requires { All (λ b. CanBeShown b.value) conflicts.now }
     ensures { OnOk result (out.new.items ≡ out.old.items
-        ++ flat_map (λ b. conflict_before (document_in document.now) b.value) conflicts.now) }
+        ++ conflict_blocks (document_in document.now) cores.now 0 conflicts.now) }
 {
+    let mut place: usize = 0;
     for because in conflicts {
-        put_conflict(alloc, document, because, out)?;
-        out.extend_from_slice(b"\n")?;
+        put_conflict_before(alloc, document, because, core_at(cores, place), out)?;
+        place += 1;
     }
     Ok(())
+}
+
+/// Adds the block of a conflict, and an empty line behind it.
+fn put_conflict_before(
+    alloc: Global,
+    document: &Document,
+    because: &Because,
+    core: Option<&Core>,
+    out: &mut Vec<u8>,
+) -> Result<(), AllocError>
+    requires { CanBeShown because.now }
+    ensures { OnOk result (out.new.items ≡ out.old.items
+        ++ conflict_before (document_in document.now) (option_copied core.entry) because.now) }
+{
+    put_conflict(alloc, document, because, core, out)?;
+    out.extend_from_slice(b"\n")
 }

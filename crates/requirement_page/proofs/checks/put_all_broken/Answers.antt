@@ -1,7 +1,7 @@
 use Rattle.std.proofs.Common.{◌+◌, drop, get_or, refl, flat_map}
 use Rattle.requirement_document.specs.Values.{document_in}
 use Rattle.requirement_page.specs.Checks.{broken_item}
-use Rattle.requirement_page.proofs.Loops.{copied_more}
+use Rattle.requirement_report.proofs.Loops.{copied_more}
 use Rattle.requirement_page.proofs.checks.put_all_broken.Goals as goal
 
 pub loop-broken-preserved : goal.loop-broken-preserved

@@ -1,7 +1,7 @@
 use Rattle.std.proofs.Common.{◌≡◌, ◌+◌, ◌++◌, drop, arith, refl, subst, sym}
 use Rattle.requirement_page.specs.Places.{next_number}
 use Rattle.requirement_page.specs.Items.{reply_notes}
-use Rattle.requirement_page.proofs.Loops.{one_more}
+use Rattle.requirement_report.proofs.Loops.{one_more}
 use Rattle.requirement_page.proofs.notes.put_reply_notes.Goals as goal
 
 pub loop-reply-preserved : goal.loop-reply-preserved

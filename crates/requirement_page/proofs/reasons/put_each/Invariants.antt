@@ -1,9 +1,10 @@
-use Rattle.std.proofs.Common.{◌≡◌, ◌++◌, drop, flat_map}
+use Rattle.std.proofs.Common.{◌≡◌, ◌++◌, drop}
+use Rattle.std.specs.Option.{option_copied}
 use Rattle.requirement_document.specs.Values.{document_in}
-use Rattle.requirement_page.specs.Reasons.{member_described}
+use Rattle.requirement_page.specs.Reasons.{members_described}
 use Rattle.requirement_page.proofs.reasons.put_each.Given as goal
 
-abbrev pub invariant-loop-member : goal.invariant-loop-member
-invariant-loop-member l =
-    l.out.items ++ flat_map (member_described (document_in l.document)) (drop l.member-index l.members)
-    ≡ l.fn.out.items ++ flat_map (member_described (document_in l.document)) l.members
+abbrev pub invariant-members : goal.invariant-members
+invariant-members l =
+    l.out.items ++ members_described (document_in l.document) (option_copied l.core) l.place (drop l.place l.members)
+    ≡ l.fn.out.items ++ members_described (document_in l.document) (option_copied l.core) 0 l.members

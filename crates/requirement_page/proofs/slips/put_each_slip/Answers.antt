@@ -2,7 +2,7 @@ use Rattle.std.proofs.Common.{refl, flat_map, map}
 use Rattle.requirement_document.specs.Values.{document_in}
 use Rattle.requirement_report.specs.Slips.{slip_in}
 use Rattle.requirement_page.specs.Slips.{slip_item}
-use Rattle.requirement_page.proofs.Loops.{one_more}
+use Rattle.requirement_report.proofs.Loops.{one_more}
 use Rattle.requirement_page.proofs.slips.put_each_slip.Goals as goal
 
 pub loop-slip-preserved : goal.loop-slip-preserved

@@ -1,7 +1,7 @@
 use Rattle.std.proofs.Common.{arith, refl}
 use Rattle.requirement_document.specs.Values.{document_in}
 use Rattle.requirement_page.specs.Page.{check_articles}
-use Rattle.requirement_page.proofs.Loops.{one_more}
+use Rattle.requirement_report.proofs.Loops.{one_more}
 use Rattle.requirement_page.proofs.whole.put_checks.Goals as goal
 
 pub loop-check-preserved : goal.loop-check-preserved

@@ -2,7 +2,7 @@ use Rattle.std.proofs.Common.{◌≡◌, ◌+◌, ◌++◌, drop, arith, refl, s
 use Rattle.requirement_document.specs.Values.{document_in}
 use Rattle.requirement_page.specs.Places.{next_number}
 use Rattle.requirement_page.specs.Page.{reply_articles}
-use Rattle.requirement_page.proofs.Loops.{one_more}
+use Rattle.requirement_report.proofs.Loops.{one_more}
 use Rattle.requirement_page.proofs.whole.put_replies.Goals as goal
 
 pub loop-reply-preserved : goal.loop-reply-preserved

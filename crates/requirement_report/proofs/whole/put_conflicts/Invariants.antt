@@ -1,9 +1,10 @@
-use Rattle.std.proofs.Common.{◌≡◌, ◌++◌, drop, flat_map}
+use Rattle.std.proofs.Common.{◌≡◌, ◌++◌, drop}
 use Rattle.requirement_document.specs.Values.{document_in}
-use Rattle.requirement_report.specs.Text.{conflict_before}
+use Rattle.requirement_report.specs.Text.{conflict_blocks}
 use Rattle.requirement_report.proofs.whole.put_conflicts.Given as goal
 
 abbrev pub invariant-loop-because : goal.invariant-loop-because
 invariant-loop-because l =
-    l.out.items ++ flat_map (λ b. conflict_before (document_in l.document) b.value) (drop l.because-index l.conflicts)
-    ≡ l.fn.out.items ++ flat_map (λ b. conflict_before (document_in l.document) b.value) l.conflicts
+    (l.out.items ++ conflict_blocks (document_in l.document) l.cores l.place (drop l.because-index l.conflicts)
+    ≡ l.fn.out.items ++ conflict_blocks (document_in l.document) l.cores 0 l.conflicts)
+    × (l.place ≡ l.because-index)
