@@ -9,7 +9,7 @@ use Rattle.requirement_document.specs.declared.fault.Cause.{Cause}
 use Rattle.requirement_document.specs.declared.fault.Cause.TheVariants as causes
 use Rattle.requirement_document.specs.declared.fault.DocumentFault.{DocumentFault}
 use Rattle.requirement_document.specs.Document.{HasFault, HasTextCause, of_text, of_document}
-use Rattle.black_requirements.specs.Words.{Query, Letters, About, Help, Of, Asks}
+use Rattle.black_requirements.specs.Words.{Query, Letters, About, Certificate, Help, Of, Asks}
 use Rattle.black_requirements.specs.Answer.{IsOutput, IsAnswer, refused, printed, taken}
 use Rattle.black_requirements.specs.Run.{IsGiven}
 use Rattle.black_requirements.specs.Inner.{Shows, IsGivenTo}
@@ -80,3 +80,4 @@ given_unread words rest status text out answers shows =
 pub help_alone : (words : List (List ℕ)) (query : Query) → Asks words Help → Asks words (Of query) → ⊥
 help_alone words Letters help of = let e : true ≡ false = sym help.1.0 ∙ of.1.0 in cc
 help_alone words (About request) help of = let e : true ≡ false = sym help.1.0 ∙ of.1.0 in cc
+help_alone words (Certificate name work) help of = let e : true ≡ false = sym help.1.0 ∙ of.1.0 in cc

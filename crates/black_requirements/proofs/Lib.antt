@@ -4,3 +4,5 @@ mod Leaving
 mod Named
 mod Promising
 mod Wishing
+mod Certificates
+mod Trying

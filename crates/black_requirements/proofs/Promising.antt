@@ -5,11 +5,15 @@ use Rattle.report.specs.Status.{is_answer}
 use Rattle.requirement_document.specs.declared.fault.Cause.{Cause}
 use Rattle.requirement_document.specs.declared.fault.Cause.TheVariants as causes
 use Rattle.requirement_document.specs.declared.document.Document.{Document}
+use Rattle.requirement_document.specs.Values.{DocumentValue, document_in}
+use Rattle.requirement_answers.specs.declared.findings.Report.{Report}
+use Rattle.requirement_answers.specs.declared.findings.Scope.{Scope}
 use Rattle.requirement_answers.specs.declared.judging.Verdict.{Verdict}
 use Rattle.requirement_answers.specs.declared.judging.Verdict.TheVariants as verdicts
 use Rattle.requirement_answers.specs.Verdicts.{verdict}
-use Rattle.black_requirements.specs.Words.{Request, Query, Letters, About}
+use Rattle.black_requirements.specs.Words.{Request, Query, Letters, About, Certificate}
 use Rattle.black_requirements.specs.Refusing.{cause_status}
+use Rattle.black_requirements.specs.Certified.{IsJudged, certificate, beyond, no_certificate, IsCertified, judged, unnamed, too_long}
 use Rattle.black_requirements.specs.Answer.{verdict_status, IsReported, IsPrinted, report, no_item, cells, IsOutput, refused, printed, IsAnswer, not_taken}
 use Rattle.black_requirements.specs.Answer.{helped, taken}
 use Rattle.black_requirements.specs.Run.{IsGiven}
@@ -43,9 +47,21 @@ reported_answers d request status text (report scope r t asked is shows) = verdi
 reported_answers d request status text (no_item name only missing) = refl
 reported_answers d request status text (cells scope behaviour item asked is) = refl
 
+judged_answers : (d : DocumentValue) (name : List ℕ) (scope : Scope) (r : Report) (status : Status) (text : List ℕ) → IsJudged d name scope r status text
+    → is_answer status ≡ true
+judged_answers d name scope r status text (certificate asking b first verified) = refl
+judged_answers d name scope r status text (beyond asking b first unverified) = refl
+judged_answers d name scope r status text (no_certificate none) = refl
+
+certified_answers : (d : DocumentValue) (name : List ℕ) (status : Status) (text : List ℕ) → IsCertified d name status text → is_answer status ≡ true
+certified_answers d name status text (judged scope r s t named is h) = judged_answers d name scope r s t h
+certified_answers d name status text (unnamed missing) = refl
+certified_answers d name status text (too_long scope behaviour item named is) = refl
+
 printed_answers : (d : Document) (query : Query) (status : Status) (text : List ℕ) → IsPrinted d query status text → is_answer status ≡ true
 printed_answers d Letters status text is = ap is_answer is.0
 printed_answers d (About request) status text is = reported_answers d request status text is
+printed_answers d (Certificate name work) status text is = certified_answers (document_in d) name status text is
 
 output_answers : (query : Query) (bytes : List ℕ) (status : Status) (text : List ℕ) → IsOutput query bytes status text → is_answer status ≡ true
 output_answers query bytes status text (refused f h) = cause_answers f.cause

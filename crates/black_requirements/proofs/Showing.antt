@@ -24,7 +24,7 @@ shown Comes status text (Err e) comes shows = tt
 -- a report that is shown is printed
 pub reported : {E : Type 0} (d : Document) (request : Request) (scope : Scope) (r : Report) (o : Result Output E)
     → IsAskedAbout (document_in d) request.only scope → IsReport (document_in d) scope r
-    → IfOk o (λ out. (out.status ≡ verdict_status (verdict r)) × IsFaceOf request.face (document_in d) r scope request.steps out.text.items)
+    → IfOk o (λ out. (out.status ≡ verdict_status (verdict r)) × IsFaceOf request.face (document_in d) r scope request.work.steps out.text.items)
     → IfOk o (λ out. IsReported d request out.status out.text.items)
 reported d request scope r (Ok out) asked is (status, text) = subst (λ s. IsReported d request s out.text.items) (sym status)
     (report scope r out.text.items asked is text)

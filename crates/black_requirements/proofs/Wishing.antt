@@ -14,7 +14,7 @@ use Rattle.requirement_answers.specs.declared.judging.Verdict.TheVariants as ver
 use Rattle.requirement_answers.specs.Verdicts.{verdict}
 use Rattle.requirement_answers.specs.Reports.{IsReport}
 use Rattle.requirement_answers.specs.Laws.{IsAsWished, VerdictIsRight}
-use Rattle.black_requirements.specs.Words.{Request, Letters, About, Of}
+use Rattle.black_requirements.specs.Words.{Request, Letters, About, Certificate, Of}
 use Rattle.black_requirements.specs.Naming.{IsAskedAbout}
 use Rattle.black_requirements.specs.Refusing.{cause_status}
 use Rattle.black_requirements.specs.Answer.{verdict_status, IsReported, report, no_item, cells, IsOutput, refused, printed, IsAnswer, not_taken, helped, taken}
@@ -22,7 +22,7 @@ use Rattle.black_requirements.specs.Run.{IsGiven}
 use Rattle.black_requirements.specs.Wished.{AskAboutAll, WasAsWished}
 
 -- a refusal does not end well
-fault_status : (c : Cause) → cause_status c ≡ statuses.Good → ⊥
+pub fault_status : (c : Cause) → cause_status c ≡ statuses.Good → ⊥
 fault_status causes.TooLong e = cc
 fault_status (causes.NotText byte) e = cc
 fault_status (causes.NotToml line column message) e = cc
@@ -73,6 +73,8 @@ answer_wished words bytes status text law (request, asks, none) good (taken Lett
     ∙ asks.1.1 in absurd (cc)
 answer_wished words bytes status text law (request, asks, none) good (taken (About other) s t also h) =
     output_wished other bytes s t law (sym also.1.2.only ∙ (asks.1.2.only ∙ none)) good h
+answer_wished words bytes status text law (request, asks, none) good (taken (Certificate name work) s t also h) = let e : None ≡ Some name =
+    sym asks.1.2.cert ∙ also.1.2.cert in absurd (cc)
 
 pub was_as_wished : {words : List (List ℕ)} {rest : Option (List ℕ)} {status : Status} {text : List ℕ} → VerdictIsRight → IsGiven words rest status text
     → status ≡ statuses.Good → AskAboutAll words → WasAsWished rest

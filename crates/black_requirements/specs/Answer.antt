@@ -17,10 +17,11 @@ use Rattle.requirement_report.specs.Text.{IsText}
 use Rattle.requirement_report.specs.Letters.{letters_text}
 use Rattle.requirement_json.specs.Whole.{json_text}
 use Rattle.requirement_page.specs.Page.{IsPage}
-use Rattle.black_requirements.specs.Words.{Face, Text, Json, Page, Request, Query, Letters, About, Help, Of, Asks, AskNothing}
+use Rattle.black_requirements.specs.Words.{Face, Text, Json, Page, Request, Query, Letters, About, Certificate, Help, Of, Asks, AskNothing}
 use Rattle.black_requirements.specs.Texts.{usage_text, help_text, no_item_text, cells_text}
 use Rattle.black_requirements.specs.Refusing.{refusal_text, refusal_status}
 use Rattle.black_requirements.specs.Naming.{HasNoName, IsAskedAbout}
+use Rattle.black_requirements.specs.Certified.{IsCertified}
 
 -- the status of a verdict
 abbrev pub verdict_status : Verdict → Status
@@ -38,16 +39,17 @@ IsFaceOf Page d r scope steps text = IsPage d r scope steps text
 -- that a behaviour is too long for an item
 pub data IsReported (d : Document) (request : Request) : Status → List ℕ → Type 0 where
   report : (scope : Scope) (r : Report) (text : List ℕ) → IsAskedAbout (document_in d) request.only scope → IsReport (document_in d) scope r
-      → IsFaceOf request.face (document_in d) r scope request.steps text → IsReported d request (verdict_status (verdict r)) text
+      → IsFaceOf request.face (document_in d) r scope request.work.steps text → IsReported d request (verdict_status (verdict r)) text
   no_item : (name : List ℕ) → request.only ≡ Some name → HasNoName (document_in d) name → IsReported d request statuses.Usage (no_item_text name)
   cells : (scope : Scope) (behaviour item : ℕ) → IsAskedAbout (document_in d) request.only scope
       → IsRefused (document_in d) scope (refusals.Cells behaviour item)
       → IsReported d request statuses.Limit (cells_text (document_in d) behaviour)
 
--- what is printed of a document: its letters, or what is printed where a report is asked for
+-- what is printed of a document: its letters, what is printed where a report is asked for, or where a certificate is
 abbrev pub IsPrinted : Document → Query → Status → List ℕ → Type 0
 IsPrinted d Letters status text = (status ≡ statuses.Good) × (text ≡ letters_text (document_in d))
 IsPrinted d (About request) status text = IsReported d request status text
+IsPrinted d (Certificate name work) status text = IsCertified (document_in d) name status text
 
 -- what is printed of an input where this is asked of it: the lines of its fault, or what is printed of the document that it is
 pub data IsOutput (query : Query) (bytes : List ℕ) : Status → List ℕ → Type 0 where

@@ -1,8 +1,12 @@
 -- What the private calls give. No public contract cites this file.
-use Rattle.std.specs.Prelude.{◌≡◌, ℕ, List, Option}
+use Rattle.std.specs.Prelude.{◌≡◌, ◌⊎◌, ℕ, List, Option}
+use Rattle.ltl_syntax.specs.declared.node.Kind.{Kind}
 use Rattle.report.specs.declared.status.Status.{Status}
+use Rattle.report.specs.declared.status.Status.TheVariants as statuses
 use Rattle.program_input.specs.Taking.{AreLeft}
+use Rattle.requirement_certificate.specs.Verified.{IsVerified}
 use Rattle.black_requirements.specs.Words.{Query}
+use Rattle.black_requirements.specs.Texts.{beyond_text}
 use Rattle.black_requirements.specs.Answer.{IsOutput}
 use Rattle.black_requirements.specs.declared.output.Output.{Output}
 
@@ -10,6 +14,11 @@ use Rattle.black_requirements.specs.declared.output.Output.{Output}
 pub record Shows (output : Output) (status : Status) (text : List ℕ) : Type 0 where
   pub same_status : output.status ≡ status
   pub same_text : output.text.items ≡ text
+
+-- the text of a certificate where it is verified, and else that it is beyond a limit of texts
+abbrev pub ShowsTried : Kind → List ℕ → Output → Type 0
+ShowsTried kind text output =
+    (IsVerified kind text × Shows output statuses.Good text) ⊎ ((¬ (IsVerified kind text)) × Shows output statuses.Limit beyond_text)
 
 -- what is printed of what the source had left, where this is asked of it
 pub record IsGivenTo (query : Query) (rest : Option (List ℕ)) (status : Status) (text : List ℕ) : Type 0 where

@@ -4,6 +4,8 @@ pub mod Hints
 pub mod Refusing
 pub mod Texts
 pub mod Naming
+pub mod Certified
+pub mod Progress
 pub mod Answer
 pub mod Run
 pub mod Wished

@@ -1,5 +1,5 @@
 -- What the private calls on words give. No public contract cites this file.
-use Rattle.std.specs.Prelude.{Bool, ◌&&◌, not, codes, is_some, option_map}
+use Rattle.std.specs.Prelude.{◌≤◌, Bool, ◌&&◌, not, codes, is_some, option_map, ⊤}
 use Rattle.clap.specs.Words.{first_value}
 use Rattle.clap.specs.declared.parser.matches.Found.{Found}
 use Rattle.black_requirements.specs.declared.words.Said.{Said}
@@ -10,6 +10,7 @@ use Rattle.black_requirements.specs.declared.words.Face.TheVariants as faces
 use Rattle.black_requirements.specs.declared.words.Query.{Query}
 use Rattle.black_requirements.specs.declared.words.Query.TheVariants as queries
 use Rattle.black_requirements.specs.declared.words.Request.{Request}
+use Rattle.black_requirements.specs.declared.words.Work.{Work}
 use Rattle.black_requirements.specs.Words as words
 use Rattle.black_requirements.specs.Words.{Wanted, Help, Of, is_true}
 
@@ -20,8 +21,11 @@ said_of s = record {
   letters = s.letters;
   json = s.json;
   html = s.html;
+  progress = s.progress;
   only = option_map (λ t. t.now) s.only;
+  cert = option_map (λ t. t.now) s.cert;
   steps = option_map (λ t. t.now) s.steps;
+  workers = option_map (λ t. t.now) s.workers;
 }
 
 -- what matches of `clap` say
@@ -31,8 +35,11 @@ said_in_matches m = record {
   letters = is_true (first_value m (codes "letters"));
   json = is_true (first_value m (codes "json"));
   html = is_true (first_value m (codes "html"));
+  progress = is_true (first_value m (codes "progress"));
   only = first_value m (codes "only");
+  cert = first_value m (codes "cert");
   steps = first_value m (codes "steps");
+  workers = first_value m (codes "workers");
 }
 
 -- and what is asked for
@@ -41,17 +48,38 @@ face_of faces.Text = words.Text
 face_of faces.Json = words.Json
 face_of faces.Page = words.Page
 
+abbrev pub work_of : Work → words.Work
+work_of w = record { steps = w.effort.limits.steps; workers = w.effort.workers; progress = w.progress }
+
 abbrev pub request_of : Request → words.Request
-request_of r = record { face = face_of r.face; only = option_map (λ t. t.now) r.only; steps = r.limits.steps }
+request_of r = record { face = face_of r.face; only = option_map (λ t. t.now) r.only; work = work_of r.work }
 
 abbrev pub query_of : Query → words.Query
 query_of queries.Letters = words.Letters
 query_of (queries.About request) = words.About (request_of request)
+query_of (queries.Certificate name work) = words.Certificate name.now (work_of work)
 
 abbrev pub wanted_of : Asked → Wanted
 wanted_of asked.Help = Help
 wanted_of (asked.Of query) = Of (query_of query)
 
--- nothing is said of a report
+-- nothing is said of a report, nor of a certificate
+abbrev pub is_formless : words.Said → Bool
+is_formless said = not said.json && (not said.html && not (is_some said.only))
+
+abbrev pub is_workless : words.Said → Bool
+is_workless said = not said.progress && (not (is_some said.steps) && not (is_some said.workers))
+
 abbrev pub is_bare : words.Said → Bool
-is_bare said = not said.json && (not said.html && (not (is_some said.only) && not (is_some said.steps)))
+is_bare said = is_formless said && (is_workless said && not (is_some said.cert))
+
+-- so many workers are allowed
+pub record AreFew (work : Work) : Type 0 where
+  pub some : 1 ≤ work.effort.workers
+  pub few : work.effort.workers ≤ 16
+
+-- so it is with what is asked of a document
+abbrev pub IsFit : Query → Type 0
+IsFit queries.Letters = ⊤
+IsFit (queries.About request) = AreFew request.work
+IsFit (queries.Certificate name work) = AreFew work

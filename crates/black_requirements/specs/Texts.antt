@@ -7,10 +7,11 @@ use Rattle.requirement_report.specs.Flat.{flat}
 use Rattle.requirement_report.specs.Subjects.{behaviour_name}
 use Rattle.black_requirements.specs.Refusing.{in_parentheses}
 
--- a line for each of the three calls
+-- a line for each of the four calls
 abbrev pub usage_text : List ℕ
-usage_text = line (codes "usage: black_requirements [--json | --html] [--only NAME] [--steps N]")
-    ++ (line (codes "usage: black_requirements --letters") ++ line (codes "usage: black_requirements --help"))
+usage_text = line (codes "usage: black_requirements [--json | --html] [--only NAME] [--steps N] [--workers N] [--progress]")
+    ++ (line (codes "usage: black_requirements --cert NAME [--steps N] [--workers N] [--progress]")
+    ++ (line (codes "usage: black_requirements --letters") ++ line (codes "usage: black_requirements --help")))
 
 -- what the program does, its options, what a requirement looks like, and the statuses
 abbrev pub about_text : List ℕ
@@ -24,7 +25,10 @@ options_text =
     line [] ++ (line (codes "  --json         the report as one line of JSON") ++ (line (codes "  --html         the report as a page")
     ++ (line (codes "  --letters      the letters of the document, with the items that have them")
     ++ (line (codes "  --only NAME    the questions of one item or behaviour")
-    ++ line (codes "  --steps N      how long a question is tried: 10000000 where it is not given")))))
+    ++ (line (codes "  --cert NAME    a certificate of what is impossible, for black_refute --check")
+    ++ (line (codes "  --steps N      how long a question is tried: 10000000 where it is not given")
+    ++ (line (codes "  --workers N    how many threads answer questions: 1 where it is not given")
+    ++ line (codes "  --progress     a line on standard error for each question"))))))))
 
 abbrev pub example_text : List ℕ
 example_text =
@@ -43,6 +47,14 @@ help_text = usage_text ++ (about_text ++ (options_text ++ (example_text ++ other
 -- nothing has the name that is asked about
 abbrev pub no_item_text : List ℕ → List ℕ
 no_item_text name = line (codes "no item " ++ flat name)
+
+-- no answer about what has the name says that there is no trace
+abbrev pub no_certificate_text : List ℕ → List ℕ
+no_certificate_text name = line (codes "no certificate: nothing about " ++ (flat name ++ codes " is impossible"))
+
+-- the certificate is too long, or its formula is too long or too large
+abbrev pub beyond_text : List ℕ
+beyond_text = line (codes "certificate beyond the limits of texts")
 
 -- the behaviour, counted from 0, has too many states for a formula
 abbrev pub cells_text : DocumentValue → ℕ → List ℕ

@@ -1,13 +1,15 @@
 //! The program `black_requirements`: reads a document of named requirements and says whether they can be
-//! met together, what follows from them and what they allow. The words, standard input and output are given
-//! to `top::run`.
+//! met together, what follows from them and what they allow. The words, standard input, output and error are
+//! given to `top::run`.
 #![tactic(auto)]
 
 mod answer;
+mod certifying;
 mod hints;
 mod naming;
 mod output;
 mod pointing;
+mod progress;
 mod refusing;
 mod reporting;
 #[cfg(test)]
@@ -43,6 +45,7 @@ fn main(rt: HostRuntime) -> ExitCode {
     };
     let mut source = StdSource::new(rt.stdin());
     let mut sink = StdSink::new(rt.stdout());
-    let status = run(rt.alloc(), &words, &mut source, &mut sink);
+    let mut notes = StdSink::new(rt.stderr());
+    let status = run(&rt, rt.alloc(), &words, &mut source, &mut sink, &mut notes);
     ExitCode::from(status.code())
 }

@@ -7,7 +7,9 @@ ghost use Rattle.black_requirements.specs.Texts as texts;
 ghost use Rattle.black_requirements.specs.Inner.{Shows};
 
 use crate::refusing::{refusal_status, refusal_text};
-use crate::texts::{cells_text, help_text, no_item_text, usage_text};
+use crate::texts::{
+    beyond_text, cells_text, help_text, no_certificate_text, no_item_text, usage_text,
+};
 use report::Status;
 use requirement_document::{Document, DocumentFault};
 use std::alloc::{AllocError, Global};
@@ -57,6 +59,26 @@ pub fn no_item(alloc: Global, name: &str) -> Result<Output, AllocError>
     Ok(Output {
         status: Status::Usage,
         text: no_item_text(alloc, name)?,
+    })
+}
+
+/// No answer about what has the name says that there is no trace.
+pub fn no_certificate(alloc: Global, name: &str) -> Result<Output, AllocError>
+    ensures { IfOk result (λ out. Shows out statuses.Negative (texts.no_certificate_text name.now)) }
+{
+    Ok(Output {
+        status: Status::Negative,
+        text: no_certificate_text(alloc, name)?,
+    })
+}
+
+/// The certificate is too long, or its formula is too long or too large.
+pub fn beyond(alloc: Global) -> Result<Output, AllocError>
+    ensures { IfOk result (λ out. Shows out statuses.Limit texts.beyond_text) }
+{
+    Ok(Output {
+        status: Status::Limit,
+        text: beyond_text(alloc)?,
     })
 }
 

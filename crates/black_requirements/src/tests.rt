@@ -1,15 +1,19 @@
 // What the program prints, over memory. The expected texts were written by hand.
 use crate::top::run;
 use ltl_io::{MemorySink, MemorySource};
+use ltl_syntax::Kind;
 use report::Status;
+use requirement_certificate::is_verified;
 use std::alloc::{AllocError, Global};
 use std::test::Fail;
+use std::thread::Threads;
 
-/// What a call comes to.
+/// What a call comes to: its status, its output and its notes.
 #[derive(Drop)]
 struct Call {
     status: Status,
     text: Vec<u8>,
+    notes: Vec<u8>,
 }
 
 fn list(alloc: Global, words: &str) -> Result<Vec<String>, AllocError> {
@@ -20,14 +24,21 @@ fn list(alloc: Global, words: &str) -> Result<Vec<String>, AllocError> {
     Ok(all)
 }
 
-fn called(alloc: Global, words: &str, input: &[u8]) -> Result<Call, Fail> {
+fn called<R: Threads + Sync>(
+    rt: &R,
+    alloc: Global,
+    words: &str,
+    input: &[u8],
+) -> Result<Call, Fail> {
     let words = list(alloc, words)?;
     let mut source = MemorySource::new(input.to_vec(alloc)?, 1000, Vec::new(alloc));
     let mut sink = MemorySink::new(alloc, 65_536, 100, Vec::new(alloc))?;
-    let status = run(alloc, &words, &mut source, &mut sink);
+    let mut notes = MemorySink::new(alloc, 65_536, 100, Vec::new(alloc))?;
+    let status = run(rt, alloc, &words, &mut source, &mut sink, &mut notes);
     Ok(Call {
         status,
         text: sink.content().to_vec(alloc)?,
+        notes: notes.content().to_vec(alloc)?,
     })
 }
 
@@ -36,11 +47,20 @@ fn called(alloc: Global, words: &str, input: &[u8]) -> Result<Call, Fail> {
 fn refusals(rt: HostRuntime) -> Result<(), Fail> {
     let alloc = rt.alloc();
     let usage =
-        "usage: black_requirements [--json | --html] [--only NAME] [--steps N]\nusage: black_requirements --letters\nusage: black_requirements --help\n";
-    let table: [(&str, &str, &str, Status); 28] = [
+        "usage: black_requirements [--json | --html] [--only NAME] [--steps N] [--workers N] [--progress]\nusage: black_requirements --cert NAME [--steps N] [--workers N] [--progress]\nusage: black_requirements --letters\nusage: black_requirements --help\n";
+    let table: [(&str, &str, &str, Status); 38] = [
         ("--only a --only b", "", usage, Status::Usage),
         ("--only", "", usage, Status::Usage),
-        ("--cert a", "", usage, Status::Usage),
+        ("--cert", "", usage, Status::Usage),
+        ("--cert a --only a", "", usage, Status::Usage),
+        ("--cert a --json", "", usage, Status::Usage),
+        ("--html --cert a", "", usage, Status::Usage),
+        ("--cert a --letters", "", usage, Status::Usage),
+        ("--workers 0", "", usage, Status::Usage),
+        ("--workers=17", "", usage, Status::Usage),
+        ("--help --progress", "", usage, Status::Usage),
+        ("--letters --workers 2", "", usage, Status::Usage),
+        ("--progress --progress", "", usage, Status::Usage),
         ("--help --steps 3", "", usage, Status::Usage),
         ("--help --help", "", usage, Status::Usage),
         ("--json --html", "", usage, Status::Usage),
@@ -151,13 +171,20 @@ fn refusals(rt: HostRuntime) -> Result<(), Fail> {
             "no item b\n",
             Status::Usage,
         ),
+        (
+            "--cert=b --workers 16 --steps 9 --progress",
+            "[[require]]\nname = \"a\"\nformula = \"p\"",
+            "no item b\n",
+            Status::Usage,
+        ),
     ];
     for (words, input, wanted, status) in table {
-        let call = called(alloc, words, input.as_bytes())?;
+        let call = called(&rt, alloc, words, input.as_bytes())?;
         assert!(rt;
             call.status == status && *call.text == *wanted.as_bytes(),
             "{words} {input}"
         );
+        assert!(rt; call.notes.is_empty());
     }
     Ok(())
 }
@@ -166,10 +193,10 @@ fn refusals(rt: HostRuntime) -> Result<(), Fail> {
 #[test]
 fn faults_of_texts(rt: HostRuntime) -> Result<(), Fail> {
     let alloc = rt.alloc();
-    let call = called(alloc, "", b"traces = \"\xFF\"")?;
+    let call = called(&rt, alloc, "", b"traces = \"\xFF\"")?;
     assert!(rt; call.status == Status::Text);
     assert!(rt; call.text.as_slice() == b"document fault at byte 10: not UTF-8\n".as_slice());
-    let call = called(alloc, "", b"[[require]]\nname = \"a\" \"b\"\n")?;
+    let call = called(&rt, alloc, "", b"[[require]]\nname = \"a\" \"b\"\n")?;
     assert!(rt; call.status == Status::Text);
     assert!(rt; call.text.starts_with(b"document fault at line 2, column "));
     Ok(())
@@ -206,7 +233,7 @@ fn places_of_faults(rt: HostRuntime) -> Result<(), Fail> {
         let mut input = Vec::from_slice(alloc, b"[[require]]\nname = \"a\"\nformula = \"\"\"")?;
         input.extend_from_slice(formula.as_bytes())?;
         input.extend_from_slice(b"\"\"\"\n")?;
-        let call = called(alloc, "", &input)?;
+        let call = called(&rt, alloc, "", &input)?;
         assert!(rt;
             call.status == Status::Text && call.text.ends_with(wanted.as_bytes()),
             "{formula}"
@@ -219,7 +246,7 @@ fn places_of_faults(rt: HostRuntime) -> Result<(), Fail> {
 #[test]
 fn help(rt: HostRuntime) -> Result<(), Fail> {
     let alloc = rt.alloc();
-    let call = called(alloc, "--help", b"= no document")?;
+    let call = called(&rt, alloc, "--help", b"= no document")?;
     assert!(rt; call.status == Status::Good);
     assert!(rt;
         call.text.starts_with(b"usage: black_requirements [--json | --html] [--only NAME] ")
@@ -235,7 +262,7 @@ fn answers(rt: HostRuntime) -> Result<(), Fail> {
     let one = "traces = \"finite\"\n[[require]]\nname = \"a\"\nformula = \"p\"\n";
     let conflict =
         "traces = \"finite\"\n[[assume]]\nname = \"a\"\nformula = \"p\"\n[[require]]\nname = \"b\"\nformula = \"!p\"\n[[require]]\nname = \"c\"\nformula = \"q\"\n";
-    let table: [(&str, &str, &str, Status); 7] = [
+    let table: [(&str, &str, &str, Status); 8] = [
         (
             "",
             one,
@@ -268,14 +295,122 @@ fn answers(rt: HostRuntime) -> Result<(), Fail> {
             Status::Negative,
         ),
         ("--letters", conflict, "p: a, b\nq: c\n", Status::Good),
+        (
+            "--only c --workers 16",
+            conflict,
+            "conflict: a, b\n",
+            Status::Negative,
+        ),
     ];
     for (words, input, wanted, status) in table {
-        let call = called(alloc, words, input.as_bytes())?;
+        let call = called(&rt, alloc, words, input.as_bytes())?;
         assert!(rt;
             call.status == status && call.text.starts_with(wanted.as_bytes()),
             "{words} {input}"
         );
+        assert!(rt; call.notes.is_empty());
     }
+    Ok(())
+}
+
+// A document whose items conflict, and one of which one item follows from the other.
+const CONFLICT: &str =
+    "traces = \"finite\"\n[[assume]]\nname = \"a\"\nformula = \"p\"\n[[require]]\nname = \"b\"\nformula = \"!p\"\n[[require]]\nname = \"c\"\nformula = \"q\"\n";
+
+const FOLLOWING: &str =
+    "traces = \"finite\"\n[[require]]\nname = \"both\"\nformula = \"p & q\"\n[[require]]\nname = \"one\"\nformula = \"p\"\n[[ensure]]\nname = \"other\"\nformula = \"q\"\n[[behaviour]]\nname = \"log\"\nstates = [[\"p\", \"q\"]]\n";
+
+// A certificate is printed with its formula in front, and is verified; where nothing is impossible, it is said.
+#[test]
+fn certificates(rt: HostRuntime) -> Result<(), Fail> {
+    let alloc = rt.alloc();
+    let table: [(&str, &str, &str, Status); 8] = [
+        ("--cert a", CONFLICT, "(p & !p)\n---\n", Status::Good),
+        (
+            "--cert b --workers 4",
+            CONFLICT,
+            "(p & !p)\n---\n",
+            Status::Good,
+        ),
+        (
+            "--cert c",
+            CONFLICT,
+            "no certificate: nothing about c is impossible\n",
+            Status::Negative,
+        ),
+        (
+            "--cert one",
+            FOLLOWING,
+            "((p & q) & !p)\n---\n",
+            Status::Good,
+        ),
+        (
+            "--steps 1000 --cert=other",
+            FOLLOWING,
+            "((p & q) & !q)\n---\n",
+            Status::Good,
+        ),
+        (
+            "--cert both",
+            FOLLOWING,
+            "no certificate: nothing about both is impossible\n",
+            Status::Negative,
+        ),
+        (
+            "--cert log",
+            FOLLOWING,
+            "no certificate: nothing about log is impossible\n",
+            Status::Negative,
+        ),
+        ("--cert none", FOLLOWING, "no item none\n", Status::Usage),
+    ];
+    for (words, input, front, status) in table {
+        let call = called(&rt, alloc, words, input.as_bytes())?;
+        assert!(rt;
+            call.status == status && call.text.starts_with(front.as_bytes()),
+            "{words} {input}"
+        );
+        assert!(rt;
+            is_verified(alloc, Kind::Finite, &call.text)? == (status == Status::Good),
+            "{words} {input}"
+        );
+        assert!(rt; call.notes.is_empty());
+    }
+    Ok(())
+}
+
+// Lines on the progress stand in the notes, and the answer is the same, whoever answers the questions.
+#[test]
+fn lines_on_progress(rt: HostRuntime) -> Result<(), Fail> {
+    let alloc = rt.alloc();
+    let table: [(&str, &str); 4] = [
+        ("", FOLLOWING),
+        ("--only other", FOLLOWING),
+        ("--json", CONFLICT),
+        ("--cert one", FOLLOWING),
+    ];
+    for (words, input) in table {
+        let plain = called(&rt, alloc, words, input.as_bytes())?;
+        let told = called(
+            &rt,
+            alloc,
+            &format!(in alloc; "{words} --progress --workers 3")?,
+            input.as_bytes(),
+        )?;
+        assert!(rt;
+            plain.status == told.status && plain.text == told.text,
+            "{words} {input}"
+        );
+        assert!(rt; plain.notes.is_empty());
+        assert!(rt;
+            told.notes
+                .starts_with(b"can all of them be met together?\n"),
+            "{words} {input}"
+        );
+    }
+    let call = called(&rt, alloc, "--progress --only other", FOLLOWING.as_bytes())?;
+    let wanted = b"can all of them be met together?\ndoes it follow? other\n";
+    assert!(rt; call.notes.as_slice() == wanted.as_slice());
     Ok(())
 }
 
@@ -297,7 +432,8 @@ fn failing_devices(rt: HostRuntime) -> Result<(), Fail> {
         let words = list(alloc, "")?;
         let mut source = MemorySource::new(b"no = 1".to_vec(alloc)?, 2, reads.to_vec(alloc)?);
         let mut sink = MemorySink::new(alloc, 64, 3, writes.to_vec(alloc)?)?;
-        let status = run(alloc, &words, &mut source, &mut sink);
+        let mut notes = MemorySink::new(alloc, 64, 64, Vec::new(alloc))?;
+        let status = run(&rt, alloc, &words, &mut source, &mut sink, &mut notes);
         assert!(rt; status == wanted && sink.content() == front);
     }
     Ok(())

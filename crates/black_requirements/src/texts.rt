@@ -2,20 +2,24 @@
 ghost use Rattle.std.specs.Prelude.{◌≡◌, ◌++◌, IfOk, OnOk};
 ghost use Rattle.report.specs.Texts.{line};
 ghost use Rattle.requirement_document.specs.Values.{document_in};
-ghost use Rattle.black_requirements.specs.Texts.{usage_text, help_text, no_item_text, cells_text};
+ghost use Rattle.black_requirements.specs.Texts.{usage_text, help_text, no_item_text, no_certificate_text};
+ghost use Rattle.black_requirements.specs.Texts.{beyond_text, cells_text};
 
 use crate::refusing::put_name;
 use requirement_document::Document;
 use requirement_report::{behaviour_name, put_flat};
 use std::alloc::{AllocError, Global};
 
-/// A line for each of the three calls.
+/// A line for each of the four calls.
 pub fn usage_text(alloc: Global) -> Result<Vec<u8>, AllocError>
     ensures { IfOk result (λ text. text.items ≡ usage_text) }
 {
     let mut text = Vec::new(alloc);
     text.extend_from_slice(
-        b"usage: black_requirements [--json | --html] [--only NAME] [--steps N]\n",
+        b"usage: black_requirements [--json | --html] [--only NAME] [--steps N] [--workers N] [--progress]\n",
+    )?;
+    text.extend_from_slice(
+        b"usage: black_requirements --cert NAME [--steps N] [--workers N] [--progress]\n",
     )?;
     text.extend_from_slice(b"usage: black_requirements --letters\n")?;
     text.extend_from_slice(b"usage: black_requirements --help\n")?;
@@ -35,7 +39,10 @@ const OPTIONS: &[u8] = b"
   --html         the report as a page
   --letters      the letters of the document, with the items that have them
   --only NAME    the questions of one item or behaviour
+  --cert NAME    a certificate of what is impossible, for black_refute --check
   --steps N      how long a question is tried: 10000000 where it is not given
+  --workers N    how many threads answer questions: 1 where it is not given
+  --progress     a line on standard error for each question
 ";
 
 /// What a requirement looks like.
@@ -75,6 +82,23 @@ pub fn no_item_text(alloc: Global, name: &str) -> Result<Vec<u8>, AllocError>
     put_flat(alloc, name, &mut text)?;
     text.push(b'\n')?;
     Ok(text)
+}
+
+/// No answer about what has the name says that there is no trace.
+pub fn no_certificate_text(alloc: Global, name: &str) -> Result<Vec<u8>, AllocError>
+    ensures { IfOk result (λ text. text.items ≡ no_certificate_text name.now) }
+{
+    let mut text = Vec::from_slice(alloc, b"no certificate: nothing about ")?;
+    put_flat(alloc, name, &mut text)?;
+    text.extend_from_slice(b" is impossible\n")?;
+    Ok(text)
+}
+
+/// The certificate is too long, or its formula is too long or too large.
+pub fn beyond_text(alloc: Global) -> Result<Vec<u8>, AllocError>
+    ensures { IfOk result (λ text. text.items ≡ beyond_text) }
+{
+    Vec::from_slice(alloc, b"certificate beyond the limits of texts\n")
 }
 
 /// The behaviour has too many states for a formula.

@@ -1,27 +1,32 @@
 // The one call of the program, behind its name. What it ensures is all that a user is promised.
-ghost use Rattle.std.specs.Prelude.{◌≡◌, ◌⊎◌, ◌<◌, map, string_bytes, IsTrue};
+ghost use Rattle.std.specs.Prelude.{◌≡◌, ◌⊎◌, ◌<◌, ℕ, List, map, string_bytes, IsTrue};
 ghost use Rattle.ltl_io.specs.Count.{Rose};
 ghost use Rattle.ltl_io.specs.Outside.{LosesAtMost};
 ghost use Rattle.report.specs.declared.status.Status.TheVariants as statuses;
 ghost use Rattle.report.specs.Status.{is_answer, has_read};
 ghost use Rattle.program_input.specs.Taking.{IsTakenUpTo};
-ghost use Rattle.black_requirements.specs.Words.{Query, Of, Asks, ReadNothing};
+ghost use Rattle.black_requirements.specs.Words.{Query, Of, Asks, ReadNothing, AsksNoProgress};
 ghost use Rattle.black_requirements.specs.Run.{IsAnswered, IsCutOff};
-ghost use Rattle.black_requirements.specs.Wished.{AskAboutAll, WasAsWished};
+ghost use Rattle.black_requirements.specs.Wished.{AskAboutAll, WasAsWished, AskForCertificate, WasCertified};
 
 use crate::answer::answer;
 use ltl_io::{ReadRefused, Sink, Source, write_whole};
 use report::Status;
 use requirement_answers::laws::verdict_is_right;
+use requirement_certificate::laws::certificates_are_taken;
 use std::alloc::Global;
+use std::thread::Threads;
 
 /// Does all that the program does: takes the words, reads the source, writes the whole answer and gives its
-/// status.
-pub fn run<S: Source, K: Sink>(
+/// status. Lines on the progress go into the notes where they are asked for, and what comes of writing them
+/// is not looked at.
+pub fn run<R: Threads + Sync, S: Source, K: Sink, N: Sink>(
+    rt: &R,
     alloc: Global,
     words: &[String],
     source: &mut S,
     sink: &mut K,
+    notes: &mut N,
 ) -> Status
     // With every status but those of faults and of want of memory, the answer is printed in full.
     ensures answered { IsTrue (is_answer result)
@@ -51,12 +56,20 @@ pub fn run<S: Source, K: Sink>(
         → LosesAtMost 4194304 (S.rest source.old) (S.rest source.new) }
     ensures taken { (query : Query) → Asks (map string_bytes words.now) (Of query)
         → IsTrue (has_read result) → IsTakenUpTo 4194304 (S.rest source.old) (S.rest source.new) }
+    ensures silent { AsksNoProgress (map string_bytes words.now) → notes.new ≡ notes.old }
     // Where a report on the whole document ends well, the document is as it wishes.
     ensures wished { result ≡ statuses.Good → AskAboutAll (map string_bytes words.now)
         → WasAsWished (S.rest source.old) }
+    // Where a certificate ends well, its text was printed, and no trace satisfies the formula in front.
+    ensures certified { (name : List ℕ) → result ≡ statuses.Good
+        → AskForCertificate (map string_bytes words.now) name
+        → WasCertified name (S.rest source.old) (K.content sink.old) (K.content sink.new) }
 {
     verdict_is_right();
-    match answer(alloc, words, source) {
+    certificates_are_taken();
+    claims::laws::nothing_satisfies();
+    ltl_parser::laws::one_outcome();
+    match answer(rt, alloc, words, source, notes) {
         Err(ReadRefused::Fault) => Status::ReadFault,
         Err(ReadRefused::NoMemory) => Status::NoMemory,
         Ok(output) => match write_whole(sink, &output.text) {

@@ -1,19 +1,29 @@
-// The words behind the program's name, as `clap` reads them, and what they ask for: a report, the letters of
-// a document, or the help. What does not belong together is not taken.
+// The words behind the program's name, as `clap` reads them, and what they ask for: a report, a certificate,
+// the letters of a document, or the help. What does not belong together is not taken.
 ghost use Rattle.std.specs.Prelude.{◌≡◌, ℕ, true, false, None, Some, map, string_bytes, option_map, IfOk};
 ghost use Rattle.std.specs.Prelude.{MatchOption};
 ghost use Rattle.clap.specs.Words.{FailsBy, fault_of, first_value, found_of, kind_of, matches_of, rows_of};
 ghost use Rattle.clap.specs.declared.error.kind.ErrorKind.TheVariants as kinds;
 ghost use Rattle.black_requirements.specs.Words.{words_app, AreTaken, Face as AFace, Wanted, said_in, Says};
 ghost use Rattle.black_requirements.specs.Words.{Asks};
-ghost use Rattle.black_requirements.specs.Words.{IsFace, AreSteps, is_true};
-ghost use Rattle.black_requirements.specs.Said.{said_of, face_of, wanted_of, is_bare, said_in_matches};
+ghost use Rattle.black_requirements.specs.Words.{IsFace, AreSteps, AreWorkers, AsksFor, Work as AWork};
+ghost use Rattle.black_requirements.specs.Words.{is_true};
+ghost use Rattle.black_requirements.specs.Said.{said_of, face_of, work_of, wanted_of, is_bare, is_formless};
+ghost use Rattle.black_requirements.specs.Said.{is_workless, said_in_matches};
 
 use clap::error::ErrorKind;
 use clap::{ArgMatches, Command, Error};
-use command_words::{STEPS, decimal_number, flag, valued};
+use command_words::{Range, STEPS, decimal_number, flag, valued};
+use requirement_answers::Effort;
 use requirement_questions::{DEFAULT_STEPS, Limits};
 use std::alloc::{AllocError, Global};
+
+/// The number of `--workers`.
+const WORKERS: Range = Range {
+    digits: 2,
+    low: 1,
+    high: 16,
+};
 
 /// What the words ask for.
 #[derive(Clone, Copy)]
@@ -28,6 +38,8 @@ pub enum Asked<'w> {
 pub enum Query<'w> {
     Letters,
     About(Request<'w>),
+    /// The certificate of the first answer about what has the name that says that there is no trace.
+    Certificate { name: &'w str, work: Work },
 }
 
 /// A report that is asked for, or what of it is about one item or behaviour.
@@ -35,7 +47,14 @@ pub enum Query<'w> {
 pub struct Request<'w> {
     pub face: Face,
     pub only: Option<&'w str>,
-    pub limits: Limits,
+    pub work: Work,
+}
+
+/// How the questions are answered, and whether a line is written for each.
+#[derive(Clone, Copy)]
+pub struct Work {
+    pub effort: Effort,
+    pub progress: bool,
 }
 
 /// The form of a report.
@@ -53,8 +72,11 @@ pub struct Said<'w> {
     letters: bool,
     json: bool,
     html: bool,
+    progress: bool,
     only: Option<&'w str>,
+    cert: Option<&'w str>,
     steps: Option<&'w str>,
+    workers: Option<&'w str>,
 }
 
 /// What the words ask for. None where they are not taken.
@@ -80,7 +102,10 @@ fn asked_by<'w>(said: Said<'w>) -> Option<Asked<'w>>
     if said.letters {
         return letters_asked(said);
     }
-    request_asked(said)
+    match said.cert {
+        Some(name) => certificate_asked(said, name),
+        None => request_asked(said),
+    }
 }
 
 /// The help, where nothing stands beside `--help`.
@@ -113,30 +138,81 @@ fn letters_asked<'w>(said: Said<'w>) -> Option<Asked<'w>>
     None
 }
 
-/// Whether nothing is said of a report.
+/// Whether nothing is said of a report, nor of a certificate.
 fn is_bare(said: Said<'_>) -> bool
     ensures { result ≡ is_bare (said_of said.entry) }
 {
-    !said.json && !said.html && said.only.is_none() && said.steps.is_none()
+    is_formless(said) && is_workless(said) && said.cert.is_none()
 }
 
-/// A report, where one form is asked for and the steps are a number.
-#[tactic(auto, using(crate::proofs::Wording::no_face, crate::proofs::Wording::no_steps))]
+/// Whether no form is said, and no name.
+fn is_formless(said: Said<'_>) -> bool
+    ensures { result ≡ is_formless (said_of said.entry) }
+{
+    !said.json && !said.html && said.only.is_none()
+}
+
+/// Whether nothing is said of how the questions are answered.
+fn is_workless(said: Said<'_>) -> bool
+    ensures { result ≡ is_workless (said_of said.entry) }
+{
+    !said.progress && said.steps.is_none() && said.workers.is_none()
+}
+
+/// A report, where one form is asked for, and the steps and the workers are numbers.
+#[tactic(auto, using(crate::proofs::Wording::no_face, crate::proofs::Wording::no_report))]
 fn request_asked<'w>(said: Said<'w>) -> Option<Asked<'w>>
     requires help { said.help ≡ false }
     requires letters { said.letters ≡ false }
+    requires cert { said.cert ≡ None }
     ensures { MatchOption result ((wanted : Wanted) → ¬ (Says (said_of said.entry) wanted))
         (λ asked. Says (said_of said.entry) (wanted_of asked)) }
 {
     let Some(face) = face_said(said.json, said.html) else {
         return None;
     };
-    match limits_of(said.steps) {
-        Some(limits) => Some(Asked::Of(Query::About(Request {
+    match work_of(said) {
+        Some(work) => Some(Asked::Of(Query::About(Request {
             face,
             only: said.only,
-            limits,
+            work,
         }))),
+        None => None,
+    }
+}
+
+/// The certificate about the name, where neither a form nor another name is said.
+#[tactic(auto, using(crate::proofs::Wording::certified_so, crate::proofs::Wording::not_formless, crate::proofs::Wording::no_certificate))]
+fn certificate_asked<'w>(said: Said<'w>, name: &'w str) -> Option<Asked<'w>>
+    requires help { said.help ≡ false }
+    requires letters { said.letters ≡ false }
+    requires cert { said.cert ≡ Some name }
+    ensures { MatchOption result ((wanted : Wanted) → ¬ (Says (said_of said.entry) wanted))
+        (λ asked. Says (said_of said.entry) (wanted_of asked)) }
+{
+    if !is_formless(said) {
+        return None;
+    }
+    match work_of(said) {
+        Some(work) => Some(Asked::Of(Query::Certificate { name, work })),
+        None => None,
+    }
+}
+
+/// How the questions are to be answered.
+#[tactic(auto, using(crate::proofs::Wording::no_steps, crate::proofs::Wording::no_workers))]
+fn work_of(said: Said<'_>) -> Option<Work>
+    ensures { MatchOption result ((work : AWork) → ¬ (AsksFor (said_of said.entry) work))
+        (λ work. AsksFor (said_of said.entry) (work_of work)) }
+{
+    let Some(limits) = limits_of(said.steps) else {
+        return None;
+    };
+    match workers_of(said.workers) {
+        Some(workers) => Some(Work {
+            effort: Effort { limits, workers },
+            progress: said.progress,
+        }),
         None => None,
     }
 }
@@ -166,6 +242,17 @@ fn limits_of(digits: Option<&str>) -> Option<Limits>
     Some(Limits { steps })
 }
 
+/// How many workers answer the questions.
+fn workers_of(digits: Option<&str>) -> Option<u32>
+    ensures { MatchOption result ((n : ℕ) → ¬ (AreWorkers (option_map (λ t. t.now) digits.entry) n))
+        (AreWorkers (option_map (λ t. t.now) digits.entry)) }
+{
+    match digits {
+        Some(digits) => decimal_number(digits.as_bytes(), WORKERS),
+        None => Some(1),
+    }
+}
+
 /// What the words say of options. None where they are not taken.
 fn options_said<'w>(alloc: Global, words: &'w [String]) -> Result<Option<Said<'w>>, AllocError>
     ensures { IfOk result (λ said. MatchOption said (¬ (AreTaken (map string_bytes words.now)))
@@ -187,8 +274,11 @@ fn said_by<'w>(matches: &ArgMatches<'w>) -> Said<'w>
         letters: is_there(matches, "letters"),
         json: is_there(matches, "json"),
         html: is_there(matches, "html"),
+        progress: is_there(matches, "progress"),
         only: matches.get_str("only"),
+        cert: matches.get_str("cert"),
         steps: matches.get_str("steps"),
+        workers: matches.get_str("workers"),
     }
 }
 
@@ -243,7 +333,10 @@ fn parsed<'w>(alloc: Global, words: &'w [String]) -> Result<ArgMatches<'w>, Erro
         .arg(flag(alloc, "letters"))?
         .arg(flag(alloc, "json"))?
         .arg(flag(alloc, "html"))?
+        .arg(flag(alloc, "progress"))?
         .arg(valued(alloc, "only"))?
-        .arg(valued(alloc, "steps"))?;
+        .arg(valued(alloc, "cert"))?
+        .arg(valued(alloc, "steps"))?
+        .arg(valued(alloc, "workers"))?;
     options.try_get_matches_from(words)
 }

@@ -2,13 +2,19 @@
 use crate::refusals::{DEFINITIONS, repeated};
 use crate::reporting::reported;
 use requirement_answers::laws::behaviours_are_traces;
-use requirement_answers::{Report, ReportRefused, Scope, report_on};
+use requirement_answers::{Effort, NoWatch, Report, ReportRefused, Scope, report_on};
 use requirement_document::read;
 use requirement_questions::{Answer, Because, Limits};
 use std::alloc::Global;
 use std::test::Fail;
+use std::thread::Threads;
 
 const LIMITS: Limits = Limits { steps: 100_000 };
+
+const EFFORT: Effort = Effort {
+    limits: LIMITS,
+    workers: 1,
+};
 
 /// The members, each with `?` where it is not shown to be needed.
 fn tell_because(alloc: Global, line: &mut String, because: &Because) -> Result<(), Fail> {
@@ -59,27 +65,37 @@ fn tell_checks(alloc: Global, line: &mut String, report: &Report) -> Result<(), 
 }
 
 /// What is answered about the document that the text is.
-fn told(alloc: Global, text: &str, scope: Scope) -> Result<String, Fail> {
-    let (_, report) = reported(alloc, text, scope, LIMITS)?;
+fn told<R: Threads + Sync>(
+    rt: &R,
+    alloc: Global,
+    text: &str,
+    scope: Scope,
+) -> Result<String, Fail> {
+    let (_, report) = reported(rt, alloc, text, scope, LIMITS)?;
+    told_report(alloc, &report)
+}
+
+pub(crate) fn told_report(alloc: Global, report: &Report) -> Result<String, Fail> {
     let mut line = String::new(alloc);
-    tell_together(alloc, &mut line, &report)?;
-    tell_replies(alloc, &mut line, &report)?;
-    tell_checks(alloc, &mut line, &report)?;
+    tell_together(alloc, &mut line, report)?;
+    tell_replies(alloc, &mut line, report)?;
+    tell_checks(alloc, &mut line, report)?;
     Ok(line)
 }
 
-const WISHED: &str = "[[assume]]\nname = \"calm\"\nformula = \"G F !rain\"\n\
+pub(crate) const WISHED: &str = "[[assume]]\nname = \"calm\"\nformula = \"G F !rain\"\n\
     [[require]]\nname = \"fill\"\nformula = \"G (low -> F[0,3] pump)\"\n\
     [[allow]]\nname = \"dry\"\nformula = \"F low\"\n\
     [[ensure]]\nname = \"no flood\"\nformula = \"!(F G rain)\"\n\
     [[behaviour]]\nname = \"log\"\nstates = [[\"low\"], [\"pump\"]]\n";
 
-const CONFLICTS: &str = "[[assume]]\nname = \"a\"\nformula = \"p\"\n\
+pub(crate) const CONFLICTS: &str = "[[assume]]\nname = \"a\"\nformula = \"p\"\n\
     [[require]]\nname = \"b\"\nformula = \"!p\"\n[[require]]\nname = \"c\"\nformula = \"G q\"\n\
     [[require]]\nname = \"d\"\nformula = \"F !q\"\n[[require]]\nname = \"e\"\nformula = \"r\"\n\
     [[allow]]\nname = \"f\"\nformula = \"!r\"\n[[ensure]]\nname = \"g\"\nformula = \"r\"\n";
 
-const REMARKS: &str = "traces = \"finite\"\n[[require]]\nname = \"a\"\nformula = \"G !p\"\n\
+pub(crate) const REMARKS: &str =
+    "traces = \"finite\"\n[[require]]\nname = \"a\"\nformula = \"G !p\"\n\
     [[require]]\nname = \"b\"\nformula = \"G (p -> X q)\"\n\
     [[require]]\nname = \"c\"\nformula = \"G !(p & q)\"\n\
     [[behaviour]]\nname = \"log\"\nstates = [[\"q\"], [\"p\"], [\"q\"]]\n";
@@ -121,7 +137,7 @@ const ROWS: &[(&str, Scope, &str)] = &[
 #[test]
 fn answers_documents(rt: HostRuntime) -> Result<(), Fail> {
     for (text, scope, wanted) in ROWS {
-        assert_eq!(rt; told(rt.alloc(), text, *scope)?.as_str(), *wanted);
+        assert_eq!(rt; told(&rt, rt.alloc(), text, *scope)?.as_str(), *wanted);
     }
     Ok(())
 }
@@ -136,7 +152,7 @@ fn refuses_long_behaviours(rt: HostRuntime) -> Result<(), Fail> {
     let text = repeated(alloc, front.as_str(), "[],", 4097, "] }]")?;
     let document = read(alloc, text.as_bytes())?;
     behaviours_are_traces();
-    let Err(refused) = report_on(alloc, &document, Scope::All, LIMITS) else {
+    let Err(refused) = report_on(&rt, alloc, &document, Scope::All, EFFORT, &mut NoWatch) else {
         return Err(Fail::new("it is answered"));
     };
     let cells = ReportRefused::Cells {

@@ -8,7 +8,7 @@ use std::test::Fail;
 
 const LIMITS: Limits = Limits { steps: 100_000 };
 
-const QUOTED: &str = r#"traces = "finite"
+pub(crate) const QUOTED: &str = r#"traces = "finite"
 [[assume]]
 name = "<b>\"Q\" & 'q'</b>"
 text = "It \\ rains,\n\tthen é."
@@ -30,8 +30,9 @@ states = [["p"]]
 
 /// The text without its last newline, in parts.
 const QUOTED_JSON: &str = r#"{"answers":[
-{"answer":"conflict","because":[{"name":"<b>\"Q\" & 'q'</b>","needed":true},{"name":"ask","needed":true}],
-"claims":[],"question":"consistent"},
+{"answer":"conflict","because":[
+{"matters":"((p & !q) & …)","name":"<b>\"Q\" & 'q'</b>","needed":true},
+{"matters":"G (p -> q)","name":"ask","needed":true}],"claims":[],"question":"consistent"},
 {"answer":"consistent","question":"consistent","trace":{"kind":"finite","states":[["r"]]}},
 {"answer":"follows","because":[{"name":"calm","needed":true}],"claims":[],"name":"</p><script>",
 "question":"follows"},
@@ -50,7 +51,7 @@ const QUOTED_JSON: &str = r#"{"answers":[
 #[test]
 fn writes_json(rt: HostRuntime) -> Result<(), Fail> {
     let alloc = rt.alloc();
-    let (document, report) = reported(alloc, QUOTED, Scope::All, LIMITS)?;
+    let (document, report) = reported(&rt, alloc, QUOTED, Scope::All, LIMITS)?;
     let text = String::from_utf8(json(alloc, &document, &report, LIMITS)?)?;
     let mut wanted = String::new(alloc);
     for part in QUOTED_JSON.lines() {

@@ -1,15 +1,21 @@
 //! Tests of documents of requirements: what a text is read as and how it is refused, questions about several
-//! formulas, what is answered about a document, and the text and the JSON of a report.
+//! formulas, what is answered about a document, the text, the JSON and the page of a report, and certificates.
 #![tactic(auto)]
 
 #[cfg(test)]
 mod answers;
+#[cfg(test)]
+mod certificates;
+#[cfg(test)]
+mod cores;
 #[cfg(test)]
 mod documents;
 #[cfg(test)]
 mod faces;
 #[cfg(test)]
 mod failures;
+#[cfg(test)]
+mod pages;
 #[cfg(test)]
 mod questions;
 #[cfg(test)]
@@ -22,3 +28,5 @@ mod reporting;
 mod telling;
 #[cfg(test)]
 mod texts;
+#[cfg(test)]
+mod workers;

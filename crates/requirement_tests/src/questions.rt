@@ -59,7 +59,7 @@ const ROWS: &[Row] = &[
     (Kind::Infinite, &["wX false", "p"], Ask::Nothing, "cannot 0"),
 ];
 
-fn tables(
+pub(crate) fn tables(
     rt: &impl Abort,
     alloc: Global,
     texts: &[&str],
@@ -73,7 +73,7 @@ fn tables(
 }
 
 /// The given formulas of the tables. Each has its root.
-fn given_of<'d>(
+pub(crate) fn given_of<'d>(
     alloc: Global,
     tables: &'d [(FormulaTable, u32)],
 ) -> Result<Vec<Given<'d>>, AllocError>
@@ -104,7 +104,7 @@ fn asked_of<'d>(ask: Ask, given: Given<'d>) -> Asked<'d>
 }
 
 /// The answer to the question, which is looked at for so long that each of these is settled.
-fn answer_of(
+pub(crate) fn answer_of(
     alloc: Global,
     kind: Kind,
     given: &[Given<'_>],

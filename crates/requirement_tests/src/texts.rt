@@ -6,10 +6,17 @@ use requirement_questions::Limits;
 use requirement_report::text;
 use std::alloc::Global;
 use std::test::Fail;
+use std::thread::Threads;
 
 /// The text of the report on the document.
-fn shown(alloc: Global, written: &str, scope: Scope, limits: Limits) -> Result<String, Fail> {
-    let (document, report) = reported(alloc, written, scope, limits)?;
+fn shown<R: Threads + Sync>(
+    rt: &R,
+    alloc: Global,
+    written: &str,
+    scope: Scope,
+    limits: Limits,
+) -> Result<String, Fail> {
+    let (document, report) = reported(rt, alloc, written, scope, limits)?;
     let shown = text(alloc, &document, &report, scope, limits)?;
     Ok(String::from_utf8(shown)?)
 }
@@ -49,9 +56,11 @@ states = [[\"low\"], [\"pump\"], []]
 const CONFLICT_TEXT: &str = "conflict: fill, dry out
     fill
         low & pump
+        matters: (… & pump)
     dry out
         No pump at all.
         G !pump
+        matters: G !pump
     no first state meets them
 
 consistent: 1 of 3
@@ -242,8 +251,10 @@ formula = \"p & wX false\"
 const LONG_TEXT: &str = "conflict: a (perhaps), b
     a
         !p
+        matters: !p
     b
         p & X[60] true
+        matters: (p & …)
     no first state meets them
 
 consistent: 1 of 3
@@ -309,7 +320,7 @@ const ROWS: &[(&str, Scope, u32, &str)] = &[
 #[test]
 fn texts(rt: HostRuntime) -> Result<(), Fail> {
     for (written, scope, steps, wanted) in ROWS {
-        let found = shown(rt.alloc(), written, *scope, Limits { steps: *steps })?;
+        let found = shown(&rt, rt.alloc(), written, *scope, Limits { steps: *steps })?;
         assert_eq!(rt; found.as_str(), *wanted);
     }
     Ok(())

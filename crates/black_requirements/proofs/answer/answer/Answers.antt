@@ -5,6 +5,7 @@ use Rattle.black_requirements.specs.Texts.{usage_text, help_text}
 use Rattle.black_requirements.specs.Answer.{not_taken, helped}
 use Rattle.black_requirements.specs.Said.{query_of}
 use Rattle.black_requirements.proofs.Leaving.{given_unread, given_words, help_alone}
+use Rattle.black_requirements.proofs.Wording.{fit_asked}
 use Rattle.black_requirements.proofs.answer.answer.Goals as goal
 
 pub returns-in_ok-usage-in-None-clause-given : goal.returns-in_ok-usage-in-None-clause-given
@@ -31,6 +32,19 @@ returns-in_ok-help-in-Some-Help-clause-left g c query of =
     let words = map string_bytes c.args.words.now in
     let asks : Asks words Help = rw (c.in-Some-Help.is, c.in-Some-Help.field-0-is) at c.in_ok-asked_for.ensures in
     absurd (help_alone words query asks of)
+
+pub read_and_answer-requires-clause-fit : goal.read_and_answer-requires-clause-fit
+read_and_answer-requires-clause-fit g c κs lives =
+    let words = map string_bytes c.args.words.now in
+    let asks : Asks words (Of (query_of c.in-Some-Of.query)) = rw (c.in-Some-Of.is, c.in-Some-Of.field-0-is) at c.in_ok-asked_for.ensures in
+    fit_asked words c.in-Some-Of.query asks
+
+pub returns-in-Some-Of-clause-silent : goal.returns-in-Some-Of-clause-silent
+returns-in-Some-Of-clause-silent g c quiet =
+    let words = map string_bytes c.args.words.now in
+    let query = query_of c.in-Some-Of.query in
+    let asks : Asks words (Of query) = rw (c.in-Some-Of.is, c.in-Some-Of.field-0-is) at c.in_ok-asked_for.ensures in
+    c.read_and_answer.ensures.silent (quiet query asks)
 
 pub returns-in-Some-Of-clause-given : goal.returns-in-Some-Of-clause-given
 returns-in-Some-Of-clause-given g c =

@@ -12,7 +12,7 @@ returns-clause-given g c =
     let text = c.in_ok-bytes.bytes.items in
     let query = query_of c.args.query in
     let out = c.in_ok-output.output in
-    let is = subst (λ (bytes : List ℕ). IsOutput query bytes out.status out.text.items) c.deref.ensures.value c.in_ok-output.ensures in
+    let is = subst (λ (bytes : List ℕ). IsOutput query bytes out.status out.text.items) c.deref.ensures.value c.in_ok-output.ensures.lawful in
     given_left query text rest after out.status out.text.items c.in_ok-bytes.ensures.bytes is
 
 pub returns-clause-left : goal.returns-clause-left

@@ -8,8 +8,8 @@ use Rattle.black_requirements.specs.Answer.{IsReported, no_item}
 use Rattle.black_requirements.proofs.Showing.{shown}
 use Rattle.black_requirements.proofs.reporting.report.Goals as goal
 
-pub returns-in-None : goal.returns-in-None
-returns-in-None c =
+pub returns-in-None-clause-printed : goal.returns-in-None-clause-printed
+returns-in-None-clause-printed g c =
     let name = c.in-Some.name.now in
     let none : HasNoName (document_in c.args.document.now) name = rw c.in-None.is at c.in_ok-scope.ensures in
     shown (IsReported c.args.document.now (request_of c.args.request)) statuses.Usage (no_item_text name) c.no_item.result

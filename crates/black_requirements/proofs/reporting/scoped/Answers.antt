@@ -9,14 +9,14 @@ use Rattle.black_requirements.proofs.Showing.{shown, reported}
 use Rattle.black_requirements.proofs.reporting.scoped.Goals as goal
 
 pub shown-requires : goal.shown-requires
-shown-requires c = c.reports_can_be_shown.ensures (document_in c.args.document.now) c.args.scope c.in-Ok.report c.in-Ok.ensures.report
+shown-requires g c = c.reports_can_be_shown.ensures (document_in c.args.document.now) c.args.scope c.in-Ok.report c.in-Ok.ensures.report
 
-pub returns-in-Ok : goal.returns-in-Ok
-returns-in-Ok c = reported c.args.document.now (request_of c.args.request)
+pub returns-in-Ok-clause-printed : goal.returns-in-Ok-clause-printed
+returns-in-Ok-clause-printed g c = reported c.args.document.now (request_of c.args.request)
     c.args.scope c.in-Ok.report c.shown.result c.requires.asked c.in-Ok.ensures.report c.shown.ensures
 
-pub returns-in-Err-Cells : goal.returns-in-Err-Cells
-returns-in-Err-Cells c =
+pub returns-in-Err-Cells-clause-printed : goal.returns-in-Err-Cells-clause-printed
+returns-in-Err-Cells-clause-printed g c =
     let d = document_in c.args.document.now in
     let behaviour = c.in-Err-Cells.behaviour in
     let item = c.in-Err-Cells.field-0-1 in

@@ -14,15 +14,15 @@ made c =
     let bare = ap app_of_fields c.disable_version_flag.ensures ∙ ap (on_top (λ s. record s { disable_version_flag = true }))
     (ap app_of_fields c.disable_help_flag.ensures ∙ ap (on_top (λ s. record s { disable_help_flag = true }))
     (ap app_of_fields c.no_binary_name.ensures ∙ ap (on_top (λ s. record s { no_binary_name = true })) c.new.ensures.app)) in
-    c.in_ok-options.ensures.shape c.valued-2.ensures.own
-    ∙ ap₂ with_rule (c.in_ok-arg-5.ensures.shape c.valued.ensures.own
-    ∙ ap₂ with_rule (c.in_ok-arg-4.ensures.shape c.flag-4.ensures.own
-    ∙ ap₂ with_rule (c.in_ok-arg-3.ensures.shape c.flag-3.ensures.own
-    ∙ ap₂ with_rule (c.in_ok-arg-2.ensures.shape c.flag-2.ensures.own
-    ∙ ap₂ with_rule (c.in_ok-arg.ensures.shape c.flag.ensures.own ∙ ap₂ with_rule bare c.flag.ensures.rule) c.flag-2.ensures.rule) c.flag-3.ensures.rule)
-    c.flag-4.ensures.rule)
-    c.valued.ensures.rule)
-    c.valued-2.ensures.rule
+    let first = c.in_ok-arg.ensures.shape c.flag.ensures.own ∙ ap₂ with_rule bare c.flag.ensures.rule in
+    let second = c.in_ok-arg-2.ensures.shape c.flag-2.ensures.own ∙ ap₂ with_rule first c.flag-2.ensures.rule in
+    let third = c.in_ok-arg-3.ensures.shape c.flag-3.ensures.own ∙ ap₂ with_rule second c.flag-3.ensures.rule in
+    let fourth = c.in_ok-arg-4.ensures.shape c.flag-4.ensures.own ∙ ap₂ with_rule third c.flag-4.ensures.rule in
+    let fifth = c.in_ok-arg-5.ensures.shape c.flag-5.ensures.own ∙ ap₂ with_rule fourth c.flag-5.ensures.rule in
+    let sixth = c.in_ok-arg-6.ensures.shape c.valued.ensures.own ∙ ap₂ with_rule fifth c.valued.ensures.rule in
+    let seventh = c.in_ok-arg-7.ensures.shape c.valued-2.ensures.own ∙ ap₂ with_rule sixth c.valued-2.ensures.rule in
+    let eighth = c.in_ok-arg-8.ensures.shape c.valued-3.ensures.own ∙ ap₂ with_rule seventh c.valued-3.ensures.rule in
+    c.in_ok-options.ensures.shape c.valued-4.ensures.own ∙ ap₂ with_rule eighth c.valued-4.ensures.rule
 
 pub returns-clause-matches : goal.returns-clause-matches
 returns-clause-matches c =
