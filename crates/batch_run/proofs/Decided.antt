@@ -1,34 +1,27 @@
 -- From the reading of a line and the depths of its tableau to what is said of the line.
-use Rattle.std.proofs.Common.{◌≡◌, ℕ, ◌<◌, ◌≤◌, List, length, Option, Some, None, ◌↔◌, refl, arith}
+use Rattle.std.proofs.Common.{ℕ, ◌≤◌, List, length, Result, Ok, Err, IfOk, arith}
 use Rattle.ltl_syntax.specs.declared.node.Kind.{Kind}
 use Rattle.ltl_syntax.specs.declared.node.Kind.TheVariants as kinds
 use Rattle.ltl_syntax.specs.Formula.{Formula}
-use Rattle.ltl_syntax.specs.Size.{formula_size}
-use Rattle.ltl_lexer.specs.declared.token.Token.{Token}
-use Rattle.ltl_lexer.specs.Tokens.{AreTokens}
-use Rattle.ltl_parser.specs.Grammar.{Symbol, Reads, fault, node_count}
-use Rattle.ltl_parser.specs.Text.{symbols, grammar_fault, byte_at, ReadsText, NodesOf, IsAccepted}
+use Rattle.ltl_parser.specs.Text.{IsAccepted}
+use Rattle.formula_reading.specs.declared.reading.FormulaFault.{FormulaFault}
+use Rattle.formula_reading.specs.declared.reading.FormulaFault.TheVariants as wrong
+use Rattle.formula_reading.specs.Reading.{HasFormulaFault}
 use Rattle.ltl_closure.specs.Closure.{closure}
 use Rattle.enc_layout.specs.Letters.{Counts, letters_through}
 use Rattle.enc_layout.specs.Clauses.{counts}
 use Rattle.enc_layout.proofs.Counting.{counts_few}
 use Rattle.batch_run.specs.declared.answer.Outcome.{Outcome}
 use Rattle.batch_run.specs.declared.answer.Outcome.TheVariants as outcomes
-use Rattle.batch_run.specs.Outcomes.{HasFewLetters, HasManyNodes, IsOutcome}
+use Rattle.batch_run.specs.Outcomes.{HasFewLetters, IsOutcome, refusal_of}
 use Rattle.batch_run.specs.Grouping.{ShowsVerdict}
 
-no_place : (text : List ℕ) (ts : List Token) (place : Option ℕ) → byte_at text ts place ≡ None → place ≡ None
-no_place text ts None e = refl
-no_place text ts (Some i) e = absurd (cc)
-
--- tokens without a fault read as a formula, whose nodes they count
-pub nodes_are_many : (text : List ℕ) (ts : List Token) (count : ℕ) → ((ss : List Symbol) → ((f : Formula) × Reads ss f) ↔ (fault ss ≡ None))
-    → ((t : List ℕ) (m n : ℕ) → NodesOf t m → NodesOf t n → m ≡ n) → ((t : List ℕ) (f : Formula) → ReadsText t f → NodesOf t (formula_size f))
-    → AreTokens 0 text ts None → grammar_fault text ts ≡ None → count ≡ node_count (symbols text ts) → 16384 < count → HasManyNodes text count
-nodes_are_many text ts count read one nodes lexed clean counted many =
-    let found = (read (symbols text ts)).1 (no_place text ts (fault (symbols text ts)) clean) in
-    let reads : ReadsText text found.0 = record { tokens = ts; lexed = lexed; reads = found.1 } in
-    (found.0, reads, one text count (formula_size found.0) (record { tokens = ts; lexed = lexed; count = counted }) (nodes text found.0 reads), many)
+-- a fault of a line is what is said of the line
+pub outcome_of_fault : (kind : Kind) (asked : ℕ) (line : List ℕ) (fault : FormulaFault) → HasFormulaFault line fault → IsOutcome kind asked line (refusal_of fault)
+outcome_of_fault kind asked line wrong.Long h = h
+outcome_of_fault kind asked line (wrong.Lexical byte) h = h
+outcome_of_fault kind asked line (wrong.Grammar byte) h = h
+outcome_of_fault kind asked line (wrong.Nodes count) h = h
 
 -- the verdict on the formula of a line is what is said of the line
 pub outcome_of_verdict : (line : List ℕ) (f : Formula) (kind : Kind) (asked : ℕ) (o : Outcome) → IsAccepted line f → ShowsVerdict f kind asked o → IsOutcome kind asked line o
@@ -39,6 +32,10 @@ outcome_of_verdict line f kind asked outcomes.Text read h = absurd h
 outcome_of_verdict line f kind asked (outcomes.Lexical byte) read h = absurd h
 outcome_of_verdict line f kind asked (outcomes.Grammar byte) read h = absurd h
 outcome_of_verdict line f kind asked (outcomes.Nodes count) read h = absurd h
+
+pub shown_outcome : {E : Type 0} (line : List ℕ) (f : Formula) (kind : Kind) (asked : ℕ) (r : Result Outcome E) → IsAccepted line f → IfOk r (ShowsVerdict f kind asked) → IfOk r (IsOutcome kind asked line)
+shown_outcome line f kind asked (Ok o) read h = outcome_of_verdict line f kind asked o read h
+shown_outcome line f kind asked (Err e) read h = tt
 
 -- the letters of the first state are few enough
 few_at_first : (kind : Kind) (c : Counts) → c.entries ≤ 98306 → c.eventualities ≤ 98306 → letters_through kind c 0 ≤ 1048576

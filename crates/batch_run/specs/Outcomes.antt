@@ -1,10 +1,11 @@
 -- What is said of each formula line.
-use Rattle.std.specs.Prelude.{◌≡◌, ℕ, ◌<◌, ◌≤◌, List, [], ◌∷◌, length, ⊤}
+use Rattle.std.specs.Prelude.{◌≡◌, ℕ, ◌≤◌, List, [], ◌∷◌, ⊤}
 use Rattle.ltl_syntax.specs.declared.node.Kind.{Kind}
 use Rattle.ltl_syntax.specs.Formula.{Formula}
-use Rattle.ltl_syntax.specs.Size.{formula_size}
-use Rattle.ltl_lexer.specs.Tokens.{IsLexicalFault}
-use Rattle.ltl_parser.specs.Text.{ReadsText, IsGrammarFault, IsAccepted}
+use Rattle.ltl_parser.specs.Text.{IsAccepted}
+use Rattle.formula_reading.specs.declared.reading.FormulaFault.{FormulaFault}
+use Rattle.formula_reading.specs.declared.reading.FormulaFault.TheVariants as wrong
+use Rattle.formula_reading.specs.Reading.{HasFormulaFault}
 use Rattle.ltl_closure.specs.Run.{Verdict, IsVerdict, Sat, Unsat, Undecided}
 use Rattle.enc_layout.specs.Letters.{letters_through}
 use Rattle.enc_layout.specs.Clauses.{counts}
@@ -33,20 +34,20 @@ pub record IsBatchVerdict (f : Formula) (kind : Kind) (asked : ℕ) (verdict : V
 abbrev pub IsDecided : Kind → ℕ → List ℕ → Verdict → Type 0
 IsDecided kind asked line verdict = (f : Formula) × IsAccepted line f × IsBatchVerdict f kind asked verdict
 
--- the line reads as a formula whose nodes have these sizes in all, which are too many
-abbrev pub HasManyNodes : List ℕ → ℕ → Type 0
-HasManyNodes line count = (f : Formula) × ReadsText line f × (count ≡ formula_size f) × (16384 < count)
-
-abbrev pub IsShort : List ℕ → Type 0
-IsShort line = length line ≤ 1048576
+-- what is said of a line with this fault
+abbrev pub refusal_of : FormulaFault → Outcome
+refusal_of wrong.Long = outcomes.Text
+refusal_of (wrong.Lexical byte) = outcomes.Lexical byte
+refusal_of (wrong.Grammar byte) = outcomes.Grammar byte
+refusal_of (wrong.Nodes count) = outcomes.Nodes count
 
 -- what is said of a line: it is too long; it has a lexical fault, or a grammar fault, at a byte of its own; its formula has too
 -- many nodes; or the verdict
 abbrev pub IsOutcome : Kind → ℕ → List ℕ → Outcome → Type 0
-IsOutcome kind asked line outcomes.Text = 1048576 < length line
-IsOutcome kind asked line (outcomes.Lexical byte) = IsShort line × IsLexicalFault line byte
-IsOutcome kind asked line (outcomes.Grammar byte) = IsShort line × IsGrammarFault line byte
-IsOutcome kind asked line (outcomes.Nodes count) = IsShort line × HasManyNodes line count
+IsOutcome kind asked line outcomes.Text = HasFormulaFault line wrong.Long
+IsOutcome kind asked line (outcomes.Lexical byte) = HasFormulaFault line (wrong.Lexical byte)
+IsOutcome kind asked line (outcomes.Grammar byte) = HasFormulaFault line (wrong.Grammar byte)
+IsOutcome kind asked line (outcomes.Nodes count) = HasFormulaFault line (wrong.Nodes count)
 IsOutcome kind asked line (outcomes.Sat k) = IsDecided kind asked line (Sat k)
 IsOutcome kind asked line (outcomes.Unsat k) = IsDecided kind asked line (Unsat k)
 IsOutcome kind asked line (outcomes.Undecided k) = IsDecided kind asked line (Undecided k)

@@ -1,22 +1,18 @@
 // One line: it is read as a formula, and the tableau's verdict is taken at the batch limit.
-ghost use Rattle.std.specs.Prelude.{◌<◌, ◌≤◌, length, IfOk};
+ghost use Rattle.std.specs.Prelude.{◌≡◌, ◌<◌, ◌≤◌, length, IfOk};
 ghost use Rattle.ltl_syntax.specs.Table.{tree_at};
 ghost use Rattle.enc_layout.specs.Letters.{Fits};
 ghost use Rattle.enc_layout.specs.Clauses.{layout_of};
-ghost use Rattle.batch_run.specs.Outcomes.{IsOutcome, IsBatchLimit};
+ghost use Rattle.batch_run.specs.Outcomes.{IsOutcome, IsBatchLimit, refusal_of};
 ghost use Rattle.batch_run.specs.Grouping.{ShowsVerdict};
 
 use crate::answer::Outcome;
 use enc_layout::Layout;
+use formula_reading::{FormulaFault, Reading, read_formula};
 use ltl_closure::Closure;
-use ltl_lexer::{LexRefused, tokens};
-use ltl_parser::{ParseRefused, parse};
 use ltl_syntax::{FormulaTable, Kind};
 use std::alloc::{AllocError, Global};
 use unravel::Decision;
-
-/// The most bytes of a line.
-const MAX_TEXT: usize = 1_048_576;
 
 /// The most letters that the clauses of a line's formula may have.
 const MAX_LETTERS: u64 = 1_048_576;
@@ -26,21 +22,21 @@ pub fn outcome(alloc: Global, text: &[u8], kind: Kind, asked: u32) -> Result<Out
     requires { asked ≤ 1000 }
     ensures { IfOk result (IsOutcome kind asked text.now) }
 {
-    ltl_parser::laws::read_without_fault();
-    ltl_parser::laws::nodes_of_text();
-    if text.len() > MAX_TEXT {
-        return Ok(Outcome::Text);
+    match read_formula(alloc, text)? {
+        Reading::Formula { table, root } => verdict(alloc, &table, root, kind, asked),
+        Reading::Refused(fault) => Ok(refusal_of(fault)),
     }
-    let tokens = match tokens(alloc, text) {
-        Ok(tokens) => tokens,
-        Err(LexRefused::Lexical(byte)) => return Ok(Outcome::Lexical(byte)),
-        Err(LexRefused::NoMemory) => return Err(AllocError),
-    };
-    match parse(alloc, text, &tokens) {
-        Ok((table, root)) => verdict(alloc, &table, root, kind, asked),
-        Err(ParseRefused::Grammar(byte)) => Ok(Outcome::Grammar(byte)),
-        Err(ParseRefused::Nodes(count)) => Ok(Outcome::Nodes(count)),
-        Err(ParseRefused::NoMemory) => Err(AllocError),
+}
+
+/// What is said of a line with this fault.
+fn refusal_of(fault: FormulaFault) -> Outcome
+    ensures { result ≡ refusal_of fault }
+{
+    match fault {
+        FormulaFault::Long => Outcome::Text,
+        FormulaFault::Lexical(byte) => Outcome::Lexical(byte),
+        FormulaFault::Grammar(byte) => Outcome::Grammar(byte),
+        FormulaFault::Nodes(count) => Outcome::Nodes(count),
     }
 }
 

@@ -12,7 +12,7 @@ pub fn one_cut()
 pub fn one_list()
     ensures { AnswersAreOne }
 {
-    ltl_parser::laws::one_outcome();
+    formula_reading::laws::one_reading();
     ltl_run::laws::one_verdict();
 }
 

@@ -8,6 +8,7 @@ use cnf_base::{ClauseList, Clauses, Literal};
 use enc_layout::{Layout, Part};
 use ltl_closure::Closure;
 use std::alloc::{AllocError, Global};
+use unravel::limit_in_force;
 
 /// The clauses through a depth.
 #[tactic(auto, using(enc_layout::proofs::Fitting::lower_fits))]
@@ -36,7 +37,7 @@ pub(crate) fn count_clauses(
 ) -> u8
     requires { depth ≤ 1000 }
 {
-    let depth = Layout::of(closure).greatest_depth(depth);
+    let depth = limit_in_force(closure, depth);
     let Ok(list) = clause_list(alloc, closure, depth) else {
         return 7;
     };

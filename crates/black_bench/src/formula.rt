@@ -1,9 +1,8 @@
 // A formula from a source, or the status with which the program ends where there is none.
 ghost use Rattle.std.specs.Prelude.{◌<◌, length, IfOk};
 
+use formula_reading::{FormulaFault, MAX_TEXT, Reading};
 use ltl_io::{Source, read_whole};
-use ltl_lexer::tokens;
-use ltl_parser::parse;
 use ltl_syntax::FormulaTable;
 use std::alloc::Global;
 
@@ -11,7 +10,7 @@ use std::alloc::Global;
 pub fn read_formula<S: Source>(alloc: Global, source: &mut S) -> Result<(FormulaTable, u32), u8>
     ensures { IfOk result (λ r. r.1 < length r.0.nodes) }
 {
-    let Ok(text) = read_whole(alloc, source, 1_048_576) else {
+    let Ok(text) = read_whole(alloc, source, MAX_TEXT) else {
         return Err(5);
     };
     formula_of(alloc, &text)
@@ -21,14 +20,9 @@ pub fn read_formula<S: Source>(alloc: Global, source: &mut S) -> Result<(Formula
 pub fn formula_of(alloc: Global, text: &[u8]) -> Result<(FormulaTable, u32), u8>
     ensures { IfOk result (λ r. r.1 < length r.0.nodes) }
 {
-    if text.len() > 1_048_576 {
-        return Err(4);
-    }
-    let Ok(found) = tokens(alloc, text) else {
-        return Err(3);
-    };
-    match parse(alloc, text, &found) {
-        Ok((table, root)) => Ok((table, root)),
-        Err(_) => Err(3),
+    match formula_reading::read_formula(alloc, text) {
+        Ok(Reading::Formula { table, root }) => Ok((table, root)),
+        Ok(Reading::Refused(FormulaFault::Long)) => Err(4),
+        Ok(Reading::Refused(_)) | Err(_) => Err(3),
     }
 }

@@ -4,10 +4,9 @@ ghost use Rattle.std.specs.Prelude.{◌≤◌};
 
 use crate::status;
 use derivation::NamedLog;
-use enc_layout::Layout;
 use ltl_closure::Closure;
 use std::alloc::Global;
-use unravel::{Decision, decide};
+use unravel::{Decision, decide_in_force};
 
 /// Prints the answer, the depth, and of UNSAT the lines, literals and hints.
 pub(crate) fn decide_formula(
@@ -18,8 +17,7 @@ pub(crate) fn decide_formula(
 ) -> u8
     requires { depth ≤ 1000 }
 {
-    let limit = Layout::of(closure).greatest_depth(depth);
-    let Ok(decision) = decide(alloc, closure, limit) else {
+    let Ok(decision) = decide_in_force(alloc, closure, depth) else {
         return 7;
     };
     let written = match decision {

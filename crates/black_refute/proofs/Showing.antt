@@ -1,7 +1,17 @@
 -- An output that shows an answer which comes.
-use Rattle.std.proofs.Common.{Result, Ok, Err, IfOk, OnOk}
+use Rattle.std.proofs.Common.{◌≡◌, ◌∙◌, ◌++◌, ◌-◌, ℕ, true, List, [], length, take, drop, Result, Ok, Err, IfOk, OnOk, refl, ap, ap₂, subst, sym, arith}
+use Rattle.std.proofs.Math.Seq.{drop-append_seam, take-length}
+use Rattle.std.proofs.lemmas.List.{append-nil, length-append}
+use Rattle.std.specs.Prelude.{codes}
+use Rattle.ltl_syntax.specs.declared.node.Kind.{Kind}
+use Rattle.ltl_syntax.specs.Formula.{Formula}
+use Rattle.claims.specs.Certificate.{Certificate}
+use Rattle.claims.specs.Lawful.{IsLawful}
+use Rattle.claim_text.specs.Text.{IsTextOf}
+use Rattle.report.specs.Texts.{line}
 use Rattle.black_refute.specs.declared.output.Output.{Output}
-use Rattle.black_refute.specs.Answer.{Answer}
+use Rattle.black_refute.specs.Answer.{Answer, certified}
+use Rattle.black_refute.specs.Refuting.{IsFound, certified_so}
 use Rattle.black_refute.specs.Inner.{Shows}
 
 pub shown : {E : Type 0} (Comes : Answer → Type 0) (answer : Answer) (r : Result Output E) → Comes answer → IfOk r (λ out. Shows out answer) → IfOk r (λ out. (a : Answer) × Comes a × Shows out a)
@@ -17,3 +27,18 @@ pub shown_where : {E : Type 0} (Comes : Answer → Type 0) (Fact : Type 0) (answ
     → IfOk r (λ out. (a : Answer) × Comes a × Shows out a)
 shown_where Comes Fact answer (Ok out) more fact shows = (answer, more fact, shows)
 shown_where Comes Fact answer (Err e) more fact shows = tt
+
+-- what stands behind the first bytes
+behind : (first more whole text : List ℕ) (start : ℕ) → start ≡ length first → whole ≡ first ++ more → text ≡ take (length whole - start) (drop start whole) → text ≡ more
+behind first more whole text start at is cut =
+    let rest : drop start whole ≡ more = ap₂ drop at is ∙ drop-append_seam first more in
+    let size : length whole - start ≡ length more = omega (arith, at, ap length is ∙ length-append first more) in
+    cut ∙ ap₂ take size rest ∙ take-length more
+
+-- UNSAT with the text of a lawful certificate behind it
+pub certified_shown : (kind : Kind) (f : Formula) (c : Certificate) (begun out : Output) (more text : List ℕ) (start : ℕ) → Shows begun (certified []) → out.status ≡ begun.status → start ≡ length begun.text.items
+    → out.text.items ≡ begun.text.items ++ more → text ≡ take (length out.text.items - start) (drop start out.text.items) → IsLawful f kind c → IsTextOf text c → (a : Answer) × IsFound kind true f a × Shows out a
+certified_shown kind f c begun out more text start shows status at is cut lawful spelled =
+    let same : text ≡ more = behind begun.text.items more out.text.items text start at is cut in
+    (certified more, certified_so c more refl lawful (subst (λ (bytes : List ℕ). IsTextOf bytes c) same spelled),
+    record { status = status ∙ shows.status; text = is ∙ ap (λ x. x ++ more) (shows.text ∙ append-nil (line (codes "UNSAT"))) })

@@ -1,11 +1,11 @@
 // The text and the status of each answer.
-ghost use Rattle.std.specs.Prelude.{◌≡◌, ◌++◌, IfOk, OnOk};
+ghost use Rattle.std.specs.Prelude.{[], IfOk, OnOk};
 ghost use Rattle.ltl_word.specs.Trace.{IsTrace};
-ghost use Rattle.report.specs.Texts.{line, ReadsBack};
+ghost use Rattle.report.specs.Texts.{ReadsBack};
 ghost use Rattle.black_refute.specs.Answer.{refused, usage, sat, unsat, certified, undecided, checked};
 ghost use Rattle.black_refute.specs.Inner.{Shows};
 
-use crate::verdict::verdict_text;
+use crate::verdict::add_verdict;
 use claim_check::Verdict;
 use command_words::refutation_usage;
 use ltl_word::Trace;
@@ -19,25 +19,18 @@ pub struct Output {
     pub text: Vec<u8>,
 }
 
-/// A line, and a text behind it.
-fn line_and(alloc: Global, first: &[u8], more: &[u8]) -> Result<Vec<u8>, AllocError>
-    ensures { IfOk result (λ text. text.items ≡ line first.now ++ more.now) }
-{
-    let mut text = line(alloc, first)?;
-    text.extend_from_slice(more)?;
-    Ok(text)
-}
-
 /// SAT and the trace.
 pub fn sat(alloc: Global, trace: &Trace) -> Result<Output, AllocError>
     ensures shows { IfOk result (λ out. Shows out (sat trace.now)) }
     ensures reads { OnOk result (IsTrace trace.now → ReadsBack trace.now) }
 {
     let json = trace.to_json(alloc)?;
-    let shown = line(alloc, &json)?;
+    let mut text = Vec::new(alloc);
+    line(b"SAT", &mut text)?;
+    line(&json, &mut text)?;
     Ok(Output {
         status: Status::Sat,
-        text: line_and(alloc, b"SAT", &shown)?,
+        text,
     })
 }
 
@@ -45,19 +38,24 @@ pub fn sat(alloc: Global, trace: &Trace) -> Result<Output, AllocError>
 pub fn unsat(alloc: Global, lines: &[u8]) -> Result<Output, AllocError>
     ensures { IfOk result (λ out. Shows out (unsat lines.now)) }
 {
+    let mut text = Vec::new(alloc);
+    line(b"UNSAT", &mut text)?;
+    text.extend_from_slice(lines)?;
     Ok(Output {
         status: Status::Unsat,
-        text: line_and(alloc, b"UNSAT", lines)?,
+        text,
     })
 }
 
-/// UNSAT and the text of a certificate.
-pub fn certified(alloc: Global, text: &[u8]) -> Result<Output, AllocError>
-    ensures { IfOk result (λ out. Shows out (certified text.now)) }
+/// UNSAT. The text of a certificate is put behind it.
+pub fn certified(alloc: Global) -> Result<Output, AllocError>
+    ensures { IfOk result (λ out. Shows out (certified [])) }
 {
+    let mut text = Vec::new(alloc);
+    line(b"UNSAT", &mut text)?;
     Ok(Output {
         status: Status::Unsat,
-        text: line_and(alloc, b"UNSAT", text)?,
+        text,
     })
 }
 
@@ -65,9 +63,11 @@ pub fn certified(alloc: Global, text: &[u8]) -> Result<Output, AllocError>
 pub fn undecided(alloc: Global) -> Result<Output, AllocError>
     ensures { IfOk result (λ out. Shows out undecided) }
 {
+    let mut text = Vec::new(alloc);
+    line(b"UNDECIDED", &mut text)?;
     Ok(Output {
         status: Status::Undecided,
-        text: line(alloc, b"UNDECIDED")?,
+        text,
     })
 }
 
@@ -79,19 +79,20 @@ pub fn checked(alloc: Global, verdict: Verdict) -> Result<Output, AllocError>
         Verdict::Verified => Status::Good,
         Verdict::Refused(_) => Status::Negative,
     };
-    Ok(Output {
-        status,
-        text: verdict_text(alloc, verdict)?,
-    })
+    let mut text = Vec::new(alloc);
+    add_verdict(verdict, &mut text)?;
+    Ok(Output { status, text })
 }
 
 /// A refusal with its line.
 pub fn refusal(alloc: Global, fault: Fault) -> Result<Output, AllocError>
     ensures { IfOk result (λ out. Shows out (refused fault)) }
 {
+    let mut text = Vec::new(alloc);
+    report::refused(&fault, &mut text)?;
     Ok(Output {
         status: fault.status(),
-        text: report::refused(alloc, &fault)?,
+        text,
     })
 }
 
@@ -101,6 +102,6 @@ pub fn usage(alloc: Global) -> Result<Output, AllocError>
 {
     Ok(Output {
         status: Status::Usage,
-        text: refutation_usage(alloc)?,
+        text: Vec::from_slice(alloc, refutation_usage())?,
     })
 }

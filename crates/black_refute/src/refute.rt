@@ -11,7 +11,7 @@ use crate::output::{Output, certified, refusal, undecided, unsat};
 use crate::turns::take_turns;
 use claim_check::{Certificate, Verdict, check};
 use claim_reading::never_lines;
-use claim_text::{TextRefused, read, write};
+use claim_text::{TextRefused, append, read};
 use command_words::Options;
 use ltl_closure::Closure;
 use ltl_io::Sink;
@@ -81,14 +81,16 @@ fn refuted_by_text(
     ensures { IfOk result (λ out. (a : Answer)
         × IsFound closure.now.kind true closure.now.formula a × Shows out a) }
 {
-    let text = write(alloc, found)?;
-    let again = match read(alloc, &text) {
+    let mut out = certified(alloc)?;
+    let start = out.text.len();
+    append(found, &mut out.text)?;
+    let again = match read(alloc, &out.text[start..]) {
         Ok(again) => again,
         Err(TextRefused::Form(_)) => return undecided(alloc),
         Err(TextRefused::NoMemory) => return Err(AllocError),
     };
     match check(alloc, closure, closure.kind(), &again)? {
-        Verdict::Verified => certified(alloc, &text),
+        Verdict::Verified => Ok(out),
         Verdict::Refused(_) => undecided(alloc),
     }
 }

@@ -1,48 +1,48 @@
 // The text of what is found of a certificate.
-ghost use Rattle.std.specs.Prelude.{◌≡◌, ◌++◌, IfOk};
-ghost use Rattle.std.specs.Fmt.{decimal};
+ghost use Rattle.std.specs.Prelude.{◌≡◌, ◌++◌, OnOk};
 ghost use Rattle.black_refute.specs.Texts.{fault_text, reason_text, verdict_text};
 
 use claim_check::{Fault, Reason, Verdict};
+use itoa::Buffer;
 use report::{line, numbered};
-use std::alloc::{AllocError, Global};
+use std::alloc::AllocError;
 
-/// VERIFIED, or REJECTED with the reason.
-pub fn verdict_text(alloc: Global, verdict: Verdict) -> Result<Vec<u8>, AllocError>
-    ensures { IfOk result (λ text. text.items ≡ verdict_text verdict) }
+/// Adds VERIFIED, or REJECTED with the reason.
+pub fn add_verdict(verdict: Verdict, out: &mut Vec<u8>) -> Result<(), AllocError>
+    ensures { OnOk result (out.new.items ≡ out.old.items ++ verdict_text verdict) }
 {
     match verdict {
-        Verdict::Verified => line(alloc, b"VERIFIED"),
-        Verdict::Refused(reason) => reason_text(alloc, reason),
+        Verdict::Verified => line(b"VERIFIED", out),
+        Verdict::Refused(reason) => add_reason(reason, out),
     }
 }
 
-fn reason_text(alloc: Global, reason: Reason) -> Result<Vec<u8>, AllocError>
-    ensures { IfOk result (λ text. text.items ≡ reason_text reason) }
+fn add_reason(reason: Reason, out: &mut Vec<u8>) -> Result<(), AllocError>
+    ensures { OnOk result (out.new.items ≡ out.old.items ++ reason_text reason) }
 {
     match reason {
-        Reason::Kind => line(alloc, b"REJECTED kind"),
+        Reason::Kind => line(b"REJECTED kind", out),
         Reason::Layer(number, fault) => {
-            let mut text = Vec::from_slice(alloc, b"REJECTED layer ")?;
-            text.extend_from_slice(number.to_string(alloc)?.as_bytes())?;
-            text.extend_from_slice(&fault_text(alloc, fault)?)?;
-            Ok(text)
+            let mut buffer = Buffer::new();
+            out.extend_from_slice(b"REJECTED layer ")?;
+            out.extend_from_slice(buffer.format(number).as_bytes())?;
+            add_fault(fault, out)
         }
-        Reason::Line(number) => numbered(alloc, b"REJECTED line ", number.into()),
-        Reason::Target => line(alloc, b"REJECTED target"),
+        Reason::Line(number) => numbered(b"REJECTED line ", number.into(), out),
+        Reason::Target => line(b"REJECTED target", out),
     }
 }
 
-/// What stands behind the number of a layer.
-fn fault_text(alloc: Global, fault: Fault) -> Result<Vec<u8>, AllocError>
-    ensures { IfOk result (λ text. text.items ≡ fault_text fault) }
+/// Adds what stands behind the number of a layer.
+fn add_fault(fault: Fault, out: &mut Vec<u8>) -> Result<(), AllocError>
+    ensures { OnOk result (out.new.items ≡ out.old.items ++ fault_text fault) }
 {
     match fault {
-        Fault::Eventuality => line(alloc, b" eventuality"),
-        Fault::Claim(number) => numbered(alloc, b" claim ", number.into()),
-        Fault::BaseLine(number) => numbered(alloc, b" base line ", number.into()),
-        Fault::BaseTarget(number) => numbered(alloc, b" base target ", number.into()),
-        Fault::StepLine(number) => numbered(alloc, b" step line ", number.into()),
-        Fault::StepTarget(number) => numbered(alloc, b" step target ", number.into()),
+        Fault::Eventuality => line(b" eventuality", out),
+        Fault::Claim(number) => numbered(b" claim ", number.into(), out),
+        Fault::BaseLine(number) => numbered(b" base line ", number.into(), out),
+        Fault::BaseTarget(number) => numbered(b" base target ", number.into(), out),
+        Fault::StepLine(number) => numbered(b" step line ", number.into(), out),
+        Fault::StepTarget(number) => numbered(b" step target ", number.into(), out),
     }
 }

@@ -11,7 +11,7 @@ ghost use Rattle.black_requirements.specs.Refusing.{refusal_text, cause_status, 
 
 use crate::hints::put_hint;
 use crate::pointing::put_pointing;
-use report::{Status, line};
+use report::Status;
 use requirement_document::{Cause, DocumentFault, Key, Place, Section, key_word, section_word};
 use requirement_report::put_flat;
 use std::alloc::{AllocError, Global};
@@ -115,7 +115,7 @@ fn long_text(alloc: Global, place: &Place) -> Result<Vec<u8>, AllocError>
     ensures { IfOk result (λ text. text.items ≡ long_text place.now) }
 {
     match place {
-        Place::Document => line(alloc, b"limit document 4194304"),
+        Place::Document => Vec::from_slice(alloc, b"limit document 4194304\n"),
         Place::Entry { .. } => {
             let mut text = Vec::from_slice(alloc, b"limit text 1048576 in ")?;
             put_place(alloc, place, &mut text)?;

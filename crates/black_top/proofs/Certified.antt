@@ -1,5 +1,6 @@
 -- The certificate that `solve` prints is verified by `check` behind the text of its formula.
-use Rattle.std.proofs.Common.{◌≡◌, ℕ, ◌≤◌, Bool, true, false, List, Option, Some, None, Result, Ok, Err, IfOk, is_some, refl, sym, ap, subst, ◌∙◌}
+use Rattle.std.proofs.Common.{◌≡◌, ℕ, ◌≤◌, ◌++◌, Bool, true, false, List, Option, Some, None, Result, Ok, Err, OnOk, is_some, refl, sym, ap, subst, ◌∙◌}
+use Rattle.std.proofs.lemmas.List.{append-nil}
 use Rattle.ltl_syntax.specs.declared.node.Kind.{Kind}
 use Rattle.ltl_syntax.specs.Formula.{Formula}
 use Rattle.ltl_parser.specs.Text.{IsAccepted}
@@ -12,6 +13,7 @@ use Rattle.black_top.specs.Reading.{IsParted}
 use Rattle.program_input.specs.Reading.{accepted}
 use Rattle.black_top.specs.Solve.{number_of, IsWritten, Certifies, IsDecided, satisfiable, unsatisfiable, undecided_yet, IsSettled, too_deep, decided, IsSolved, unreadable, settled}
 use Rattle.black_top.specs.Check.{IsChecked, with_certificate, IsVerified}
+use Rattle.black_top.specs.Inner.{AddsCertificate, AddsShown}
 use Rattle.program_input.proofs.Unseparated.{joined_cut}
 
 pub verified_behind : (kind : Kind) (f : Formula) (part text : List ℕ) → IsAccepted part f → CertOk f kind text → IsParted (IsChecked kind) (with_certificate part text) (checked verdicts.Verified)
@@ -27,18 +29,20 @@ pub unsat_shallow : (f : Formula) (kind : Kind) (limit k : ℕ) → IsVerdict f 
 unsat_shallow f kind limit k (no_run low before none) = low
 unsat_shallow f kind limit k (all_pruned low before none pruned) = low
 
--- where no certificate is asked for, none is one
-pub uncertified : (cert : Bool) (f : Formula) (kind : Kind) (k : ℕ) → cert ≡ false → Certifies cert f kind k None
-uncertified cert f kind k e = subst (λ b. Certifies b f kind k None) (sym e) refl
+-- where no certificate is asked for, none is added
+pub uncertified : (cert : Bool) (f : Formula) (kind : Kind) (k : ℕ) (old : List ℕ) → cert ≡ false → AddsShown cert f kind k old old
+uncertified cert f kind k old e = record { shown = None; certifies = subst (λ b. Certifies b f kind k None) (sym e) refl; added = sym (append-nil old) }
 
--- where one is asked for, a lawful text that is written of a log is one
-pub certified : (cert : Bool) (f : Formula) (kind : Kind) (k : ℕ) (text : List ℕ) → cert ≡ true → IsLawfulAt f kind k text → IsWritten f kind k text → Certifies cert f kind k (Some text)
-certified cert f kind k text e lawful how = subst (λ b. Certifies b f kind k (Some text)) (sym e) (text, refl, lawful, how)
+-- where one is asked for, one that is added is shown
+pub certified : {A E : Type 0} (cert : Bool) (f : Formula) (kind : Kind) (k : ℕ) (r : Result A E) (old new : List ℕ) → cert ≡ true → OnOk r (AddsCertificate f kind k old new) → OnOk r (AddsShown cert f kind k old new)
+certified cert f kind k (Ok x) old new e adds =
+    record { shown = Some adds.text; certifies = subst (λ b. Certifies b f kind k (Some adds.text)) (sym e) (adds.text, refl, adds.lawful, adds.written); added = adds.added }
+certified cert f kind k (Err x) old new e h = tt
 
--- what is claimed of the text that was given
-pub text_so : {A E : Type 0} (items : A → List ℕ) (r : Result A E) (Claim : List ℕ → Type 0) (text : List ℕ) → Claim text → IfOk r (λ x. items x ≡ text) → IfOk r (λ x. Claim (items x))
-text_so items (Ok x) Claim text so e = subst Claim (sym e) so
-text_so items (Err e) Claim text so h = tt
+-- a lawful text that is written of a log is added
+pub added_so : {A E : Type 0} (f : Formula) (kind : Kind) (k : ℕ) (r : Result A E) (old new text : List ℕ) → IsLawfulAt f kind k text → IsWritten f kind k text → OnOk r (new ≡ old ++ text) → OnOk r (AddsCertificate f kind k old new)
+added_so f kind k (Ok x) old new text lawful said e = record { text = text; lawful = lawful; written = said; added = e }
+added_so f kind k (Err x) old new text lawful said h = tt
 
 -- two certificates are both shown, or neither
 pub both_certified : (cert : Bool) (f : Formula) (kind : Kind) (j k : ℕ) (a b : Option (List ℕ)) → Certifies cert f kind j a → Certifies cert f kind k b → is_some a ≡ is_some b

@@ -1,5 +1,6 @@
 -- The core that `solve` prints is one, and it tells which parts of the formula conflict.
-use Rattle.std.proofs.Common.{◌≡◌, ◌∙◌, ℕ, Bool, true, false, List, Option, Some, None, Result, IfOk, refl, sym, ap, subst}
+use Rattle.std.proofs.Common.{◌≡◌, ◌∙◌, ◌++◌, ℕ, Bool, true, false, List, Option, Some, None, refl, sym, ap, subst}
+use Rattle.std.proofs.lemmas.List.{append-nil}
 use Rattle.std.specs.Prelude.{not}
 use Rattle.ltl_syntax.specs.declared.node.Kind.{Kind}
 use Rattle.ltl_syntax.specs.Formula.{Formula}
@@ -11,9 +12,9 @@ use Rattle.ltl_closure.specs.Run.{IsVerdict, Unsat}
 use Rattle.black_top.specs.declared.output.Output.{Output}
 use Rattle.black_top.specs.Answer.{Answer, unsat}
 use Rattle.black_top.specs.Conflict.{ShowsCore, ShowsConflict, TellsConflict}
-use Rattle.black_top.specs.Solve.{Certifies, IsDecided, unsatisfiable}
-use Rattle.black_top.specs.Inner.{Shows}
-use Rattle.black_top.proofs.Showing.{shown}
+use Rattle.report.specs.Texts.{unsat_lines, certificate_text}
+use Rattle.black_top.specs.Solve.{IsDecided, unsatisfiable}
+use Rattle.black_top.specs.Inner.{Shows, AddsShown}
 
 -- what is known of cores
 pub record CoreLaws : Type 0 where
@@ -55,10 +56,12 @@ pub core_shown : (core : Bool) (f g : Formula) (kind : Kind) (asked : ℕ) (text
 core_shown true f g kind asked text e is same = (g, is, ap Some same)
 core_shown false f g kind asked text e is same = let no : true ≡ false = e in absurd (cc)
 
--- an output that shows UNSAT with what is shown of a core and of a certificate
-pub unsat_shown : {E : Type 0} (f : Formula) (kind : Kind) (asked limit k : ℕ) (core cert : Bool) (r : Result Output E) (conflict certificate found text : Option (List ℕ)) → IsVerdict f kind limit (Unsat k)
-    → ShowsCore core f kind asked found → Certifies cert f kind k text → conflict ≡ found → certificate ≡ text → IfOk r (λ out. Shows out (unsat k conflict certificate))
-    → IfOk r (λ out. (a : Answer) × IsDecided f kind asked limit core cert a × Shows out a)
-unsat_shown f kind asked limit k core cert r conflict certificate found text verdict is certifies same also shows =
-    shown (IsDecided f kind asked limit core cert) (unsat k conflict certificate) r
-    (unsatisfiable k conflict certificate verdict (subst (ShowsCore core f kind asked) (sym same) is) (subst (Certifies cert f kind k) (sym also) certifies)) shows
+-- an output that shows UNSAT with a core, and a certificate behind it where one is asked for
+pub unsat_shown : (f : Formula) (kind : Kind) (asked limit k : ℕ) (core cert : Bool) (begun out : Output) (conflict found : Option (List ℕ)) → IsVerdict f kind limit (Unsat k) → ShowsCore core f kind asked found → conflict ≡ found
+    → Shows begun (unsat k conflict None) → out.status ≡ begun.status → AddsShown cert f kind k begun.text.items out.text.items → (a : Answer) × IsDecided f kind asked limit core cert a × Shows out a
+unsat_shown f kind asked limit k core cert begun out conflict found verdict is same shows status adds =
+    let lines : begun.text.items ≡ unsat_lines k conflict = shows.text ∙ append-nil (unsat_lines k conflict) in (
+      unsat k conflict adds.shown,
+      unsatisfiable k conflict adds.shown verdict (subst (ShowsCore core f kind asked) (sym same) is) adds.certifies,
+      record { status = status ∙ shows.status; text = adds.added ∙ ap (λ x. x ++ certificate_text adds.shown) lines },
+    )

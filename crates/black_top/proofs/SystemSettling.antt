@@ -1,33 +1,28 @@
 -- From the limit, and from the answer on the formulas of a table, to the answer of `system`.
-use Rattle.std.proofs.Common.{◌≡◌, ◌∙◌, ℕ, ◌+◌, ◌<◌, ◌≤◌, ◌⊎◌, inl, inr, Bool, true, false, Option, Some, None, is_some, unwrap_or, Result, Ok, Err, IfOk, OnOk, refl, sym, subst, arith}
+use Rattle.std.proofs.Common.{◌≡◌, ℕ, ◌+◌, ◌<◌, ◌≤◌, ◌⊎◌, inl, inr, Bool, true, false, Option, None, Result, Ok, Err, IfOk, OnOk, refl, sym, subst, arith}
 use Rattle.ltl_syntax.specs.declared.node.Kind.TheVariants as kinds
 use Rattle.ltl_syntax.specs.Formula.{Formula}
 use Rattle.ltl_syntax.specs.Size.{formula_size}
-use Rattle.enc_layout.specs.Limit.{IsInForce}
 use Rattle.system_check.specs.System.{IsSystem, whole_of}
 use Rattle.system_check.specs.Joining.{whole_size}
 use Rattle.report.specs.declared.fault.Fault.TheVariants as faults
 use Rattle.report.specs.Texts.{Proof}
 use Rattle.black_top.specs.declared.output.Output.{Output}
 use Rattle.black_top.specs.Answer.{Answer, refused}
-use Rattle.black_top.specs.Inner.{Shows}
+use Rattle.black_top.specs.Inner.{IsLimit, IsTooDeep, Shows}
 use Rattle.black_top.specs.System.{ProvesWhole, IsDecided, IsSettled, too_large, too_deep, decided}
 use Rattle.black_top.specs.declared.commands.system.ReadPart.{ReadPart}
 use Rattle.black_top.specs.SystemInner.{IsHeld, IsOfFormula}
-use Rattle.black_top.proofs.Settling.{number_is, reached}
 
 -- the depth that was asked for is refused
-pub refused_letters : (wanted : Option ℕ) (cert : Bool) (f g h : Formula) (n d : ℕ) → whole_size f g h ≤ 16384 → IsSystem f g → is_some wanted ≡ true → n ≡ unwrap_or wanted 64 → IsInForce (whole_of f g h) kinds.Infinite n d → d < n
+pub refused_letters : (wanted : Option ℕ) (cert : Bool) (f g h : Formula) (d : ℕ) → whole_size f g h ≤ 16384 → IsSystem f g → IsTooDeep (whole_of f g h) kinds.Infinite wanted d
     → IsSettled wanted cert f g h (refused (faults.Letters d))
-refused_letters (Some m) cert f g h n d few forms some is force less = too_deep m d few forms refl (subst (λ k. IsInForce (whole_of f g h) kinds.Infinite k d) is force) (subst (λ k. d < k) is less)
-refused_letters None cert f g h n d few forms some is force less = absurd (cc)
+refused_letters wanted cert f g h d few forms (n, is, force, less) = too_deep n d few forms is force less
 
 -- the answer at the limit
-pub settled_at : (wanted : Option ℕ) (cert : Bool) (f g h : Formula) (n d : ℕ) → whole_size f g h ≤ 16384 → IsSystem f g → n ≡ unwrap_or wanted 64 → (is_some wanted ≡ false) ⊎ (n ≤ d) → IsInForce (whole_of f g h) kinds.Infinite n d
+pub settled_at : (wanted : Option ℕ) (cert : Bool) (f g h : Formula) (d : ℕ) → whole_size f g h ≤ 16384 → IsSystem f g → IsLimit (whole_of f g h) kinds.Infinite wanted d
     → (a : Answer) → IsDecided f g h d cert a → IsSettled wanted cert f g h a
-settled_at wanted cert f g h n d few forms is which force a there =
-    let at = subst (λ k. IsInForce (whole_of f g h) kinds.Infinite k d) (is ∙ number_is wanted) force in
-    decided d a few forms at (reached kinds.Infinite wanted (whole_of f g h) d (subst (λ k. (is_some wanted ≡ false) ⊎ (k ≤ d)) is which) at) there
+settled_at wanted cert f g h d few forms (force, reached) a there = decided d a few forms force reached there
 
 -- a part that is too large alone makes the whole formula too large
 pub large : (wanted : Option ℕ) (cert : Bool) (f g h : Formula) (m n k size : ℕ) → m ≡ formula_size f → n ≡ formula_size g → k ≡ formula_size h → size ≡ m + n + k + 4 → 16384 < m + n + k

@@ -9,7 +9,7 @@ ghost use Rattle.black_top.specs.Inner.{Shows};
 ghost use Rattle.black_top.specs.Run.{IsGiven, NeedsNothing};
 ghost use Rattle.black_top.specs.Taking.{Takes, TakesAtMost, TakesBeforeFault};
 
-use crate::commands::{output, stop_after};
+use crate::commands::output;
 use crate::output::{Output, refusal};
 use command_words::asked_command;
 use ltl_io::{Gate, ReadRefused, Source, read_whole};
@@ -43,7 +43,7 @@ pub fn answer<R: Threads + Sync, S: Source, G: Gate + Sync>(
     let Some(asked) = asked_command(alloc, words)? else {
         return Ok(refusal(alloc, Fault::Usage)?);
     };
-    let Some(most) = stop_after(asked) else {
+    let Some(most) = asked.stop() else {
         return Ok(output(rt, alloc, asked, b"", gate)?);
     };
     let bytes = read_whole(alloc, source, most)?;

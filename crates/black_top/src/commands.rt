@@ -1,12 +1,13 @@
 // The commands. Each is one call, from what its words say and the bytes that were read to what is shown.
-ghost use Rattle.std.specs.Prelude.{◌≡◌, IfOk};
+ghost use Rattle.std.specs.Prelude.{IfOk};
 ghost use Rattle.black_top.specs.Answer.{Answer};
-ghost use Rattle.black_top.specs.Inner.{Shows, Gives, IsInBounds, stop_after};
+ghost use Rattle.black_top.specs.Inner.{Shows, Gives, IsInBounds};
 
 mod batch;
 mod check;
 mod conflict;
 mod demo;
+mod limit;
 mod monitor;
 mod removal;
 mod solve;
@@ -16,22 +17,8 @@ mod trace;
 use crate::output::Output;
 use command_words::Asked;
 use ltl_io::Gate;
-use program_input::MAX_TEXT;
 use std::alloc::{AllocError, Global};
 use std::thread::Threads;
-
-/// After how many bytes the source is read no further. None where it is not read.
-pub fn stop_after(asked: Asked) -> Option<usize>
-    ensures { result ≡ stop_after asked }
-{
-    match asked {
-        Asked::Solve(_) => Some(MAX_TEXT),
-        Asked::Check(_) | Asked::Trace | Asked::System(_) | Asked::Monitor => Some(usize::MAX),
-        Asked::Depast => Some(usize::MAX),
-        Asked::Demo(_) => None,
-        Asked::Batch(_) => Some(batch::MAX_BATCH),
-    }
-}
 
 /// What is shown for the bytes.
 pub fn output<R: Threads + Sync, G: Gate + Sync>(

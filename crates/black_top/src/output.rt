@@ -1,5 +1,5 @@
 // The text and the status of each answer.
-ghost use Rattle.std.specs.Prelude.{◌≡◌, true, false, IfOk, OnOk, Some, None};
+ghost use Rattle.std.specs.Prelude.{◌≡◌, [], true, false, IfOk, OnOk, Some, None};
 ghost use Rattle.std.specs.Option.{option_copied};
 ghost use Rattle.ltl_word.specs.Trace.{IsTrace};
 ghost use Rattle.report.specs.Texts.{ReadsBack};
@@ -27,25 +27,23 @@ pub fn sat(alloc: Global, depth: u32, trace: &Trace) -> Result<Output, AllocErro
     ensures shows { IfOk result (λ out. Shows out (sat depth trace.now)) }
     ensures reads { OnOk result (IsTrace trace.now → ReadsBack trace.now) }
 {
+    let mut text = Vec::new(alloc);
+    report::sat(alloc, depth, trace, &mut text)?;
     Ok(Output {
         status: Status::Sat,
-        text: report::sat(alloc, depth, trace)?,
+        text,
     })
 }
 
-/// UNSAT at the depth, with a printed core and the text of a certificate where they are given.
-pub fn unsat(
-    alloc: Global,
-    depth: u32,
-    core: Option<&[u8]>,
-    certificate: Option<&[u8]>,
-) -> Result<Output, AllocError>
-    ensures { IfOk result (λ out. Shows out
-        (unsat depth (option_copied core.entry) (option_copied certificate.entry))) }
+/// UNSAT at the depth, with a printed core where one is given. The text of a certificate is put behind it.
+pub fn unsat(alloc: Global, depth: u32, core: Option<&[u8]>) -> Result<Output, AllocError>
+    ensures { IfOk result (λ out. Shows out (unsat depth (option_copied core.entry) None)) }
 {
+    let mut text = Vec::new(alloc);
+    report::unsat(depth, core, &mut text)?;
     Ok(Output {
         status: Status::Unsat,
-        text: report::unsat(alloc, depth, core, certificate)?,
+        text,
     })
 }
 
@@ -53,9 +51,11 @@ pub fn unsat(
 pub fn undecided(alloc: Global, depth: u32) -> Result<Output, AllocError>
     ensures { IfOk result (λ out. Shows out (undecided depth)) }
 {
+    let mut text = Vec::new(alloc);
+    report::undecided(depth, &mut text)?;
     Ok(Output {
         status: Status::Undecided,
-        text: report::undecided(alloc, depth)?,
+        text,
     })
 }
 
@@ -63,9 +63,11 @@ pub fn undecided(alloc: Global, depth: u32) -> Result<Output, AllocError>
 pub fn holds(alloc: Global) -> Result<Output, AllocError>
     ensures { IfOk result (λ out. Shows out holds) }
 {
+    let mut text = Vec::new(alloc);
+    report::traced(true, &mut text)?;
     Ok(Output {
         status: Status::Good,
-        text: report::traced(alloc, true)?,
+        text,
     })
 }
 
@@ -73,9 +75,11 @@ pub fn holds(alloc: Global) -> Result<Output, AllocError>
 pub fn fails(alloc: Global) -> Result<Output, AllocError>
     ensures { IfOk result (λ out. Shows out fails) }
 {
+    let mut text = Vec::new(alloc);
+    report::traced(false, &mut text)?;
     Ok(Output {
         status: Status::Negative,
-        text: report::traced(alloc, false)?,
+        text,
     })
 }
 
@@ -83,9 +87,11 @@ pub fn fails(alloc: Global) -> Result<Output, AllocError>
 pub fn summary(alloc: Global, about: &Summary) -> Result<Output, AllocError>
     ensures { IfOk result (λ out. Shows out (summary about.now)) }
 {
+    let mut text = Vec::new(alloc);
+    report::demo(about, &mut text)?;
     Ok(Output {
         status: shown_status(about.verdict),
-        text: report::demo(alloc, about)?,
+        text,
     })
 }
 
@@ -107,10 +113,9 @@ pub fn checked(alloc: Global, verdict: Verdict) -> Result<Output, AllocError>
         Verdict::Verified => Status::Good,
         Verdict::Rejected(_) => Status::Negative,
     };
-    Ok(Output {
-        status,
-        text: report::checked(alloc, &verdict)?,
-    })
+    let mut text = Vec::new(alloc);
+    report::checked(&verdict, &mut text)?;
+    Ok(Output { status, text })
 }
 
 /// The answers to the lines of a batch.
@@ -132,9 +137,11 @@ pub fn batched(alloc: Global, answers: &[Answer]) -> Result<Output, AllocError>
 pub fn no_path(alloc: Global, depth: u32) -> Result<Output, AllocError>
     ensures { IfOk result (λ out. Shows out (no_path depth)) }
 {
+    let mut text = Vec::new(alloc);
+    report::no_path(depth, &mut text)?;
     Ok(Output {
         status: Status::Unsat,
-        text: report::no_path(alloc, depth)?,
+        text,
     })
 }
 
@@ -142,25 +149,24 @@ pub fn no_path(alloc: Global, depth: u32) -> Result<Output, AllocError>
 pub fn paths_hold(alloc: Global, depth: u32) -> Result<Output, AllocError>
     ensures { IfOk result (λ out. Shows out (paths_hold depth None)) }
 {
+    let mut text = Vec::new(alloc);
+    report::paths_hold(depth, &mut text)?;
     Ok(Output {
         status: Status::Good,
-        text: report::paths_hold(alloc, depth)?,
+        text,
     })
 }
 
-/// HOLDS at the depth, with a printed formula and the text of its certificate.
-pub fn paths_hold_by(
-    alloc: Global,
-    depth: u32,
-    formula: &[u8],
-    certificate: &[u8],
-) -> Result<Output, AllocError>
+/// HOLDS at the depth, with a printed formula. The text of its certificate is put behind it.
+pub fn paths_hold_by(alloc: Global, depth: u32, formula: &[u8]) -> Result<Output, AllocError>
     ensures { IfOk result (λ out. Shows out (paths_hold depth
-        (Some record { formula = formula.now; certificate = certificate.now }))) }
+        (Some record { formula = formula.now; certificate = [] }))) }
 {
+    let mut text = Vec::new(alloc);
+    report::paths_hold_by(depth, formula, &mut text)?;
     Ok(Output {
         status: Status::Good,
-        text: report::paths_hold_by(alloc, depth, formula, certificate)?,
+        text,
     })
 }
 
@@ -169,9 +175,11 @@ pub fn path_fails(alloc: Global, depth: u32, path: &Trace) -> Result<Output, All
     ensures shows { IfOk result (λ out. Shows out (path_fails depth path.now)) }
     ensures reads { OnOk result (IsTrace path.now → ReadsBack path.now) }
 {
+    let mut text = Vec::new(alloc);
+    report::path_fails(alloc, depth, path, &mut text)?;
     Ok(Output {
         status: Status::Negative,
-        text: report::path_fails(alloc, depth, path)?,
+        text,
     })
 }
 
@@ -179,9 +187,11 @@ pub fn path_fails(alloc: Global, depth: u32, path: &Trace) -> Result<Output, All
 pub fn watched(alloc: Global, answers: &[bool]) -> Result<Output, AllocError>
     ensures { IfOk result (λ out. Shows out (watched answers.now)) }
 {
+    let mut text = Vec::new(alloc);
+    report::answers(answers, &mut text)?;
     Ok(Output {
         status: watched_status(answers),
-        text: report::answers(alloc, answers)?,
+        text,
     })
 }
 
@@ -205,8 +215,10 @@ fn are_true(answers: &[bool]) -> bool
 pub fn refusal(alloc: Global, fault: Fault) -> Result<Output, AllocError>
     ensures { IfOk result (λ out. Shows out (refused fault)) }
 {
+    let mut text = Vec::new(alloc);
+    report::refused(&fault, &mut text)?;
     Ok(Output {
         status: fault.status(),
-        text: report::refused(alloc, &fault)?,
+        text,
     })
 }

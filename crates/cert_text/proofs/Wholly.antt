@@ -44,12 +44,15 @@ pub write_end : (hss : List (List Hint)) (ts : List ℕ) (ls : List (List Litera
     → out ++ flat_map part_text (parts_from hss ts i (drop i ls) (drop i hss)) ≡ whole → out ≡ whole
 write_end hss ts ls i out whole end are = sym (append-nil out) ∙ sym (ap (λ x. out ++ flat_map part_text (parts_from hss ts i x (drop i hss))) (drop_all i ls end)) ∙ are
 
--- the whole text
-pub text_written : (kind : Kind) (depth : ℕ) (ls : List (List Literal)) (hss : List (List Hint)) (ts out whole : List ℕ)
-    → out ≡ (codes "ltlcert 2 " ++ (kind_text kind ++ (codes " " ++ (decimal depth ++ codes "\n")))) ++ flat_map part_text (parts_from hss ts 0 ls hss) → whole ≡ out ++ close_text ts
-    → whole ≡ text_of (written kind depth ls hss ts)
-text_written kind depth ls hss ts out whole lines close =
+-- the whole text, behind what was there
+pub text_written : (kind : Kind) (depth : ℕ) (ls : List (List Literal)) (hss : List (List Hint)) (ts old out whole : List ℕ)
+    → out ≡ old ++ ((codes "ltlcert 2 " ++ (kind_text kind ++ (codes " " ++ (decimal depth ++ codes "\n")))) ++ flat_map part_text (parts_from hss ts 0 ls hss)) → whole ≡ out ++ close_text ts
+    → whole ≡ old ++ text_of (written kind depth ls hss ts)
+text_written kind depth ls hss ts old out whole lines close =
     let rest : List ℕ = kind_text kind ++ (codes " " ++ (decimal depth ++ codes "\n")) in
+    let head : List ℕ = codes "ltlcert 2 " ++ rest in
+    let body : List ℕ = flat_map part_text (parts_from hss ts 0 ls hss) in
     close ∙ ap (λ x. x ++ close_text ts) lines
-    ∙ append_assoc (codes "ltlcert 2 " ++ rest) (flat_map part_text (parts_from hss ts 0 ls hss)) (close_text ts)
-    ∙ ap (λ ds. codes "ltlcert " ++ (ds ++ (codes " " ++ rest)) ++ (flat_map part_text (parts_from hss ts 0 ls hss) ++ close_text ts)) (sym (decimal_digit 2 (omega arith)))
+    ∙ append_assoc old (head ++ body) (close_text ts)
+    ∙ ap (λ x. old ++ x) (append_assoc head body (close_text ts))
+    ∙ ap (λ ds. old ++ (codes "ltlcert " ++ (ds ++ (codes " " ++ rest)) ++ (body ++ close_text ts))) (sym (decimal_digit 2 (omega arith)))

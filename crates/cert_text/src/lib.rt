@@ -28,4 +28,4 @@ pub use refused::CertRefused;
 pub use scanning::form;
 pub use spelled::{Hints, Literals, Targets};
 pub use view::CertView;
-pub use writing::write;
+pub use writing::{append, write};

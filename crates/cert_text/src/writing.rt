@@ -116,10 +116,33 @@ fn push_step(
     Ok(())
 }
 
-/// The certificate text, of version 2, of the lines and of the targets. Behind each line that is the
-/// last use of some lines which are no targets stands one delete that names these, ascending. It is a text
-/// where the depth is at most 1,000, there are as many targets as the depth plus 2, each target is a number
-/// from 1, and each letter of a line is from 1 to 16,777,216.
+/// Puts the certificate text, of version 2, of the lines and of the targets behind what is there. Behind each
+/// line that is the last use of some lines which are no targets stands one delete that names these, ascending.
+/// It is a text where the depth is at most 1,000, there are as many targets as the depth plus 2, each target is
+/// a number from 1, and each letter of a line is from 1 to 16,777,216.
+pub fn append(
+    alloc: Global,
+    kind: Kind,
+    depth: u32,
+    derivation: &Derivation,
+    targets: &[u64],
+    out: &mut Vec<u8>,
+) -> Result<(), AllocError>
+    ensures { OnOk result (out.new.items ≡ out.old.items ++ text_of
+        (written kind depth derivation.now.lines derivation.now.hints targets.now)) }
+{
+    derivation.is_derivation();
+    let last = last_uses(alloc, derivation)?;
+    let mut found = Vec::new(alloc);
+    push_header(kind, depth, out)?;
+    for index in 0..derivation.lines() {
+        push_step(derivation, &last, targets, index, &mut found, out)?;
+    }
+    push_close(targets, out)?;
+    Ok(())
+}
+
+/// The same text alone.
 pub fn write(
     alloc: Global,
     kind: Kind,
@@ -130,14 +153,7 @@ pub fn write(
     ensures { IfOk result (λ whole. whole.items ≡ text_of
         (written kind depth derivation.now.lines derivation.now.hints targets.now)) }
 {
-    derivation.is_derivation();
-    let last = last_uses(alloc, derivation)?;
-    let mut found = Vec::new(alloc);
-    let mut out = Vec::new(alloc);
-    push_header(kind, depth, &mut out)?;
-    for index in 0..derivation.lines() {
-        push_step(derivation, &last, targets, index, &mut found, &mut out)?;
-    }
-    push_close(targets, &mut out)?;
-    Ok(out)
+    let mut whole = Vec::new(alloc);
+    append(alloc, kind, depth, derivation, targets, &mut whole)?;
+    Ok(whole)
 }

@@ -82,17 +82,25 @@ fn push_layers(layers: &[Layer], out: &mut Vec<u8>) -> Result<(), AllocError>
     Ok(())
 }
 
-/// The text of the certificate. It is read again where the certificate is writable: each layer has a claim and
-/// as many targets as there have to be, and all numbers are in range.
-pub fn write(alloc: Global, certificate: &Certificate) -> Result<Vec<u8>, AllocError>
-    ensures { IfOk result (λ text. text.items ≡ text_of (certificate_in certificate.now)) }
+/// Puts the text of the certificate behind what is there. It is read again where the certificate is writable:
+/// each layer has a claim and as many targets as there have to be, and all numbers are in range.
+pub fn append(certificate: &Certificate, out: &mut Vec<u8>) -> Result<(), AllocError>
+    ensures { OnOk result (out.new.items ≡ out.old.items ++ text_of (certificate_in certificate.now)) }
 {
-    let mut out = Vec::new(alloc);
     out.extend_from_slice(b"ltlinv 1 ")?;
     out.extend_from_slice(printing::kind_bytes(certificate.kind))?;
     out.push(b'\n')?;
-    push_layers(&certificate.layers, &mut out)?;
-    push_lines(&certificate.lines, &mut out)?;
-    push_targets(b"close", &[certificate.target], &mut out)?;
-    Ok(out)
+    push_layers(&certificate.layers, out)?;
+    push_lines(&certificate.lines, out)?;
+    push_targets(b"close", &[certificate.target], out)?;
+    Ok(())
+}
+
+/// The same text alone.
+pub fn write(alloc: Global, certificate: &Certificate) -> Result<Vec<u8>, AllocError>
+    ensures { IfOk result (λ text. text.items ≡ text_of (certificate_in certificate.now)) }
+{
+    let mut text = Vec::new(alloc);
+    append(certificate, &mut text)?;
+    Ok(text)
 }

@@ -5,6 +5,7 @@ use Rattle.command_words.specs.declared.table.CommandName.TheVariants as command
 use Rattle.command_words.specs.declared.options.Options.{Options}
 use Rattle.command_words.specs.declared.asked.Asked.{Asked}
 use Rattle.command_words.specs.declared.asked.Asked.TheVariants as asked
+use Rattle.command_words.specs.Table.{stop_of, command_row}
 use Rattle.command_words.specs.Words.{Setting, Solve, Check, Trace, Demo, Batch, System, Monitor, Depast, Asks, kind_of, depth_of, cert_of, core_of, workers_of, check_of, steps_of, progress_of}
 
 -- a depth that is asked for is at most 1,000
@@ -46,6 +47,10 @@ name_asked (asked.Batch options) = commands.Batch
 name_asked (asked.System options) = commands.System
 name_asked asked.Monitor = commands.Monitor
 name_asked asked.Depast = commands.Depast
+
+-- after how many bytes the command reads no further, where it reads
+abbrev pub stop_after : Asked → Option ℕ
+stop_after command = stop_of (command_row (name_asked command)).reads
 
 -- the words ask for the command
 abbrev pub IsAsked : List (List ℕ) → Asked → Type 0

@@ -20,6 +20,12 @@ pub data Extent : Type 0 where
   UpTo : ℕ → Extent
   Whole : Extent
 
+-- after how many bytes a source that is read so far is read no further: no more than 18446744073709551615 are ever there
+abbrev pub stop_of : Extent → Option ℕ
+stop_of Nothing = None
+stop_of (UpTo most) = Some most
+stop_of Whole = Some 18446744073709551615
+
 -- a command: its word, its options, its number where it has one, and how far it reads the source
 pub record CommandRow : Type 0 where
   pub word : List ℕ

@@ -1,13 +1,13 @@
 // The words of `black`. The command and its number are read here, its options by `options`.
-ghost use Rattle.std.specs.Prelude.{map, string_bytes, MatchOption, IfOk};
+ghost use Rattle.std.specs.Prelude.{◌≡◌, map, string_bytes, MatchOption, IfOk};
 ghost use Rattle.command_words.specs.Table.{demo_command};
 ghost use Rattle.command_words.specs.Words.{Command, Asks, SayNumber};
-ghost use Rattle.command_words.specs.Asked.{IsAsked};
+ghost use Rattle.command_words.specs.Asked.{IsAsked, stop_after};
 ghost use Rattle.command_words.specs.Said.{Follows, FollowsNothing, SayNoNumber};
 
 use crate::decimal::decimal_number;
 use crate::options::{Options, said_options};
-use crate::table::{CommandName, DEMO_NUMBERS, Offering, command_named};
+use crate::table::{CommandName, DEMO_NUMBERS, MAX_BATCH, MAX_TEXT, Offering, command_named};
 use std::alloc::{AllocError, Global};
 
 /// A command that is asked for.
@@ -22,6 +22,21 @@ pub enum Asked {
     System(Options),
     Monitor,
     Depast,
+}
+
+impl Asked {
+    /// After how many bytes the source is read no further. None where it is not read.
+    pub fn stop(self) -> Option<usize>
+        ensures { result ≡ stop_after self }
+    {
+        match self {
+            Asked::Solve(_) => Some(MAX_TEXT),
+            Asked::Batch(_) => Some(MAX_BATCH),
+            Asked::Demo(_) => None,
+            Asked::Check(_) | Asked::Trace | Asked::System(_) => Some(usize::MAX),
+            Asked::Monitor | Asked::Depast => Some(usize::MAX),
+        }
+    }
 }
 
 /// The command that the words ask for. None where they are not taken.

@@ -18,4 +18,4 @@ pub use lines::{refutation_usage, usage};
 pub use matching::{flag, valued};
 pub use options::Options;
 pub use refutation::{Refutation, asked_refutation};
-pub use table::{Range, STEPS};
+pub use table::{MAX_BATCH, Range, STEPS};

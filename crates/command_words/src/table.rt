@@ -75,6 +75,12 @@ pub const DEMO_NUMBERS: Range = Range {
     high: 64,
 };
 
+/// The most bytes of a formula's text: behind them it is known to be too long.
+pub const MAX_TEXT: usize = 1_048_576;
+
+/// The most bytes of a batch.
+pub const MAX_BATCH: usize = 16_777_216;
+
 /// The option of the word.
 pub fn option_named(word: &str) -> Option<OptionName>
     ensures { MatchOption result ((option : OptionName) → word.now ≢ option_word option)

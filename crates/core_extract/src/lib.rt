@@ -9,7 +9,6 @@ mod task;
 mod testing;
 
 pub use extracting::core;
-pub use passing::gather;
 pub use presenting::{mark, present};
 pub use task::Task;
 pub use testing::is_refuted;

@@ -25,7 +25,7 @@ pub enum Advance {
 
 /// The next kept occurrences from a place on, and the place behind them: at most so many, and none from `end`
 /// on.
-pub fn gather(
+fn gather(
     task: &Task<'_>,
     marks: &Vec<bool>,
     at: u32,

@@ -3,22 +3,18 @@
 ghost use Rattle.std.specs.Prelude.{◌≡◌, ℕ, ◌<◌, ◌≤◌, ◌↔◌, length, slice_index_or, IfOk, IsTrue};
 ghost use Rattle.ltl_syntax.specs.Table.{tree_at};
 ghost use Rattle.ltl_syntax.specs.Replacement.{IsKept};
-ghost use Rattle.enc_layout.specs.Letters.{Fits};
-ghost use Rattle.enc_layout.specs.Clauses.{layout_of};
-ghost use Rattle.enc_layout.specs.Limit.{IsInForce};
 ghost use Rattle.core_extract.specs.Core.{IsRefuted, tableau};
 ghost use Rattle.core_extract.specs.Testing.{IsTask, AreMarks, IsGroup, IsTold, IsTested, AreTested, IsFirstClosed, formula_of, marked};
 
 use crate::presenting::{mark, present};
 use crate::task::Task;
-use enc_layout::Layout;
 use ltl_closure::Closure;
 use ltl_io::Gate;
 use ltl_syntax::{FormulaTable, Kind};
 use std::alloc::{AllocError, Global};
 use std::thread;
 use std::thread::Threads;
-use unravel::{Decision, decide};
+use unravel::{Decision, decide_in_force};
 
 /// What one test found.
 #[derive(Clone, Copy, Drop)]
@@ -29,16 +25,6 @@ pub enum Outcome {
     Open,
     /// It is not known, since memory ran out.
     NoMemory,
-}
-
-/// The greatest depth up to the asked number whose letters are few enough.
-fn limit_in_force(closure: &Closure<'_>, asked: u32) -> u32
-    requires { asked ≤ 1000 }
-    ensures force { IsInForce closure.now.formula closure.now.kind asked result }
-    ensures fits { Fits (layout_of closure.now) result }
-{
-    let layout = Layout::of(closure);
-    layout.greatest_depth(asked)
 }
 
 /// What the verdict of the formula at its own limit in force is.
@@ -54,8 +40,7 @@ fn verdict(
     ensures { IfOk result (IsTold (tableau kind asked) (tree_at table.now root)) }
 {
     let closure = Closure::of(alloc, table, root, kind)?;
-    let limit = limit_in_force(&closure, asked);
-    let decision = decide(alloc, &closure, limit)?;
+    let decision = decide_in_force(alloc, &closure, asked)?;
     match decision {
         Decision::Sat { .. } => Ok(Outcome::Open),
         Decision::Unsat { .. } => Ok(Outcome::Closed),

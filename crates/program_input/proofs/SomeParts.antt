@@ -5,15 +5,16 @@ use Rattle.std.proofs.lemmas.Bool.{cases_lt}
 use Rattle.std.proofs.lemmas.List.{take-append-drop}
 use Rattle.std.proofs.lemmas.Slice.Eq.{bytes_eq-Decides}
 use Rattle.ltl_syntax.specs.Formula.{Formula}
-use Rattle.ltl_syntax.specs.Size.{formula_size}
-use Rattle.ltl_lexer.specs.Tokens.{IsLexicalFault}
-use Rattle.ltl_parser.specs.Text.{ReadsText, IsGrammarFault, IsAccepted}
+use Rattle.ltl_parser.specs.Text.{IsAccepted}
+use Rattle.formula_reading.proofs.OneReading.{accepted_or_fault}
 use Rattle.report.specs.declared.fault.Fault.{Fault}
 use Rattle.report.specs.declared.fault.Fault.TheVariants as faults
 use Rattle.program_input.specs.Parts.{newline, EndsLine, BeginsLine, IsLine, HasNoSeparator, IsCut}
 use Rattle.program_input.specs.Inner.{OpensSecond, OpensNothing}
-use Rattle.program_input.specs.Reading.{RefusesPart, too_long, lexical, grammar, many_nodes, IsParted, uncut, unread, accepted}
+use Rattle.program_input.specs.Reading.{refusal_of, RefusesPart, IsParted, uncut, unread, accepted}
+use Rattle.program_input.proofs.Refusing.{refuses_part}
 use Rattle.program_input.proofs.Cutting.{IsStart, later, none_at_all, first_cut, opens_drop, plain_opens, return_opens, no_end, no_end_return}
+pub use Rattle.formula_reading.proofs.OneReading.{EachHasOutcome}
 
 -- ---- the cut
 
@@ -107,23 +108,10 @@ cut_or_not bytes = cut_from bytes (length bytes) 0 (omega arith) (λ b l a h. om
 
 -- ---- the formula part
 
--- each text has a fault or a formula
-abbrev pub EachHasOutcome : Type 0
-EachHasOutcome = (text : List ℕ) → ((byte : ℕ) × IsLexicalFault text byte) ⊎ (((byte : ℕ) × IsGrammarFault text byte) ⊎ ((f : Formula) × ReadsText text f))
-
 pub accepted_or_refused : EachHasOutcome → (part : List ℕ) → ((f : Formula) × IsAccepted part f) ⊎ ((fault : Fault) × RefusesPart part fault)
-accepted_or_refused outcome part = elim (cases_lt 1048576 (length part)) [
-  | inl long ↦ inr (faults.Text, too_long long)
-  | inr short ↦ elim (outcome part) [
-    | inl w ↦ inr (faults.Lexical w.0, lexical w.0 short w.1)
-    | inr more ↦ elim more [
-      | inl w ↦ inr (faults.Grammar w.0, grammar w.0 short w.1)
-      | inr w ↦ elim (cases_lt 16384 (formula_size w.0)) [
-        | inl many ↦ inr (faults.Nodes (formula_size w.0), many_nodes (formula_size w.0) short (w.0, w.1, refl, many))
-        | inr few ↦ inl (w.0, record { short = short; reads = w.1; few = few })
-      ]
-    ]
-  ]
+accepted_or_refused outcome part = elim (accepted_or_fault outcome part) [
+  | inl read ↦ inl read
+  | inr own ↦ inr (refusal_of own.0, refuses_part part own.0 own.1)
 ]
 
 -- an accepted formula and a second part have an answer

@@ -1,19 +1,25 @@
 -- The formula part of an input: its refusals, what it is read as, and the answer to an input of two parts.
 use Rattle.std.specs.Prelude.{◌≡◌, ◌≤◌, ◌<◌, ℕ, List, length}
 use Rattle.ltl_lexer.specs.Tokens.{IsLexicalFault}
-use Rattle.ltl_parser.specs.Text.{ReadsText, IsGrammarFault, IsAccepted}
+use Rattle.ltl_parser.specs.Text.{IsGrammarFault, IsAccepted}
 use Rattle.ltl_syntax.specs.Formula.{Formula, nodes_in}
 use Rattle.ltl_syntax.specs.Size.{sizes, formula_size}
 use Rattle.ltl_syntax.specs.Table.{tree_at}
+use Rattle.formula_reading.specs.declared.reading.FormulaFault.{FormulaFault}
+use Rattle.formula_reading.specs.declared.reading.FormulaFault.TheVariants as wrong
+use Rattle.formula_reading.specs.Reading.{HasManyNodes}
 use Rattle.report.specs.declared.fault.Fault.{Fault}
 use Rattle.report.specs.declared.fault.Fault.TheVariants as faults
 use Rattle.program_input.specs.declared.reading.Reading.{Reading}
 use Rattle.program_input.specs.declared.reading.Reading.TheVariants as readings
 use Rattle.program_input.specs.Parts.{IsCut, HasNoSeparator}
 
--- the part reads as a formula whose nodes have these sizes in all, which are too many
-abbrev pub HasManyNodes : List ℕ → ℕ → Type 0
-HasManyNodes part count = (f : Formula) × ReadsText part f × (count ≡ formula_size f) × (16384 < count)
+-- how a part is refused whose text has this fault
+abbrev pub refusal_of : FormulaFault → Fault
+refusal_of wrong.Long = faults.Text
+refusal_of (wrong.Lexical byte) = faults.Lexical byte
+refusal_of (wrong.Grammar byte) = faults.Grammar byte
+refusal_of (wrong.Nodes count) = faults.Nodes count
 
 -- the part is refused: in the order text, lexical, grammar, nodes
 pub data RefusesPart (part : List ℕ) : Fault → Type 0 where

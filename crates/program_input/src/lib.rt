@@ -4,5 +4,6 @@
 mod parts;
 mod reading;
 
+pub use formula_reading::MAX_TEXT;
 pub use parts::{Parts, cut};
-pub use reading::{MAX_TEXT, Reading, read_formula};
+pub use reading::{Reading, read_formula};

@@ -1,15 +1,11 @@
-// From the bytes of the formula part to a formula, or to its refusal.
-ghost use Rattle.std.specs.Prelude.{IfOk};
-ghost use Rattle.program_input.specs.Reading.{IsPartReading};
+// The formula of the formula part of an input, or its refusal.
+ghost use Rattle.std.specs.Prelude.{◌≡◌, IfOk};
+ghost use Rattle.program_input.specs.Reading.{IsPartReading, refusal_of};
 
-use ltl_lexer::{LexRefused, tokens};
-use ltl_parser::{ParseRefused, parse};
+use formula_reading::FormulaFault;
 use ltl_syntax::FormulaTable;
 use report::Fault;
 use std::alloc::{AllocError, Global};
-
-/// The most bytes of a formula part.
-pub const MAX_TEXT: usize = 1_048_576;
 
 /// What a text is read as.
 #[derive(Drop)]
@@ -20,24 +16,23 @@ pub enum Reading {
 }
 
 /// Reads the text of a formula.
-#[tactic(auto, using(crate::proofs::Refusing::refused_text, crate::proofs::Refusing::refused_lexical, crate::proofs::Refusing::refused_grammar))]
 pub fn read_formula(alloc: Global, text: &[u8]) -> Result<Reading, AllocError>
     ensures { IfOk result (IsPartReading text.now) }
 {
-    ltl_parser::laws::read_without_fault();
-    ltl_parser::laws::nodes_of_text();
-    if text.len() > MAX_TEXT {
-        return Ok(Reading::Refused(Fault::Text));
+    match formula_reading::read_formula(alloc, text)? {
+        formula_reading::Reading::Formula { table, root } => Ok(Reading::Formula { table, root }),
+        formula_reading::Reading::Refused(fault) => Ok(Reading::Refused(refusal_of(fault))),
     }
-    let tokens = match tokens(alloc, text) {
-        Ok(tokens) => tokens,
-        Err(LexRefused::Lexical(byte)) => return Ok(Reading::Refused(Fault::Lexical(byte))),
-        Err(LexRefused::NoMemory) => return Err(AllocError),
-    };
-    match parse(alloc, text, &tokens) {
-        Ok((table, root)) => Ok(Reading::Formula { table, root }),
-        Err(ParseRefused::Grammar(byte)) => Ok(Reading::Refused(Fault::Grammar(byte))),
-        Err(ParseRefused::Nodes(count)) => Ok(Reading::Refused(Fault::Nodes(count))),
-        Err(ParseRefused::NoMemory) => Err(AllocError),
+}
+
+/// How a text with this fault is refused.
+fn refusal_of(fault: FormulaFault) -> Fault
+    ensures { result ≡ refusal_of fault }
+{
+    match fault {
+        FormulaFault::Long => Fault::Text,
+        FormulaFault::Lexical(byte) => Fault::Lexical(byte),
+        FormulaFault::Grammar(byte) => Fault::Grammar(byte),
+        FormulaFault::Nodes(count) => Fault::Nodes(count),
     }
 }

@@ -5,18 +5,26 @@ use report::{
     Fault, Shown, Summary, answers, checked, demo, depasted, lifted, no_path, path_fails,
     paths_hold, paths_hold_by, refused, sat, traced, undecided, unsat,
 };
-use std::alloc::{AllocError, Global};
+use std::alloc::AllocError;
 use std::process::Abort;
 use std::test::Fail;
 
-fn is<R: Abort>(rt: &R, text: Result<Vec<u8>, AllocError>, wanted: &[u8]) -> Result<(), Fail> {
-    assert!(rt; *text? == *wanted);
+/// This was added to nothing, and nothing is left of it.
+fn is<R: Abort>(
+    rt: &R,
+    added: Result<(), AllocError>,
+    out: &mut Vec<u8>,
+    wanted: &[u8],
+) -> Result<(), Fail> {
+    added?;
+    assert!(rt; out.as_slice() == wanted);
+    out.clear();
     Ok(())
 }
 
 #[test]
 fn refusals(rt: HostRuntime) -> Result<(), Fail> {
-    let alloc = rt.alloc();
+    let mut out = Vec::new(rt.alloc());
     let table: [(Fault, &[u8]); 19] = [
         (
             Fault::Usage,
@@ -54,7 +62,7 @@ fn refusals(rt: HostRuntime) -> Result<(), Fail> {
         (Fault::State(2), b"state fault at line 2\n"),
     ];
     for (fault, wanted) in &table {
-        is(&rt, refused(alloc, fault), wanted)?;
+        is(&rt, refused(fault, &mut out), &mut out, wanted)?;
     }
     Ok(())
 }
@@ -62,48 +70,64 @@ fn refusals(rt: HostRuntime) -> Result<(), Fail> {
 #[test]
 fn verdicts(rt: HostRuntime) -> Result<(), Fail> {
     let alloc = rt.alloc();
+    let mut out = Vec::new(alloc);
     let json = b"{\"kind\":\"finite\",\"states\":[[\"p\"]]}";
     let Ok(trace) = Trace::from_json(alloc, json) else {
         return Err(Fail::new("the text is no trace"));
     };
     is(
         &rt,
-        sat(alloc, 0, &trace),
+        sat(alloc, 0, &trace, &mut out),
+        &mut out,
         b"SAT 0\n{\"kind\":\"finite\",\"states\":[[\"p\"]]}\n",
     )?;
-    is(&rt, unsat(alloc, 2, None, None), b"UNSAT 2\n")?;
+    is(&rt, unsat(2, None, &mut out), &mut out, b"UNSAT 2\n")?;
     is(
         &rt,
-        unsat(alloc, 0, Some(b"((p & !p) & {0})"), Some(b"ltlcert\n")),
-        b"UNSAT 0\ncore ((p & !p) & {0})\nltlcert\n",
-    )?;
-    is(&rt, undecided(alloc, 1000), b"UNDECIDED 1000\n")?;
-    is(&rt, no_path(alloc, 3), b"NO PATH 3\n")?;
-    is(&rt, paths_hold(alloc, 5), b"HOLDS 5\n")?;
-    is(
-        &rt,
-        paths_hold_by(alloc, 0, b"((p & G q) & !r)", b"ltlcert\n"),
-        b"HOLDS 0\nformula ((p & G q) & !r)\nltlcert\n",
+        unsat(0, Some(b"((p & !p) & {0})"), &mut out),
+        &mut out,
+        b"UNSAT 0\ncore ((p & !p) & {0})\n",
     )?;
     is(
         &rt,
-        path_fails(alloc, 1, &trace),
+        undecided(1000, &mut out),
+        &mut out,
+        b"UNDECIDED 1000\n",
+    )?;
+    is(&rt, no_path(3, &mut out), &mut out, b"NO PATH 3\n")?;
+    is(&rt, paths_hold(5, &mut out), &mut out, b"HOLDS 5\n")?;
+    is(
+        &rt,
+        paths_hold_by(0, b"((p & G q) & !r)", &mut out),
+        &mut out,
+        b"HOLDS 0\nformula ((p & G q) & !r)\n",
+    )?;
+    is(
+        &rt,
+        path_fails(alloc, 1, &trace, &mut out),
+        &mut out,
         b"FAILS 1\n{\"kind\":\"finite\",\"states\":[[\"p\"]]}\n",
     )?;
-    is(&rt, depasted(alloc, b"X p"), b"X p\n")?;
+    is(&rt, depasted(b"X p", &mut out), &mut out, b"X p\n")?;
     is(
         &rt,
-        lifted(alloc, b"p", &trace),
+        lifted(alloc, b"p", &trace, &mut out),
+        &mut out,
         b"p\n{\"kind\":\"finite\",\"states\":[[\"p\"]]}\n",
     )?;
-    is(&rt, traced(alloc, true), b"HOLDS\n")?;
-    is(&rt, traced(alloc, false), b"FAILS\n")?;
-    is(&rt, answers(alloc, &[true, false]), b"true\nfalse\n")
+    is(&rt, traced(true, &mut out), &mut out, b"HOLDS\n")?;
+    is(&rt, traced(false, &mut out), &mut out, b"FAILS\n")?;
+    is(
+        &rt,
+        answers(&[true, false], &mut out),
+        &mut out,
+        b"true\nfalse\n",
+    )
 }
 
 #[test]
 fn checks(rt: HostRuntime) -> Result<(), Fail> {
-    let alloc = rt.alloc();
+    let mut out = Vec::new(rt.alloc());
     let table: [(Verdict, &[u8]); 4] = [
         (Verdict::Verified, b"VERIFIED\n"),
         (Verdict::Rejected(Reason::Kind), b"REJECTED kind\n"),
@@ -111,14 +135,14 @@ fn checks(rt: HostRuntime) -> Result<(), Fail> {
         (Verdict::Rejected(Reason::Target(1)), b"REJECTED target 1\n"),
     ];
     for (verdict, wanted) in &table {
-        is(&rt, checked(alloc, verdict), wanted)?;
+        is(&rt, checked(verdict, &mut out), &mut out, wanted)?;
     }
     Ok(())
 }
 
 #[test]
 fn demos(rt: HostRuntime) -> Result<(), Fail> {
-    let alloc = rt.alloc();
+    let mut out = Vec::new(rt.alloc());
     let small = Summary {
         number: 2,
         nodes: 27,
@@ -145,7 +169,7 @@ fn demos(rt: HostRuntime) -> Result<(), Fail> {
             verdict: *verdict,
             ..small
         };
-        is(&rt, demo(alloc, &summary), wanted)?;
+        is(&rt, demo(&summary, &mut out), &mut out, wanted)?;
     }
     Ok(())
 }

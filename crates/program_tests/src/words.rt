@@ -176,9 +176,9 @@ fn words_of_the_refuter_alone(rt: HostRuntime) -> Result<(), Fail> {
 fn usage_lines(rt: HostRuntime) -> Result<(), Fail> {
     let wanted: &[u8] =
         b"usage: black solve [--finite] [--depth N] [--cert] [--core] [--workers N]\nusage: black check [--finite] [--workers N]\nusage: black trace\nusage: black demo N\nusage: black batch [--finite] [--depth N] [--workers N]\nusage: black system [--depth N] [--cert]\nusage: black monitor\nusage: black depast\n";
-    assert!(rt; *usage(rt.alloc())? == *wanted);
+    assert!(rt; *usage() == *wanted);
     let refuter: &[u8] =
         b"usage: black_refute [--finite] [--cert] [--steps N] [--progress]\nusage: black_refute --check [--finite]\n";
-    assert!(rt; *refutation_usage(rt.alloc())? == *refuter);
+    assert!(rt; *refutation_usage() == *refuter);
     Ok(())
 }

@@ -43,9 +43,13 @@ abbrev pub certificate_text : Option (List ℕ) → List ℕ
 certificate_text None = []
 certificate_text (Some certificate) = certificate
 
--- UNSAT at a depth, with a core and a certificate
+-- UNSAT at a depth, with a core
+abbrev pub unsat_lines : ℕ → Option (List ℕ) → List ℕ
+unsat_lines depth core = numbered (codes "UNSAT ") depth ++ core_text core
+
+-- the same with a certificate behind these lines
 abbrev pub unsat_text : ℕ → Option (List ℕ) → Option (List ℕ) → List ℕ
-unsat_text depth core certificate = numbered (codes "UNSAT ") depth ++ core_text core ++ certificate_text certificate
+unsat_text depth core certificate = unsat_lines depth core ++ certificate_text certificate
 
 -- UNDECIDED up to a depth
 abbrev pub undecided_text : ℕ → List ℕ
@@ -55,14 +59,14 @@ undecided_text depth = numbered (codes "UNDECIDED ") depth
 abbrev pub no_path_text : ℕ → List ℕ
 no_path_text depth = numbered (codes "NO PATH ") depth
 
--- the line of a formula, and the certificate behind it
-abbrev pub proof_text : Proof → List ℕ
-proof_text proof = line (codes "formula " ++ proof.formula) ++ proof.certificate
+-- HOLDS at a depth, with a formula
+abbrev pub paths_hold_lines : ℕ → List ℕ → List ℕ
+paths_hold_lines depth formula = numbered (codes "HOLDS ") depth ++ line (codes "formula " ++ formula)
 
--- HOLDS at a depth, with a formula and its certificate where they are given
+-- HOLDS at a depth, and where they are given a formula, with its certificate behind these lines
 abbrev pub paths_hold_text : ℕ → Option Proof → List ℕ
 paths_hold_text depth None = numbered (codes "HOLDS ") depth
-paths_hold_text depth (Some proof) = numbered (codes "HOLDS ") depth ++ proof_text proof
+paths_hold_text depth (Some proof) = paths_hold_lines depth proof.formula ++ proof.certificate
 
 -- FAILS at a depth, with a path
 abbrev pub path_fails_text : ℕ → Trace → List ℕ

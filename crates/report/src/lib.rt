@@ -1,4 +1,4 @@
-//! The output texts: one call for each answer, which gives the whole text.
+//! The output texts: one call for each answer, which adds its text to what is printed.
 #![tactic(auto)]
 
 mod fault;

@@ -1,27 +1,26 @@
 // Lines: a text, perhaps a number, and a newline.
-ghost use Rattle.std.specs.Prelude.{◌≡◌, IfOk};
+ghost use Rattle.std.specs.Prelude.{◌≡◌, ◌++◌, OnOk};
 ghost use Rattle.report.specs.Texts.{line, numbered};
 
-use std::alloc::{AllocError, Global};
+use itoa::Buffer;
+use std::alloc::AllocError;
 
-/// A line of the text.
-pub fn line(alloc: Global, text: &[u8]) -> Result<Vec<u8>, AllocError>
-    ensures { IfOk result (λ whole. whole.items ≡ line text.now) }
+/// Adds a line of the text.
+pub fn line(text: &[u8], out: &mut Vec<u8>) -> Result<(), AllocError>
+    ensures { OnOk result (out.new.items ≡ out.old.items ++ line text.now) }
 {
-    let mut whole = Vec::new(alloc);
-    whole.extend_from_slice(text)?;
-    whole.push(b'\n')?;
-    Ok(whole)
+    out.extend_from_slice(text)?;
+    out.push(b'\n')?;
+    Ok(())
 }
 
-/// A line of the text and the number.
-pub fn numbered(alloc: Global, text: &[u8], number: u128) -> Result<Vec<u8>, AllocError>
-    ensures { IfOk result (λ whole. whole.items ≡ numbered text.now number) }
+/// Adds a line of the text and the number.
+pub fn numbered(text: &[u8], number: u128, out: &mut Vec<u8>) -> Result<(), AllocError>
+    ensures { OnOk result (out.new.items ≡ out.old.items ++ numbered text.now number) }
 {
-    let digits = number.to_string(alloc)?;
-    let mut whole = Vec::new(alloc);
-    whole.extend_from_slice(text)?;
-    whole.extend_from_slice(digits.as_bytes())?;
-    whole.push(b'\n')?;
-    Ok(whole)
+    let mut buffer = Buffer::new();
+    out.extend_from_slice(text)?;
+    out.extend_from_slice(buffer.format(number).as_bytes())?;
+    out.push(b'\n')?;
+    Ok(())
 }

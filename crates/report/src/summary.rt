@@ -1,9 +1,9 @@
 // The text of a demo: what was asked, how much it was, and what came of it.
-ghost use Rattle.std.specs.Prelude.{◌≡◌, IfOk};
+ghost use Rattle.std.specs.Prelude.{◌≡◌, ◌++◌, OnOk};
 ghost use Rattle.report.specs.Summary.{shown_text, summary_text};
 
 use crate::lines::numbered;
-use std::alloc::{AllocError, Global};
+use std::alloc::AllocError;
 
 /// A verdict as it is shown, with its depth and without a trace.
 #[derive(Clone, Copy, Debug, PartialEq, Eq)]
@@ -27,28 +27,23 @@ pub struct Summary {
     pub verdict: Shown,
 }
 
-/// The five lines of the summary.
-pub fn demo(alloc: Global, summary: &Summary) -> Result<Vec<u8>, AllocError>
-    ensures { IfOk result (λ text. text.items ≡ summary_text summary.now) }
+/// Adds the five lines of the summary.
+pub fn demo(summary: &Summary, out: &mut Vec<u8>) -> Result<(), AllocError>
+    ensures { OnOk result (out.new.items ≡ out.old.items ++ summary_text summary.now) }
 {
-    let nodes = numbered(alloc, b"nodes ", summary.nodes.into())?;
-    let entries = numbered(alloc, b"entries ", summary.entries.into())?;
-    let letters = numbered(alloc, b"letters ", summary.letters.into())?;
-    let verdict = verdict_line(alloc, summary.verdict)?;
-    let mut text = numbered(alloc, b"demo ", summary.number.into())?;
-    text.extend_from_slice(&nodes)?;
-    text.extend_from_slice(&entries)?;
-    text.extend_from_slice(&letters)?;
-    text.extend_from_slice(&verdict)?;
-    Ok(text)
+    numbered(b"demo ", summary.number.into(), out)?;
+    numbered(b"nodes ", summary.nodes.into(), out)?;
+    numbered(b"entries ", summary.entries.into(), out)?;
+    numbered(b"letters ", summary.letters.into(), out)?;
+    add_verdict(summary.verdict, out)
 }
 
-fn verdict_line(alloc: Global, verdict: Shown) -> Result<Vec<u8>, AllocError>
-    ensures { IfOk result (λ text. text.items ≡ shown_text verdict) }
+fn add_verdict(verdict: Shown, out: &mut Vec<u8>) -> Result<(), AllocError>
+    ensures { OnOk result (out.new.items ≡ out.old.items ++ shown_text verdict) }
 {
     match verdict {
-        Shown::Sat(depth) => numbered(alloc, b"SAT ", depth.into()),
-        Shown::Unsat(depth) => numbered(alloc, b"UNSAT ", depth.into()),
-        Shown::Undecided(depth) => numbered(alloc, b"UNDECIDED ", depth.into()),
+        Shown::Sat(depth) => numbered(b"SAT ", depth.into(), out),
+        Shown::Unsat(depth) => numbered(b"UNSAT ", depth.into(), out),
+        Shown::Undecided(depth) => numbered(b"UNDECIDED ", depth.into(), out),
     }
 }

@@ -6,7 +6,7 @@ ghost use Rattle.requirement_certificate.specs.Chosen.{IsFirstBecause, HasNoBeca
 ghost use Rattle.requirement_certificate.specs.Text.{certificate_text, HasFormula, HaveFormulas};
 
 use crate::choosing::first_because;
-use claim_text::write;
+use claim_text::append;
 use ltl_syntax::print;
 use requirement_answers::{Report, Scope};
 use requirement_questions::Because;
@@ -38,6 +38,6 @@ fn text_of(alloc: Global, because: &Because) -> Result<Vec<u8>, AllocError>
 {
     let mut text = print(alloc, &because.table, because.root)?;
     text.extend_from_slice(b"\n---\n")?;
-    text.extend_from_slice(&write(alloc, &because.certificate)?)?;
+    append(&because.certificate, &mut text)?;
     Ok(text)
 }

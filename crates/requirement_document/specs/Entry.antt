@@ -1,12 +1,13 @@
 -- What an entry is read as, and what may be wrong with it.
-use Rattle.std.specs.Prelude.{◌≡◌, ◌≢◌, ℕ, ◌<◌, ◌≤◌, ◌⊎◌, List, [], map, length, codes, string_bytes, bytes_eq, Bool, true, false, ◌&&◌, ◌||◌, not, Option, Some, None, is_some}
+use Rattle.std.specs.Prelude.{◌≡◌, ◌≢◌, ℕ, ◌<◌, ◌≤◌, ◌⊎◌, List, [], map, codes, string_bytes, bytes_eq, Bool, true, false, ◌&&◌, ◌||◌, not, Option, Some, None, is_some}
 use Rattle.std.specs.List.{list_any}
 use Rattle.toml.specs.Data.{Data, string, array, get, as_str, as_table}
 use Rattle.toml.specs.View.{items_of}
 use Rattle.ltl_syntax.specs.Formula.{Formula, Letter, Name}
 use Rattle.ltl_syntax.specs.Size.{formula_size}
-use Rattle.ltl_lexer.specs.Tokens.{IsLexicalFault}
-use Rattle.ltl_parser.specs.Text.{ReadsText, IsGrammarFault, IsAccepted}
+use Rattle.ltl_parser.specs.Text.{ReadsText, IsAccepted}
+use Rattle.formula_reading.specs.declared.reading.FormulaFault.TheVariants as wrong
+use Rattle.formula_reading.specs.Reading.{IsShort, HasFormulaFault}
 use Rattle.ltl_word.specs.declared.trace.Trace.{Trace}
 use Rattle.ltl_word.specs.declared.trace.Trace.TheVariants.{Infinite, Finite}
 use Rattle.ltl_word.specs.Trace.{Names, IsTrace}
@@ -116,11 +117,11 @@ DoesNotFit s keys.Loop v = (s ≡ sections.Behaviour) × ((all : List Names) →
 
 -- what may be wrong with a text as a formula in which these definitions are put in
 abbrev pub IsFormulaCause : Definitions → List ℕ → Cause → Type 0
-IsFormulaCause ds text causes.TooLong = 1048576 < length text
-IsFormulaCause ds text (causes.Lexical byte) = (length text ≤ 1048576) × IsLexicalFault text byte
-IsFormulaCause ds text (causes.Grammar byte) = (length text ≤ 1048576) × IsGrammarFault text byte
+IsFormulaCause ds text causes.TooLong = HasFormulaFault text wrong.Long
+IsFormulaCause ds text (causes.Lexical byte) = HasFormulaFault text (wrong.Lexical byte)
+IsFormulaCause ds text (causes.Grammar byte) = HasFormulaFault text (wrong.Grammar byte)
 IsFormulaCause ds text (causes.Size count) =
-    (f : Formula) × (length text ≤ 1048576) × ReadsText text f × ((count ≡ formula_size f) ⊎ (count ≡ formula_size (substituted ds f))) × (16384 < count)
+    (f : Formula) × IsShort text × ReadsText text f × ((count ≡ formula_size f) ⊎ (count ≡ formula_size (substituted ds f))) × (16384 < count)
 IsFormulaCause ds text _ = ⊥
 
 -- and with the formula of an entry

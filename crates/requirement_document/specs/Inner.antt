@@ -13,6 +13,8 @@ use Rattle.requirement_document.specs.declared.fault.Cause.TheVariants as causes
 use Rattle.requirement_document.specs.declared.fault.Place.TheVariants as places
 use Rattle.requirement_document.specs.declared.fault.Key.{Key}
 use Rattle.requirement_document.specs.declared.fault.Key.TheVariants as keys
+use Rattle.formula_reading.specs.declared.reading.FormulaFault.{FormulaFault}
+use Rattle.formula_reading.specs.declared.reading.FormulaFault.TheVariants as wrong
 use Rattle.ltl_word.specs.declared.trace.Trace.{Trace}
 use Rattle.ltl_word.specs.Trace.{IsTrace}
 use Rattle.ltl_word.specs.Json.{IsTraceOf}
@@ -43,6 +45,13 @@ IsRefusedAt s ds taken d refusals.NoMemory = ⊤
 abbrev pub IsRefusedText : Definitions → List ℕ → Refusal → Type 0
 IsRefusedText ds text (refusals.Cause c) = IsFormulaCause ds text c
 IsRefusedText ds text refusals.NoMemory = ⊤
+
+-- what is wrong with a text that has this fault
+abbrev pub cause_of : FormulaFault → Cause
+cause_of wrong.Long = causes.TooLong
+cause_of (wrong.Lexical byte) = causes.Lexical byte
+cause_of (wrong.Grammar byte) = causes.Grammar byte
+cause_of (wrong.Nodes count) = causes.Size count
 
 -- the refusal of an entry with its place
 abbrev pub IsPlaced : Section → ℕ → Data → Refusal → Refused → Type 0

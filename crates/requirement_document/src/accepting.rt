@@ -1,14 +1,15 @@
 // The formula that a text reads as, with definitions put in, or what is wrong with the text.
-ghost use Rattle.std.specs.Prelude.{◌≡◌, ◌↔◌, IfOk, IfErr, IsTrue, ℕ, List};
+ghost use Rattle.std.specs.Prelude.{◌≡◌, ◌<◌, ◌↔◌, IfOk, IfErr, IsTrue, ℕ, List, length};
 ghost use Rattle.toml.specs.View.{view};
 ghost use Rattle.ltl_syntax.specs.Formula.{Letter, Name};
+ghost use Rattle.ltl_syntax.specs.Table.{tree_at};
 ghost use Rattle.ltl_parser.specs.Text.{IsAccepted};
 ghost use Rattle.requirement_document.specs.declared.fault.Key.TheVariants as keys;
 ghost use Rattle.requirement_document.specs.declared.fault.Section.{Section};
 ghost use Rattle.requirement_document.specs.Keys.{HasFormulas};
 ghost use Rattle.requirement_document.specs.Substitution.{Definitions};
 ghost use Rattle.requirement_document.specs.Entry.{HasText, IsLetter, IsPutIn};
-ghost use Rattle.requirement_document.specs.Inner.{defined_in, tree_in, IsRefusedAt, IsRefusedText};
+ghost use Rattle.requirement_document.specs.Inner.{defined_in, tree_in, cause_of, IsRefusedAt, IsRefusedText};
 
 use crate::fault::Refusal;
 use crate::formulas::Tree;
@@ -16,14 +17,11 @@ use crate::putting::put_in;
 use crate::sizes::size_of;
 use crate::values::{TextAt, text_at};
 use crate::{Cause, Key};
+use formula_reading::{FormulaFault, Reading, read_formula};
 use indexmap::IndexMap;
-use ltl_lexer::{LexRefused, tokens};
-use ltl_parser::{ParseRefused, parse};
 use ltl_syntax::{FormulaTable, Node};
 use std::alloc::{AllocError, Global};
 use toml::Value;
-
-const MAX_TEXT: usize = 1_048_576;
 
 const MAX_SIZE: u64 = 16_384;
 
@@ -45,24 +43,24 @@ fn written(alloc: Global, text: &[u8]) -> Result<Tree, Refusal>
     ensures ok { IfOk result (λ t. IsAccepted text.now (tree_in t)) }
     ensures err { (ds : Definitions) → IfErr result (IsRefusedText ds text.now) }
 {
-    ltl_parser::laws::read_without_fault();
-    ltl_parser::laws::nodes_of_text();
-    if text.len() > MAX_TEXT {
-        return Err(Refusal::Cause(Cause::TooLong));
-    }
-    let tokens = match tokens(alloc, text) {
-        Ok(tokens) => tokens,
-        Err(LexRefused::Lexical(byte)) => return Err(Refusal::Cause(Cause::Lexical(byte))),
-        Err(LexRefused::NoMemory) => return Err(Refusal::NoMemory),
-    };
-    match parse(alloc, text, &tokens) {
-        Ok((table, root)) => {
+    match read_formula(alloc, text)? {
+        Reading::Formula { table, root } => {
             let size = table.size() as u64;
             Ok(Tree { table, root, size })
         }
-        Err(ParseRefused::Grammar(byte)) => Err(Refusal::Cause(Cause::Grammar(byte))),
-        Err(ParseRefused::Nodes(count)) => Err(Refusal::Cause(Cause::Size(count as u64))),
-        Err(ParseRefused::NoMemory) => Err(Refusal::NoMemory),
+        Reading::Refused(fault) => Err(Refusal::Cause(cause_of(fault))),
+    }
+}
+
+/// What is wrong with a text that has this fault.
+fn cause_of(fault: FormulaFault) -> Cause
+    ensures { result ≡ cause_of fault }
+{
+    match fault {
+        FormulaFault::Long => Cause::TooLong,
+        FormulaFault::Lexical(byte) => Cause::Lexical(byte),
+        FormulaFault::Grammar(byte) => Cause::Grammar(byte),
+        FormulaFault::Nodes(count) => Cause::Size(count as u64),
     }
 }
 
@@ -85,24 +83,24 @@ pub fn formula_of(
     Ok(Tree { table, root, size })
 }
 
-/// Whether the formula is the letter of this name.
-fn is_letter_of(tree: &Tree, name: &str) -> bool
-    ensures { IsTrue result ↔ (tree_in tree.now ≡ Letter (Name name.now)) }
-{
-    match tree.table.node(tree.root) {
-        Node::Letter(letter) => tree.table.name_of(letter) == name,
-        _ => false,
-    }
-}
-
 /// Whether the text is that of one letter, and of nothing around it.
 pub fn is_letter(alloc: Global, name: &str) -> Result<bool, AllocError>
     ensures { IfOk result (λ b. IsTrue b ↔ IsLetter name.now) }
 {
-    ltl_parser::laws::one_outcome();
-    match written(alloc, name.as_bytes()) {
-        Ok(tree) => Ok(is_letter_of(&tree, name)),
-        Err(Refusal::Cause(_)) => Ok(false),
-        Err(Refusal::NoMemory) => Err(AllocError),
+    formula_reading::laws::one_reading();
+    match read_formula(alloc, name.as_bytes())? {
+        Reading::Formula { table, root } => Ok(is_letter_of(&table, root, name)),
+        Reading::Refused(_) => Ok(false),
+    }
+}
+
+/// Whether the tree under the root is the letter of this name.
+fn is_letter_of(table: &FormulaTable, root: u32, name: &str) -> bool
+    requires { root < length table.now.nodes }
+    ensures { IsTrue result ↔ (tree_at table.now root ≡ Letter (Name name.now)) }
+{
+    match table.node(root) {
+        Node::Letter(letter) => table.name_of(letter) == name,
+        _ => false,
     }
 }

@@ -40,7 +40,8 @@ module _ (t : Table) (number : ℕ) (low : number < length t.nodes) where
   joins (nodes.Binary two.Since a b) tree fine = tt
   joins (nodes.Binary two.Trigger a b) tree fine = tt
 
-  pub is_joint : (node : Node) (children : Option (ℕ × ℕ)) → tree_at t number ≡ made t.names (trees_of t) node → IsFine (length t.names) number node → children ≡ and_children node → Joins children
+  pub is_joint : (node : Node) (children : Option (ℕ × ℕ))
+      → tree_at t number ≡ made t.names (trees_of t) node → IsFine (length t.names) number node → children ≡ and_children node → Joins children
   is_joint node children tree fine e = subst Joins (sym e) (joins node tree fine)
 
 -- ---- cutting
@@ -57,7 +58,8 @@ back xs ys x e = ap reverse e ∙ reverse-append xs (x ∷ [])
 pub cut_none : (t : Table) (root : ℕ) (behind : List ℕ) → behind ≡ [] → root < length t.nodes → IsCut t root root behind
 cut_none t root behind e lt = subst (IsCut t root root) (sym e) (record { low = lt; there = All-nil (λ n. n < length t.nodes); all = refl })
 
-pub cut_more : (t : Table) (root number left right : ℕ) (behind more : List ℕ) → IsCut t root number behind → IsJoint t number left right → more ≡ behind ++ right ∷ [] → IsCut t root left more
+pub cut_more : (t : Table) (root number left right : ℕ) (behind more : List ℕ)
+    → IsCut t root number behind → IsJoint t number left right → more ≡ behind ++ right ∷ [] → IsCut t root left more
 cut_more t root number left right behind more cut joint e = record {
   low = joint.left_there;
   there = subst (All (λ n. n < length t.nodes)) (sym (back behind more right e)) (All-cons (λ n. n < length t.nodes) right (reverse behind) joint.right_there cut.there);
@@ -65,7 +67,8 @@ cut_more t root number left right behind more cut joint e = record {
       (ap (λ f. joined_to f (map (tree_at t) (reverse behind))) (sym joint.tree) ∙ cut.all);
 }
 
-pub cut_end : (t : Table) (root number count : ℕ) (behind more parts : List ℕ) → IsCut t root number behind → length behind + 1 ≡ count → more ≡ behind ++ number ∷ [] → parts ≡ reverse more → ArePartsOf t root count parts
+pub cut_end : (t : Table) (root number count : ℕ) (behind more parts : List ℕ)
+    → IsCut t root number behind → length behind + 1 ≡ count → more ≡ behind ++ number ∷ [] → parts ≡ reverse more → ArePartsOf t root count parts
 cut_end t root number count behind more parts cut many e is = subst (ArePartsOf t root count) (sym (is ∙ back behind more number e)) (record {
   there = All-cons (λ n. n < length t.nodes) number (reverse behind) cut.low cut.there;
   many = omega (arith, length-reverse behind, many);
@@ -74,14 +77,16 @@ cut_end t root number count behind more parts cut many e is = subst (ArePartsOf 
 
 -- ---- what was cut is a core
 
-pub core_made : (c : Core) (r whole : Replaced) (count : ℕ) (parts : List ℕ) → c.table ≡ whole.table → c.parts.items ≡ parts → whole ≡ r → ArePartsOf r.table r.root count parts
+pub core_made : (c : Core) (r whole : Replaced) (count : ℕ) (parts : List ℕ)
+    → c.table ≡ whole.table → c.parts.items ≡ parts → whole ≡ r → ArePartsOf r.table r.root count parts
     → (c.table ≡ r.table) × ArePartsOf c.table r.root count c.parts.items
 core_made c r whole count parts table items same are =
     let e : c.table ≡ r.table = table ∙ ap (λ x. x.table) same in
     (e, subst (λ t. ArePartsOf t r.root count c.parts.items) (sym e) (subst (ArePartsOf r.table r.root count) (sym items) are))
 
 module _ (kind : Kind) (f : Formula) (formulas : List Formula) (r : Replaced) (c : Core) where
-  pub is_core : IsReplaced kind f r → c.table ≡ r.table → ArePartsOf c.table r.root (length formulas) c.parts.items → f ≡ all_of formulas → IsCoreOf kind formulas c
+  pub is_core : IsReplaced kind f r → c.table ≡ r.table
+      → ArePartsOf c.table r.root (length formulas) c.parts.items → f ≡ all_of formulas → IsCoreOf kind formulas c
   is_core is table parts same =
       let tree : tree_at c.table r.root ≡ tree_at r.table r.root = ap (λ t. tree_at t r.root) table in
       record {

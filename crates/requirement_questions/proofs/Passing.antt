@@ -52,7 +52,8 @@ module _ (task : Task) (is : IsTask task) where
       within = omega arith;
     }
 
-    pub before_marked : (new : List Bool) (size : ℕ) → length new ≡ length marks → AreSame (marked new) (added (formula_of task) (marked marks) at) → get_or task.sizes.items at 0 ≡ size
+    pub before_marked : (new : List Bool) (size : ℕ) → length new ≡ length marks → AreSame (marked new) (added (formula_of task) (marked marks) at)
+        → get_or task.sizes.items at 0 ≡ size
         → AreBefore task new (at + size)
     before_marked new size long same e =
         let f = formula_of task in

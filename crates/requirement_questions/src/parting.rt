@@ -1,8 +1,8 @@
-// The core of a conflict: what of its members it cannot do without. Occurrences are replaced by fresh letters, a
-// parent before its children, where no trace satisfies the members even then.
+// The core of a conflict: what of its members it cannot do without. Occurrences are replaced by fresh
+// letters, a parent before its children, where no trace satisfies the members even then.
 //
-// The formula that says all members is theirs joined by `&`, each to those before it. So its first places are
-// the joints, one fewer than the members. They stay, and what is left is cut there into a part for each member.
+// The formula that says all members is theirs joined by `&`, each to those before it. So its first places
+// are the joints, one fewer than the members. They stay, and what is left is cut there into a part for each.
 ghost use Rattle.std.specs.Prelude.{◌≡◌, ◌<◌, ◌≤◌, List, length, IfOk, IfSome};
 ghost use Rattle.ltl_syntax.specs.Formula.{Formula};
 ghost use Rattle.ltl_syntax.specs.Table.{tree_at};

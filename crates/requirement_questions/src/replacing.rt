@@ -1,6 +1,6 @@
-// Occurrences of a formula that it does without: each is replaced by a fresh letter, if no trace satisfies the
-// formula even then. They are gone over once, a parent before its children. An occurrence that was needed stays
-// needed, since with more of them replaced there are only more traces.
+// Occurrences of a formula that it does without: each is replaced by a fresh letter, if no trace satisfies
+// the formula even then. They are gone over once, a parent before its children. An occurrence that was needed
+// stays needed, since with more of them replaced there are only more traces.
 ghost use Rattle.std.specs.Prelude.{◌≡◌, ◌<◌, true, length, IfOk, IfSome};
 ghost use Rattle.ltl_syntax.specs.Table.{tree_at};
 ghost use Rattle.ltl_syntax.specs.Replacement.{IsKept, rep};
@@ -25,8 +25,8 @@ pub struct Replaced {
     pub root: u32,
 }
 
-/// The formula under a root with each occurrence from a place on replaced that it does without. None where there
-/// is no such occurrence, or where it has fresh letters of its own.
+/// The formula under a root with each occurrence from a place on replaced that it does without. None where
+/// there is no such occurrence, or where it has fresh letters of its own.
 pub fn replaced_from(
     alloc: Global,
     table: &FormulaTable,
@@ -54,7 +54,8 @@ fn pass(
     limits: Limits,
 ) -> Result<Option<Box<Replaced>>, AllocError>
     requires { IsTask task.now }
-    ensures { IfOk result (λ found. IfSome found (λ r. IsReplaced task.now.kind (formula_of task.now) r.value)) }
+    ensures { IfOk result (λ found. IfSome found (λ r. IsReplaced task.now.kind
+        (formula_of task.now) r.value)) }
 {
     let mut marks = vec![in alloc; false; task.order.len()]?;
     let end = task.order.len() as u32;
@@ -84,7 +85,8 @@ fn with_one(
     requires task { IsTask task.now }
     requires marks { AreMarks task.now marks.now.items }
     requires kept { IsKept (formula_of task.now) (marked marks.now.items) place }
-    ensures { IfOk result (λ found. IfSome found (λ r. IsReplaced task.now.kind (formula_of task.now) r.value)) }
+    ensures { IfOk result (λ found. IfSome found (λ r. IsReplaced task.now.kind
+        (formula_of task.now) r.value)) }
 {
     let mut more = copied(alloc, marks)?;
     mark(task, &mut more, place);
@@ -129,7 +131,8 @@ fn is_refuted(
     limits: Limits,
 ) -> Result<bool, AllocError>
     requires { formula.now.root < length formula.now.table.nodes }
-    ensures { IfOk result (λ refuted. refuted ≡ true → HasNoTrace kind (tree_at formula.now.table formula.now.root)) }
+    ensures { IfOk result (λ refuted. refuted ≡ true
+        → HasNoTrace kind (tree_at formula.now.table formula.now.root)) }
 {
     laws::nothing_satisfies();
     let few = Limits {

@@ -12,6 +12,7 @@ use Rattle.cnf_base.specs.Known.{AreKnown}
 use Rattle.derivation.specs.Steps.{DerivationValue, AreSteps}
 use Rattle.enc_layout.specs.Letters.{letters_through}
 use Rattle.enc_layout.specs.Clauses.{counts, clause_list}
+use Rattle.enc_layout.specs.Limit.{IsInForce}
 use Rattle.enc_layout.specs.Targets.{CloseTableau}
 use Rattle.unravel.specs.declared.decision.Decision.{Decision}
 use Rattle.unravel.specs.declared.decision.Decision.TheVariants as decisions
@@ -39,6 +40,10 @@ abbrev pub IsDecision : Formula → Kind → ℕ → Decision → Type 0
 IsDecision f kind limit (decisions.Sat k t) = IsVerdict f kind limit (Sat k) × IsTraceOfRun f kind k t × IsModel f kind t
 IsDecision f kind limit (decisions.Unsat k log targets) = IsVerdict f kind limit (Unsat k) × IsRefutation f kind k log targets.items
 IsDecision f kind limit (decisions.Undecided k) = IsVerdict f kind limit (Undecided k)
+
+-- the decision is the tableau's verdict at the limit in force for the asked number, with what shows it
+abbrev pub IsDecisionInForce : Formula → Kind → ℕ → Decision → Type 0
+IsDecisionInForce f kind asked decision = (limit : ℕ) × IsInForce f kind asked limit × IsDecision f kind limit decision
 
 abbrev pub IsUnsat : Decision → Type 0
 IsUnsat (decisions.Sat k t) = ⊥

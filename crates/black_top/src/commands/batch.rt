@@ -6,17 +6,14 @@ ghost use Rattle.black_top.specs.Batch.{IsBatched};
 ghost use Rattle.black_top.specs.Inner.{Shows};
 
 use super::check::DEFAULT_WORKERS;
-use super::solve::DEFAULT_DEPTH;
+use super::limit::DEFAULT_DEPTH;
 use crate::output::{Output, batched, refusal};
 use batch_run::answers;
-use command_words::Options;
+use command_words::{MAX_BATCH, Options};
 use ltl_io::Gate;
 use report::Fault;
 use std::alloc::{AllocError, Global};
 use std::thread::Threads;
-
-/// The most bytes of a batch.
-pub const MAX_BATCH: usize = 16_777_216;
 
 /// The answers to the lines of a text. A text that is too long may be a front of the input.
 pub fn batch<R: Threads + Sync, G: Gate + Sync>(

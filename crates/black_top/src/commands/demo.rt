@@ -1,15 +1,14 @@
 // `demo`: the tableau's verdict on a token ring over infinite traces, with how much there was to decide.
-ghost use Rattle.std.specs.Prelude.{◌≡◌, ◌<◌, ◌≤◌, length, IfOk};
+ghost use Rattle.std.specs.Prelude.{◌≡◌, ℕ, ◌<◌, ◌≤◌, length, IfOk};
 ghost use Rattle.ltl_syntax.specs.Formula.{nodes_in};
 ghost use Rattle.ltl_syntax.specs.Table.{tree_at};
 ghost use Rattle.ltl_closure.specs.Run.{Verdict, IsVerdict};
-ghost use Rattle.enc_layout.specs.Letters.{Fits};
-ghost use Rattle.enc_layout.specs.Clauses.{layout_of};
+ghost use Rattle.enc_layout.specs.Limit.{IsInForce};
 ghost use Rattle.black_top.specs.Answer.{Answer};
 ghost use Rattle.black_top.specs.Demo.{IsShown, ring, shown_verdict};
 ghost use Rattle.black_top.specs.Inner.{Shows};
 
-use super::solve::DEFAULT_DEPTH;
+use super::limit::DEFAULT_DEPTH;
 use crate::output::{Output, refusal, summary};
 use crate::ring::demo_text;
 use enc_layout::Layout;
@@ -18,7 +17,7 @@ use ltl_syntax::{FormulaTable, Kind};
 use program_input::{Reading, read_formula};
 use report::{Shown, Summary};
 use std::alloc::{AllocError, Global};
-use unravel::Decision;
+use unravel::{Decision, decide_in_force};
 
 /// The summary of the ring of so many places.
 pub fn demo(alloc: Global, number: u32) -> Result<Output, AllocError>
@@ -50,9 +49,8 @@ fn summarize(
     ensures { IfOk result (λ out. (a : Answer) × IsShown number a × Shows out a) }
 {
     let closure = Closure::of(alloc, table, root, Kind::Infinite)?;
+    let verdict = verdict(alloc, &closure)?;
     let layout = Layout::of(&closure);
-    let limit = layout.greatest_depth(DEFAULT_DEPTH);
-    let verdict = decide(alloc, &closure, limit)?;
     let about = Summary {
         number,
         nodes: table.len(),
@@ -63,14 +61,13 @@ fn summarize(
     summary(alloc, &about)
 }
 
-/// The tableau's verdict at the limit, as it is shown.
-fn decide(alloc: Global, closure: &Closure<'_>, limit: u32) -> Result<Shown, AllocError>
-    requires few { limit ≤ 1000 }
-    requires fits { Fits (layout_of closure.now) limit }
-    ensures { IfOk result (λ shown. (v : Verdict)
+/// The tableau's verdict at the limit in force, as it is shown.
+fn verdict(alloc: Global, closure: &Closure<'_>) -> Result<Shown, AllocError>
+    ensures { IfOk result (λ shown. (limit : ℕ) × (v : Verdict)
+        × IsInForce closure.now.formula closure.now.kind 64 limit
         × IsVerdict closure.now.formula closure.now.kind limit v × (shown ≡ shown_verdict v)) }
 {
-    match unravel::decide(alloc, closure, limit)? {
+    match decide_in_force(alloc, closure, DEFAULT_DEPTH)? {
         Decision::Sat { depth, .. } => Ok(Shown::Sat(depth)),
         Decision::Unsat { depth, .. } => Ok(Shown::Unsat(depth)),
         Decision::Undecided { depth } => Ok(Shown::Undecided(depth)),

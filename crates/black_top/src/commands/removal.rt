@@ -84,9 +84,11 @@ fn alone(alloc: Global, removed: &Removed) -> Result<Output, AllocError>
     ensures { IfOk result (λ out. Shows out (depasted (tree_at removed.now.table removed.now.root))) }
 {
     let formula = print(alloc, removed.table(), removed.root())?;
+    let mut text = Vec::new(alloc);
+    report::depasted(&formula, &mut text)?;
     Ok(Output {
         status: Status::Good,
-        text: report::depasted(alloc, &formula)?,
+        text,
     })
 }
 
@@ -126,8 +128,10 @@ fn with_trace(alloc: Global, removed: &Removed, trace: &Trace) -> Result<Output,
     ensures reads { OnOk result (IsReading (trace_text trace.now) (Ok trace.now)) }
 {
     let formula = print(alloc, removed.table(), removed.root())?;
+    let mut text = Vec::new(alloc);
+    report::lifted(alloc, &formula, trace, &mut text)?;
     Ok(Output {
         status: Status::Good,
-        text: report::lifted(alloc, &formula, trace)?,
+        text,
     })
 }

@@ -1,24 +1,24 @@
 // `solve`: whether a formula has a trace of the kind, by the tableau's verdict at the limit in force.
-ghost use Rattle.std.specs.Prelude.{◌<◌, ◌≤◌, length, option_map, vec_items, IfOk};
+ghost use Rattle.std.specs.Prelude.{◌<◌, ◌≤◌, length, IfOk, OnOk};
 ghost use Rattle.ltl_syntax.specs.Formula.{HasNoFresh};
 ghost use Rattle.ltl_syntax.specs.Table.{tree_at};
 ghost use Rattle.enc_layout.specs.Letters.{Fits};
 ghost use Rattle.enc_layout.specs.Clauses.{layout_of};
 ghost use Rattle.enc_layout.specs.Limit.{IsInForce};
 ghost use Rattle.unravel.specs.Decision.{IsRefutation};
-ghost use Rattle.cert_check.specs.Lawful.{IsLawfulAt};
 ghost use Rattle.command_words.specs.Asked.{IsDepth, AreWorkers};
 ghost use Rattle.black_top.specs.Answer.{Answer};
-ghost use Rattle.black_top.specs.Solve.{Certifies, IsWritten, IsSolved, IsSettled, IsDecided};
-ghost use Rattle.black_top.specs.Inner.{Shows};
+ghost use Rattle.black_top.specs.Solve.{IsSolved, IsSettled, IsDecided};
+ghost use Rattle.black_top.specs.Inner.{Shows, AddsCertificate, AddsShown};
 
 use super::conflict::shown_core;
+use super::limit::{DEFAULT_DEPTH, limit_for};
 use crate::output::{Output, refusal, sat, undecided, unsat};
+use cert_text::append;
 use clause_index::Indexed;
 use cnf_base::Clauses;
 use command_words::Options;
 use derivation::NamedLog;
-use enc_layout::Layout;
 use log_trim::trim;
 use ltl_closure::Closure;
 use ltl_io::Gate;
@@ -28,9 +28,6 @@ use report::Fault;
 use std::alloc::{AllocError, Global};
 use std::thread::Threads;
 use unravel::Decision;
-
-/// The depth up to which `solve` goes where none is asked for.
-pub const DEFAULT_DEPTH: u32 = 64;
 
 /// The answer to the text of a formula. A text that is too long may be a front of the input.
 pub fn solve<R: Threads + Sync, G: Gate + Sync>(
@@ -70,13 +67,11 @@ fn settle<R: Threads + Sync, G: Gate + Sync>(
         × Shows out a) }
 {
     let closure = Closure::of(alloc, table, root, options.kind)?;
-    let layout = Layout::of(&closure);
-    let number = options.depth.unwrap_or(DEFAULT_DEPTH);
-    let limit = layout.greatest_depth(number);
-    if options.depth.is_some() && limit < number {
-        return refusal(alloc, Fault::Letters(limit));
+    let asked = options.depth.unwrap_or(DEFAULT_DEPTH);
+    match limit_for(&closure, options.depth) {
+        Ok(limit) => decide(rt, alloc, &closure, asked, limit, options, gate),
+        Err(limit) => refusal(alloc, Fault::Letters(limit)),
     }
-    decide(rt, alloc, &closure, number, limit, options, gate)
 }
 
 /// The tableau's verdict at the limit in force. Where there is no trace, the core and a certificate come with
@@ -108,14 +103,23 @@ fn decide<R: Threads + Sync, G: Gate + Sync>(
             targets,
         } => {
             let conflict = shown_core(rt, alloc, closure, asked, options, gate)?;
-            let text = shown_certificate(alloc, closure, depth, log, &targets, options.cert)?;
-            unsat(alloc, depth, conflict.as_deref(), text.as_deref())
+            let mut out = unsat(alloc, depth, conflict.as_deref())?;
+            shown_certificate(
+                alloc,
+                closure,
+                depth,
+                log,
+                &targets,
+                options.cert,
+                &mut out.text,
+            )?;
+            Ok(out)
         }
         Decision::Undecided { depth } => undecided(alloc, depth),
     }
 }
 
-/// The text of a certificate, where one is asked for.
+/// Adds the text of a certificate, where one is asked for.
 fn shown_certificate(
     alloc: Global,
     closure: &Closure<'_>,
@@ -123,40 +127,39 @@ fn shown_certificate(
     log: NamedLog,
     targets: &[u64],
     cert: bool,
-) -> Result<Option<Vec<u8>>, AllocError>
+    out: &mut Vec<u8>,
+) -> Result<(), AllocError>
     requires few { depth ≤ 1000 }
     requires fits { Fits (layout_of closure.now) depth }
     requires refutes { IsRefutation closure.now.formula closure.now.kind depth log targets.now }
-    ensures { IfOk result (λ shown. Certifies cert closure.now.formula closure.now.kind depth
-        (option_map vec_items shown)) }
+    ensures { OnOk result (AddsShown cert closure.now.formula closure.now.kind depth
+        out.old.items out.new.items) }
 {
     if !cert {
-        return Ok(None);
+        return Ok(());
     }
-    let text = certificate(alloc, closure, depth, log, targets)?;
-    Ok(Some(text))
+    certificate(alloc, closure, depth, log, targets, out)
 }
 
-/// The text of a certificate of this depth: the lines of the log that its targets stand on, and no others.
+/// Adds the text of a certificate of this depth: the lines of the log that its targets stand on, and no others.
 pub fn certificate(
     alloc: Global,
     closure: &Closure<'_>,
     depth: u32,
     log: NamedLog,
     targets: &[u64],
-) -> Result<Vec<u8>, AllocError>
+    out: &mut Vec<u8>,
+) -> Result<(), AllocError>
     requires few { depth ≤ 1000 }
     requires fits { Fits (layout_of closure.now) depth }
     requires refutes { IsRefutation closure.now.formula closure.now.kind depth log targets.now }
-    ensures lawful { IfOk result (λ text.
-        IsLawfulAt closure.now.formula closure.now.kind depth text.items) }
-    ensures written { IfOk result (λ text.
-        IsWritten closure.now.formula closure.now.kind depth text.items) }
+    ensures { OnOk result (AddsCertificate closure.now.formula closure.now.kind depth
+        out.old.items out.new.items) }
 {
     cert_check::laws::trimmed();
     let (needed, numbers) = trim(alloc, log, targets)?;
     // The counts are numbers of 64 bits, so the text can name each clause and each line.
     let clauses = Indexed::of(closure, depth);
     let _counts = (clauses.count(), needed.lines());
-    cert_text::write(alloc, closure.kind(), depth, &needed, &numbers)
+    append(alloc, closure.kind(), depth, &needed, &numbers, out)
 }

@@ -16,12 +16,12 @@ ghost use Rattle.black_top.specs.SystemInner.{refused_part, IsRead, IsPartRead, 
 ghost use Rattle.black_top.specs.Inner.{Shows};
 ghost use Rattle.report.specs.Texts.{Proof};
 
-use crate::commands::solve::{DEFAULT_DEPTH, certificate};
+use crate::commands::limit::limit_for;
+use crate::commands::solve::certificate;
 use crate::output::{Output, no_path, path_fails, paths_hold, paths_hold_by, refusal, undecided};
 use crate::parts::{ThreeParts, cut_twice};
 use command_words::Options;
 use derivation::NamedLog;
-use enc_layout::Layout;
 use ltl_closure::Closure;
 use ltl_syntax::{FormulaTable, Kind, print};
 use program_input::{MAX_TEXT, Reading, read_formula};
@@ -223,13 +223,10 @@ fn judge(alloc: Global, joined: &Joined, options: Options) -> Result<Output, All
         → (a : Answer) × IsSettled options.depth options.cert f g h a × Shows out a) }
 {
     let closure = Closure::of(alloc, &joined.table, joined.whole, Kind::Infinite)?;
-    let layout = Layout::of(&closure);
-    let number = options.depth.unwrap_or(DEFAULT_DEPTH);
-    let limit = layout.greatest_depth(number);
-    if options.depth.is_some() && limit < number {
-        return refusal(alloc, Fault::Letters(limit));
+    match limit_for(&closure, options.depth) {
+        Ok(limit) => decide(alloc, joined, &closure, limit, options.cert),
+        Err(limit) => refusal(alloc, Fault::Letters(limit)),
     }
-    decide(alloc, joined, &closure, limit, options.cert)
 }
 
 /// The answer at the limit, with a certificate where one is asked for and each path satisfies the goal.
@@ -285,7 +282,8 @@ fn proved(
         × ProvesWhole true (tree_at joined.now.table joined.now.whole) depth shown
         × Shows out (paths_hold depth shown)) }
 {
-    let text = certificate(alloc, closure, depth, log, targets)?;
     let formula = print(alloc, &joined.table, joined.whole)?;
-    paths_hold_by(alloc, depth, &formula, &text)
+    let mut out = paths_hold_by(alloc, depth, &formula)?;
+    certificate(alloc, closure, depth, log, targets, &mut out.text)?;
+    Ok(out)
 }

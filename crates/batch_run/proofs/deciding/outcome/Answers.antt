@@ -1,15 +1,15 @@
-use Rattle.std.proofs.Common.{List, None, sym, subst}
-use Rattle.ltl_lexer.specs.declared.token.Token.{Token}
-use Rattle.ltl_lexer.specs.Tokens.{AreTokens}
-use Rattle.batch_run.specs.Outcomes.{HasManyNodes}
-use Rattle.batch_run.proofs.Decided.{nodes_are_many}
+use Rattle.std.proofs.Common.{sym, subst}
+use Rattle.ltl_syntax.specs.Table.{tree_at}
+use Rattle.batch_run.specs.Outcomes.{IsOutcome}
+use Rattle.batch_run.proofs.Decided.{outcome_of_fault, shown_outcome}
 use Rattle.batch_run.proofs.deciding.outcome.Goals as goal
 
-pub returns-in-Err-Nodes : goal.returns-in-Err-Nodes
-returns-in-Err-Nodes c =
-    let text = c.args.text.now in
-    let lexed : AreTokens 0 text c.deref.result.now None = subst (λ (ts : List Token). AreTokens 0 text ts None) (sym c.deref.ensures.value) c.in-Ok.ensures.ok in
-    let refused = rw c.in-Err-Nodes.field-0-is at c.in-Err-Nodes.ensures.refused in
-    let many : HasManyNodes text c.in-Err-Nodes.count = nodes_are_many text c.deref.result.now c.in-Err-Nodes.count c.read_without_fault.ensures c.nodes_of_text.ensures.one_count c.nodes_of_text.ensures.nodes lexed refused.0 refused.1 refused.2 in
-    let is = c.in-Err-Nodes.count-is in
-    rw c.in-Err-Nodes.field-0-is (c.if-text-gt-MAX_TEXT.false, many)
+pub returns-in-Formula : goal.returns-in-Formula
+returns-in-Formula c =
+    let reading = rw c.in-Formula.is at c.in_ok-table.ensures in
+    shown_outcome c.args.text.now (tree_at c.in-Formula.table c.in-Formula.root) c.args.kind c.args.asked c.verdict.result reading.1 c.verdict.ensures
+
+pub returns-in-Refused : goal.returns-in-Refused
+returns-in-Refused c =
+    let wrong = rw c.in-Refused.is at c.in_ok-table.ensures in
+    subst (IsOutcome c.args.kind c.args.asked c.args.text.now) (sym c.refusal_of.ensures) (outcome_of_fault c.args.kind c.args.asked c.args.text.now c.in-Refused.fault wrong)

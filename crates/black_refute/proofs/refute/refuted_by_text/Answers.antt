@@ -1,10 +1,10 @@
-use Rattle.std.proofs.Common.{◌∙◌, List, ℕ, true, refl, sym, subst}
+use Rattle.std.proofs.Common.{refl, subst}
 use Rattle.claims.specs.Lawful.{IsLawful}
 use Rattle.claim_check.specs.Data.{certificate_in}
-use Rattle.claim_text.specs.Text.{IsTextOf}
-use Rattle.black_refute.specs.Answer.{certified, undecided}
-use Rattle.black_refute.specs.Refuting.{IsFound, certified_so, open_yet}
-use Rattle.black_refute.proofs.Showing.{shown}
+use Rattle.claim_text.specs.Text.{text_of}
+use Rattle.black_refute.specs.Answer.{undecided}
+use Rattle.black_refute.specs.Refuting.{IsFound, open_yet}
+use Rattle.black_refute.proofs.Showing.{shown, certified_shown}
 use Rattle.black_refute.proofs.refute.refuted_by_text.Goals as goal
 
 pub returns-in-Err-Form : goal.returns-in-Err-Form
@@ -14,11 +14,10 @@ pub returns-in-Verified : goal.returns-in-Verified
 returns-in-Verified c =
     let value = c.args.closure.now in
     let certificate = certificate_in c.in-Ok.again in
-    let text = c.deref-in-Verified.result.now in
     let lawful : IsLawful value.formula value.kind certificate =
     subst (λ k. IsLawful value.formula k certificate) c.kind.ensures (c.in_ok-check.ensures.lawful.0 c.in-Verified.is) in
-    let is : IsTextOf text certificate = subst (λ (bytes : List ℕ). IsTextOf bytes certificate) (c.deref.ensures.value ∙ sym c.deref-in-Verified.ensures.value) c.in-Ok.ensures in
-    shown (IsFound value.kind true value.formula) (certified text) c.certified.result (certified_so certificate text refl lawful is) c.certified.ensures
+    certified_shown value.kind value.formula certificate c.in_ok-out.out (record { status = c.in_ok-out.out.status; text = c.append.new.out }) (text_of (certificate_in c.args.found.now)) c.index.result.now c.len-start.result
+    c.in_ok-out.ensures refl c.len-start.ensures c.in_ok-append.ensures c.index.ensures lawful c.in-Ok.ensures
 
 pub returns : goal.returns
 returns c = shown (IsFound c.args.closure.now.kind true c.args.closure.now.formula) undecided c.undecided-in-Refused.result open_yet c.undecided-in-Refused.ensures

@@ -19,31 +19,31 @@ returns-in_default-clause-given g c =
 pub returns-in_default-clause-left : goal.returns-in_default-clause-left
 returns-in_default-clause-left g c command asks = let none = rw c.in_default.is at c.in_ok-asked.ensures in absurd (none command asks)
 
-pub returns-in_default-stop_after-clause-given : goal.returns-in_default-stop_after-clause-given
-returns-in_default-stop_after-clause-given g c =
+pub returns-in_default-stop-clause-given : goal.returns-in_default-stop-clause-given
+returns-in_default-stop-clause-given g c =
     let is : IsAsked (map string_bytes c.args.words.now) c.in-Some.asked = rw c.in-Some.is at c.in_ok-asked.ensures in
     let given = c.in_ok-output.ensures in
-    (given.0, given_unread (map string_bytes c.args.words.now) (g.S.Source.rest c.args.source.now) c.in-Some.asked [] given.0 is (sym c.in_default-stop_after.ensures) given.1, given.2)
+    (given.0, given_unread (map string_bytes c.args.words.now) (g.S.Source.rest c.args.source.now) c.in-Some.asked [] given.0 is (sym c.in_default-stop.ensures) given.1, given.2)
 
-pub returns-in_default-stop_after-clause-left : goal.returns-in_default-stop_after-clause-left
-returns-in_default-stop_after-clause-left g c command asks =
+pub returns-in_default-stop-clause-left : goal.returns-in_default-stop-clause-left
+returns-in_default-stop-clause-left g c command asks =
     let is : IsAsked (map string_bytes c.args.words.now) c.in-Some.asked = rw c.in-Some.is at c.in_ok-asked.ensures in
-    takes_none (row_of command).reads (g.S.Source.rest c.args.source.now) (stops (map string_bytes c.args.words.now) c.in-Some.asked command is asks ∙ sym c.in_default-stop_after.ensures)
+    takes_none (row_of command).reads (g.S.Source.rest c.args.source.now) (stops (map string_bytes c.args.words.now) c.in-Some.asked command is asks ∙ sym c.in_default-stop.ensures)
 
 pub returns-in_err-bytes-clause-unread : goal.returns-in_err-bytes-clause-unread
 returns-in_err-bytes-clause-unread g c nothing =
     let is : IsAsked (map string_bytes c.args.words.now) c.in-Some.asked = rw c.in-Some.is at c.in_ok-asked.ensures in
-    absurd (reads (map string_bytes c.args.words.now) c.in-Some.asked c.in-Some-stop_after.most is (sym c.in-Some-stop_after.ensures) nothing)
+    absurd (reads (map string_bytes c.args.words.now) c.in-Some.asked c.in-Some-stop.most is (sym c.in-Some-stop.ensures) nothing)
 
 pub returns-in_err-shown-clause-unread : goal.returns-in_err-shown-clause-unread
 returns-in_err-shown-clause-unread g c nothing =
     let is : IsAsked (map string_bytes c.args.words.now) c.in-Some.asked = rw c.in-Some.is at c.in_ok-asked.ensures in
-    absurd (reads (map string_bytes c.args.words.now) c.in-Some.asked c.in-Some-stop_after.most is (sym c.in-Some-stop_after.ensures) nothing)
+    absurd (reads (map string_bytes c.args.words.now) c.in-Some.asked c.in-Some-stop.most is (sym c.in-Some-stop.ensures) nothing)
 
 pub returns-clause-unread : goal.returns-clause-unread
 returns-clause-unread g c nothing =
     let is : IsAsked (map string_bytes c.args.words.now) c.in-Some.asked = rw c.in-Some.is at c.in_ok-asked.ensures in
-    absurd (reads (map string_bytes c.args.words.now) c.in-Some.asked c.in-Some-stop_after.most is (sym c.in-Some-stop_after.ensures) nothing)
+    absurd (reads (map string_bytes c.args.words.now) c.in-Some.asked c.in-Some-stop.most is (sym c.in-Some-stop.ensures) nothing)
 
 pub returns-clause-given : goal.returns-clause-given
 returns-clause-given g c =
@@ -54,7 +54,7 @@ returns-clause-given g c =
     let given = c.in_ok-shown.ensures in
     let fits : length text ≤ 18446744073709551615 = omega (arith, c.in_ok-bytes.bytes.ok, c.in_ok-bytes.bytes.small, c.deref.ensures.len) in
     let gives : Gives c.in-Some.asked text given.0 = subst (λ (bytes : List ℕ). Gives c.in-Some.asked bytes given.0) c.deref.ensures.value given.1 in
-    (given.0, given_left (map string_bytes c.args.words.now) rest after c.in-Some.asked c.in-Some-stop_after.most text given.0 is (sym c.in-Some-stop_after.ensures) c.in_ok-bytes.ensures.bytes fits gives, given.2)
+    (given.0, given_left (map string_bytes c.args.words.now) rest after c.in-Some.asked c.in-Some-stop.most text given.0 is (sym c.in-Some-stop.ensures) c.in_ok-bytes.ensures.bytes fits gives, given.2)
 
 pub returns-clause-left : goal.returns-clause-left
 returns-clause-left g c command asks =
@@ -63,12 +63,12 @@ returns-clause-left g c command asks =
     let text = c.in_ok-bytes.bytes.items in
     let is : IsAsked (map string_bytes c.args.words.now) c.in-Some.asked = rw c.in-Some.is at c.in_ok-asked.ensures in
     let fits : length text ≤ 18446744073709551615 = omega (arith, c.in_ok-bytes.bytes.ok, c.in_ok-bytes.bytes.small, c.deref.ensures.len) in
-    takes (row_of command).reads c.in-Some-stop_after.most text rest after (stops (map string_bytes c.args.words.now) c.in-Some.asked command is asks ∙ sym c.in-Some-stop_after.ensures) c.in_ok-bytes.ensures.bytes fits c.in_ok-bytes.ensures.bounded
+    takes (row_of command).reads c.in-Some-stop.most text rest after (stops (map string_bytes c.args.words.now) c.in-Some.asked command is asks ∙ sym c.in-Some-stop.ensures) c.in_ok-bytes.ensures.bytes fits c.in_ok-bytes.ensures.bounded
 
 pub returns-in_err-bytes-clause-before_fault : goal.returns-in_err-bytes-clause-before_fault
 returns-in_err-bytes-clause-before_fault g c fault command asks =
     let rest = g.S.Source.rest c.args.source.now in
     let after = g.S.Source.rest c.read_whole.new.source in
     let is : IsAsked (map string_bytes c.args.words.now) c.in-Some.asked = rw c.in-Some.is at c.in_ok-asked.ensures in
-    let lost : LosesAtMost c.in-Some-stop_after.most rest after = search (rules, fault) in
-    lost_before_fault (row_of command).reads c.in-Some-stop_after.most rest after (stops (map string_bytes c.args.words.now) c.in-Some.asked command is asks ∙ sym c.in-Some-stop_after.ensures) lost
+    let lost : LosesAtMost c.in-Some-stop.most rest after = search (rules, fault) in
+    lost_before_fault (row_of command).reads c.in-Some-stop.most rest after (stops (map string_bytes c.args.words.now) c.in-Some.asked command is asks ∙ sym c.in-Some-stop.ensures) lost

@@ -3,15 +3,15 @@ use Rattle.core_extract.proofs.testing.verdict.Goals as goal
 
 pub returns-in-Sat : goal.returns-in-Sat
 returns-in-Sat c =
-    let decision = rw c.in-Sat.is at c.in_ok-decision.ensures.decision in
-    satisfied_by _ _ _ _ _ _ _ c.in_ok-closure.ensures.formula c.in_ok-closure.ensures.kind c.limit_in_force-limit.ensures.force decision.0
+    let (limit, force, decision) = rw c.in-Sat.is at c.in_ok-decision.ensures in
+    satisfied_by _ _ _ _ _ _ _ c.in_ok-closure.ensures.formula c.in_ok-closure.ensures.kind force decision.0
 
 pub returns-in-Unsat : goal.returns-in-Unsat
 returns-in-Unsat c =
-    let decision = rw c.in-Unsat.is at c.in_ok-decision.ensures.decision in
-    refuted_by _ _ _ _ _ _ _ c.in_ok-closure.ensures.formula c.in_ok-closure.ensures.kind c.limit_in_force-limit.ensures.force decision.0
+    let (limit, force, decision) = rw c.in-Unsat.is at c.in_ok-decision.ensures in
+    refuted_by _ _ _ _ _ _ _ c.in_ok-closure.ensures.formula c.in_ok-closure.ensures.kind force decision.0
 
 pub returns : goal.returns
 returns c =
-    let decision = rw c.in-Undecided.is at c.in_ok-decision.ensures.decision in
-    undecided_by _ _ _ _ _ _ _ c.in_ok-closure.ensures.formula c.in_ok-closure.ensures.kind c.limit_in_force-limit.ensures.force decision
+    let (limit, force, decision) = rw c.in-Undecided.is at c.in_ok-decision.ensures in
+    undecided_by _ _ _ _ _ _ _ c.in_ok-closure.ensures.formula c.in_ok-closure.ensures.kind force decision

@@ -14,15 +14,12 @@ returns c =
     let n = c.args.number in
     let value = c.in_ok-closure.closure in
     let layout = c.of-layout.result in
-    let limit = c.greatest_depth-limit.result in
-    let greatest = c.greatest_depth-limit.ensures in
     let formula = c.in_ok-closure.ensures.formula ∙ c.requires.ring in
     let kind = c.in_ok-closure.ensures.kind in
     let laid = c.of-layout.ensures.layout in
-    let decided = c.in_ok-verdict.ensures in
+    let (limit, verdict, force, decided, is) = c.in_ok-verdict.ensures in
     let entries = length c.entries.result.now in
     let about : Summary = record { number = n; nodes = c.len.result; entries = entries; letters = c.letters_through.result; verdict = c.in_ok-verdict.verdict } in
-    let force = in_force value (ring n) kinds.Infinite layout 64 limit formula kind laid greatest.below greatest.fits greatest.greatest in
     let nodes = c.len.ensures.count ∙ c.requires.nodes ∙ ap nodes_in c.requires.ring in
-    let comes = summed n limit c.len.result entries c.letters_through.result c.in_ok-verdict.verdict decided.0 value layout formula kind laid force decided.1 nodes c.entries.ensures.closure.long c.letters_through.ensures decided.2 in
+    let comes = summed n limit c.len.result entries c.letters_through.result c.in_ok-verdict.verdict verdict value layout formula kind laid (in_force value (ring n) kinds.Infinite 64 limit formula kind force) decided nodes c.entries.ensures.closure.long c.letters_through.ensures is in
     shown (IsShown n) (summary about) c.summary.result comes c.summary.ensures

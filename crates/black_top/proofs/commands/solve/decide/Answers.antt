@@ -1,4 +1,4 @@
-use Rattle.std.proofs.Common.{arith}
+use Rattle.std.proofs.Common.{refl, arith}
 use Rattle.std.specs.Prelude.{option_map, option_copied, vec_items}
 use Rattle.enc_layout.specs.Clauses.{layout_of}
 use Rattle.ltl_word.specs.Trace.{IsTrace}
@@ -40,11 +40,10 @@ returns-in-Undecided g c =
     shown (IsDecided c.args.closure.now.formula c.args.closure.now.kind c.args.asked c.args.limit c.args.options.core c.args.options.cert) (undecided c.in-Undecided.depth) c.undecided.result
     (undecided_yet c.in-Undecided.depth decision) c.undecided.ensures
 
-pub returns-in_ok-text-in-Unsat : goal.returns-in_ok-text-in-Unsat
-returns-in_ok-text-in-Unsat g c =
+pub returns-in-Unsat : goal.returns-in-Unsat
+returns-in-Unsat g c =
     let value = c.args.closure.now in
     let decision = rw c.in-Unsat.is at c.in_ok-depth.ensures.decision in
-    let conflict = c.in_ok-conflict-in-Unsat.conflict in
-    let text = c.in_ok-text-in-Unsat.text in
-    unsat_shown value.formula value.kind c.args.asked c.args.limit c.in-Unsat.depth c.args.options.core c.args.options.cert c.unsat.result (option_copied c.as_deref.result) (option_copied c.as_deref-in-Unsat.result)
-    (option_map vec_items conflict) (option_map vec_items text) decision.0 c.in_ok-conflict-in-Unsat.ensures c.in_ok-text-in-Unsat.ensures c.as_deref.ensures.value c.as_deref-in-Unsat.ensures.value c.unsat.ensures
+    let begun = c.in_ok-out-in-Unsat.out in
+    unsat_shown value.formula value.kind c.args.asked c.args.limit c.in-Unsat.depth c.args.options.core c.args.options.cert begun (record { status = begun.status; text = c.shown_certificate.new.out })
+    (option_copied c.as_deref.result) (option_map vec_items c.in_ok-conflict-in-Unsat.conflict) decision.0 c.in_ok-conflict-in-Unsat.ensures c.as_deref.ensures.value c.in_ok-out-in-Unsat.ensures refl c.in_ok-shown_certificate.ensures
