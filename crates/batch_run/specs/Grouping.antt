@@ -31,7 +31,7 @@ line_of l = record { number = l.number; bytes = l.text.now }
 abbrev pub lines_of : List Line → List FormulaLine
 lines_of lines = map line_of lines
 
--- the outcomes of one worker's lines: of the line at its own number, and of each that stands so many places behind the one before
+-- the outcomes of one worker's lines: of the line at its own number, and of each that stands as many places behind the one before as there are workers
 abbrev pub AreOwn : Kind → ℕ → List Line → ℕ → ℕ → List Outcome → Type 0
 AreOwn kind asked lines worker workers outcomes = (j : ℕ) (l : Line) (o : Outcome) → j < length outcomes
     → IsOutcome kind asked (get_or lines (worker + j * workers) l).text.now (get_or outcomes j o)

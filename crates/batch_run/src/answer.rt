@@ -17,7 +17,7 @@ pub enum Outcome {
     Lexical(u32),
     /// The tokens read as no formula, by the byte of the first that is wrong, or by the length of the line.
     Grammar(u32),
-    /// The formula has so many nodes, which are more than 16,384.
+    /// The number of nodes of the formula, which are more than 16,384.
     Nodes(u32),
 }
 

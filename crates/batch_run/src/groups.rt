@@ -66,7 +66,7 @@ pub fn answers<R: Threads + Sync, G: Gate + Sync>(
 }
 
 /// How many lines are decided before the answers are taken: those of all these groups, or as many as there
-/// can be in so many bytes, where each takes a byte and the end of the line before it.
+/// can be in this number of bytes, where each takes a byte and the end of the line before it.
 fn most_lines(workers: u32, bytes: usize) -> u32
     requires some { 1 ≤ workers }
     requires few { workers ≤ 16 }
@@ -77,7 +77,7 @@ fn most_lines(workers: u32, bytes: usize) -> u32
     lines.min(workers * GROUPS)
 }
 
-/// A lane for each worker, with room for its lines among so many.
+/// A lane for each worker, with room for its lines among `most` of them.
 fn lanes(alloc: Global, workers: u32, most: u32) -> Result<Vec<Lane>, AllocError>
     requires { 1 ≤ workers }
     ensures { IfOk result (λ lanes. length lanes.items ≡ workers) }
@@ -92,7 +92,7 @@ fn lanes(alloc: Global, workers: u32, most: u32) -> Result<Vec<Lane>, AllocError
     Ok(lanes)
 }
 
-/// Takes the next formula lines, so many at most, or all that are left.
+/// Takes the next formula lines, at most this number, or all that are left.
 fn fill<'t>(rest: &mut Rest<'t>, most: u32, lines: &mut Vec<Line<'t>>) -> Result<(), AllocError>
     requires some { 1 ≤ most }
     requires small { end_of rest.old < 2 ^ 32 }

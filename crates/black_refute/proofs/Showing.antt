@@ -39,6 +39,8 @@ behind first more whole text start at is cut =
 pub certified_shown : (kind : Kind) (f : Formula) (c : Certificate) (begun out : Output) (more text : List ℕ) (start : ℕ) → Shows begun (certified []) → out.status ≡ begun.status → start ≡ length begun.text.items
     → out.text.items ≡ begun.text.items ++ more → text ≡ take (length out.text.items - start) (drop start out.text.items) → IsLawful f kind c → IsTextOf text c → (a : Answer) × IsFound kind true f a × Shows out a
 certified_shown kind f c begun out more text start shows status at is cut lawful spelled =
-    let same : text ≡ more = behind begun.text.items more out.text.items text start at is cut in
-    (certified more, certified_so c more refl lawful (subst (λ (bytes : List ℕ). IsTextOf bytes c) same spelled),
-    record { status = status ∙ shows.status; text = is ∙ ap (λ x. x ++ more) (shows.text ∙ append-nil (line (codes "UNSAT"))) })
+    let same : text ≡ more = behind begun.text.items more out.text.items text start at is cut in (
+      certified more,
+      certified_so c more refl lawful (subst (λ (bytes : List ℕ). IsTextOf bytes c) same spelled),
+      record { status = status ∙ shows.status; text = is ∙ ap (λ x. x ++ more) (shows.text ∙ append-nil (line (codes "UNSAT"))) },
+    )

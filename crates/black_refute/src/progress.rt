@@ -8,8 +8,8 @@ use std::alloc::{AllocError, Global};
 /// How many questions stand between two lines.
 pub const QUESTIONS_IN_A_LINE: u64 = 10_000;
 
-/// Writes a line where lines are asked for and so many questions make one due, and answers how many make the
-/// next one due.
+/// Writes a line where lines are asked for and this number of questions makes one due, and answers how many
+/// make the next one due.
 pub fn tell_at<N: Sink>(
     alloc: Global,
     wanted: bool,

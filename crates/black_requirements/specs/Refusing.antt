@@ -51,7 +51,7 @@ abbrev pub long_text : Place → List ℕ
 long_text places.Document = line (codes "limit document 4194304")
 long_text (places.Entry section number name formula) = line (codes "limit text 1048576 in " ++ place_text (places.Entry section number name formula))
 
--- a place in a formula, behind so many bytes of it: its lines, and a hint where there is one
+-- a place in a formula, by the number of bytes before it: its lines, and a hint where there is one
 abbrev pub formula_place : List ℕ → ℕ → List ℕ
 formula_place text byte = pointing (take byte text) (drop byte text) ++ hint_line (hint (take byte text) (drop byte text))
 

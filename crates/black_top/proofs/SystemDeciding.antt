@@ -36,6 +36,8 @@ module _ (joined : Joined) (limit k : ℕ) (log : DerivationValue) (targets : Ve
 pub proof_shown : (whole : Formula) (k : ℕ) (begun out : Output) (formula : List ℕ) → formula ≡ printed whole → Shows begun (paths_hold k (Some record { formula = formula; certificate = [] })) → out.status ≡ begun.status
     → AddsCertificate whole kinds.Infinite k begun.text.items out.text.items → (shown : Option Proof) × ProvesWhole true whole k shown × Shows out (paths_hold k shown)
 proof_shown whole k begun out formula same shows status adds =
-    let lines : begun.text.items ≡ paths_hold_lines k (printed whole) = shows.text ∙ append-nil (paths_hold_lines k formula) ∙ ap (paths_hold_lines k) same in
-    (Some record { formula = printed whole; certificate = adds.text }, (adds.text, refl, adds.lawful, adds.written),
-    record { status = status ∙ shows.status; text = adds.added ∙ ap (λ x. x ++ adds.text) lines })
+    let lines : begun.text.items ≡ paths_hold_lines k (printed whole) = shows.text ∙ append-nil (paths_hold_lines k formula) ∙ ap (paths_hold_lines k) same in (
+      Some record { formula = printed whole; certificate = adds.text },
+      (adds.text, refl, adds.lawful, adds.written),
+      record { status = status ∙ shows.status; text = adds.added ∙ ap (λ x. x ++ adds.text) lines },
+    )

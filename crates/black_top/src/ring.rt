@@ -9,8 +9,8 @@ ghost use Rattle.black_top.specs.Ring.{part_text, move_text, return_text, later_
 use itoa::Buffer;
 use std::alloc::{AllocError, Global};
 
-/// The text of the ring of so many places. A token stands at one of them, moves on to the next in each step,
-/// and from the last one to the first.
+/// The text of the ring with this number of places. A token stands at one of them, moves on to the next in
+/// each step, and from the last one to the first.
 pub fn demo_text(alloc: Global, number: u32) -> Result<Vec<u8>, AllocError>
     requires low { 2 ≤ number }
     requires high { number ≤ 64 }

@@ -5,8 +5,8 @@ use Rattle.ltl_word.specs.Trace.{Names}
 use Rattle.black_view.specs.declared.words.TextOption.{TextOption}
 use Rattle.black_view.specs.declared.words.TextOption.TheVariants as options
 
--- how a trace is drawn: as a picture in SVG, or as text in lines of so many columns; with these letters, or with all that are true in
--- some state
+-- how a trace is drawn: as a picture in SVG, or as text in lines of a number of columns; with these letters, or with all that are true
+-- in some state
 pub record Wanted : Type 0 where
   pub svg : Bool
   pub width : ℕ

@@ -120,7 +120,7 @@ fn words(rt: HostRuntime) -> Result<(), Fail> {
     Ok(())
 }
 
-/// Words of one option, whose value is the name `p` so many times.
+/// Words of one option, whose value is the name `p`, `count` times.
 fn asked(alloc: Global, count: usize) -> Result<Vec<String>, AllocError> {
     let mut only = String::from_str(alloc, "--only=p")?;
     for _letter in 1..count {
@@ -131,7 +131,7 @@ fn asked(alloc: Global, count: usize) -> Result<Vec<String>, AllocError> {
     Ok(words)
 }
 
-/// A finite trace of so many states in which nothing is true, behind a line.
+/// A finite trace of this number of states in which nothing is true, behind a line.
 fn silent(alloc: Global, states: usize) -> Result<Vec<u8>, AllocError> {
     let mut text = b"SAT 9\n{\"kind\":\"finite\",\"states\":[[]".to_vec(alloc)?;
     for _state in 1..states {

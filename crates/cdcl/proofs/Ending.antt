@@ -9,7 +9,7 @@ use Rattle.cnf_base.specs.Literal.{opposite}
 use Rattle.cnf_base.specs.Step.{IsHintedStep, clause_at}
 use Rattle.cnf_base.proofs.SameLiteral.{opposite_opposite}
 use Rattle.clause_log.specs.LogValue.{greatest_u32, with_line}
-use Rattle.cdcl_state.specs.StateValue.{StateValue, with_log, with_whole, IsBack, Propagated}
+use Rattle.cdcl_state.specs.StateValue.{StateValue, with_log, with_all_lines, IsBack, Propagated}
 use Rattle.cdcl_trail.specs.Trail.{literals_of, blank_entry, literal_at, IsDecision}
 use Rattle.cdcl_state.specs.Turns.{IsFront, IsRefuted, IsTurn}
 use Rattle.cdcl_analyze.specs.Analysis.{refuted_at}
@@ -18,26 +18,26 @@ use Rattle.cdcl_analyze.specs.declared.analyze.Learnt.{Learnt}
 use Rattle.cdcl_trail.proofs.Measure.{measure, restart_falls}
 use Rattle.cdcl_trail.proofs.Standing.{true_place}
 use Rattle.cdcl.specs.Choice.{IsAssumedTop, IsFreeTop}
-use Rattle.cdcl.specs.Solving.{IsAfter, IsRested, IsNegated, IsConsistent, IsLineOf, IsFound}
+use Rattle.cdcl.specs.Solving.{IsAfter, IsRestarted, IsNegated, IsConsistent, IsLineOf, IsFound}
 use Rattle.cdcl.specs.declared.solve.Answer.{Answer}
 use Rattle.cdcl.specs.declared.solve.Answer.TheVariants.{Sat, Unsat}
 use Rattle.cdcl.proofs.Search.{EachDecision, IsGuided, IsAssumed, HasNoNear, IsSearch, each_take, each_forced, assumed_negated, after_none, after_same, after_trail, search_propagated, search_turned, places_of, fuel}
 
 -- what is forgotten, or heeded again, stays in the log
-pub after_whole : (old s new : StateValue) (whole : Bool) → IsAfter old s → new ≡ with_whole s whole → IsAfter old new
-after_whole old s new whole after is = after_same old s new after (ap (λ (x : StateValue). x.letters) is) (ap (λ (x : StateValue). x.log) is)
+pub after_all_lines : (old s new : StateValue) (all_lines : Bool) → IsAfter old s → new ≡ with_all_lines s all_lines → IsAfter old new
+after_all_lines old s new all_lines after is = after_same old s new after (ap (λ (x : StateValue). x.letters) is) (ap (λ (x : StateValue). x.log) is)
 
 -- at the start no decision stands but of assumptions, and each line is heeded
-pub search_start : (old new : StateValue) (assumptions : List Literal) → IsFront (with_whole old true) new → All (λ e. e.reason ≡ None → Contains assumptions e.literal) new.trail → IsSearch old new assumptions
+pub search_start : (old new : StateValue) (assumptions : List Literal) → IsFront (with_all_lines old true) new → All (λ e. e.reason ≡ None → Contains assumptions e.literal) new.trail → IsSearch old new assumptions
 search_start old new assumptions front decided =
     let each : EachDecision (IsAssumed assumptions) new.trail = λ k below free. decided k blank_entry below free in
     record {
-      after = after_trail old (with_whole old true) _ new (after_whole old old (with_whole old true) true (after_none old) refl) front.after;
+      after = after_trail old (with_all_lines old true) _ new (after_all_lines old old (with_all_lines old true) true (after_none old) refl) front.after;
       guided = λ k below free. inl (each k below free);
       near = inl (record {
         decided = each;
         lines = ap (λ (s : StateValue). s.log.lines) front.after;
-        whole = ap (λ (s : StateValue). s.whole) front.after;
+        all_lines = ap (λ (s : StateValue). s.all_lines) front.after;
       });
     }
 
@@ -52,44 +52,44 @@ search_back old s new assumptions level search back =
         | inl quiet ↦ inl (record {
           decided = subst (EachDecision (IsAssumed assumptions)) (sym t) (each_take (IsAssumed assumptions) (length new.trail) s.trail back.short quiet.decided);
           lines = ap (λ (x : StateValue). x.log.lines) back.front ∙ quiet.lines;
-          whole = ap (λ (x : StateValue). x.whole) back.front ∙ quiet.whole;
+          all_lines = ap (λ (x : StateValue). x.all_lines) back.front ∙ quiet.all_lines;
         })
         | inr none ↦ inr none
       ];
     }
 
 -- where no clause is near, lines may be forgotten
-pub search_lightened : (old s new : StateValue) (assumptions : List Literal) → HasNoNear old.log assumptions → IsSearch old s assumptions → (new ≡ s) ⊎ (new ≡ with_whole s false) → IsSearch old new assumptions
-search_lightened old s new assumptions none search cases = elim cases [
+pub search_reduced : (old s new : StateValue) (assumptions : List Literal) → HasNoNear old.log assumptions → IsSearch old s assumptions → (new ≡ s) ⊎ (new ≡ with_all_lines s false) → IsSearch old new assumptions
+search_reduced old s new assumptions none search cases = elim cases [
   | inl same ↦ subst (λ (x : StateValue). IsSearch old x assumptions) (sym same) search
   | inr light ↦ record {
-    after = after_whole old s new false search.after light;
+    after = after_all_lines old s new false search.after light;
     guided = subst (EachDecision (IsGuided assumptions)) (sym (ap (λ (x : StateValue). x.trail) light)) search.guided;
     near = inr none;
   }
 ]
 
 -- what comes of a conflict, after the search did or did not begin anew
-pub search_rested : (old s new : StateValue) (assumptions : List Literal) (left before : ℕ) → HasNoNear old.log assumptions → IsSearch old s assumptions
-    → ((new ≡ s) × (left ≡ before)) ⊎ (IsRested s new × (before ≡ left + 1)) → IsSearch old new assumptions
-search_rested old s new assumptions left before none search cases = elim cases [
+pub search_restarted : (old s new : StateValue) (assumptions : List Literal) (left before : ℕ) → HasNoNear old.log assumptions → IsSearch old s assumptions
+    → ((new ≡ s) × (left ≡ before)) ⊎ (IsRestarted s new × (before ≡ left + 1)) → IsSearch old new assumptions
+search_restarted old s new assumptions left before none search cases = elim cases [
   | inl same ↦ subst (λ (x : StateValue). IsSearch old x assumptions) (sym same.0) search
   | inr anew ↦
-      let rested = anew.0 in
-      search_lightened old rested.mid new assumptions none (search_back old s rested.mid assumptions 0 search rested.back) rested.after
+      let restarted = anew.0 in
+      search_reduced old restarted.mid new assumptions none (search_back old s restarted.mid assumptions 0 search restarted.back) restarted.after
 ]
 
-rested_letters : (old new : StateValue) → IsRested old new → new.letters ≡ old.letters
-rested_letters old new rested =
-    let back : rested.mid.letters ≡ old.letters = ap (λ (x : StateValue). x.letters) rested.back.front in
-    elim rested.after [
+restarted_letters : (old new : StateValue) → IsRestarted old new → new.letters ≡ old.letters
+restarted_letters old new restarted =
+    let back : restarted.mid.letters ≡ old.letters = ap (λ (x : StateValue). x.letters) restarted.back.front in
+    elim restarted.after [
       | inl same ↦ ap (λ (x : StateValue). x.letters) same ∙ back
       | inr light ↦ ap (λ (x : StateValue). x.letters) light ∙ back
     ]
 
-pub rest_falls : (first s new : StateValue) (left before : ℕ) → s.letters ≡ first.letters → fuel s < fuel first → ((new ≡ s) × (left ≡ before)) ⊎ (IsRested s new × (before ≡ left + 1))
+pub falls_at_restart : (first s new : StateValue) (left before : ℕ) → s.letters ≡ first.letters → fuel s < fuel first → ((new ≡ s) × (left ≡ before)) ⊎ (IsRestarted s new × (before ≡ left + 1))
     → measure left (places_of new) new.trail < measure before (places_of first) first.trail
-rest_falls first s new left before letters falls cases = elim cases [
+falls_at_restart first s new left before letters falls cases = elim cases [
   | inl same ↦
       let places : places_of s ≡ places_of first = ap (λ n. n + 2) letters in
       let power : 3 ^ places_of s ≡ 3 ^ places_of first = ap (λ n. 3 ^ n) places in
@@ -97,7 +97,7 @@ rest_falls first s new left before letters falls cases = elim cases [
       (subst (λ n. measure n (places_of s) s.trail < measure before (places_of first) first.trail) (sym same.1)
       (subst (λ n. before * (n + 1) + fuel s < before * (3 ^ places_of first + 1) + fuel first) (sym power) (omega (arith, falls))))
   | inr anew ↦
-      let places : places_of new ≡ places_of first = ap (λ n. n + 2) (rested_letters s new anew.0 ∙ letters) in
+      let places : places_of new ≡ places_of first = ap (λ n. n + 2) (restarted_letters s new anew.0 ∙ letters) in
       subst (λ n. measure left n new.trail < measure before (places_of first) first.trail) (sym places)
       (subst (λ n. measure left (places_of first) new.trail < measure n (places_of first) first.trail) (sym anew.1) (restart_falls left (places_of first) first.trail new.trail))
 ]
@@ -181,12 +181,12 @@ module _ (old first s : StateValue) (assumptions : List Literal) (search : IsSea
   conflict_none = none_near old s assumptions (search_propagated old first s assumptions search grown) top
 
   -- it was explained and learnt from, and then the search did or did not begin anew
-  pub conflict_rested : (same learnt new : StateValue) (clause : List Literal) (hints : List Hint) (left before : ℕ) → same ≡ s → IsTurn (with_log same (with_line same.log clause hints)) learnt
-      → ((new ≡ learnt) × (left ≡ before)) ⊎ (IsRested learnt new × (before ≡ left + 1)) → IsSearch old new assumptions
-  conflict_rested same learnt new clause hints left before is turn cases =
+  pub conflict_restarted : (same learnt new : StateValue) (clause : List Literal) (hints : List Hint) (left before : ℕ) → same ≡ s → IsTurn (with_log same (with_line same.log clause hints)) learnt
+      → ((new ≡ learnt) × (left ≡ before)) ⊎ (IsRestarted learnt new × (before ≡ left + 1)) → IsSearch old new assumptions
+  conflict_restarted same learnt new clause hints left before is turn cases =
       let derived = ap (λ (x : StateValue). with_log x (with_line x.log clause hints)) is in
       let turned = search_turned old s _ learnt clause hints assumptions (search_propagated old first s assumptions search grown) conflict_none derived turn in
-      search_rested old learnt new assumptions left before conflict_none turned cases
+      search_restarted old learnt new assumptions left before conflict_none turned cases
 
 -- with one line more, the question added at most one where a clause is near
 pub near_one : (old s new : StateValue) (assumptions : List Literal) → IsSearch old s assumptions → length new.log.lines ≤ length s.log.lines + 1

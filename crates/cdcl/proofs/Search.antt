@@ -40,7 +40,7 @@ HasNoNear log assumptions = (clause : List Literal) (hints : List Hint) → IsNe
 pub record IsQuiet (old s : StateValue) (assumptions : List Literal) : Type 0 where
   pub decided : EachDecision (IsAssumed assumptions) s.trail
   pub lines : s.log.lines ≡ old.log.lines
-  pub whole : s.whole ≡ true
+  pub all_lines : s.all_lines ≡ true
 
 pub record IsSearch (old s : StateValue) (assumptions : List Literal) : Type 0 where
   pub after : IsAfter old s
@@ -119,19 +119,19 @@ weight_decided old new l decided bounded =
     subst (λ (s : StateValue). fuel s < fuel old) (sym decided.after) (weight_push (places_of old) old.trail e (omega (arith, bounded)))
 
 -- where no line is forgotten, each clause is heeded
-all_heeded : (whole : Bool) → whole ≡ true → (hint : Hint) → IsHeeded whole hint
-all_heeded whole is (Clause n) = tt
-all_heeded whole is (Line n) = is
+all_heeded : (all_lines : Bool) → all_lines ≡ true → (hint : Hint) → IsHeeded all_lines hint
+all_heeded all_lines is (Clause n) = tt
+all_heeded all_lines is (Line n) = is
 
 -- a clause of opposites of true literals is no hinted step where the trail is settled and no line is forgotten
-settled_refutes_nothing : (s : StateValue) → IsSettled s → s.whole ≡ true → {falses : List Literal} {hints : List Hint} → Refutes s.log.inputs s.log.lines greatest_u32 falses hints → ¬ All (λ l. Contains (literals_of s.trail) (opposite l)) falses
-settled_refutes_nothing s settled whole {falses} (conflict {hint = hint} {clause = clause} names all_false) on_trail =
-    (settled hint (all_heeded s.whole whole hint)).0 (record {
+settled_refutes_nothing : (s : StateValue) → IsSettled s → s.all_lines ≡ true → {falses : List Literal} {hints : List Hint} → Refutes s.log.inputs s.log.lines greatest_u32 falses hints → ¬ All (λ l. Contains (literals_of s.trail) (opposite l)) falses
+settled_refutes_nothing s settled all_lines {falses} (conflict {hint = hint} {clause = clause} names all_false) on_trail =
+    (settled hint (all_heeded s.all_lines all_lines hint)).0 (record {
       clause = clause;
       is = names.is;
       all_false = λ k d below. All-contains (λ l. Contains (literals_of s.trail) (opposite l)) falses (get_or clause k d) on_trail (all_false k d below);
     })
-settled_refutes_nothing s settled whole {falses} (propagate {hint = hint} {clause = clause} {u = u} names unit rest) on_trail =
+settled_refutes_nothing s settled all_lines {falses} (propagate {hint = hint} {clause = clause} {u = u} names unit rest) on_trail =
     let T = literals_of s.trail in
     let reason : IsReason s.log.inputs s.log.lines T u hint = record {
       clause = clause;
@@ -142,10 +142,10 @@ settled_refutes_nothing s settled whole {falses} (propagate {hint = hint} {claus
         | inr e ↦ inl e
       ];
     } in
-    let here = settled hint (all_heeded s.whole whole hint) in
+    let here = settled hint (all_heeded s.all_lines all_lines hint) in
     let not_unset = here.1 u reason in
     not_unset (record {
-      not_true = λ there. settled_refutes_nothing s settled whole rest (All-cons (λ l. Contains T (opposite l)) (opposite u) falses (subst (Contains T) (sym (opposite_opposite u)) there) on_trail);
+      not_true = λ there. settled_refutes_nothing s settled all_lines rest (All-cons (λ l. Contains T (opposite l)) (opposite u) falses (subst (Contains T) (sym (opposite_opposite u)) there) on_trail);
       not_false = λ there. here.0 (record {
         clause = clause;
         is = names.is;
@@ -153,13 +153,13 @@ settled_refutes_nothing s settled whole {falses} (propagate {hint = hint} {claus
       });
     })
 
-pub no_near : (old s : StateValue) (assumptions : List Literal) → IsAfter old s → IsSettled s → s.whole ≡ true → All (Contains (literals_of s.trail)) assumptions → HasNoNear old.log assumptions
-no_near old s assumptions after settled whole all_true clause hints negated step =
+pub no_near : (old s : StateValue) (assumptions : List Literal) → IsAfter old s → IsSettled s → s.all_lines ≡ true → All (Contains (literals_of s.trail)) assumptions → HasNoNear old.log assumptions
+no_near old s assumptions after settled all_lines all_true clause hints negated step =
     let more = refutes_more old.log.inputs [] old.log.lines after.log.more greatest_u32 step.refutes in
     let here : Refutes s.log.inputs s.log.lines greatest_u32 clause hints =
     subst (λ i. Refutes i s.log.lines greatest_u32 clause hints) (append-nil old.log.inputs ∙ sym after.log.inputs)
     (subst (λ ls. Refutes (old.log.inputs ++ []) ls greatest_u32 clause hints) (sym after.log.lines) more) in
-    settled_refutes_nothing s settled whole here (λ k d below. All-contains (Contains (literals_of s.trail)) assumptions (opposite (get_or clause k d)) all_true (negated k d below))
+    settled_refutes_nothing s settled all_lines here (λ k d below. All-contains (Contains (literals_of s.trail)) assumptions (opposite (get_or clause k d)) all_true (negated k d below))
 
 -- where each letter is set, a clause has a true literal or is false
 true_or_false : (true_ones clause : List Literal) → ((l : Literal) → Contains clause l → Contains true_ones l ⊎ Contains true_ones (opposite l)) → Any (Contains true_ones) clause ⊎ All (λ l. Contains true_ones (opposite l)) clause
@@ -234,7 +234,7 @@ search_propagated old s new assumptions search grown = record {
     | inl quiet ↦ inl (record {
       decided = rw grown.trail (each_append (IsAssumed assumptions) s.trail grown.more quiet.decided grown.forced);
       lines = ap (λ (l : LogValue). l.lines) grown.log ∙ quiet.lines;
-      whole = grown.whole ∙ quiet.whole;
+      all_lines = grown.all_lines ∙ quiet.all_lines;
     })
     | inr none ↦ inr none
   ];
@@ -264,7 +264,7 @@ search_assumed old s new l assumptions search there decided =
         | inl quiet ↦ inl (record {
           decided = rw t (each_push (IsAssumed assumptions) s.trail e quiet.decided (λ _. there));
           lines = ap (λ (x : StateValue). x.log.lines) decided.after ∙ quiet.lines;
-          whole = ap (λ (x : StateValue). x.whole) decided.after ∙ quiet.whole;
+          all_lines = ap (λ (x : StateValue). x.all_lines) decided.after ∙ quiet.all_lines;
         })
         | inr none ↦ inr none
       ];
@@ -278,7 +278,7 @@ search_free old s new l assumptions search settled all_true decided =
       after = after_trail old s _ new search.after decided.after;
       guided = rw t (each_push (IsGuided assumptions) s.trail e search.guided (λ _. inr all_true));
       near = elim search.near [
-        | inl quiet ↦ inr (no_near old s assumptions search.after settled quiet.whole all_true)
+        | inl quiet ↦ inr (no_near old s assumptions search.after settled quiet.all_lines all_true)
         | inr none ↦ inr none
       ];
     }

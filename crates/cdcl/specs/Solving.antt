@@ -6,7 +6,7 @@ use Rattle.cnf_base.specs.Literal.{opposite}
 use Rattle.cnf_base.specs.Meaning.{literal_value, Satisfies}
 use Rattle.cnf_base.specs.Step.{clause_at}
 use Rattle.clause_log.specs.LogValue.{LogValue}
-use Rattle.cdcl_state.specs.StateValue.{StateValue, with_whole, IsBack}
+use Rattle.cdcl_state.specs.StateValue.{StateValue, with_all_lines, IsBack}
 use Rattle.cdcl_trail.specs.Trail.{literals_of}
 use Rattle.cdcl.specs.declared.solve.Answer.{Answer}
 use Rattle.cdcl.specs.declared.solve.Answer.TheVariants.{Sat, Unsat}
@@ -41,10 +41,10 @@ pub record IsAfter (old new : StateValue) : Type 0 where
   pub log : IsLonger old.log new.log
 
 -- all decisions were taken back, and then perhaps some lines forgotten
-pub record IsRested (old new : StateValue) : Type 0 where
+pub record IsRestarted (old new : StateValue) : Type 0 where
   pub mid : StateValue
   pub back : IsBack old mid 0
-  pub after : (new ≡ mid) ⊎ (new ≡ with_whole mid false)
+  pub after : (new ≡ mid) ⊎ (new ≡ with_all_lines mid false)
 
 -- the answer is a line that has only literals of this clause
 abbrev pub IsLineOf : StateValue → List Literal → Answer → Type 0

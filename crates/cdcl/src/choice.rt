@@ -5,7 +5,7 @@ ghost use Rattle.std.specs.Prelude.{◌↔◌, IsTrue, All, Contains, None};
 ghost use Rattle.cnf_base.specs.Known.{IsKnown};
 ghost use Rattle.cdcl.specs.Choice.{IsChoice, IsAssumedTop, IsFreeTop};
 
-use cdcl_state::state::State;
+use cdcl_state::State;
 use cnf_base::Literal;
 
 /// What to do where no clause is false or unit.

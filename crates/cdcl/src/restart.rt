@@ -3,7 +3,7 @@
 // ends. After Luby, Sinclair and Zuckerman, Optimal speedup of Las Vegas algorithms (1993).
 ghost use Rattle.std.specs.Prelude.{◌≡◌, ◌+◌, ◌⊎◌, true, false};
 
-/// So many conflicts go by for each one that the sequence says.
+/// The number of conflicts that go by for each one that the sequence says.
 const STEP: u64 = 120;
 
 /// The conflicts of one question, as far as they decide when the search begins anew.

@@ -1,4 +1,4 @@
-// Which lines are forgotten, and when. Once so many were learnt since some were forgotten last, the better
+// Which lines are forgotten, and when. Once enough were learnt since some were forgotten last, the better
 // half of those that are left stays. A line is the better the fewer levels its literals had when it was
 // learnt, and then the shorter it is; but all that the hints of these new lines name are better than the
 // others, and a line of two levels or two literals stays for good. Each time more lines have to come first, so
@@ -6,18 +6,17 @@
 // one, forgets again what was forgotten before. After Audemard and Simon, Predicting learnt clauses quality in
 // modern SAT solvers (2009); that what hints name goes last is ours.
 ghost use Rattle.std.specs.Prelude.{◌≡◌, ◌⊎◌, false};
-ghost use Rattle.cdcl_state.specs.StateValue.{with_whole};
+ghost use Rattle.cdcl_state.specs.StateValue.{with_all_lines};
 
-use cdcl_state::kept::is_marked;
-use cdcl_state::state::State;
+use cdcl_state::{State, is_marked};
 use clause_log::LogView;
 use cnf_base::Hint;
 use std::alloc::{AllocError, Global};
 
-/// So many lines are learnt before the first are forgotten, in all questions together.
+/// The number of lines that are learnt before the first are forgotten, in all questions together.
 const FIRST: u64 = 2500;
 
-/// So many lines more each time.
+/// The number of lines by which that grows each time.
 const MORE: u64 = 300;
 
 /// Levels and literals are told apart below this number.
@@ -26,12 +25,12 @@ const MANY: usize = 256;
 /// What is known of the lines, as far as it decides which are forgotten, and when.
 #[derive(Drop)]
 pub struct Retention {
-    /// So many lines were there when some were forgotten last.
-    from: u64,
-    /// So many lines more, and some are forgotten.
-    span: u64,
+    /// The number of lines that were there when some were forgotten last.
+    reduced_at: u64,
+    /// The number of further lines after which some are forgotten again.
+    interval: u64,
     /// Whether the lines that were forgotten before this question are heeded in it.
-    whole: bool,
+    heeds_all: bool,
     /// Under the number of a line, how many levels it had. None is known of a line that is not learnt in a
     /// search, and of one behind the last.
     levels: Vec<u32>,
@@ -43,9 +42,9 @@ impl Retention {
     /// No line is known.
     pub fn new(alloc: Global) -> Self {
         Retention {
-            from: 0,
-            span: FIRST,
-            whole: true,
+            reduced_at: 0,
+            interval: FIRST,
+            heeds_all: true,
             levels: Vec::new(alloc),
             kept: Vec::new(alloc),
         }
@@ -53,8 +52,8 @@ impl Retention {
 
     /// A question begins, which heeds all lines. Answers whether lines were forgotten in the one before.
     pub fn begin(&mut self) -> bool {
-        let forgot = !self.whole;
-        self.whole = true;
+        let forgot = !self.heeds_all;
+        self.heeds_all = true;
         forgot
     }
 
@@ -68,25 +67,25 @@ impl Retention {
     }
 
     /// Forgets lines where it is time, and else those again that were forgotten before this question.
-    pub fn lighten(&mut self, state: &mut State, alloc: Global) -> Result<(), AllocError>
-        ensures { (state.new ≡ state.old) ⊎ (state.new ≡ with_whole state.old false) }
+    pub fn reduce(&mut self, state: &mut State, alloc: Global) -> Result<(), AllocError>
+        ensures { (state.new ≡ state.old) ⊎ (state.new ≡ with_all_lines state.old false) }
     {
         let lines = state.log().view().lines();
         self.kept.resize((lines as usize).saturating_add(1), true)?;
-        if lines.saturating_sub(self.from) >= self.span {
+        if lines.saturating_sub(self.reduced_at) >= self.interval {
             self.choose(alloc, &state.log().view())?;
-            self.from = lines;
-            self.span = self.span.saturating_add(MORE);
-        } else if self.from == 0 || !self.whole {
+            self.reduced_at = lines;
+            self.interval = self.interval.saturating_add(MORE);
+        } else if self.reduced_at == 0 || !self.heeds_all {
             return Ok(());
         }
-        self.whole = false;
+        self.heeds_all = false;
         state.forget(alloc, &self.kept)
     }
 
     /// Keeps the better half of the lines that are kept.
     fn choose(&mut self, alloc: Global, log: &LogView<'_>) -> Result<(), AllocError> {
-        let named = named_since(alloc, log, self.from)?;
+        let named = named_since(alloc, log, self.reduced_at)?;
         let counts = self.count(alloc, log, &named)?;
         let last = middle(&counts);
         for place in 0..log.lines() {
@@ -116,7 +115,7 @@ impl Retention {
         Ok(counts)
     }
 
-    /// The rank of a line with so many literals: the less, the better it is.
+    /// The rank of a line with this number of literals: the less, the better it is.
     fn rank(&self, line: u64, literals: usize, named: &[bool]) -> usize {
         let levels = match self.levels.get(line as usize) {
             Some(levels) => *levels as usize,
@@ -186,7 +185,7 @@ fn mark_hints(marks: &mut [bool], hints: &[Hint]) {
     }
 }
 
-/// Marks under the lines' numbers: of those that are named by hints of the lines behind the first so many.
+/// Marks under the lines' numbers: of those that are named by hints of the lines behind the first `from`.
 fn named_since(alloc: Global, log: &LogView<'_>, from: u64) -> Result<Vec<bool>, AllocError> {
     let lines = log.lines();
     let mut named = vec![in alloc; false; (lines as usize).saturating_add(1)]?;

@@ -8,15 +8,15 @@ ghost use Rattle.cnf_base.specs.declared.literal.Hint.{Hint};
 ghost use Rattle.cnf_base.specs.Step.{IsHintedStep};
 ghost use Rattle.cnf_base.specs.Known.{IsKnown};
 ghost use Rattle.clause_log.specs.LogValue.{greatest_u32};
-ghost use Rattle.cdcl_state.specs.StateValue.{with_whole};
+ghost use Rattle.cdcl_state.specs.StateValue.{with_all_lines};
 ghost use Rattle.cdcl_state.specs.Turns.{IsFront};
-ghost use Rattle.cdcl.specs.Solving.{IsAfter, IsRested, IsFound, IsLineOf, IsNegated, IsConsistent};
+ghost use Rattle.cdcl.specs.Solving.{IsAfter, IsRestarted, IsFound, IsLineOf, IsNegated, IsConsistent};
 
 use crate::choice::{Choice, choose, is_assumed};
 use crate::restart::Pace;
 use crate::retention::Retention;
-use cdcl_analyze::analyze::{Cut, Learnt};
-use cdcl_state::state::State;
+use cdcl_analyze::{Cut, Learnt};
+use cdcl_state::State;
 use cnf_base::{Hint, Literal};
 use std::alloc::{AllocError, Global};
 
@@ -57,7 +57,7 @@ fn begin(
     assumptions: &[Literal],
     retention: &mut Retention,
 ) -> Result<(), AllocError>
-    ensures front { OnOk result (IsFront (with_whole state.old true) state.new) }
+    ensures front { OnOk result (IsFront (with_all_lines state.old true) state.new) }
     ensures decided { OnOk result (All (λ e. e.reason ≡ None → Contains assumptions.now e.literal)
         state.new.trail) }
     ensures refused { OnErr result (state.new ≡ state.old) }
@@ -72,18 +72,18 @@ fn begin(
 }
 
 /// Begins anew where the pace says so, and forgets then what is to be forgotten.
-fn rest(
+fn restart(
     state: &mut State,
     alloc: Global,
     pace: &mut Pace,
     retention: &mut Retention,
 ) -> Result<(), AllocError>
     ensures { ((state.new ≡ state.old) × (pace.new.left ≡ pace.old.left))
-        ⊎ (IsRested state.old state.new × (pace.old.left ≡ pace.new.left + 1)) }
+        ⊎ (IsRestarted state.old state.new × (pace.old.left ≡ pace.new.left + 1)) }
 {
     if pace.count() {
         state.reset();
-        retention.lighten(state, alloc)?;
+        retention.reduce(state, alloc)?;
     }
     Ok(())
 }
@@ -107,7 +107,7 @@ pub fn solve(
     let mut pace = Pace::new();
     'search: loop {
         let found = state.propagate()?;
-        state.bounded();
+        state.invariant();
         match found {
             Some(conflict) => {
                 if is_assumed(state, assumptions) {
@@ -120,7 +120,7 @@ pub fn solve(
                 }
                 retention.note(state, &learnt.places)?;
                 state.learn(&learnt)?;
-                rest(state, alloc, &mut pace, retention)?;
+                restart(state, alloc, &mut pace, retention)?;
             }
             None => match choose(state, assumptions) {
                 Choice::Assume(literal) => state.decide(literal)?,

@@ -12,7 +12,7 @@ ghost use Rattle.cdcl.specs.declared.solve.Answer.TheVariants.{Sat};
 
 use crate::retention::Retention;
 use crate::solve::{Answer, solve};
-use cdcl_state::state::State;
+use cdcl_state::State;
 use clause_log::Log;
 use cnf_base::{Letter, Literal};
 use std::alloc::{AllocError, Global};
@@ -107,7 +107,7 @@ impl Solver {
             assumptions,
             &mut self.retention,
         )?;
-        self.state.bounded();
+        self.state.invariant();
         match answer {
             Answer::Sat => {
                 let model = self.state.model(self.alloc)?;
@@ -135,7 +135,7 @@ impl Solver {
         ensures inputs { AreKnown self.now.letters self.now.log.inputs }
         ensures lines { AreKnown self.now.letters self.now.log.lines }
     {
-        self.state.bounded();
+        self.state.invariant();
         self.state.log()
     }
 
@@ -144,7 +144,7 @@ impl Solver {
         ensures log { result ≡ self.log }
         ensures lines { AreKnown self.letters self.log.lines }
     {
-        self.state.bounded();
+        self.state.invariant();
         self.state.into_log()
     }
 }

@@ -14,7 +14,7 @@ use std::marker::Model;
 /// Where what a letter gains is above this, or an activity above twice as much, all of them are made smaller.
 const LARGE: u32 = 1 << 30;
 
-/// By so many bits they are made smaller.
+/// The number of bits by which they are made smaller.
 const SMALLER: u32 = 20;
 
 /// Letters by their activity, the most active first, and the values that they had last.

@@ -1,5 +1,7 @@
 //! Which letter is decided next: letters by their activity, and the values that they had last.
 #![tactic(auto)]
 
-pub mod choices;
-pub mod order;
+mod choices;
+mod order;
+
+pub use choices::Choices;

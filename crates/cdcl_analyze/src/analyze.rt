@@ -19,8 +19,8 @@ use crate::graph::ImplicationGraph;
 use crate::marks::{Consequence, Marks};
 use crate::minimize::follows;
 use crate::reason::Reason;
-use cdcl_activity::choices::Choices;
-use cdcl_trail::assigned::Entry;
+use cdcl_activity::Choices;
+use cdcl_trail::Entry;
 use cnf_base::{Hint, Literal};
 use std::alloc::{AllocError, Global};
 
@@ -167,7 +167,7 @@ fn walk(
     ensures decided { OnOk result ((t : List Entry) → IsLike graph.now t from
         → All (IsDecision t) learnt.old.places.items → All (IsDecision t) learnt.new.places.items) }
 {
-    graph.told();
+    graph.invariant();
     let mut open: usize = 0;
     let mut end = from;
     'down: while let Some(place) = marks.pop(end) {
@@ -206,7 +206,7 @@ fn walk_level(
         marks.old marks.new learnt.old learnt.new) }
     ensures found { OnOk result (FoundSame marks.old marks.new) }
 {
-    graph.told();
+    graph.invariant();
     let mut end = graph.len();
     'down: while let Some(place) = marks.pop(end) {
         end = place;
@@ -268,7 +268,7 @@ fn keep_rest(
         learnt.new.places.items) }
     ensures hints { OnOk result (learnt.new.hints.items ≡ learnt.old.hints.items) }
 {
-    graph.told();
+    graph.invariant();
     let mut end = from;
     'down: while let Some(place) = marks.pop(end) {
         let entry = graph.entry(place);
@@ -280,7 +280,7 @@ fn keep_rest(
         }
         end = place;
         if !follows(graph, base, letter, marks)? {
-            marks.told();
+            marks.invariant();
             marks.deny(letter as usize);
             keep(learnt, entry.literal.opposite(), place)?;
         }
@@ -331,7 +331,7 @@ fn minimize(
     ensures walked { OnOk result (Walks graph.now.log graph.now.trail from 0 marks.old marks.new learnt.old
         learnt.new) }
 {
-    graph.told();
+    graph.invariant();
     let base = base_of(graph, from);
     keep_rest(graph, base, from, marks, learnt)?;
     bump_consequences(marks, choices);
@@ -356,7 +356,7 @@ fn resolve(
     ensures decided { OnOk result (cut ≡ Decisions → All (IsDecision graph.now.trail) learnt.old.places.items
         → All (IsDecision graph.now.trail) learnt.new.places.items) }
 {
-    graph.told();
+    graph.invariant();
     match cut {
         Cut::Decisions => {
             walk(graph, graph.len(), marks, choices, learnt)?;
@@ -388,7 +388,7 @@ pub fn explain(
     ensures decided { IfOk result (λ learnt. cut ≡ Decisions
         → All (IsDecision graph.now.trail) learnt.places.items) }
 {
-    graph.told();
+    graph.invariant();
     marks.begin();
     let mut open: usize = 0;
     let mut learnt = blank(alloc)?;
@@ -419,7 +419,7 @@ pub fn explain_forced(
     ensures decided { IfOk result (λ learnt. All (IsDecision (refuted_at graph.now.trail place))
         learnt.places.items) }
 {
-    graph.told();
+    graph.invariant();
     marks.begin();
     let mut open: usize = 0;
     let mut learnt = blank(alloc)?;

@@ -11,10 +11,8 @@ ghost use Rattle.cdcl_analyze.specs.Graph.{IsGraph};
 ghost use Rattle.cdcl_analyze.specs.Reason.{IsAnalyzable, read_literals};
 
 use crate::reason::Reason;
-use cdcl_trail::assigned::{Assigned, Entry};
-use cdcl_trail::hints::shorten;
-use cdcl_trail::named::clause_of;
-use cdcl_watches::arena::Arena;
+use cdcl_trail::{Assigned, Entry, clause_of, encode_hint};
+use cdcl_watches::Arena;
 use clause_log::{Log, LogView};
 use cnf_base::Hint;
 use std::marker::Model;
@@ -58,7 +56,7 @@ impl<'a> ImplicationGraph<'a> {
         ensures values { result.values ≡ assigned.now.values }
         ensures trail { result.trail ≡ assigned.now.trail }
     {
-        assigned.told();
+        assigned.invariant();
         ImplicationGraph {
             assigned,
             arena,
@@ -68,7 +66,7 @@ impl<'a> ImplicationGraph<'a> {
 
     /// The trail's reasons are clauses of the log, and its values are told.
     #[inline(always)]
-    pub(crate) fn told(&self)
+    pub(crate) fn invariant(&self)
         ensures { IsGraph self.now }
     {
         let _ = &self.assigned;
@@ -127,7 +125,7 @@ impl<'a> ImplicationGraph<'a> {
             ≡ Some clause → HaveSame clause (read_literals result) }
         ensures known { All (IsBelow (length self.now.values)) (read_literals result) }
     {
-        if let Some(name) = shorten(hint) {
+        if let Some(name) = encode_hint(hint) {
             if let Some(clause) = self.arena.reason(letter, name) {
                 return Reason::Watched(clause);
             }

@@ -1,9 +1,13 @@
 //! Why a conflict came: a walk down the trail resolves reasons into a clause that is learnt, with its hints.
 #![tactic(auto)]
 
-pub mod analyze;
-pub mod graph;
-pub mod marks;
+mod analyze;
+mod graph;
+mod marks;
 mod minimize;
 mod reason;
 mod waiting;
+
+pub use analyze::{Cut, Learnt, explain, explain_forced};
+pub use graph::ImplicationGraph;
+pub use marks::Marks;

@@ -85,7 +85,7 @@ impl Marks {
 
     /// Each letter that can be marked can be asked.
     #[inline(always)]
-    pub(crate) fn told(&self)
+    pub(crate) fn invariant(&self)
         ensures { length self.now.stamps ≤ length self.now.outcomes }
     {
         let _ = &self.stamps;

@@ -21,7 +21,7 @@ use std::alloc::AllocError;
 const STEPS: u32 = 1000;
 
 /// Whether the letter's value follows from what the clause keeps and what is marked below the base, as far as
-/// so many reasons tell.
+/// chains of at most `STEPS` reasons tell.
 #[inline(always)]
 pub(crate) fn follows(
     graph: &ImplicationGraph<'_>,
@@ -63,8 +63,8 @@ fn ask(
         → IsGiven graph.now.trail base marks.new letter) }
     ensures grows { OnOk result (GrowsBy graph.now base letter marks.old marks.new) }
 {
-    graph.told();
-    marks.told();
+    graph.invariant();
+    marks.invariant();
     let place = graph.place_of(letter as usize);
     let marked = marks.has(letter as usize);
     if place < base {
@@ -89,7 +89,7 @@ fn ask(
     }
 }
 
-/// Whether the letter's value follows by this reason, in at most so many steps; remembers what it finds.
+/// Whether the letter's value follows by this reason, in at most `steps` steps; remembers what it finds.
 #[cycle(following)]
 fn derive(
     graph: &ImplicationGraph<'_>,
@@ -106,15 +106,15 @@ fn derive(
     ensures outcome { IfOk result (λ follows. outcome_of marks.new letter ≡ Some follows) }
     ensures grows { OnOk result (GrowsBy graph.now base letter marks.old marks.new) }
 {
-    graph.told();
+    graph.invariant();
     let count = marks.consequences().len();
     if steps > 0 && are_given(graph, base, letter, reason, marks, steps - 1)? {
-        marks.told();
+        marks.invariant();
         marks.conclude(letter, reason)?;
         return Ok(true);
     }
     marks.take_back(count);
-    marks.told();
+    marks.invariant();
     marks.deny(letter as usize);
     Ok(false)
 }
@@ -139,7 +139,7 @@ fn are_given(
         → (literal_at graph.now.trail place).letter.0 ≡ letter
         → Grows graph.now.log.inputs graph.now.log.lines graph.now.trail base place marks.old marks.new) }
 {
-    graph.told();
+    graph.invariant();
     let clause = graph.reason(letter, reason);
     'others: for place in 0..clause.len() {
         let other = clause.letter(place);

@@ -5,7 +5,7 @@ ghost use Rattle.std.specs.Prelude.{◌≡◌, ◌<◌, length, slice_index_or};
 ghost use Rattle.cdcl_watches.specs.Watching.{blank};
 ghost use Rattle.cdcl_analyze.specs.Reason.{read_literals};
 
-use cdcl_watches::clause::Clause;
+use cdcl_watches::Clause;
 use cnf_base::Literal;
 
 /// A clause that is read from one place or the other.

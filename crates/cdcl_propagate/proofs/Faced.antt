@@ -13,11 +13,11 @@ use Rattle.cdcl_watches.proofs.Gap.{gap_length, closed_at}
 use Rattle.cdcl_watches.proofs.Numbers.{length_at}
 use Rattle.cdcl_watches.proofs.Kept.{turned_watchers}
 use Rattle.cdcl_watches.proofs.Walks.{next_blocking, next_number, stayed_walked, stayed_same, next_listed, next_is, next_watched, next_long}
-use Rattle.cdcl_propagate.specs.Sure.{IsSure}
+use Rattle.cdcl_propagate.specs.Lasting.{IsLasting}
 use Rattle.cdcl_propagate.specs.Visit.{HasTrue, watcher_at, IsVisiting, IsFaced, false_at, watched_by}
 use Rattle.cdcl_propagate.proofs.Guard.{visit_kept}
 use Rattle.cdcl_propagate.proofs.At.{IsAt, at_faced}
-use Rattle.cdcl_propagate.proofs.SureVisit.{sure_faced}
+use Rattle.cdcl_propagate.proofs.LastingVisit.{lasting_faced}
 
 module _ (arena new : ArenaValue) (lists : List (List Watcher)) (l : Literal) (a b : ℕ) (is : IsWalked arena lists (code l) a b) (there : b < length (get_or lists (code l) []))
     (head : ℕ) (head_is : head ≡ (get_or (get_or lists (code l) []) b nobody).head) (heads_are : new.heads ≡ arena.heads)
@@ -37,8 +37,8 @@ module _ (arena new : ArenaValue) (lists : List (List Watcher)) (l : Literal) (a
     ]);
   }
 
-  pub faced_sure : (trail : List Entry) (n : ℕ) → IsSure arena.clauses trail n → IsSure new.clauses trail n
-  faced_sure trail n = sure_faced (walked arena lists (code l) a b) (walked new lists (code l) a b) trail n (number_of arena.heads head) l (next_watched arena lists l a b is there head head_is).0 faced_there
+  pub faced_lasting : (trail : List Entry) (n : ℕ) → IsLasting arena.clauses trail n → IsLasting new.clauses trail n
+  faced_lasting trail n = lasting_faced (walked arena lists (code l) a b) (walked new lists (code l) a b) trail n (number_of arena.heads head) l (next_watched arena lists l a b is there head head_is).0 faced_there
 
   module _ (inputs lines : List (List Literal)) (k : ℕ) (assigned : AssignedValue) (l_is : l ≡ false_at assigned.trail k) (visiting : IsVisiting inputs lines k a assigned (walked arena lists (code l) a b)) where
     pub walk_at : IsAt inputs lines k a assigned (walked new lists (code l) a b) (number_of new.heads head)

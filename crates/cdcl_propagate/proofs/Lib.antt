@@ -1,8 +1,8 @@
 mod Guard
 mod At
 pub mod Ready
-mod SureVisit
+mod LastingVisit
 mod Faced
 mod Alone
-pub mod Sure
+pub mod Lasting
 pub mod Settled

@@ -1,3 +1,3 @@
 pub mod Visit
-pub mod Sure
+pub mod Lasting
 pub mod Units

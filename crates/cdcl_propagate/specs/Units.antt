@@ -15,4 +15,4 @@ AreShort inputs lines units = (u : ℕ) → u < length units → (clause : List 
 
 -- the first short clauses have a true literal
 abbrev pub AreFirm : List (List Literal) → List (List Literal) → List Hint → ℕ → List Literal → Type 0
-AreFirm inputs lines units done true_ones = (u : ℕ) (clause : List Literal) → u < done → named inputs lines (slice_index_or units u blank_hint) ≡ Some clause → HasTrue true_ones clause
+AreFirm inputs lines units units_done true_ones = (u : ℕ) (clause : List Literal) → u < units_done → named inputs lines (slice_index_or units u blank_hint) ≡ Some clause → HasTrue true_ones clause

@@ -37,9 +37,9 @@ pub record IsStored (inputs lines clauses : List (List Literal)) (names : List H
 abbrev pub HasTrue : List Literal → List Literal → Type 0
 HasTrue true_ones clause = (l : Literal) × Contains clause l × Contains true_ones l
 
--- where a clause watches a literal that is false from a place below head on, it has a true one
+-- where a clause watches a literal that is false from a place below `propagated` on, it has a true one
 abbrev pub IsGuarded : List (List Literal) → List Entry → ℕ → Type 0
-IsGuarded clauses trail head = (c k : ℕ) (a : Literal) → c < length clauses → IsWatch (clause_of clauses c) a → k < head → literal_at trail k ≡ opposite a → HasTrue (literals_of trail) (clause_of clauses c)
+IsGuarded clauses trail propagated = (c k : ℕ) (a : Literal) → c < length clauses → IsWatch (clause_of clauses c) a → k < propagated → literal_at trail k ≡ opposite a → HasTrue (literals_of trail) (clause_of clauses c)
 
 -- the literal that the entry at a place makes false
 abbrev pub false_at : List Entry → ℕ → Literal
@@ -94,10 +94,10 @@ pub record IsFaced (old new : WatchValue) (c : ℕ) (l : Literal) : Type 0 where
   pub second : l ≡ slice_index_or (clause_of new.clauses c) 1 l
   pub same : (new ≡ old) ⊎ ((new.clauses ≡ slice_set old.clauses c (swap (clause_of old.clauses c) 0 1)) × (new.lists ≡ old.lists) × (new.names ≡ old.names))
 
--- the watch rule holds below the head
-pub record IsReady (inputs lines : List (List Literal)) (head : ℕ) (a : AssignedValue) (w : WatchValue) : Type 0 where
+-- the watch rule holds below `propagated`
+pub record IsReady (inputs lines : List (List Literal)) (propagated : ℕ) (a : AssignedValue) (w : WatchValue) : Type 0 where
   pub is_trail : IsTrail inputs lines a.trail
   pub stored : IsStored inputs lines w.clauses (names_of w)
-  pub guarded : IsGuarded w.clauses a.trail head
-  pub within : head ≤ length a.trail
+  pub guarded : IsGuarded w.clauses a.trail propagated
+  pub within : propagated ≤ length a.trail
   pub sized : length w.lists ≡ 2 * length a.values

@@ -3,5 +3,7 @@
 #![tactic(auto)]
 
 pub mod propagate;
-pub mod units;
-pub mod visit;
+mod units;
+mod visit;
+
+pub use units::visit_units;

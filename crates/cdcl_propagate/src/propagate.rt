@@ -1,22 +1,18 @@
 // Unit propagation: the literals that became false are taken in the order of the trail, and only the clauses
 // that watch them are visited. A blocker is a literal of the clause that the list holds beside it: most
-// clauses are true already, and a true blocker spares loading them. `sure` marks the places whose visits a
+// clauses are true already, and a true blocker spares loading them. `lasting` marks the places whose visits a
 // way back need not repeat. After Moskewicz, Madigan, Zhao, Zhang and Malik, Chaff (2001), and Sorensson and
 // Een, MiniSat 2.1 (2008).
 ghost use Rattle.std.specs.Prelude.{◌≡◌, ℕ, ◌+◌, ◌-◌, ◌*◌, ◌<◌, ◌≤◌, length, Option, Some, None, MatchOption, IfOk};
 ghost use Rattle.cdcl_trail.specs.Trail.{literals_of, IsConflict};
-ghost use Rattle.cdcl_propagate.specs.Sure.{IsSure};
+ghost use Rattle.cdcl_propagate.specs.Lasting.{IsLasting};
 ghost use Rattle.cdcl_watches.specs.Watching.{code};
 ghost use Rattle.cdcl_watches.specs.Watchers.{IsWalked, walked};
 ghost use Rattle.cdcl_propagate.specs.Visit.{IsGrown, IsReady, IsVisiting, false_at};
 
 use crate::visit::visit;
-use cdcl_trail::assigned::Assigned;
-use cdcl_watches::arena::Arena;
-use cdcl_watches::coded::decode;
-use cdcl_watches::walk::{Walk, pass};
-use cdcl_watches::watch_lists::WatchLists;
-use cdcl_watches::watches::{Watches, number};
+use cdcl_trail::Assigned;
+use cdcl_watches::{Arena, Walk, WatchLists, Watches, decode, number, pass};
 use clause_log::Log;
 use cnf_base::{Hint, Literal};
 use std::alloc::AllocError;
@@ -42,8 +38,8 @@ fn along(
     ensures kept { IsReady log.now.inputs log.now.lines place assigned.new
         (walked arena.new lists.new (code falsified) walk.new.kept walk.new.next) }
     ensures names { arena.new.names ≡ arena.old.names }
-    ensures sure { (n : ℕ) → n ≤ place → IsSure arena.old.clauses assigned.old.trail n
-        → IsSure arena.new.clauses assigned.new.trail n }
+    ensures lasting { (n : ℕ) → n ≤ place → IsLasting arena.old.clauses assigned.old.trail n
+        → IsLasting arena.new.clauses assigned.new.trail n }
     ensures found { IfOk result (λ found. MatchOption found
         (IsReady log.now.inputs log.now.lines (place + 1) assigned.new
         (walked arena.new lists.new (code falsified) walk.new.kept walk.new.next))
@@ -87,13 +83,13 @@ fn visit_list(
     ensures letters { length assigned.new.values ≡ length assigned.old.values }
     ensures kept { IsReady log.now.inputs log.now.lines place assigned.new watches.new }
     ensures names { watches.new.names ≡ watches.old.names }
-    ensures sure { (n : ℕ) → n ≤ place → IsSure watches.old.clauses assigned.old.trail n
-        → IsSure watches.new.clauses assigned.new.trail n }
+    ensures lasting { (n : ℕ) → n ≤ place → IsLasting watches.old.clauses assigned.old.trail n
+        → IsLasting watches.new.clauses assigned.new.trail n }
     ensures found { IfOk result (λ found. MatchOption found
         (IsReady log.now.inputs log.now.lines (place + 1) assigned.new watches.new)
         (IsConflict log.now.inputs log.now.lines (literals_of assigned.new.trail))) }
 {
-    assigned.told();
+    assigned.invariant();
     let falsified = assigned.entry(place).literal.opposite();
     let mut walk = Walk { kept: 0, next: 0 };
     let found = along(
@@ -109,52 +105,52 @@ fn visit_list(
     found
 }
 
-/// Counts the place as sure, if its level is the last one.
-fn extend(assigned: &Assigned, watches: &Watches, log: &Log, head: usize, sure: &mut usize)
-    requires ready { IsReady log.now.inputs log.now.lines (head + 1) assigned.now watches.now }
-    requires low { sure.old ≤ head }
-    requires sure { IsSure watches.now.clauses assigned.now.trail sure.old }
-    ensures low { sure.new ≤ head + 1 }
-    ensures sure { IsSure watches.now.clauses assigned.now.trail sure.new }
+/// Counts the place as lasting, if its level is the last one.
+fn extend(assigned: &Assigned, watches: &Watches, log: &Log, propagated: usize, lasting: &mut usize)
+    requires ready { IsReady log.now.inputs log.now.lines (propagated + 1) assigned.now watches.now }
+    requires low { lasting.old ≤ propagated }
+    requires lasting { IsLasting watches.now.clauses assigned.now.trail lasting.old }
+    ensures low { lasting.new ≤ propagated + 1 }
+    ensures lasting { IsLasting watches.now.clauses assigned.now.trail lasting.new }
 {
-    if *sure < head {
+    if *lasting < propagated {
         return;
     }
     let _count = assigned.len();
-    if assigned.entry(head).level == assigned.level() {
-        *sure = head + 1;
+    if assigned.entry(propagated).level == assigned.level() {
+        *lasting = propagated + 1;
         return;
     }
 }
 
-/// Visits the lists of all literals that became false from the head on.
+/// Visits the lists of all literals that became false from the place `propagated` on.
 pub fn propagate(
     assigned: &mut Assigned,
     watches: &mut Watches,
     log: &Log,
-    head: &mut usize,
-    sure: &mut usize,
+    propagated: &mut usize,
+    lasting: &mut usize,
 ) -> Result<Option<Hint>, AllocError>
-    requires low { sure.old ≤ head.old }
-    requires sure { IsSure watches.old.clauses assigned.old.trail sure.old }
-    requires ready { IsReady log.now.inputs log.now.lines head.old assigned.old watches.old }
+    requires low { lasting.old ≤ propagated.old }
+    requires lasting { IsLasting watches.old.clauses assigned.old.trail lasting.old }
+    requires ready { IsReady log.now.inputs log.now.lines propagated.old assigned.old watches.old }
     ensures grown { IsGrown assigned.old.trail assigned.new.trail }
     ensures letters { length assigned.new.values ≡ length assigned.old.values }
-    ensures kept { IsReady log.now.inputs log.now.lines head.new assigned.new watches.new }
+    ensures kept { IsReady log.now.inputs log.now.lines propagated.new assigned.new watches.new }
     ensures names { watches.new.names ≡ watches.old.names }
-    ensures low { sure.new ≤ head.new }
-    ensures sure { IsSure watches.new.clauses assigned.new.trail sure.new }
-    ensures found { IfOk result (λ found. MatchOption found (head.new ≡ length assigned.new.trail)
+    ensures low { lasting.new ≤ propagated.new }
+    ensures lasting { IsLasting watches.new.clauses assigned.new.trail lasting.new }
+    ensures found { IfOk result (λ found. MatchOption found (propagated.new ≡ length assigned.new.trail)
         (IsConflict log.now.inputs log.now.lines (literals_of assigned.new.trail))) }
 {
-    'up: while *head < assigned.len() {
-        assigned.told();
-        match visit_list(assigned, watches, log, *head)? {
+    'up: while *propagated < assigned.len() {
+        assigned.invariant();
+        match visit_list(assigned, watches, log, *propagated)? {
             Some(hint) => return Ok(Some(hint)),
             None => {}
         }
-        extend(assigned, watches, log, *head, sure);
-        *head += 1;
+        extend(assigned, watches, log, *propagated, lasting);
+        *propagated += 1;
     }
     Ok(None)
 }

@@ -8,24 +8,24 @@ ghost use Rattle.cdcl_propagate.specs.Visit.{HasTrue, IsGrown};
 ghost use Rattle.cdcl_propagate.specs.Units.{AreShort, AreFirm, IsOne};
 ghost use Rattle.cdcl_trail.specs.Values.{AreBelow};
 
-use cdcl_trail::assigned::{Assigned, Entry};
-use cdcl_trail::named::clause_of;
+use cdcl_trail::{Assigned, Entry, clause_of};
 use clause_log::Log;
 use cnf_base::Hint;
 use std::alloc::AllocError;
 
-/// Makes the short clauses from the place `done` on true.
+/// Makes the short clauses from the place `units_done` on true.
 pub fn visit_units(
     assigned: &mut Assigned,
     log: &Log,
     units: &[Hint],
-    done: usize,
+    units_done: usize,
 ) -> Result<Option<Hint>, AllocError>
     requires is_trail { IsTrail log.now.inputs log.now.lines assigned.old.trail }
     requires known_inputs { AreBelow (length assigned.old.values) log.now.inputs }
     requires known_lines { AreBelow (length assigned.old.values) log.now.lines }
     requires short { AreShort log.now.inputs log.now.lines units.now }
-    requires firm { AreFirm log.now.inputs log.now.lines units.now done (literals_of assigned.old.trail) }
+    requires firm { AreFirm log.now.inputs log.now.lines units.now units_done
+        (literals_of assigned.old.trail) }
     ensures grown { IsGrown assigned.old.trail assigned.new.trail }
     ensures letters { length assigned.new.values ≡ length assigned.old.values }
     ensures is_trail { IsTrail log.now.inputs log.now.lines assigned.new.trail }
@@ -33,7 +33,7 @@ pub fn visit_units(
         (AreFirm log.now.inputs log.now.lines units.now (length units.now) (literals_of assigned.new.trail))
         (IsConflict log.now.inputs log.now.lines (literals_of assigned.new.trail))) }
 {
-    'up: for index in done..units.len() {
+    'up: for index in units_done..units.len() {
         match visit_unit(assigned, log, units[index])? {
             Some(hint) => return Ok(Some(hint)),
             None => {}
@@ -69,7 +69,7 @@ fn visit_unit(assigned: &mut Assigned, log: &Log, hint: Hint) -> Result<Option<H
         → HasTrue (literals_of assigned.new.trail) clause)
         (IsConflict log.now.inputs log.now.lines (literals_of assigned.new.trail))) }
 {
-    assigned.told();
+    assigned.invariant();
     let view = log.view();
     let clause = clause_of(&view, hint);
     if clause.len() == 0 {

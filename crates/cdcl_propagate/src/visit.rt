@@ -7,16 +7,11 @@ ghost use Rattle.cdcl_trail.specs.Trail.{literals_of, IsConflict};
 ghost use Rattle.cdcl_watches.specs.Watching.{code, clause_of, IsWatch};
 ghost use Rattle.cdcl_watches.specs.Watchers.{nobody, IsWalked, walked};
 ghost use Rattle.cdcl_watches.specs.Heads.{number_of};
-ghost use Rattle.cdcl_propagate.specs.Sure.{IsSure};
+ghost use Rattle.cdcl_propagate.specs.Lasting.{IsLasting};
 ghost use Rattle.cdcl_propagate.specs.Visit.{IsVisiting, IsPassed, IsGrown, IsFaced, IsReplacement, AreFalseFrom, false_at, watched_by};
 
-use cdcl_trail::assigned::{Assigned, Entry};
-use cdcl_trail::hints::lengthen;
-use cdcl_watches::arena::Arena;
-use cdcl_watches::clause::Clause;
-use cdcl_watches::walk::{Walk, keep, rewatch};
-use cdcl_watches::watch_lists::WatchLists;
-use cdcl_watches::watches::number;
+use cdcl_trail::{Assigned, Entry, decode_hint};
+use cdcl_watches::{Arena, Clause, Walk, WatchLists, keep, number, rewatch};
 use clause_log::Log;
 use cnf_base::{Hint, Literal};
 use std::alloc::AllocError;
@@ -80,8 +75,8 @@ pub fn visit(
     ensures kept { IsVisiting log.now.inputs log.now.lines place 0 assigned.new
         (walked arena.new lists.new (code falsified) walk.new.kept walk.new.next) }
     ensures names { arena.new.names ≡ arena.old.names }
-    ensures sure { (n : ℕ) → n ≤ place → IsSure arena.old.clauses assigned.old.trail n
-        → IsSure arena.new.clauses assigned.new.trail n }
+    ensures lasting { (n : ℕ) → n ≤ place → IsLasting arena.old.clauses assigned.old.trail n
+        → IsLasting arena.new.clauses assigned.new.trail n }
     ensures found { IfOk result (λ found. MatchOption found
         (IsPassed log.now.inputs log.now.lines place walk.old.next
         (length (slice_index_or lists.old (code falsified) [])) assigned.new arena.new lists.new
@@ -102,7 +97,7 @@ pub fn visit(
         }
         None => {}
     }
-    let hint = lengthen(arena.name(head));
+    let hint = decode_hint(arena.name(head));
     keep(arena, lists, falsified, walk, head, other);
     if assigned.holds(other.opposite()) {
         return Ok(Some(hint));

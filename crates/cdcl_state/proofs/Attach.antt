@@ -17,7 +17,7 @@ use Rattle.cdcl_trail.specs.Assigned.{AssignedValue}
 use Rattle.cdcl_trail.specs.Entries.{hint_of}
 use Rattle.cdcl_propagate.specs.Visit.{HasTrue, IsStored, IsGuarded, HaveSame, blank_hint, names_of}
 use Rattle.cdcl_state.specs.State.{IsUnwatched, IsRewound, IsNamed, IsState, IsListed, AreAll, AreLong}
-use Rattle.cdcl_propagate.specs.Sure.{IsSure, IsTrueBy}
+use Rattle.cdcl_propagate.specs.Lasting.{IsLasting, IsTrueBy}
 use Rattle.cdcl_propagate.specs.Units.{IsOne, AreShort, AreFirm}
 use Rattle.cdcl_trail.specs.declared.assigned.Entry.{Entry}
 use Rattle.cdcl_watches.proofs.Moves.{first_two}
@@ -137,8 +137,8 @@ module _ (old new : LogValue) (hint : Hint) (clause : List Literal) (more : IsMo
   short_more : (units : List Hint) → AreShort old.inputs old.lines units → AreShort new.inputs new.lines units
   short_more units short u low = let told = short u low in (told.0, more.kept (get_or units u blank_hint) told.0 told.1, told.2)
 
-  firm_kept : (units : List Hint) (done : ℕ) (true_ones : List Literal) → done ≤ length units → AreShort old.inputs old.lines units → AreFirm old.inputs old.lines units done true_ones → AreFirm new.inputs new.lines units done true_ones
-  firm_kept units done true_ones fits short firm u other below is =
+  firm_kept : (units : List Hint) (units_done : ℕ) (true_ones : List Literal) → units_done ≤ length units → AreShort old.inputs old.lines units → AreFirm old.inputs old.lines units units_done true_ones → AreFirm new.inputs new.lines units units_done true_ones
+  firm_kept units units_done true_ones fits short firm u other below is =
       let told = short u (omega arith) in
       let same : told.0 ≡ other = some_same (more.kept (get_or units u blank_hint) told.0 told.1) is in
       subst (HasTrue true_ones) same (firm u told.0 below told.1)
@@ -151,8 +151,8 @@ not_false_first trail r place k x free low watch is = elim (first_two r x watch.
 ]
 
 module _ (clauses : List (List Literal)) (r : List Literal) (trail : List Entry) where
-  pub guarded_added : (head : ℕ) → IsGuarded clauses trail head → ((k : ℕ) (x : Literal) → IsWatch r x → k < head → literal_at trail k ≡ opposite x → HasTrue (literals_of trail) r) → IsGuarded (clauses ++ r ∷ []) trail head
-  guarded_added head guarded here c k x known watch below is_false = elim (cases_lt c (length clauses)) [
+  pub guarded_added : (propagated : ℕ) → IsGuarded clauses trail propagated → ((k : ℕ) (x : Literal) → IsWatch r x → k < propagated → literal_at trail k ≡ opposite x → HasTrue (literals_of trail) r) → IsGuarded (clauses ++ r ∷ []) trail propagated
+  guarded_added propagated guarded here c k x known watch below is_false = elim (cases_lt c (length clauses)) [
     | inl low ↦
         let same : clause_of (clauses ++ r ∷ []) c ≡ clause_of clauses c = get_or_append_left clauses (r ∷ []) [] c low in
         subst (HasTrue (literals_of trail)) (sym same) (guarded c k x low (subst (λ s. IsWatch s x) same watch) below is_false)
@@ -161,11 +161,11 @@ module _ (clauses : List (List Literal)) (r : List Literal) (trail : List Entry)
         subst (HasTrue (literals_of trail)) (sym same) (here k x (subst (λ s. IsWatch s x) same watch) below is_false)
   ]
 
-  pub sure_added : (sure : ℕ) → IsSure clauses trail sure → ((k : ℕ) (x : Literal) → IsWatch r x → k < sure → literal_at trail k ≡ opposite x → IsTrueBy trail (place_level trail k) r) → IsSure (clauses ++ r ∷ []) trail sure
-  sure_added sure is_sure here c k x known watch below is_false = elim (cases_lt c (length clauses)) [
+  pub lasting_added : (lasting : ℕ) → IsLasting clauses trail lasting → ((k : ℕ) (x : Literal) → IsWatch r x → k < lasting → literal_at trail k ≡ opposite x → IsTrueBy trail (place_level trail k) r) → IsLasting (clauses ++ r ∷ []) trail lasting
+  lasting_added lasting is_lasting here c k x known watch below is_false = elim (cases_lt c (length clauses)) [
     | inl low ↦
         let same : clause_of (clauses ++ r ∷ []) c ≡ clause_of clauses c = get_or_append_left clauses (r ∷ []) [] c low in
-        subst (IsTrueBy trail (place_level trail k)) (sym same) (is_sure c k x low (subst (λ s. IsWatch s x) same watch) below is_false)
+        subst (IsTrueBy trail (place_level trail k)) (sym same) (is_lasting c k x low (subst (λ s. IsWatch s x) same watch) below is_false)
     | inr high ↦
         let same : clause_of (clauses ++ r ∷ []) c ≡ r = get_or_at clauses r [] [] c (omega (arith, known, length_push clauses r)) in
         subst (IsTrueBy trail (place_level trail k)) (sym same) (here k x (subst (λ s. IsWatch s x) same watch) below is_false)
@@ -179,26 +179,26 @@ lists_added w r name =
     let n = length w.clauses in
     length-set (with_watch w.lists a n) (code b) (list_of (with_watch w.lists a n) b ++ n ∷ []) ∙ length-set w.lists (code a) (list_of w.lists a ++ n ∷ [])
 
-module _ (letters : ℕ) (a : AssignedValue) (w : WatchValue) (units : List Hint) (log next : LogValue) (head sure done firm marked : ℕ) (whole : Bool) (hint : Hint) (clause : List Literal)
-    (state : IsState letters a w units log head sure done firm marked whole) (more : IsMore log next hint clause) (known_inputs : AreKnown letters next.inputs) (known_lines : AreKnown letters next.lines) where
+module _ (letters : ℕ) (a : AssignedValue) (w : WatchValue) (units : List Hint) (log next : LogValue) (propagated lasting units_done units_trail marked : ℕ) (all_lines : Bool) (hint : Hint) (clause : List Literal)
+    (state : IsState letters a w units log propagated lasting units_done units_trail marked all_lines) (more : IsMore log next hint clause) (known_inputs : AreKnown letters next.inputs) (known_lines : AreKnown letters next.lines) where
   -- a clause of at least two literals more
-  pub state_long : (v : WatchValue) (r : List Literal) (h s : ℕ) → IsNamed w v r hint → HaveSame clause r → 2 ≤ length r → AreApart r → IsRewound a.trail r head sure h s → IsState letters a v units next h s done firm marked whole
+  pub state_long : (v : WatchValue) (r : List Literal) (h s : ℕ) → IsNamed w v r hint → HaveSame clause r → 2 ≤ length r → AreApart r → IsRewound a.trail r propagated lasting h s → IsState letters a v units next h s units_done units_trail marked all_lines
   state_long v r h s is_named same long apart rewound =
       let u = with_clause w r is_named.name in
       let names_are : names_of u ≡ names_of w ++ hint ∷ [] = map-append hint_of w.names (is_named.name ∷ []) ∙ ap (λ x. names_of w ++ x ∷ []) is_named.says in
-      subst (λ x. IsState letters a x units next h s done firm marked whole) (sym is_named.is) (record {
+      subst (λ x. IsState letters a x units next h s units_done units_trail marked all_lines) (sym is_named.is) (record {
         ready = record {
           is_trail = trail_more log next hint clause more a.trail state.ready.is_trail;
           stored = subst (IsStored next.inputs next.lines u.clauses) (sym names_are) (stored_more log next hint clause more w.clauses (names_of w) r same state.ready.stored);
-          guarded = guarded_added w.clauses r a.trail h (λ c k x known watch below is. state.ready.guarded c k x known watch (omega (arith, below, rewound.head_falls)) is)
+          guarded = guarded_added w.clauses r a.trail h (λ c k x known watch below is. state.ready.guarded c k x known watch (omega (arith, below, rewound.propagated_falls)) is)
               (λ k x watch below is. absurd (not_false_first a.trail r h k x rewound.free below watch is));
-          within = omega (arith, rewound.head_falls, state.ready.within);
+          within = omega (arith, rewound.propagated_falls, state.ready.within);
           sized = lists_added w r is_named.name ∙ state.ready.sized;
         };
         low = rewound.low;
-        is_sure = sure_added w.clauses r a.trail s (λ c k x known watch below is. state.is_sure c k x known watch (omega (arith, below, rewound.sure_falls)) is)
+        is_lasting = lasting_added w.clauses r a.trail s (λ c k x known watch below is. state.is_lasting c k x known watch (omega (arith, below, rewound.lasting_falls)) is)
             (λ k x watch below is. absurd (not_false_first a.trail r h k x rewound.free (omega (arith, below, rewound.low)) watch is));
-        all = subst (λ ns. AreAll whole next.inputs next.lines ns units) (sym names_are) (λ x c heeded is. elim (more.only x c is) [
+        all = subst (λ ns. AreAll all_lines next.inputs next.lines ns units) (sym names_are) (λ x c heeded is. elim (more.only x c is) [
           | inl old ↦ elim (state.all x c heeded old) [ inl at ↦ inl (listed_more (names_of w) hint x at) | inr at ↦ inr at ]
           | inr e ↦ inl (listed_last (names_of w) hint x e)
         ]);
@@ -210,9 +210,9 @@ module _ (letters : ℕ) (a : AssignedValue) (w : WatchValue) (units : List Hint
               let same_clause : clause ≡ c = some_same more.here (ap (named next.inputs next.lines) (sym e) ∙ is) in
               absurd (not_one clause r same long apart (subst IsOne (sym same_clause) one))
         ];
-        done_in = state.done_in;
-        firm_in = state.firm_in;
-        are_firm = firm_kept log next hint clause more units done _ state.done_in state.short state.are_firm;
+        units_done_in = state.units_done_in;
+        units_trail_in = state.units_trail_in;
+        are_firm = firm_kept log next hint clause more units units_done _ state.units_done_in state.short state.are_firm;
         known_inputs = known_inputs;
         known_lines = known_lines;
         decided = state.decided;
@@ -222,7 +222,7 @@ module _ (letters : ℕ) (a : AssignedValue) (w : WatchValue) (units : List Hint
       })
 
   -- a short clause more
-  pub state_short : IsOne clause → IsState letters a w (units ++ hint ∷ []) next head sure done firm marked whole
+  pub state_short : IsOne clause → IsState letters a w (units ++ hint ∷ []) next propagated lasting units_done units_trail marked all_lines
   state_short one = record {
     ready = record {
       is_trail = trail_more log next hint clause more a.trail state.ready.is_trail;
@@ -235,7 +235,7 @@ module _ (letters : ℕ) (a : AssignedValue) (w : WatchValue) (units : List Hint
       sized = state.ready.sized;
     };
     low = state.low;
-    is_sure = state.is_sure;
+    is_lasting = state.is_lasting;
     all = λ x c heeded is. elim (more.only x c is) [
       | inl old ↦ elim (state.all x c heeded old) [ inl at ↦ inl at | inr at ↦ inr (listed_more units hint x at) ]
       | inr e ↦ inr (listed_last units hint x e)
@@ -256,11 +256,11 @@ module _ (letters : ℕ) (a : AssignedValue) (w : WatchValue) (units : List Hint
       | inl old ↦ listed_more units hint x (state.ones x c old is_one)
       | inr e ↦ listed_last units hint x e
     ];
-    done_in = omega (arith, state.done_in, length_push units hint);
-    firm_in = state.firm_in;
+    units_done_in = omega (arith, state.units_done_in, length_push units hint);
+    units_trail_in = state.units_trail_in;
     are_firm = λ u other below is.
-        firm_kept log next hint clause more units done _ state.done_in state.short state.are_firm u other below
-        (ap (named next.inputs next.lines) (sym (get_or_append_left units (hint ∷ []) blank_hint u (omega (arith, below, state.done_in)))) ∙ is);
+        firm_kept log next hint clause more units units_done _ state.units_done_in state.short state.are_firm u other below
+        (ap (named next.inputs next.lines) (sym (get_or_append_left units (hint ∷ []) blank_hint u (omega (arith, below, state.units_done_in)))) ∙ is);
     known_inputs = known_inputs;
     known_lines = known_lines;
     decided = state.decided;

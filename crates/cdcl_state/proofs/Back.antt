@@ -9,7 +9,7 @@ use Rattle.cdcl_trail.specs.Trail.{literals_of, HasLevel, IsReason, IsTrail, bla
 use Rattle.cdcl_trail.specs.declared.assigned.Entry.{Entry}
 use Rattle.cdcl_trail.proofs.Levels.{level_at, levels_rise}
 use Rattle.cdcl_watches.specs.Watching.{clause_of}
-use Rattle.cdcl_propagate.specs.Sure.{IsSure}
+use Rattle.cdcl_propagate.specs.Lasting.{IsLasting}
 
 module _ (old new : StateValue) (b : ℕ) (is_trail : IsTrail old.log.inputs old.log.lines old.trail) (back : IsBack old new b) where
   pub front_trail : new.trail ≡ take (length new.trail) old.trail
@@ -63,12 +63,12 @@ module _ (old new : StateValue) (b : ℕ) (is_trail : IsTrail old.log.inputs old
       none_or None h = refl
       none_or (Some hint) h = absurd (h hint refl)
 
--- back to a level, what is left of the sure places is sure
-pub sure_back : (clauses : List (List Literal)) (old new : StateValue) (b n m : ℕ) → IsTrail old.log.inputs old.log.lines old.trail → IsBack old new b → IsSure clauses old.trail n → m ≤ n → m ≤ length new.trail → IsSure clauses new.trail m
-sure_back clauses old new b n m is_trail back sure le within c k a known watch below is_false =
+-- back to a level, what is left of the lasting places is lasting
+pub lasting_back : (clauses : List (List Literal)) (old new : StateValue) (b n m : ℕ) → IsTrail old.log.inputs old.log.lines old.trail → IsBack old new b → IsLasting clauses old.trail n → m ≤ n → m ≤ length new.trail → IsLasting clauses new.trail m
+lasting_back clauses old new b n m is_trail back lasting le within c k a known watch below is_false =
     let k_low : k < length new.trail = omega arith in
     let k_same = kept_at old new b is_trail back k k_low in
-    let at = sure c k a known watch (omega arith) (ap (λ (e : Entry). e.literal) (sym k_same) ∙ is_false) in
+    let at = lasting c k a known watch (omega arith) (ap (λ (e : Entry). e.literal) (sym k_same) ∙ is_false) in
     let k_level : level_at old.trail k ≤ b = subst (λ (e : Entry). e.level ≤ b) k_same (back.low k blank_entry k_low) in
     let kept = low_kept old new b is_trail back at.0 at.1 (omega (arith, at.3)) in
     let same = kept_at old new b is_trail back at.0 kept in

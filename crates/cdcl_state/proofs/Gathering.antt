@@ -180,15 +180,15 @@ room_known letters count marked clauses room size known i d below j e low =
     record { mark = omega (arith, within, size); list = code_known l count within }
 
 -- a clause that is heeded came over, or is a short one
-carried_heeded : (whole every : Bool) (log : LogValue) (names units : List Hint) (h : Hint) (clause : List Literal) → AreAll whole log.inputs log.lines names units → IsHeeded every h → named log.inputs log.lines h ≡ Some clause
+carried_heeded : (all_lines every : Bool) (log : LogValue) (names units : List Hint) (h : Hint) (clause : List Literal) → AreAll all_lines log.inputs log.lines names units → IsHeeded every h → named log.inputs log.lines h ≡ Some clause
     → IsCarried every names h ⊎ IsListed units h
-carried_heeded whole every log names units (Clause n) clause all heeded is = all (Clause n) clause tt is
-carried_heeded whole every log names units (Line n) clause all heeded is = inl heeded
+carried_heeded all_lines every log names units (Clause n) clause all heeded is = all (Clause n) clause tt is
+carried_heeded all_lines every log names units (Line n) clause all heeded is = inl heeded
 
 -- the state that watches what was gathered, with all lists to visit
-pub state_gathered : (letters : ℕ) (a : AssignedValue) (w v : WatchValue) (units : List Hint) (log : LogValue) (head sure done firm marked : ℕ) (whole : Bool) (size : ℕ) (every : Bool) → IsState letters a w units log head sure done firm marked whole
-    → IsGathered (IsCarried every (names_of w)) log v → length v.lists ≡ 2 * length a.values → size ≡ marked → IsState letters a v units log 0 0 done firm size every
-state_gathered letters a w v units log head sure done firm marked whole size every state gathered lists same = record {
+pub state_gathered : (letters : ℕ) (a : AssignedValue) (w v : WatchValue) (units : List Hint) (log : LogValue) (propagated lasting units_done units_trail marked : ℕ) (all_lines : Bool) (size : ℕ) (every : Bool) → IsState letters a w units log propagated lasting units_done units_trail marked all_lines
+    → IsGathered (IsCarried every (names_of w)) log v → length v.lists ≡ 2 * length a.values → size ≡ marked → IsState letters a v units log 0 0 units_done units_trail size every
+state_gathered letters a w v units log propagated lasting units_done units_trail marked all_lines size every state gathered lists same = record {
   ready = record {
     is_trail = state.ready.is_trail;
     stored = gathered.stored;
@@ -197,16 +197,16 @@ state_gathered letters a w v units log head sure done firm marked whole size eve
     sized = lists;
   };
   low = omega arith;
-  is_sure = λ c k x known watch below is. absurd (omega (arith, below));
-  all = λ h c heeded is. elim (carried_heeded whole every log (names_of w) units h c state.all heeded is) [
+  is_lasting = λ c k x known watch below is. absurd (omega (arith, below));
+  all = λ h c heeded is. elim (carried_heeded all_lines every log (names_of w) units h c state.all heeded is) [
     | inl carried ↦ elim (gathered.held h c carried is) [ inl at ↦ inl at | inr one ↦ inr (state.ones h c is one) ]
     | inr at ↦ inr at
   ];
   long = gathered.long;
   short = state.short;
   ones = state.ones;
-  done_in = state.done_in;
-  firm_in = state.firm_in;
+  units_done_in = state.units_done_in;
+  units_trail_in = state.units_trail_in;
   are_firm = state.are_firm;
   known_inputs = state.known_inputs;
   known_lines = state.known_lines;

@@ -13,16 +13,16 @@ use Rattle.cdcl_trail.specs.Trail.{AreValues, IsTrail, blank_entry, literal_at, 
 use Rattle.cdcl_state.specs.Turns.{IsTarget, IsAsserting}
 use Rattle.cdcl_watches.specs.Watching.{WatchValue, blank}
 use Rattle.cdcl_trail.specs.Assigned.{AssignedValue}
-use Rattle.cdcl_propagate.specs.Sure.{IsSure}
+use Rattle.cdcl_propagate.specs.Lasting.{IsLasting}
 use Rattle.cdcl_state.specs.State.{IsState}
 use Rattle.cdcl_trail.specs.declared.assigned.Entry.{Entry}
 use Rattle.cdcl_watches.proofs.Moves.{first_two}
 use Rattle.cdcl_trail.proofs.Standing.{places_apart}
 use Rattle.cdcl_trail.proofs.Levels.{level_at, decision_level}
 use Rattle.cdcl_state.proofs.Back.{kept_at, low_kept}
-use Rattle.cdcl_propagate.proofs.Sure.{guarded_sure}
-use Rattle.cdcl_state.proofs.States.{sure_push}
-use Rattle.cdcl_state.proofs.Attach.{sure_added}
+use Rattle.cdcl_propagate.proofs.Lasting.{guarded_lasting}
+use Rattle.cdcl_state.proofs.States.{lasting_push}
+use Rattle.cdcl_state.proofs.Attach.{lasting_added}
 
 -- the level to go back to is below that of the first literal
 pub target_below : (trail : List Entry) (places : List ℕ) (b : ℕ) → IsAsserting trail places → IsTarget trail places b → b < level_at trail (get_or places 0 0)
@@ -40,19 +40,19 @@ decisions_asserting inputs lines trail places is_trail decisions falling some = 
       omega (arith, decision_level inputs lines trail is_trail (get_or places 0 0) (decisions 0 0 some), decision_level inputs lines trail is_trail (get_or places 1 0) (decisions 1 0 more), falling 0 1 0 (omega arith) more);
 }
 
--- the same parts with the head and the sure places put elsewhere
-pub state_raise : (letters : ℕ) (a : AssignedValue) (w : WatchValue) (units : List Hint) (log : LogValue) (head sure done firm marked : ℕ) (whole : Bool) (m : ℕ) → IsState letters a w units log head sure done firm marked whole
-    → m ≤ length a.trail → IsSure w.clauses a.trail m → IsState letters a w units log m m done firm marked whole
-state_raise letters a w units log head sure done firm marked whole m state fits is_sure = record {
-  ready = record { is_trail = state.ready.is_trail; stored = state.ready.stored; guarded = guarded_sure w.clauses a.trail m is_sure; within = fits; sized = state.ready.sized };
+-- the same parts with `propagated` and `lasting` put elsewhere
+pub state_raise : (letters : ℕ) (a : AssignedValue) (w : WatchValue) (units : List Hint) (log : LogValue) (propagated lasting units_done units_trail marked : ℕ) (all_lines : Bool) (m : ℕ) → IsState letters a w units log propagated lasting units_done units_trail marked all_lines
+    → m ≤ length a.trail → IsLasting w.clauses a.trail m → IsState letters a w units log m m units_done units_trail marked all_lines
+state_raise letters a w units log propagated lasting units_done units_trail marked all_lines m state fits is_lasting = record {
+  ready = record { is_trail = state.ready.is_trail; stored = state.ready.stored; guarded = guarded_lasting w.clauses a.trail m is_lasting; within = fits; sized = state.ready.sized };
   low = omega arith;
-  is_sure = is_sure;
+  is_lasting = is_lasting;
   all = state.all;
   long = state.long;
   short = state.short;
   ones = state.ones;
-  done_in = state.done_in;
-  firm_in = state.firm_in;
+  units_done_in = state.units_done_in;
+  units_trail_in = state.units_trail_in;
   are_firm = state.are_firm;
   known_inputs = state.known_inputs;
   known_lines = state.known_lines;
@@ -87,9 +87,9 @@ second_kept old new b clause places is_trail back target clause_is inside long =
     }
 
 -- behind the trail stands the first literal, on the level of the second: the rule holds of the new clause
-pub learnt_sure : (values : List (Option Bool)) (clauses : List (List Literal)) (r : List Literal) (trail : List Entry) (e : Entry) (m : ℕ) → AreValues values (trail ++ e ∷ []) → m ≤ length trail → IsSure clauses trail m
-    → 0 < length r → e.literal ≡ get_or r 0 blank → IsSecond trail (get_or r 1 blank) e.level → IsSure (clauses ++ r ∷ []) (trail ++ e ∷ []) m
-learnt_sure values clauses r trail e m are fits sure some first second =
+pub learnt_lasting : (values : List (Option Bool)) (clauses : List (List Literal)) (r : List Literal) (trail : List Entry) (e : Entry) (m : ℕ) → AreValues values (trail ++ e ∷ []) → m ≤ length trail → IsLasting clauses trail m
+    → 0 < length r → e.literal ≡ get_or r 0 blank → IsSecond trail (get_or r 1 blank) e.level → IsLasting (clauses ++ r ∷ []) (trail ++ e ∷ []) m
+learnt_lasting values clauses r trail e m are fits lasting some first second =
     let t = trail ++ e ∷ [] in
     let n = length trail in
     let longer : length t ≡ n + 1 = length_push trail e in
@@ -97,7 +97,7 @@ learnt_sure values clauses r trail e m are fits sure some first second =
     let p = second.place in
     let p_at : get_or t p blank_entry ≡ get_or trail p blank_entry = get_or_append_left trail (e ∷ []) blank_entry p second.within in
     let u_in : Contains r (literal_at t n) = subst (Contains r) (sym (ap (λ (f : Entry). f.literal) last ∙ first)) (Contains-get_or r 0 blank some) in
-    sure_added clauses r t m (sure_push clauses trail (e ∷ []) m fits sure) (λ k x watch below is. elim (first_two r x watch.0 blank watch.1) [
+    lasting_added clauses r t m (lasting_push clauses trail (e ∷ []) m fits lasting) (λ k x watch below is. elim (first_two r x watch.0 blank watch.1) [
       | inl one ↦ absurd (places_apart values t are k n (omega (arith, below, longer)) (omega (arith, longer)) (λ same. omega (arith, same, below))
           (ap (λ (l : Literal). l.letter.0) (is ∙ ap opposite (one.0 ∙ sym first)) ∙ ap (λ (f : Entry). f.literal.letter.0) (sym last)))
       | inr two ↦

@@ -15,10 +15,10 @@ use Rattle.cdcl_trail.specs.Assigned.{AssignedValue}
 use Rattle.cdcl_state.specs.State.{IsState}
 use Rattle.cdcl_trail.specs.declared.assigned.Entry.{Entry}
 
-pub state_widened : (letters : ℕ) (a b : AssignedValue) (w v : WatchValue) (units : List Hint) (log : LogValue) (head sure done firm marked : ℕ) (whole : Bool) (wide : ℕ) → IsState letters a w units log head sure done firm marked whole
+pub state_widened : (letters : ℕ) (a b : AssignedValue) (w v : WatchValue) (units : List Hint) (log : LogValue) (propagated lasting units_done units_trail marked : ℕ) (all_lines : Bool) (wide : ℕ) → IsState letters a w units log propagated lasting units_done units_trail marked all_lines
     → b.trail ≡ a.trail → v.clauses ≡ w.clauses → v.names ≡ w.names → length v.lists ≡ 2 * length b.values → length a.values ≤ length b.values → length b.values ≤ 2 ^ 32 → length b.values ≤ wide
-    → IsState letters b v units log head sure done firm wide whole
-state_widened letters a b w v units log head sure done firm marked whole wide state trail clauses names sized more few marks =
+    → IsState letters b v units log propagated lasting units_done units_trail wide all_lines
+state_widened letters a b w v units log propagated lasting units_done units_trail marked all_lines wide state trail clauses names sized more few marks =
     rw (trail, clauses, names) (record {
       ready = record {
         is_trail = state.ready.is_trail;
@@ -28,13 +28,13 @@ state_widened letters a b w v units log head sure done firm marked whole wide st
         sized = sized;
       };
       low = state.low;
-      is_sure = state.is_sure;
+      is_lasting = state.is_lasting;
       all = state.all;
       long = state.long;
       short = state.short;
       ones = state.ones;
-      done_in = state.done_in;
-      firm_in = state.firm_in;
+      units_done_in = state.units_done_in;
+      units_trail_in = state.units_trail_in;
       are_firm = state.are_firm;
       known_inputs = state.known_inputs;
       known_lines = state.known_lines;
@@ -51,18 +51,18 @@ clauses_wider : (letters count : ℕ) → letters ≤ count → (clauses : List 
 clauses_wider letters count more clauses known i d below j e low = known_wider letters count more (get_or (get_or clauses i d) j e) (known i d below j e low)
 
 -- more letters are known
-pub state_lettered : (letters count : ℕ) (a : AssignedValue) (w : WatchValue) (units : List Hint) (log : LogValue) (head sure done firm marked : ℕ) (whole : Bool) → IsState letters a w units log head sure done firm marked whole → letters ≤ count → count < length a.values
-    → IsState count a w units log head sure done firm marked whole
-state_lettered letters count a w units log head sure done firm marked whole state more room = record {
+pub state_lettered : (letters count : ℕ) (a : AssignedValue) (w : WatchValue) (units : List Hint) (log : LogValue) (propagated lasting units_done units_trail marked : ℕ) (all_lines : Bool) → IsState letters a w units log propagated lasting units_done units_trail marked all_lines → letters ≤ count → count < length a.values
+    → IsState count a w units log propagated lasting units_done units_trail marked all_lines
+state_lettered letters count a w units log propagated lasting units_done units_trail marked all_lines state more room = record {
   ready = state.ready;
   low = state.low;
-  is_sure = state.is_sure;
+  is_lasting = state.is_lasting;
   all = state.all;
   long = state.long;
   short = state.short;
   ones = state.ones;
-  done_in = state.done_in;
-  firm_in = state.firm_in;
+  units_done_in = state.units_done_in;
+  units_trail_in = state.units_trail_in;
   are_firm = state.are_firm;
   known_inputs = clauses_wider letters count more log.inputs state.known_inputs;
   known_lines = clauses_wider letters count more log.lines state.known_lines;

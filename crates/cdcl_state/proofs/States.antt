@@ -18,15 +18,15 @@ use Rattle.cdcl_watches.specs.Heads.{ArenaValue}
 use Rattle.cdcl_trail.specs.Assigned.{AssignedValue}
 use Rattle.cdcl_trail.specs.Entries.{hint_of}
 use Rattle.cdcl_propagate.specs.Visit.{HasTrue, IsReady, IsStored, IsGrown, IsGuarded, HaveSame, blank_hint, names_of}
-use Rattle.cdcl_propagate.specs.Sure.{IsSure}
+use Rattle.cdcl_propagate.specs.Lasting.{IsLasting}
 use Rattle.cdcl_analyze.specs.Reason.{IsAnalyzable}
 use Rattle.cdcl_state.specs.State.{IsState, AreAll, AreLong, AreKnownDecisions}
 use Rattle.cdcl_propagate.specs.Units.{IsOne, AreFirm}
 use Rattle.cdcl_trail.specs.declared.assigned.Entry.{Entry}
 use Rattle.cdcl_trail.proofs.Standing.{not_both}
 use Rattle.cdcl_propagate.proofs.Settled.{settled_watched}
-use Rattle.cdcl_state.proofs.Back.{sure_back}
-use Rattle.cdcl_propagate.proofs.Sure.{guarded_sure}
+use Rattle.cdcl_state.proofs.Back.{lasting_back}
+use Rattle.cdcl_propagate.proofs.Lasting.{guarded_lasting}
 use Rattle.cdcl_trail.proofs.Levels.{level_at, levels_rise, level_bound}
 use Rattle.cdcl_trail.proofs.Assign.{trail_take, trail_push}
 
@@ -40,7 +40,7 @@ below_values letters a clauses room known i d below j e low =
     (k.from_one, room (get_or (get_or clauses i d) j e).letter.0 k.from_one k.within)
 
 -- what holds of a state is what an analysis asks for
-pub analyzable : {letters : ℕ} {a : AssignedValue} {w : WatchValue} {units : List Hint} {log : LogValue} {head sure done firm marked : ℕ} {whole : Bool} → IsState letters a w units log head sure done firm marked whole
+pub analyzable : {letters : ℕ} {a : AssignedValue} {w : WatchValue} {units : List Hint} {log : LogValue} {propagated lasting units_done units_trail marked : ℕ} {all_lines : Bool} → IsState letters a w units log propagated lasting units_done units_trail marked all_lines
     → (arena : ArenaValue) → arena.clauses ≡ w.clauses → arena.names ≡ w.names → IsAnalyzable log a arena
 analyzable {letters} {a} {w} {units} {log} state arena clauses names = record {
   is_trail = state.ready.is_trail;
@@ -66,9 +66,9 @@ long_clause inputs lines clauses names stored long c known = elim (cases_lt (len
 ]
 
 -- where all lists were visited and all short clauses are true, the state is settled
-pub settled : (letters : ℕ) (a : AssignedValue) (w : WatchValue) (units : List Hint) (log : LogValue) (head sure done firm marked : ℕ) (whole : Bool) → IsState letters a w units log head sure done firm marked whole
-    → AreValues a.values a.trail → IsWatching w.clauses w.lists → head ≡ length a.trail → done ≡ length units → IsSettled (state_of letters a.trail log whole)
-settled letters a w units log head sure done firm marked whole state are watching all finished hint heeded = (
+pub settled : (letters : ℕ) (a : AssignedValue) (w : WatchValue) (units : List Hint) (log : LogValue) (propagated lasting units_done units_trail marked : ℕ) (all_lines : Bool) → IsState letters a w units log propagated lasting units_done units_trail marked all_lines
+    → AreValues a.values a.trail → IsWatching w.clauses w.lists → propagated ≡ length a.trail → units_done ≡ length units → IsSettled (state_of letters a.trail log all_lines)
+settled letters a w units log propagated lasting units_done units_trail marked all_lines state are watching all finished hint heeded = (
   (λ conflict. elim (state.all hint conflict.clause heeded conflict.is) [
     | inl at ↦ (watched at).0 conflict
     | inr at ↦
@@ -101,7 +101,7 @@ settled letters a w units log head sure done firm marked whole state are watchin
     unit : ((u : ℕ) × (u < length units) × (get_or units u blank_hint ≡ hint)) → (clause : List Literal) → named log.inputs log.lines hint ≡ Some clause → HasTrue (literals_of a.trail) clause
     unit at clause is =
         let told = state.are_firm at.0 clause (omega (arith, at.1, finished)) (ap (named log.inputs log.lines) at.2 ∙ is) in
-        (told.0, told.1, front_true a.trail firm told.0 state.firm_in told.2)
+        (told.0, told.1, front_true a.trail units_trail told.0 state.units_trail_in told.2)
       where
         front_true : (trail : List Entry) (n : ℕ) (l : Literal) → n ≤ length trail → Contains (literals_of (take n trail)) l → Contains (literals_of trail) l
         front_true trail n l fits (k, low, is_l) =
@@ -114,20 +114,20 @@ settled letters a w units log head sure done firm marked whole state are watchin
             )
 
 -- forced entries more on the trail
-pub state_grown : (letters : ℕ) (a b : AssignedValue) (w v : WatchValue) (units : List Hint) (log : LogValue) (head sure done firm next later marked : ℕ) (whole : Bool) → IsState letters a w units log head sure done firm marked whole
-    → IsGrown a.trail b.trail → length b.values ≡ length a.values → v.names ≡ w.names → later ≤ next → IsSure v.clauses b.trail later → IsReady log.inputs log.lines next b v → IsState letters b v units log next later done firm marked whole
-state_grown letters a b w v units log head sure done firm next later marked whole state grown same names_are low is_sure ready = record {
+pub state_grown : (letters : ℕ) (a b : AssignedValue) (w v : WatchValue) (units : List Hint) (log : LogValue) (propagated lasting units_done units_trail next later marked : ℕ) (all_lines : Bool) → IsState letters a w units log propagated lasting units_done units_trail marked all_lines
+    → IsGrown a.trail b.trail → length b.values ≡ length a.values → v.names ≡ w.names → later ≤ next → IsLasting v.clauses b.trail later → IsReady log.inputs log.lines next b v → IsState letters b v units log next later units_done units_trail marked all_lines
+state_grown letters a b w v units log propagated lasting units_done units_trail next later marked all_lines state grown same names_are low is_lasting ready = record {
   ready = ready;
   low = low;
-  is_sure = is_sure;
-  all = subst (λ ns. AreAll whole log.inputs log.lines (map hint_of ns) units) (sym names_are) state.all;
+  is_lasting = is_lasting;
+  all = subst (λ ns. AreAll all_lines log.inputs log.lines (map hint_of ns) units) (sym names_are) state.all;
   long = subst (λ ns. AreLong log.inputs log.lines (map hint_of ns)) (sym names_are) state.long;
   short = state.short;
   ones = state.ones;
-  done_in = state.done_in;
-  firm_in = omega (arith, state.firm_in, ap length grown.trail, length-append a.trail grown.more);
+  units_done_in = state.units_done_in;
+  units_trail_in = omega (arith, state.units_trail_in, ap length grown.trail, length-append a.trail grown.more);
   are_firm = λ u clause below is.
-      let front : take firm b.trail ≡ take firm a.trail = ap (take firm) grown.trail ∙ take-append-le firm a.trail grown.more state.firm_in in
+      let front : take units_trail b.trail ≡ take units_trail a.trail = ap (take units_trail) grown.trail ∙ take-append-le units_trail a.trail grown.more state.units_trail_in in
       subst (λ t. HasTrue (literals_of t) clause) (sym front) (state.are_firm u clause below is);
   known_inputs = state.known_inputs;
   known_lines = state.known_lines;
@@ -140,31 +140,31 @@ state_grown letters a b w v units log head sure done firm next later marked whol
 }
 
 -- a front of the trail
-pub state_back : (letters : ℕ) (a b : AssignedValue) (w : WatchValue) (units : List Hint) (log : LogValue) (head sure done firm marked : ℕ) (whole : Bool) (m n level still solid : ℕ) → IsState letters a w units log head sure done firm marked whole
-    → b.trail ≡ take n a.trail → length b.values ≡ length a.values → n ≤ length a.trail → IsBack (state_of letters a.trail log whole) (state_of letters b.trail log whole) level → m ≤ sure → m ≤ n
-    → ((firm ≤ n) × (still ≡ done) × (solid ≡ firm)) ⊎ ((still ≡ 0) × (solid ≡ 0)) → IsState letters b w units log m m still solid marked whole
-state_back letters a b w units log head sure done firm marked whole m n level still solid state trail_is values_is fits back m_sure m_n units_are =
+pub state_back : (letters : ℕ) (a b : AssignedValue) (w : WatchValue) (units : List Hint) (log : LogValue) (propagated lasting units_done units_trail marked : ℕ) (all_lines : Bool) (m n level still solid : ℕ) → IsState letters a w units log propagated lasting units_done units_trail marked all_lines
+    → b.trail ≡ take n a.trail → length b.values ≡ length a.values → n ≤ length a.trail → IsBack (state_of letters a.trail log all_lines) (state_of letters b.trail log all_lines) level → m ≤ lasting → m ≤ n
+    → ((units_trail ≤ n) × (still ≡ units_done) × (solid ≡ units_trail)) ⊎ ((still ≡ 0) × (solid ≡ 0)) → IsState letters b w units log m m still solid marked all_lines
+state_back letters a b w units log propagated lasting units_done units_trail marked all_lines m n level still solid state trail_is values_is fits back m_lasting m_n units_are =
     let len : length b.trail ≡ n = ap length trail_is ∙ length-take-le n a.trail fits in
-    let new_sure = sure_back w.clauses (state_of letters a.trail log whole) (state_of letters b.trail log whole) level sure m state.ready.is_trail back state.is_sure m_sure (omega (arith, len)) in
+    let new_lasting = lasting_back w.clauses (state_of letters a.trail log all_lines) (state_of letters b.trail log all_lines) level lasting m state.ready.is_trail back state.is_lasting m_lasting (omega (arith, len)) in
     record {
       ready = record {
         is_trail = subst (IsTrail log.inputs log.lines) (sym trail_is) (trail_take log.inputs log.lines a.trail n fits state.ready.is_trail);
         stored = state.ready.stored;
-        guarded = guarded_sure w.clauses b.trail m new_sure;
+        guarded = guarded_lasting w.clauses b.trail m new_lasting;
         within = omega (arith, len);
         sized = state.ready.sized ∙ ap (λ x. 2 * x) (sym values_is);
       };
       low = omega arith;
-      is_sure = new_sure;
+      is_lasting = new_lasting;
       all = state.all;
       long = state.long;
       short = state.short;
       ones = state.ones;
-      done_in = elim units_are [ inl kept ↦ omega (arith, kept.1, state.done_in) | inr none ↦ omega (arith, none.0) ];
-      firm_in = elim units_are [ inl kept ↦ omega (arith, kept.0, kept.2, len) | inr none ↦ omega (arith, none.1) ];
+      units_done_in = elim units_are [ inl kept ↦ omega (arith, kept.1, state.units_done_in) | inr none ↦ omega (arith, none.0) ];
+      units_trail_in = elim units_are [ inl kept ↦ omega (arith, kept.0, kept.2, len) | inr none ↦ omega (arith, none.1) ];
       are_firm = λ u clause below is. elim units_are [
         | inl kept ↦
-            let front : take solid b.trail ≡ take firm a.trail = ap₂ (λ k t. take k t) kept.2 trail_is ∙ take-take firm n a.trail kept.0 in
+            let front : take solid b.trail ≡ take units_trail a.trail = ap₂ (λ k t. take k t) kept.2 trail_is ∙ take-take units_trail n a.trail kept.0 in
             subst (λ t. HasTrue (literals_of t) clause) (sym front) (state.are_firm u clause (omega (arith, below, kept.1)) is)
         | inr none ↦ absurd (omega (arith, below, none.0))
       ];
@@ -179,12 +179,12 @@ state_back letters a b w units log head sure done firm marked whole m n level st
     }
 
 -- the way back of the trail, from the entries beside its end
-pub back_of : (letters : ℕ) (a b : AssignedValue) (log : LogValue) (whole : Bool) (n level : ℕ) → IsTrail log.inputs log.lines a.trail → b.trail ≡ take n a.trail → n ≤ length a.trail
-    → (0 < n → level_at a.trail (n - 1) ≤ level) → (n < length a.trail → level < level_at a.trail n) → IsBack (state_of letters a.trail log whole) (state_of letters b.trail log whole) level
-back_of letters a b log whole n level is_trail trail_is fits low high =
+pub back_of : (letters : ℕ) (a b : AssignedValue) (log : LogValue) (all_lines : Bool) (n level : ℕ) → IsTrail log.inputs log.lines a.trail → b.trail ≡ take n a.trail → n ≤ length a.trail
+    → (0 < n → level_at a.trail (n - 1) ≤ level) → (n < length a.trail → level < level_at a.trail n) → IsBack (state_of letters a.trail log all_lines) (state_of letters b.trail log all_lines) level
+back_of letters a b log all_lines n level is_trail trail_is fits low high =
     let len : length b.trail ≡ n = ap length trail_is ∙ length-take-le n a.trail fits in
     record {
-      front = ap (λ t. state_of letters t log whole) (trail_is ∙ ap (λ m. take m a.trail) (sym len));
+      front = ap (λ t. state_of letters t log all_lines) (trail_is ∙ ap (λ m. take m a.trail) (sym len));
       short = omega (arith, len);
       low = λ k d below.
           let k_low : k < n = omega (arith, below, len) in
@@ -207,10 +207,10 @@ guarded_push clauses trail more n fits guarded c k a known watch below is_false 
     let told = guarded c k a known watch below (sym same ∙ is_false) in
     (told.0, told.1, subst (λ ls. Contains ls told.0) (sym (map-append (λ (f : Entry). f.literal) trail more)) (Contains-append_left (literals_of trail) (literals_of more) told.0 told.2))
 
-pub sure_push : (clauses : List (List Literal)) (trail more : List Entry) (n : ℕ) → n ≤ length trail → IsSure clauses trail n → IsSure clauses (trail ++ more) n
-sure_push clauses trail more n fits sure c k a known watch below is_false =
+pub lasting_push : (clauses : List (List Literal)) (trail more : List Entry) (n : ℕ) → n ≤ length trail → IsLasting clauses trail n → IsLasting clauses (trail ++ more) n
+lasting_push clauses trail more n fits lasting c k a known watch below is_false =
     let k_same = get_or_append_left trail more blank_entry k (omega arith) in
-    let at = sure c k a known watch below (ap (λ (f : Entry). f.literal) (sym k_same) ∙ is_false) in
+    let at = lasting c k a known watch below (ap (λ (f : Entry). f.literal) (sym k_same) ∙ is_false) in
     let j_same = get_or_append_left trail more blank_entry at.0 at.1 in
     (at.0, omega (arith, at.1, length-append trail more), subst (Contains (clause_of clauses c)) (ap (λ (f : Entry). f.literal) (sym j_same)) at.2, omega (arith, at.3, ap (λ (f : Entry). f.level) j_same, ap (λ (f : Entry). f.level) k_same))
 
@@ -225,27 +225,27 @@ decision_stands inputs lines trail l level is_trail is = record {
 }
 
 -- an entry more behind the trail
-module _ (letters : ℕ) (a b : AssignedValue) (w : WatchValue) (units : List Hint) (log : LogValue) (head sure done firm marked : ℕ) (whole : Bool) (e : Entry) (state : IsState letters a w units log head sure done firm marked whole)
+module _ (letters : ℕ) (a b : AssignedValue) (w : WatchValue) (units : List Hint) (log : LogValue) (propagated lasting units_done units_trail marked : ℕ) (all_lines : Bool) (e : Entry) (state : IsState letters a w units log propagated lasting units_done units_trail marked all_lines)
     (values_is : length b.values ≡ length a.values) (stands : StandsAt log.inputs log.lines a.trail e) (known : e.reason ≡ None → IsKnown letters e.literal) where
-  pub state_pushed : b.trail ≡ a.trail ++ e ∷ [] → IsState letters b w units log head sure done firm marked whole
+  pub state_pushed : b.trail ≡ a.trail ++ e ∷ [] → IsState letters b w units log propagated lasting units_done units_trail marked all_lines
   state_pushed is = record {
     ready = record {
       is_trail = subst (IsTrail log.inputs log.lines) (sym is) (trail_push log.inputs log.lines a.trail e state.ready.is_trail stands);
       stored = state.ready.stored;
-      guarded = subst (λ t. IsGuarded w.clauses t head) (sym is) (guarded_push w.clauses a.trail (e ∷ []) head state.ready.within state.ready.guarded);
+      guarded = subst (λ t. IsGuarded w.clauses t propagated) (sym is) (guarded_push w.clauses a.trail (e ∷ []) propagated state.ready.within state.ready.guarded);
       within = omega (arith, state.ready.within, ap length is, length_push a.trail e);
       sized = state.ready.sized ∙ ap (λ x. 2 * x) (sym values_is);
     };
     low = state.low;
-    is_sure = subst (λ t. IsSure w.clauses t sure) (sym is) (sure_push w.clauses a.trail (e ∷ []) sure (omega (arith, state.low, state.ready.within)) state.is_sure);
+    is_lasting = subst (λ t. IsLasting w.clauses t lasting) (sym is) (lasting_push w.clauses a.trail (e ∷ []) lasting (omega (arith, state.low, state.ready.within)) state.is_lasting);
     all = state.all;
     long = state.long;
     short = state.short;
     ones = state.ones;
-    done_in = state.done_in;
-    firm_in = omega (arith, state.firm_in, ap length is, length_push a.trail e);
+    units_done_in = state.units_done_in;
+    units_trail_in = omega (arith, state.units_trail_in, ap length is, length_push a.trail e);
     are_firm = λ u clause below named_is.
-        let front : take firm b.trail ≡ take firm a.trail = ap (take firm) is ∙ take-append-le firm a.trail (e ∷ []) state.firm_in in
+        let front : take units_trail b.trail ≡ take units_trail a.trail = ap (take units_trail) is ∙ take-append-le units_trail a.trail (e ∷ []) state.units_trail_in in
         subst (λ t. HasTrue (literals_of t) clause) (sym front) (state.are_firm u clause below named_is);
     known_inputs = state.known_inputs;
     known_lines = state.known_lines;
@@ -255,24 +255,24 @@ module _ (letters : ℕ) (a b : AssignedValue) (w : WatchValue) (units : List Hi
     size = omega (arith, values_is, state.size);
   }
 
-  pub state_same : b.trail ≡ a.trail → IsState letters b w units log head sure done firm marked whole
+  pub state_same : b.trail ≡ a.trail → IsState letters b w units log propagated lasting units_done units_trail marked all_lines
   state_same is = record {
     ready = record {
       is_trail = subst (IsTrail log.inputs log.lines) (sym is) state.ready.is_trail;
       stored = state.ready.stored;
-      guarded = subst (λ t. IsGuarded w.clauses t head) (sym is) state.ready.guarded;
+      guarded = subst (λ t. IsGuarded w.clauses t propagated) (sym is) state.ready.guarded;
       within = omega (arith, state.ready.within, ap length is);
       sized = state.ready.sized ∙ ap (λ x. 2 * x) (sym values_is);
     };
     low = state.low;
-    is_sure = subst (λ t. IsSure w.clauses t sure) (sym is) state.is_sure;
+    is_lasting = subst (λ t. IsLasting w.clauses t lasting) (sym is) state.is_lasting;
     all = state.all;
     long = state.long;
     short = state.short;
     ones = state.ones;
-    done_in = state.done_in;
-    firm_in = omega (arith, state.firm_in, ap length is);
-    are_firm = λ u clause below named_is. subst (λ t. HasTrue (literals_of (take firm t)) clause) (sym is) (state.are_firm u clause below named_is);
+    units_done_in = state.units_done_in;
+    units_trail_in = omega (arith, state.units_trail_in, ap length is);
+    are_firm = λ u clause below named_is. subst (λ t. HasTrue (literals_of (take units_trail t)) clause) (sym is) (state.are_firm u clause below named_is);
     known_inputs = state.known_inputs;
     known_lines = state.known_lines;
     decided = subst (AreKnownDecisions letters) (sym is) state.decided;
@@ -281,48 +281,48 @@ module _ (letters : ℕ) (a b : AssignedValue) (w : WatchValue) (units : List Hi
     size = omega (arith, values_is, state.size);
   }
 
-  pub state_assigned : (ok : Bool) → b.trail ≡ (if ok then a.trail ++ e ∷ [] else a.trail) → IsState letters b w units log head sure done firm marked whole
+  pub state_assigned : (ok : Bool) → b.trail ≡ (if ok then a.trail ++ e ∷ [] else a.trail) → IsState letters b w units log propagated lasting units_done units_trail marked all_lines
   state_assigned true is = state_pushed is
   state_assigned false is = state_same is
 
--- forced entries more keep the watch rule below the head
-pub ready_grown : (inputs lines : List (List Literal)) (head : ℕ) (a b : AssignedValue) (w : WatchValue) → IsReady inputs lines head a w → IsGrown a.trail b.trail → IsTrail inputs lines b.trail → length b.values ≡ length a.values
-    → IsReady inputs lines head b w
-ready_grown inputs lines head a b w ready grown is_trail same = record {
+-- forced entries more keep the watch rule below the propagated
+pub ready_grown : (inputs lines : List (List Literal)) (propagated : ℕ) (a b : AssignedValue) (w : WatchValue) → IsReady inputs lines propagated a w → IsGrown a.trail b.trail → IsTrail inputs lines b.trail → length b.values ≡ length a.values
+    → IsReady inputs lines propagated b w
+ready_grown inputs lines propagated a b w ready grown is_trail same = record {
   is_trail = is_trail;
   stored = ready.stored;
-  guarded = subst (λ t. IsGuarded w.clauses t head) (sym grown.trail) (guarded_push w.clauses a.trail grown.more head ready.within ready.guarded);
+  guarded = subst (λ t. IsGuarded w.clauses t propagated) (sym grown.trail) (guarded_push w.clauses a.trail grown.more propagated ready.within ready.guarded);
   within = omega (arith, ready.within, ap length grown.trail, length-append a.trail grown.more);
   sized = ready.sized ∙ ap (λ x. 2 * x) (sym same);
 }
 
-pub sure_grown : (clauses : List (List Literal)) (old new : List Entry) (n : ℕ) → n ≤ length old → IsGrown old new → IsSure clauses old n → IsSure clauses new n
-sure_grown clauses old new n fits grown sure = subst (λ t. IsSure clauses t n) (sym grown.trail) (sure_push clauses old grown.more n fits sure)
+pub lasting_grown : (clauses : List (List Literal)) (old new : List Entry) (n : ℕ) → n ≤ length old → IsGrown old new → IsLasting clauses old n → IsLasting clauses new n
+lasting_grown clauses old new n fits grown lasting = subst (λ t. IsLasting clauses t n) (sym grown.trail) (lasting_push clauses old grown.more n fits lasting)
 
 -- what is true on the front is true on the trail
-pub firm_now : (inputs lines : List (List Literal)) (units : List Hint) (done firm : ℕ) (trail : List Entry) → firm ≤ length trail → AreFirm inputs lines units done (literals_of (take firm trail)) → AreFirm inputs lines units done (literals_of trail)
-firm_now inputs lines units done firm trail fits are u clause below is =
+pub firm_now : (inputs lines : List (List Literal)) (units : List Hint) (units_done units_trail : ℕ) (trail : List Entry) → units_trail ≤ length trail → AreFirm inputs lines units units_done (literals_of (take units_trail trail)) → AreFirm inputs lines units units_done (literals_of trail)
+firm_now inputs lines units units_done units_trail trail fits are u clause below is =
     let told = are u clause below is in (
       told.0,
       told.1,
-      subst (λ ls. Contains ls told.0) (sym (ap literals_of (sym (take-append-drop firm trail)) ∙ map-append (λ (e : Entry). e.literal) (take firm trail) (drop firm trail)))
-          (Contains-append_left (literals_of (take firm trail)) (literals_of (drop firm trail)) told.0 told.2),
+      subst (λ ls. Contains ls told.0) (sym (ap literals_of (sym (take-append-drop units_trail trail)) ∙ map-append (λ (e : Entry). e.literal) (take units_trail trail) (drop units_trail trail)))
+          (Contains-append_left (literals_of (take units_trail trail)) (literals_of (drop units_trail trail)) told.0 told.2),
     )
 
 -- all short clauses are true
-pub state_firm : (letters : ℕ) (a : AssignedValue) (w : WatchValue) (units : List Hint) (log : LogValue) (head sure done firm still solid marked : ℕ) (whole : Bool) → IsState letters a w units log head sure done firm marked whole
-    → AreFirm log.inputs log.lines units (length units) (literals_of a.trail) → ((length units ≤ done) × (still ≡ done) × (solid ≡ firm)) ⊎ ((still ≡ length units) × (solid ≡ length a.trail))
-    → IsState letters a w units log head sure still solid marked whole
-state_firm letters a w units log head sure done firm still solid marked whole state are cases = record {
+pub state_firm : (letters : ℕ) (a : AssignedValue) (w : WatchValue) (units : List Hint) (log : LogValue) (propagated lasting units_done units_trail still solid marked : ℕ) (all_lines : Bool) → IsState letters a w units log propagated lasting units_done units_trail marked all_lines
+    → AreFirm log.inputs log.lines units (length units) (literals_of a.trail) → ((length units ≤ units_done) × (still ≡ units_done) × (solid ≡ units_trail)) ⊎ ((still ≡ length units) × (solid ≡ length a.trail))
+    → IsState letters a w units log propagated lasting still solid marked all_lines
+state_firm letters a w units log propagated lasting units_done units_trail still solid marked all_lines state are cases = record {
   ready = state.ready;
   low = state.low;
-  is_sure = state.is_sure;
+  is_lasting = state.is_lasting;
   all = state.all;
   long = state.long;
   short = state.short;
   ones = state.ones;
-  done_in = elim cases [ inl kept ↦ omega (arith, kept.1, state.done_in) | inr now ↦ omega (arith, now.0) ];
-  firm_in = elim cases [ inl kept ↦ omega (arith, kept.2, state.firm_in) | inr now ↦ omega (arith, now.1) ];
+  units_done_in = elim cases [ inl kept ↦ omega (arith, kept.1, state.units_done_in) | inr now ↦ omega (arith, now.0) ];
+  units_trail_in = elim cases [ inl kept ↦ omega (arith, kept.2, state.units_trail_in) | inr now ↦ omega (arith, now.1) ];
   are_firm = λ u clause below is. elim cases [
     | inl kept ↦ subst (λ n. HasTrue (literals_of (take n a.trail)) clause) (sym kept.2) (state.are_firm u clause (omega (arith, below, kept.1)) is)
     | inr now ↦ subst (λ t. HasTrue (literals_of t) clause) (sym (take_all solid a.trail (omega (arith, now.1)))) (are u clause (omega (arith, below, now.0)) is)
@@ -335,20 +335,20 @@ state_firm letters a w units log head sure done firm still solid marked whole st
   size = state.size;
 }
 
-pub finished : (count done still solid firm len : ℕ) → done ≤ count → ((count ≤ done) × (still ≡ done) × (solid ≡ firm)) ⊎ ((still ≡ count) × (solid ≡ len)) → still ≡ count
-finished count done still solid firm len fits cases = elim cases [ inl kept ↦ omega (arith, kept.0, kept.1, fits) | inr now ↦ now.0 ]
+pub finished : (count units_done still solid units_trail len : ℕ) → units_done ≤ count → ((count ≤ units_done) × (still ≡ units_done) × (solid ≡ units_trail)) ⊎ ((still ≡ count) × (solid ≡ len)) → still ≡ count
+finished count units_done still solid units_trail len fits cases = elim cases [ inl kept ↦ omega (arith, kept.0, kept.1, fits) | inr now ↦ now.0 ]
 
 -- the same, for what callers see
-pub propagated : (letters : ℕ) (log : LogValue) (whole : Bool) (old new : List Entry) → IsGrown old new → Propagated (state_of letters old log whole) (state_of letters new log whole)
-propagated letters log whole old new grown = record { letters = refl; log = refl; whole = refl; more = grown.more; trail = grown.trail; forced = grown.forced }
+pub is_propagated : (letters : ℕ) (log : LogValue) (all_lines : Bool) (old new : List Entry) → IsGrown old new → Propagated (state_of letters old log all_lines) (state_of letters new log all_lines)
+is_propagated letters log all_lines old new grown = record { letters = refl; log = refl; all_lines = refl; more = grown.more; trail = grown.trail; forced = grown.forced }
 
 -- the short clauses were visited
-pub state_visited : (letters : ℕ) (a b : AssignedValue) (w : WatchValue) (units : List Hint) (log : LogValue) (head sure done firm marked : ℕ) (whole : Bool) → IsState letters a w units log head sure done firm marked whole
-    → IsGrown a.trail b.trail → IsTrail log.inputs log.lines b.trail → length b.values ≡ length a.values → IsState letters b w units log head sure done firm marked whole
-state_visited letters a b w units log head sure done firm marked whole state grown is_trail same =
-    state_grown letters a b w w units log head sure done firm head sure marked whole state grown same refl state.low
-    (sure_grown w.clauses a.trail b.trail sure (omega (arith, state.low, state.ready.within)) grown state.is_sure)
-    (ready_grown log.inputs log.lines head a b w state.ready grown is_trail same)
+pub state_visited : (letters : ℕ) (a b : AssignedValue) (w : WatchValue) (units : List Hint) (log : LogValue) (propagated lasting units_done units_trail marked : ℕ) (all_lines : Bool) → IsState letters a w units log propagated lasting units_done units_trail marked all_lines
+    → IsGrown a.trail b.trail → IsTrail log.inputs log.lines b.trail → length b.values ≡ length a.values → IsState letters b w units log propagated lasting units_done units_trail marked all_lines
+state_visited letters a b w units log propagated lasting units_done units_trail marked all_lines state grown is_trail same =
+    state_grown letters a b w w units log propagated lasting units_done units_trail propagated lasting marked all_lines state grown same refl state.low
+    (lasting_grown w.clauses a.trail b.trail lasting (omega (arith, state.low, state.ready.within)) grown state.is_lasting)
+    (ready_grown log.inputs log.lines propagated a b w state.ready grown is_trail same)
 
 -- the state that knows nothing
 pub state_new : (a : AssignedValue) (w : WatchValue) (units : List Hint) (log : LogValue) (marked : ℕ) → a ≡ record { values = []; trail = [] } → w ≡ record { clauses = []; lists = []; names = [] } → units ≡ [] → log ≡ record { inputs = []; lines = []; hints = [] }
@@ -362,13 +362,13 @@ state_new a w units log marked a_is w_is units_is log_is = rw (a_is, w_is, units
     sized = refl;
   };
   low = omega arith;
-  is_sure = λ c k x known watch below is. absurd (omega (arith, below));
+  is_lasting = λ c k x known watch below is. absurd (omega (arith, below));
   all = λ hint clause heeded is. absurd (none hint clause is);
   long = λ c clause known. absurd (omega (arith, known));
   short = λ u below. absurd (omega (arith, below));
   ones = λ hint clause is one. absurd (none hint clause is);
-  done_in = omega arith;
-  firm_in = omega arith;
+  units_done_in = omega arith;
+  units_trail_in = omega arith;
   are_firm = λ u clause below is. absurd (omega (arith, below));
   known_inputs = λ i d below. absurd (omega (arith, below));
   known_lines = λ i d below. absurd (omega (arith, below));

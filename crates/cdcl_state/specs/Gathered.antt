@@ -27,13 +27,13 @@ pub record IsPut (old new : WatchValue) (clause : List Literal) (hint : Hint) : 
 abbrev pub IsListedBelow : List Hint → ℕ → Hint → Type 0
 IsListedBelow names count hint = (c : ℕ) × (c < count) × (slice_index_or names c blank_hint ≡ hint)
 
--- the clause may be put among those that so many lists watch
+-- the clause may be put among those that this number of lists watch
 pub record MayCome (lists : ℕ) (clause : List Literal) : Type 0 where
   pub long : 2 ≤ length clause
   pub apart : AreApart clause
   pub fits : All (λ l. code l < lists) clause
 
--- each watched clause is one of the old ones, as it stands there and by its name; among them are the inputs of so many first of the old ones
+-- each watched clause is one of the old ones, as it stands there and by its name; among them are the inputs of the first `count` old ones
 pub record IsCopied (clauses : List (List Literal)) (names : List ℕ) (count : ℕ) (w : WatchValue) : Type 0 where
   pub paired : length w.names ≡ length w.clauses
   pub from_old : (c : ℕ) → c < length w.clauses → (d : ℕ) × (d < length clauses) × (clause_of w.clauses c ≡ clause_of clauses d) × (slice_index_or w.names c 0 ≡ slice_index_or names d 0)
@@ -43,15 +43,15 @@ pub record IsCopied (clauses : List (List Literal)) (names : List ℕ) (count : 
 abbrev pub AreThere : List Hint → List Bool → Type 0
 AreThere names there = (n : ℕ) → slice_index_or there n false ≡ true → IsListed names (Line n)
 
--- an input that stands among the names, or a line that is marked or one of so many first
+-- an input that stands among the names, or a line that is marked or one of the first `lines`
 abbrev pub IsMet : List Hint → List Bool → ℕ → Hint → Type 0
 IsMet names there lines (Clause n) = IsListed names (Clause n)
 IsMet names there lines (Line n) = (slice_index_or there n false ≡ true) ⊎ (n ≤ lines)
 
 -- an input that stands among the names, or, where no line is left out, a line
 abbrev pub IsCarried : Bool → List Hint → Hint → Type 0
-IsCarried whole names (Clause n) = IsListed names (Clause n)
-IsCarried whole names (Line n) = whole ≡ true
+IsCarried all_lines names (Clause n) = IsListed names (Clause n)
+IsCarried all_lines names (Line n) = all_lines ≡ true
 
 -- the watched clauses are the log's, and those that were met are among them, but for clauses of one literal or none
 pub record IsGathered (met : Hint → Type 0) (log : LogValue) (w : WatchValue) : Type 0 where

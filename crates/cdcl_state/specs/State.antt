@@ -9,7 +9,7 @@ use Rattle.cdcl_trail.specs.Trail.{literals_of, literal_at}
 use Rattle.cdcl_trail.specs.Entries.{hint_of}
 use Rattle.cdcl_watches.specs.Watching.{WatchValue, with_clause, blank}
 use Rattle.cdcl_trail.specs.Assigned.{AssignedValue}
-use Rattle.cdcl_propagate.specs.Sure.{IsSure}
+use Rattle.cdcl_propagate.specs.Lasting.{IsLasting}
 use Rattle.cdcl_propagate.specs.Visit.{IsReady, blank_hint, names_of}
 use Rattle.cdcl_trail.specs.declared.assigned.Entry.{Entry}
 use Rattle.cnf_base.specs.Literal.{opposite}
@@ -26,7 +26,7 @@ IsListed names hint = (c : ℕ) × (c < length names) × (slice_index_or names c
 
 -- each clause of the log that is always heeded is a watched one or a short one
 abbrev pub AreAll : Bool → List (List Literal) → List (List Literal) → List Hint → List Hint → Type 0
-AreAll whole inputs lines names units = (hint : Hint) (clause : List Literal) → IsHeeded whole hint → named inputs lines hint ≡ Some clause → IsListed names hint ⊎ IsListed units hint
+AreAll all_lines inputs lines names units = (hint : Hint) (clause : List Literal) → IsHeeded all_lines hint → named inputs lines hint ≡ Some clause → IsListed names hint ⊎ IsListed units hint
 
 -- no watched clause has one literal alone, or none
 abbrev pub AreLong : List (List Literal) → List (List Literal) → List Hint → Type 0
@@ -57,23 +57,23 @@ pub record IsNamed (old new : WatchValue) (clause : List Literal) (hint : Hint) 
   pub is : new ≡ with_clause old clause name
 
 -- the marks went back to where neither of the first two literals is false
-pub record IsRewound (trail : List Entry) (clause : List Literal) (old_head old_sure head sure : ℕ) : Type 0 where
-  pub head_falls : head ≤ old_head
-  pub sure_falls : sure ≤ old_sure
-  pub low : sure ≤ head
-  pub free : IsUnwatched trail clause head
+pub record IsRewound (trail : List Entry) (clause : List Literal) (old_propagated old_lasting propagated lasting : ℕ) : Type 0 where
+  pub propagated_falls : propagated ≤ old_propagated
+  pub lasting_falls : lasting ≤ old_lasting
+  pub low : lasting ≤ propagated
+  pub free : IsUnwatched trail clause propagated
 
-pub record IsState (letters : ℕ) (a : AssignedValue) (w : WatchValue) (units : List Hint) (log : LogValue) (head sure done firm marked : ℕ) (whole : Bool) : Type 0 where
-  pub ready : IsReady log.inputs log.lines head a w
-  pub low : sure ≤ head
-  pub is_sure : IsSure w.clauses a.trail sure
-  pub all : AreAll whole log.inputs log.lines (names_of w) units
+pub record IsState (letters : ℕ) (a : AssignedValue) (w : WatchValue) (units : List Hint) (log : LogValue) (propagated lasting units_done units_trail marked : ℕ) (all_lines : Bool) : Type 0 where
+  pub ready : IsReady log.inputs log.lines propagated a w
+  pub low : lasting ≤ propagated
+  pub is_lasting : IsLasting w.clauses a.trail lasting
+  pub all : AreAll all_lines log.inputs log.lines (names_of w) units
   pub long : AreLong log.inputs log.lines (names_of w)
   pub short : AreShort log.inputs log.lines units
   pub ones : AreOnes log.inputs log.lines units
-  pub done_in : done ≤ length units
-  pub firm_in : firm ≤ length a.trail
-  pub are_firm : AreFirm log.inputs log.lines units done (literals_of (take firm a.trail))
+  pub units_done_in : units_done ≤ length units
+  pub units_trail_in : units_trail ≤ length a.trail
+  pub are_firm : AreFirm log.inputs log.lines units units_done (literals_of (take units_trail a.trail))
   pub known_inputs : AreKnown letters log.inputs
   pub known_lines : AreKnown letters log.lines
   pub decided : AreKnownDecisions letters a.trail

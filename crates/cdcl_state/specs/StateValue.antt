@@ -14,32 +14,32 @@ pub record StateValue : Type 0 where
   pub letters : ℕ
   pub trail : List Entry
   pub log : LogValue
-  pub whole : Bool
+  pub all_lines : Bool
 
 abbrev pub with_trail : StateValue → List Entry → StateValue
-with_trail s trail = record { letters = s.letters; trail = trail; log = s.log; whole = s.whole }
+with_trail s trail = record { letters = s.letters; trail = trail; log = s.log; all_lines = s.all_lines }
 
 abbrev pub with_letters : StateValue → ℕ → StateValue
-with_letters s letters = record { letters = letters; trail = s.trail; log = s.log; whole = s.whole }
+with_letters s letters = record { letters = letters; trail = s.trail; log = s.log; all_lines = s.all_lines }
 
 abbrev pub with_log : StateValue → LogValue → StateValue
-with_log s log = record { letters = s.letters; trail = s.trail; log = log; whole = s.whole }
+with_log s log = record { letters = s.letters; trail = s.trail; log = log; all_lines = s.all_lines }
 
-abbrev pub with_whole : StateValue → Bool → StateValue
-with_whole s whole = record { letters = s.letters; trail = s.trail; log = s.log; whole = whole }
+abbrev pub with_all_lines : StateValue → Bool → StateValue
+with_all_lines s all_lines = record { letters = s.letters; trail = s.trail; log = s.log; all_lines = all_lines }
 
 -- the state of these letters, trail and log
 abbrev pub state_of : ℕ → List Entry → LogValue → Bool → StateValue
-state_of letters trail log whole = record { letters = letters; trail = trail; log = log; whole = whole }
+state_of letters trail log all_lines = record { letters = letters; trail = trail; log = log; all_lines = all_lines }
 
 -- the clause is one that is always heeded: an input, or a line where no line is forgotten
 abbrev pub IsHeeded : Bool → Hint → Type 0
-IsHeeded whole (Clause n) = ⊤
-IsHeeded whole (Line n) = whole ≡ true
+IsHeeded all_lines (Clause n) = ⊤
+IsHeeded all_lines (Line n) = all_lines ≡ true
 
 -- no clause that is always heeded is false, and none has one literal without a value while all its others are false
 abbrev pub IsSettled : StateValue → Type 0
-IsSettled s = (hint : Hint) → IsHeeded s.whole hint
+IsSettled s = (hint : Hint) → IsHeeded s.all_lines hint
     → (¬ IsConflict s.log.inputs s.log.lines (literals_of s.trail) hint)
     × ((u : Literal) → IsReason s.log.inputs s.log.lines (literals_of s.trail) u hint → ¬ IsUnset (literals_of s.trail) u)
 
@@ -52,7 +52,7 @@ pub record MayStand (s : StateValue) (e : Entry) : Type 0 where
 pub record Propagated (old new : StateValue) : Type 0 where
   pub letters : new.letters ≡ old.letters
   pub log : new.log ≡ old.log
-  pub whole : new.whole ≡ old.whole
+  pub all_lines : new.all_lines ≡ old.all_lines
   pub more : List Entry
   pub trail : new.trail ≡ old.trail ++ more
   pub forced : All (λ e. e.reason ≢ None) more

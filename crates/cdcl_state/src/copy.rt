@@ -6,8 +6,7 @@ ghost use Rattle.cdcl_watches.specs.Heads.{number_of};
 ghost use Rattle.cdcl_state.specs.Gathered.{MayCome, IsCopied};
 
 use crate::kept::stays;
-use cdcl_watches::arena::Arena;
-use cdcl_watches::watches::Watches;
+use cdcl_watches::{Arena, Watches};
 use std::alloc::AllocError;
 
 /// Puts the clause of the head among the watched ones, if it is kept.
@@ -24,7 +23,7 @@ fn copy_clause(
     ensures copied { OnOk result (IsCopied old.now.clauses old.now.names
         (suc (number_of old.now.heads head)) watches.new) }
 {
-    old.told();
+    old.invariant();
     let name = old.name(head);
     if !stays(kept, name) {
         return Ok(());
@@ -42,7 +41,7 @@ pub fn copy(old: &Arena, kept: &[bool], watches: &mut Watches) -> Result<(), All
     ensures copied { OnOk result (IsCopied old.now.clauses old.now.names (length old.now.clauses)
         watches.new) }
 {
-    old.told();
+    old.invariant();
     let mut next = old.first();
     'heads: while let Some(head) = next {
         copy_clause(old, head, kept, watches)?;

@@ -5,8 +5,8 @@ ghost use Rattle.cdcl_trail.specs.Trail.{literals_of, IsUnset};
 ghost use Rattle.cdcl_state.specs.StateValue.{positive};
 
 use crate::named::Named;
-use cdcl_activity::choices::Choices;
-use cdcl_trail::assigned::Assigned;
+use cdcl_activity::Choices;
+use cdcl_trail::Assigned;
 use cnf_base::{Hint, Letter, Literal};
 
 /// Holds the most active letter without a value ready, if there is one. The one that was held before goes

@@ -14,10 +14,9 @@ use crate::copy::copy;
 use crate::kept::is_marked;
 use crate::repeats::repeats;
 use crate::store::{distinct, store};
-use cdcl_analyze::marks::Marks;
-use cdcl_trail::hints::lengthen;
-use cdcl_watches::arena::Arena;
-use cdcl_watches::watches::Watches;
+use cdcl_analyze::Marks;
+use cdcl_trail::decode_hint;
+use cdcl_watches::{Arena, Watches};
 use clause_log::LogView;
 use cnf_base::{Hint, Literal};
 use std::alloc::{AllocError, Global};
@@ -73,7 +72,7 @@ fn mark(name: u32, there: &mut Vec<bool>)
     ensures { (n : ℕ) → slice_index_or there.new.items n false ≡ true
         → (slice_index_or there.old.items n false ≡ true) ⊎ (hint_of name ≡ Line n) }
 {
-    match lengthen(name) {
+    match decode_hint(name) {
         Hint::Clause(_) => {}
         Hint::Line(line) => {
             if (line as usize) < there.len() {
@@ -88,7 +87,7 @@ fn mark_watched(arena: &Arena, there: &mut Vec<bool>)
     requires { All (λ mark. mark ≡ false) there.old.items }
     ensures { AreThere (map hint_of arena.now.names) there.new.items }
 {
-    arena.told();
+    arena.invariant();
     let mut next = arena.first();
     'heads: while let Some(head) = next {
         let name = arena.name(head);
@@ -138,7 +137,7 @@ pub fn complete(
     ensures size { length marks.new.stamps ≡ length marks.old.stamps }
     ensures lists { length watches.new.lists ≡ length watches.old.lists }
     ensures kept { IsGathered (IsCarried false (names_of watches.old)) log.now watches.new }
-    ensures whole { OnOk result (IsGathered (IsCarried true (names_of watches.old)) log.now watches.new) }
+    ensures all_lines { OnOk result (IsGathered (IsCarried true (names_of watches.old)) log.now watches.new) }
 {
     let mut there = unmarked(alloc, log.lines())?;
     mark_watched(&watches.arena, &mut there);
@@ -151,7 +150,7 @@ pub fn gather(alloc: Global, old: &Watches, kept: &[bool]) -> Result<Watches, Al
     ensures lists { IfOk result (λ watches. length watches.lists ≡ length old.now.lists) }
     ensures copied { IfOk result (IsCopied old.now.clauses old.now.names (length old.now.clauses)) }
 {
-    old.watching();
+    old.invariant();
     let mut watches = old.emptied(alloc)?;
     copy(&old.arena, kept, &mut watches)?;
     Ok(watches)

@@ -3,7 +3,7 @@ ghost use Rattle.std.specs.Prelude.{◌≡◌, ℕ, true, false, slice_index_or}
 ghost use Rattle.cdcl_trail.specs.Entries.{hint_of};
 ghost use Rattle.cnf_base.specs.declared.literal.Hint.TheVariants.{Clause};
 
-use cdcl_trail::hints::lengthen;
+use cdcl_trail::decode_hint;
 use cnf_base::Hint;
 
 /// Whether the line is marked. The marks stand under the lines' numbers, which begin at 1; behind the last
@@ -18,7 +18,7 @@ pub fn is_marked(marks: &[bool], line: u64) -> bool
 pub fn stays(kept: &[bool], name: u32) -> bool
     ensures { (n : ℕ) → hint_of name ≡ Clause n → result ≡ true }
 {
-    match lengthen(name) {
+    match decode_hint(name) {
         Hint::Clause(_) => true,
         Hint::Line(line) => is_marked(kept, line),
     }

@@ -6,7 +6,7 @@ ghost use Rattle.clause_log.specs.LogValue.{LogValue, IsLog, IsInputAdded, IsLin
 ghost use Rattle.cdcl_state.specs.Named.{AreOf};
 
 use crate::named::Named;
-use cdcl_activity::choices::Choices;
+use cdcl_activity::Choices;
 use clause_log::{Log, LogView};
 use cnf_base::{Hint, Literal};
 use std::alloc::{AllocError, Global};
@@ -54,6 +54,13 @@ impl LetteredLog {
         ensures { result ≡ self }
     {
         self.log
+    }
+
+    /// It does nothing: its clause says what every log keeps to.
+    pub fn invariant(&self)
+        ensures { IsLog self.now }
+    {
+        self.log.invariant();
     }
 
     /// Lends the log for reading.

@@ -2,13 +2,16 @@
 //! conflicts are learnt from and decisions are taken back.
 #![tactic(auto)]
 
-pub mod copy;
-pub mod decide;
-pub mod gather;
-pub mod kept;
-pub mod lettered;
-pub mod named;
-pub mod repeats;
-pub mod state;
-pub mod store;
-pub mod widen;
+mod copy;
+mod decide;
+mod gather;
+mod kept;
+mod lettered;
+mod named;
+mod repeats;
+mod state;
+mod store;
+mod widen;
+
+pub use kept::is_marked;
+pub use state::State;

@@ -5,7 +5,7 @@ ghost use Rattle.cdcl_watches.specs.Watching.{AreApart};
 ghost use Rattle.cdcl_analyze.specs.Marks.{IsMarked};
 ghost use Rattle.cdcl_state.specs.State.{HasLettersOnce};
 
-use cdcl_analyze::marks::Marks;
+use cdcl_analyze::Marks;
 use cnf_base::Literal;
 
 /// Marks the letters of the clause up to the first that is marked already, and says whether there is one.

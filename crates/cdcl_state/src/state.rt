@@ -14,12 +14,12 @@ use crate::lettered::LetteredLog;
 use crate::state::backjump::settle;
 use crate::store::{distinct, is_ready, lead, rewind, store};
 use crate::widen::widen;
-use cdcl_activity::choices::Choices;
-use cdcl_analyze::marks::Marks;
+use cdcl_activity::Choices;
+use cdcl_analyze::Marks;
 use cdcl_propagate::propagate::propagate;
-use cdcl_propagate::units::visit_units;
-use cdcl_trail::assigned::{Assigned, Entry};
-use cdcl_watches::watches::Watches;
+use cdcl_propagate::visit_units;
+use cdcl_trail::{Assigned, Entry};
+use cdcl_watches::Watches;
 use clause_log::Log;
 use cnf_base::{Hint, Literal};
 use std::alloc::{AllocError, Global};
@@ -35,25 +35,30 @@ mod learn;
 pub struct State {
     /// The known letters run from 1 to this number.
     letters: usize,
+    /// The trail, and the value, the place and the reason of each letter.
     assigned: Assigned,
+    /// The inputs and the lines, with the letters that the inputs name.
     log: LetteredLog,
-    // The clauses of at least two literals, but for forgotten lines. The name of each says which of the log's
-    // it is.
+    /// The clauses of at least two literals, but for forgotten lines, each by the name that says which of the
+    /// log's it is.
     watches: Watches,
-    /// The lists of what became false before this place of the trail were visited.
-    head: usize,
-    /// Of those, the ones that a way back need not visit again.
-    sure: usize,
-    // The clauses of one literal or none.
+    /// The number of the trail's first entries whose opposites' lists were visited.
+    propagated: usize,
+    /// The number of those whose visits last: a way back goes on from there.
+    lasting: usize,
+    /// The clauses of one literal or none, which nobody watches.
     units: Vec<Hint>,
-    /// So many of them are true by the first `firm` entries of the trail.
-    done: usize,
-    firm: usize,
-    // Analysis and decisions.
+    /// The number of these that are true by the first `units_trail` entries.
+    units_done: usize,
+    /// The number of the trail's first entries that make them true. A way back below it visits all of them
+    /// again.
+    units_trail: usize,
+    /// What an analysis marks and finds out of letters.
     marks: Marks,
+    /// The order in which letters are decided, and the values that they had last.
     choices: Choices,
-    /// Whether each line is among the watched or the short ones. The inputs always are.
-    whole: bool,
+    /// Whether each line is among the watched clauses or the units. The inputs always are.
+    all_lines: bool,
 }
 
 impl Model for State {
@@ -67,11 +72,11 @@ impl Model for State {
       letters = a.letters;
       trail = a.assigned.trail;
       log = a.log;
-      whole = a.whole;
+      all_lines = a.all_lines;
     } };
 
-    ghost invariant = { λ a. IsState a.letters a.assigned a.watches a.units.items a.log a.head a.sure
-        a.done a.firm (length a.marks.stamps) a.whole };
+    ghost invariant = { λ a. IsState a.letters a.assigned a.watches a.units.items a.log a.propagated a.lasting
+        a.units_done a.units_trail (length a.marks.stamps) a.all_lines };
 }
 
 impl State {
@@ -81,7 +86,7 @@ impl State {
           letters = 0;
           trail = [];
           log = record { inputs = []; lines = []; hints = [] };
-          whole = true;
+          all_lines = true;
         } }
     {
         State {
@@ -89,14 +94,14 @@ impl State {
             assigned: Assigned::new(alloc),
             log: LetteredLog::new(alloc),
             watches: Watches::new(alloc),
-            head: 0,
-            sure: 0,
+            propagated: 0,
+            lasting: 0,
             units: Vec::new(alloc),
-            done: 0,
-            firm: 0,
+            units_done: 0,
+            units_trail: 0,
             marks: Marks::new(alloc),
             choices: Choices::new(alloc),
-            whole: true,
+            all_lines: true,
         }
     }
 
@@ -106,26 +111,31 @@ impl State {
         ensures found { IfOk result (λ found. MatchOption found (IsSettled self.new)
             (IsConflict self.new.log.inputs self.new.log.lines (literals_of self.new.trail))) }
     {
-        match visit_units(&mut self.assigned, self.log.log(), &self.units, self.done)? {
+        match visit_units(
+            &mut self.assigned,
+            self.log.log(),
+            &self.units,
+            self.units_done,
+        )? {
             Some(hint) => return Ok(Some(hint)),
             None => {}
         }
         settle(
             self.units.len(),
             self.assigned.len(),
-            &mut self.done,
-            &mut self.firm,
+            &mut self.units_done,
+            &mut self.units_trail,
         );
         let found = propagate(
             &mut self.assigned,
             &mut self.watches,
             self.log.log(),
-            &mut self.head,
-            &mut self.sure,
+            &mut self.propagated,
+            &mut self.lasting,
         )?;
         offer(&mut self.choices, &self.assigned, self.log.named(), found);
-        self.watches.watching();
-        self.assigned.told();
+        self.watches.invariant();
+        self.assigned.invariant();
         Ok(found)
     }
 
@@ -210,15 +220,15 @@ impl State {
     }
 
     /// The trail has at most one entry a letter, the clauses' letters are known, and the lines follow.
-    pub fn bounded(&self)
+    pub fn invariant(&self)
         ensures short { length self.now.trail ≤ self.now.letters + 1 }
         ensures apart { AllPairs (λ e f. e.literal.letter.0 ≢ f.literal.letter.0) self.now.trail }
         ensures steps { IsLog self.now.log }
         ensures known_inputs { AreKnown self.now.letters self.now.log.inputs }
         ensures known_lines { AreKnown self.now.letters self.now.log.lines }
     {
-        self.assigned.told();
-        let _ = self.log.view();
+        self.assigned.invariant();
+        self.log.invariant();
     }
 
     /// Puts the clause behind the inputs, and answers its number there.
@@ -262,7 +272,7 @@ impl State {
             × (number ≡ length self.new.log.inputs)) }
         ensures refused { OnErr result (self.new ≡ self.old) }
     {
-        let _ = self.log.view();
+        self.log.invariant();
         let number = self.log.add_input(clause, &mut self.choices)?;
         match self.units.push(Hint::Clause(number)) {
             Ok(()) => {
@@ -285,11 +295,16 @@ impl State {
             × (number ≡ length self.new.log.inputs)) }
         ensures refused { OnErr result (self.new ≡ self.old) }
     {
-        let _ = self.log.view();
+        self.log.invariant();
         let number = self.log.add_input(clause, &mut self.choices)?;
         match store(stored, Hint::Clause(number), &mut self.watches) {
             Ok(()) => {
-                rewind(&self.assigned, stored, &mut self.head, &mut self.sure);
+                rewind(
+                    &self.assigned,
+                    stored,
+                    &mut self.propagated,
+                    &mut self.lasting,
+                );
                 return Ok(number);
             }
             Err(_) => {
@@ -370,7 +385,12 @@ impl State {
         let number = self.log.derive(clause, hints)?;
         match store(stored, Hint::Line(number), &mut self.watches) {
             Ok(()) => {
-                rewind(&self.assigned, stored, &mut self.head, &mut self.sure);
+                rewind(
+                    &self.assigned,
+                    stored,
+                    &mut self.propagated,
+                    &mut self.lasting,
+                );
                 return Ok(number);
             }
             Err(_) => {
@@ -418,7 +438,7 @@ impl State {
         ensures decided { OnOk result (IsDecided self.old self.new literal) }
         ensures refused { OnErr result (self.new ≡ self.old) }
     {
-        self.assigned.told();
+        self.assigned.invariant();
         let level = self.assigned.len() + 1;
         self.assigned.assign(Entry {
             literal,

@@ -8,10 +8,9 @@ ghost use Rattle.cdcl_propagate.specs.Visit.{HaveSame};
 ghost use Rattle.cdcl_state.specs.State.{IsNamed, IsRewound, IsWatchable};
 
 use crate::repeats::repeats;
-use cdcl_analyze::marks::Marks;
-use cdcl_trail::assigned::Assigned;
-use cdcl_trail::hints::shorten;
-use cdcl_watches::watches::Watches;
+use cdcl_analyze::Marks;
+use cdcl_trail::{Assigned, encode_hint};
+use cdcl_watches::Watches;
 use cnf_base::{Hint, Literal};
 use std::alloc::AllocError;
 
@@ -153,39 +152,39 @@ pub fn store(clause: &[Literal], hint: Hint, watches: &mut Watches) -> Result<()
     ensures stored { OnOk result (IsNamed watches.old watches.new clause.now hint) }
     ensures refused { OnErr result (watches.new ≡ watches.old) }
 {
-    match shorten(hint) {
+    match encode_hint(hint) {
         None => Err(AllocError),
         Some(name) => watches.add(name, clause),
     }
 }
 
-/// Where the literal is false from a place below the head on, the head goes back to that place.
-fn lower(assigned: &Assigned, literal: Literal, head: &mut usize)
+/// Where the literal is false from a place below `propagated` on, that goes back to the place.
+fn lower(assigned: &Assigned, literal: Literal, propagated: &mut usize)
     requires known { literal.letter.0 < length assigned.now.values }
-    requires within { head.old ≤ length assigned.now.trail }
-    ensures falls { head.new ≤ head.old }
-    ensures free { (k : ℕ) → k < head.new → literal_at assigned.now.trail k ≢ opposite literal }
+    requires within { propagated.old ≤ length assigned.now.trail }
+    ensures falls { propagated.new ≤ propagated.old }
+    ensures free { (k : ℕ) → k < propagated.new → literal_at assigned.now.trail k ≢ opposite literal }
 {
     if !assigned.holds(literal.opposite()) {
         return;
     }
     let place = assigned.place_of(literal.letter.0 as usize);
-    if place < *head {
-        *head = place;
+    if place < *propagated {
+        *propagated = place;
     }
 }
 
 /// The lists from where one of the clause's first two literals became false on are visited again.
-pub fn rewind(assigned: &Assigned, clause: &[Literal], head: &mut usize, sure: &mut usize)
+pub fn rewind(assigned: &Assigned, clause: &[Literal], propagated: &mut usize, lasting: &mut usize)
     requires long { 2 ≤ length clause.now }
     requires known { All (λ l. l.letter.0 < length assigned.now.values) clause.now }
-    requires within { head.old ≤ length assigned.now.trail }
-    requires low { sure.old ≤ head.old }
-    ensures { IsRewound assigned.now.trail clause.now head.old sure.old head.new sure.new }
+    requires within { propagated.old ≤ length assigned.now.trail }
+    requires low { lasting.old ≤ propagated.old }
+    ensures { IsRewound assigned.now.trail clause.now propagated.old lasting.old propagated.new lasting.new }
 {
-    lower(assigned, clause[0], head);
-    lower(assigned, clause[1], head);
-    if *head < *sure {
-        *sure = *head;
+    lower(assigned, clause[0], propagated);
+    lower(assigned, clause[1], propagated);
+    if *propagated < *lasting {
+        *lasting = *propagated;
     }
 }

@@ -3,10 +3,10 @@
 ghost use Rattle.std.specs.Prelude.{◌≡◌, ℕ, ◌<◌, ◌≤◌, ◌⊎◌, ◌↔◌, ◌*◌, ◌^◌, ◌+◌, length, OnOk};
 ghost use Rattle.cdcl_activity.specs.Order.{IsWaiting};
 
-use cdcl_activity::choices::Choices;
-use cdcl_analyze::marks::Marks;
-use cdcl_trail::assigned::Assigned;
-use cdcl_watches::watches::Watches;
+use cdcl_activity::Choices;
+use cdcl_analyze::Marks;
+use cdcl_trail::Assigned;
+use cdcl_watches::Watches;
 use std::alloc::AllocError;
 
 /// Makes room for one letter more.
@@ -31,7 +31,7 @@ fn widen_one(
 {
     marks.letter()?;
     choices.letter()?;
-    watches.watching();
+    watches.invariant();
     watches.letter()?;
     match assigned.letter() {
         Ok(()) => {

@@ -45,7 +45,7 @@ impl Model for Assigned {
 
 impl Assigned {
     /// The values are those of the trail.
-    pub fn told(&self)
+    pub fn invariant(&self)
         ensures { AreValues self.now.values self.now.trail }
     {
         let _ = &self.trail;
@@ -158,8 +158,8 @@ impl Assigned {
         self.values.clear(literal);
     }
 
-    /// How many of the first entries are left where the decision of the last one's level is passed over with all
-    /// that came after it, as long as its entry is above the level; else where one entry is.
+    /// One step down from the first `count` entries, the last of which is above the level: those before the
+    /// decision that opened its level, where that one is above the level too; else one fewer.
     fn passed(&self, count: usize, last: usize, level: usize) -> usize
         requires some { 0 < count }
         requires within { count ≤ length self.now.trail }

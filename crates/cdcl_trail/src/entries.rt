@@ -5,7 +5,7 @@ ghost use Rattle.cdcl_trail.specs.Entries.{literal_of, reason_of, HasNumber, Fit
 ghost use Rattle.cdcl_trail.specs.Trail.{blank_entry, place_level};
 
 use crate::assigned::Entry;
-use crate::hints::{lengthen, shorten};
+use crate::hints::{decode_hint, encode_hint};
 use cnf_base::{Hint, Letter, Literal};
 use std::alloc::{AllocError, Global};
 use std::marker::Model;
@@ -53,7 +53,7 @@ fn shorten_reason(reason: Option<Hint>) -> Option<u32>
 {
     match reason {
         None => Some(0),
-        Some(hint) => match shorten(hint) {
+        Some(hint) => match encode_hint(hint) {
             None => None,
             Some(number) => Some(number + 1),
         },
@@ -67,7 +67,7 @@ fn lengthen_reason(number: u32) -> Option<Hint>
     if number == 0 {
         return None;
     }
-    Some(lengthen(number - 1))
+    Some(decode_hint(number - 1))
 }
 
 /// A list of entries, whose literals, levels and hints have numbers of 32 bits: what does not fit is refused.

@@ -9,7 +9,7 @@ const MAX_NUMBER: u64 = 2147483646;
 
 /// The number of a hint, if it fits.
 #[inline(always)]
-pub fn shorten(hint: Hint) -> Option<u32>
+pub fn encode_hint(hint: Hint) -> Option<u32>
     ensures { MatchOption result (¬ IsShort hint)
         (λ number. (hint_of number ≡ hint) × (number < 4294967295) × IsShort hint) }
 {
@@ -30,7 +30,7 @@ pub fn shorten(hint: Hint) -> Option<u32>
 }
 
 /// The hint of a number.
-pub fn lengthen(number: u32) -> Hint
+pub fn decode_hint(number: u32) -> Hint
     ensures { result ≡ hint_of number }
 {
     let half = (number / 2) as u64;

@@ -2,8 +2,12 @@
 //! its level and its reason, and the letters' values.
 #![tactic(auto)]
 
-pub mod assigned;
+mod assigned;
 mod entries;
-pub mod hints;
-pub mod named;
+mod hints;
+mod named;
 mod values;
+
+pub use assigned::{Assigned, Entry};
+pub use hints::{decode_hint, encode_hint};
+pub use named::clause_of;

@@ -7,7 +7,7 @@ use Rattle.std.proofs.Math.Nat.{pow-suc, mul-le-mul_right, mod-eq_of_lt}
 use Rattle.std.proofs.Math.Pow.{pow-lt}
 use Rattle.cdcl_watches.specs.Pool.{room_of}
 
--- so many watchers have room in a block whose class is one more
+-- the number of watchers that have room in a block whose class is one more
 abbrev room_behind : ℕ → ℕ
 room_behind n = (2 + n % 2) * 2 ^ (n / 2)
 

@@ -11,7 +11,7 @@ nowhere = record { from = 0; len = 0; class = 0 }
 abbrev pub counted : Span → ℕ → Span
 counted s len = record { from = s.from; len = len; class = s.class }
 
--- so many watchers have room in a block of this class: 0, 2, 3, 4, 6, 8, 12, 16, 24 and so on
+-- the number of watchers that have room in a block of this class: 0, 2, 3, 4, 6, 8, 12, 16, 24 and so on
 abbrev pub room_of : ℕ → ℕ
 room_of class = if nat_eq class 0 then 0 else (2 + (class - 1) % 2) * 2 ^ ((class - 1) / 2)
 

@@ -7,6 +7,6 @@ turned [] = []
 turned (x ∷ []) = x ∷ []
 turned (x ∷ y ∷ rest) = x ∷ y ∷ reverse rest
 
--- where the one at a place stands then, among so many
+-- where the one at a place stands then, among this number of them
 abbrev pub turned_place : ℕ → ℕ → ℕ
 turned_place len place = if nat_lt place 2 then place else len - place + 1

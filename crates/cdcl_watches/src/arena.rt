@@ -72,7 +72,7 @@ impl Arena {
     }
 
     /// Each clause has one head, the first of them 0, and one name.
-    pub fn told(&self)
+    pub fn invariant(&self)
         ensures paired { length self.now.heads ≡ length self.now.clauses }
         ensures named { length self.now.names ≡ length self.now.clauses }
         ensures apart { AreApart self.now.heads }

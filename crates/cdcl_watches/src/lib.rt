@@ -2,13 +2,21 @@
 //! clauses that watch each literal in one pool.
 #![tactic(auto)]
 
-pub mod arena;
-pub mod clause;
-pub mod coded;
-pub mod pool;
-pub mod span;
-pub mod spare;
-pub mod walk;
-pub mod watch_lists;
-pub mod watcher;
-pub mod watches;
+mod arena;
+mod clause;
+mod coded;
+mod pool;
+mod span;
+mod spare;
+mod walk;
+mod watch_lists;
+mod watcher;
+mod watches;
+
+pub use arena::Arena;
+pub use clause::Clause;
+pub use coded::decode;
+pub use walk::{Walk, keep, pass, rewatch};
+pub use watch_lists::WatchLists;
+pub use watcher::Watcher;
+pub use watches::{Watches, number};

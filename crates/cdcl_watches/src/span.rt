@@ -18,7 +18,7 @@ pub const NOWHERE: Span = Span {
     class: 0,
 };
 
-/// So many watchers have room in a block of the class.
+/// The number of watchers that have room in a block of the class.
 pub fn room(class: u32) -> u32
     requires { class < 63 }
     ensures { result ≡ room_of class }

@@ -60,7 +60,7 @@ impl Spare {
     }
 }
 
-/// Puts empty rows behind the others until there are so many.
+/// Puts empty rows behind the others until there are `count` of them.
 fn lengthen(rows: &mut Vec<Vec<u32>>, count: usize) -> Result<(), AllocError>
     ensures same { (d : ℕ) → row_at (map (λ v. v.items) rows.new.items) d
         ≡ row_at (map (λ v. v.items) rows.old.items) d }

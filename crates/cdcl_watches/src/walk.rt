@@ -62,8 +62,8 @@ pub fn keep(
     ensures same { walked arena.now lists.new (code literal) walk.new.kept walk.new.next
         ≡ walked arena.now lists.old (code literal) walk.old.kept walk.old.next }
 {
-    arena.told();
-    lists.few();
+    arena.invariant();
+    lists.invariant();
     pass(lists, number(literal), walk, watch(head, first));
 }
 
@@ -106,7 +106,7 @@ pub fn rewatch(
         second) walk.old.kept)
         else (walked arena.old lists.old (code second) walk.old.kept walk.old.next).lists) }
 {
-    lists.few();
+    lists.invariant();
     let _count = lists.len(number(second));
     let blocker = arena.clause(head).get(0);
     lists.push(number(other), watch(head, blocker))?;

@@ -15,8 +15,8 @@ use std::marker::Model;
 /// As many lists as there are numbers of 32 bits.
 const MAX_LISTS: usize = 4294967296;
 
-/// Lists of watchers, one for each literal. There is room for 4,294,967,296 of them, so many as there are
-/// codes, and for 4,294,967,295 places in the pool, spare ones among them: places are numbers of 32 bits.
+/// Lists of watchers, one for each literal. There is room for 4,294,967,296 of them, the number of codes that
+/// there are, and for 4,294,967,295 places in the pool, spare ones among them: places are numbers of 32 bits.
 #[derive(Drop)]
 pub struct WatchLists {
     spans: Vec<Span>,
@@ -76,7 +76,7 @@ impl WatchLists {
     }
 
     /// Each list has a number of 32 bits.
-    pub fn few(&self)
+    pub fn invariant(&self)
         ensures { length self.now ≤ 2 ^ 32 }
     {
         let _ = &self.spans;

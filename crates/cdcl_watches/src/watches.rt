@@ -45,11 +45,11 @@ pub fn number(literal: Literal) -> usize
 
 impl Watches {
     /// Each clause of at least two literals is in the lists of its first two, and each has a name.
-    pub fn watching(&self)
+    pub fn invariant(&self)
         ensures watched { IsWatching self.now.clauses self.now.lists }
         ensures named { length self.now.names ≡ length self.now.clauses }
     {
-        self.arena.told();
+        self.arena.invariant();
     }
 
     /// The clauses and their names, for reading.
@@ -69,9 +69,9 @@ impl Watches {
     {
         let first = clause[0];
         let second = clause[1];
-        self.lists.few();
+        self.lists.invariant();
         let head = self.arena.push(name, clause)?;
-        self.arena.told();
+        self.arena.invariant();
         link(&mut self.arena, &mut self.lists, head, first, second)?;
         self.arena.note(first.letter.0, head);
         Ok(())
@@ -93,7 +93,7 @@ impl Watches {
         let first = clause.get(0);
         let second = clause.get(1);
         let here = self.arena.push_from(other, head)?;
-        self.arena.told();
+        self.arena.invariant();
         link(&mut self.arena, &mut self.lists, here, first, second)?;
         Ok(())
     }
@@ -166,7 +166,7 @@ fn link(
     ensures popped { OnErr result (arena.new ≡ without_last arena.old) }
     ensures refused { OnErr result (lists.new ≡ lists.old) }
 {
-    lists.few();
+    lists.invariant();
     let first_watcher = watch(head, second);
     let second_watcher = watch(head, first);
     match lists.push(number(first), first_watcher) {

@@ -50,7 +50,7 @@ IsAnswer f kind bytes (BadLine n) = (c : Certificate) × IsTextOf bytes c × (c.
 IsAnswer f kind bytes (BadTarget n) = (c : Certificate) × IsTextOf bytes c × (c.kind ≡ kind) × HasFewLetters f c × AreGoodLines f c × (i : ℕ) × (n ≡ suc i) × IsFirstBad (IsGoodTarget f c) 0 (c.depth + 2) (Some i)
 IsAnswer f kind bytes Verified = CertOk f kind bytes
 
--- the first bad place of so many, by its number from 1
+-- the first bad one of a number of places, by its own number from 1
 abbrev pub IsFirstTarget : (ℕ → Type 0) → ℕ → Option ℕ → Type 0
 IsFirstTarget Good count None = IsFirstBad Good 0 count None
 IsFirstTarget Good count (Some n) = (i : ℕ) × (n ≡ suc i) × IsFirstBad Good 0 count (Some i)

@@ -12,7 +12,7 @@ use crate::listing::stored_for;
 use crate::on_demand::OnDemand;
 use crate::targets::{allowed, are_among, by_targets};
 use crate::verdict::{Reason, Verdict};
-use cert_text::{Form, Item, Items, Targets};
+use cert_text::{Form, Item, Items, LineNumbers};
 use clause_index::Indexed;
 use enc_layout::Layout;
 use log_checker::{LiveChecker, NamedClauses};
@@ -47,7 +47,7 @@ fn first_bad_target(
     closure: &Closure<'_>,
     depth: u32,
     checker: &LiveChecker<'_>,
-    targets: Targets<'_>,
+    targets: LineNumbers<'_>,
 ) -> Option<u32>
     requires few { depth ≤ 1000 }
     requires fits { Fits (layout_of closure.now) depth }

@@ -90,7 +90,7 @@ fn check_together<R: Threads + Sync, G: Gate + Sync>(
     if view.kind() != kind {
         return Ok(Verdict::Rejected(Reason::Kind));
     }
-    view.is_text();
+    view.invariant();
     let closure = Closure::of(alloc, table, root, kind)?;
     if let Some(limit) = limit_below(&closure, view.depth()) {
         return Err(CheckRefused::Letters(limit));

@@ -11,10 +11,10 @@ use std::alloc::Global;
 /// The most clauses that are stored.
 const MOST: u64 = 1_048_576;
 
-/// So many bytes of text pay for a clause: some three hints.
+/// The number of bytes of text that pay for a clause: some three hints.
 const PAYS: u64 = 16;
 
-/// The clauses, stored, where a text of so many bytes pays for that and there is memory.
+/// The clauses, stored, where a text of this number of bytes pays for that and there is memory.
 pub fn stored_for(alloc: Global, clauses: &Indexed<'_>, bytes: usize) -> Option<StoredClauses>
     ensures { IfSome result (λ list. list
         ≡ clause_list clauses.now.formula clauses.now.kind clauses.now.depth) }

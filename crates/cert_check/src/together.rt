@@ -27,7 +27,7 @@ fn is_good(closure: &Closure<'_>, view: &CertView<'_>, index: u32) -> bool
     requires index { index < view.now.depth + 2 }
     ensures { IsTrue result ↔ IsGoodTarget closure.now.formula view.now index }
 {
-    view.is_text();
+    view.invariant();
     let line = view.target(index + 1);
     if line < 1 || line > view.lines() {
         return false;
@@ -45,7 +45,7 @@ fn first_bad_target(closure: &Closure<'_>, view: &CertView<'_>) -> Option<u32>
     requires fits { Fits (layout_of closure.now) view.now.depth }
     ensures { IsFirstTarget (IsGoodTarget closure.now.formula view.now) (view.now.depth + 2) result }
 {
-    view.is_text();
+    view.invariant();
     'targets: for index in 0..view.depth() + 2 {
         if !is_good(closure, view, index) {
             return Some(index + 1);
@@ -54,7 +54,7 @@ fn first_bad_target(closure: &Closure<'_>, view: &CertView<'_>) -> Option<u32>
     None
 }
 
-/// The verdict on a certificate of the right kind whose letters are few enough, a text of so many bytes.
+/// The verdict on a certificate of the right kind whose letters are few enough; its text has `bytes` bytes.
 pub fn judge<R: Threads + Sync, G: Gate + Sync>(
     rt: &R,
     alloc: Global,
@@ -70,7 +70,7 @@ pub fn judge<R: Threads + Sync, G: Gate + Sync>(
     requires few { workers ≤ 16 }
     ensures { IfOk result (λ v. IsJudged closure.now.formula view.now (answer_of v)) }
 {
-    view.is_text();
+    view.invariant();
     let clauses = Indexed::of(closure, view.depth());
     match stored_for(alloc, &clauses, bytes) {
         Some(list) => judge_over(rt, alloc, closure, &list, view, workers, gate),
@@ -99,7 +99,7 @@ fn judge_over<R: Threads + Sync, C: NamedClauses + Sync, G: Gate + Sync>(
     requires few { workers ≤ 16 }
     ensures { IfOk result (λ v. IsJudged closure.now.formula view.now (answer_of v)) }
 {
-    view.is_text();
+    view.invariant();
     let letters = Layout::of(closure).letters_through(view.depth()) as u32;
     let mut scratch = Scratch::new(alloc, workers, letters)?;
     match check_lines(rt, view, clauses, &mut scratch, gate) {

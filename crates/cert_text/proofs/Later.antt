@@ -10,7 +10,7 @@ use Rattle.cert_text.specs.declared.scanning.Role.TheVariants as roles
 use Rattle.cert_text.specs.declared.scanning.Place.{Place}
 use Rattle.cert_text.specs.declared.scanning.Place.TheVariants as places
 
--- with so many lines more
+-- with this number of lines more
 abbrev pub more_lines : ℕ → Head → Head
 more_lines k h = with_lines h (k + h.lines)
 

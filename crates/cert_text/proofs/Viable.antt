@@ -13,7 +13,7 @@ use Rattle.cert_text.proofs.Machine.{run_step}
 abbrev pub IsViable : Place → Type 0
 IsViable p = (rest : List ℕ) × (c : Certificate) × (run ([], p) rest ≡ Some ([], AtEnd c))
 
--- so many targets are wanted behind this one
+-- the number of targets that are wanted behind this one
 in_target : (more : ℕ) (c : Certificate) (n : ℕ) → length c.targets + suc more ≡ c.depth + 2 → IsViable (InNumber (OfTarget c) n)
 in_target zero c n count =
     (10 ∷ [], with_target c n, run_step step ([], InNumber (OfTarget c) n) ([], AtEnd (with_target c n)) 10 [] (cond-true (length c.targets == c.depth + 1) _ _ (eq-eqb (length c.targets) (c.depth + 1) (omega (arith, count)))))

@@ -55,7 +55,7 @@ abbrev pub items_behind : ℕ → List Item → List Item
 items_behind n [] = []
 items_behind n (item ∷ more) = if n == 0 then item ∷ more else items_behind (n - length (item_text item)) more
 
--- the items behind so many bytes of the text
+-- the items behind the first bytes of the text, by their number
 abbrev pub items_at : List ℕ → ℕ → List Item
 items_at whole at = items_behind (at - length (header_text (certificate_in whole))) (items_of (certificate_in whole))
 

@@ -17,7 +17,7 @@ IsDigit b = (48 ≤ b) × (b < 58)
 abbrev pub IsSign : List ℕ → Type 0
 IsSign bytes = (negated : Bool) × (bytes ≡ sign_text negated)
 
--- a number from 1 on that has at most so many digits
+-- a number from 1 on that has at most this number of digits
 abbrev pub IsShort : ℕ → Hint → Type 0
 IsShort most h = (1 ≤ number_of h) × (number_of h < 10 ^ most)
 
@@ -25,7 +25,7 @@ IsShort most h = (1 ≤ number_of h) × (number_of h < 10 ^ most)
 abbrev pub AreShort : ℕ → List ℕ → Type 0
 AreShort most bytes = (hs : List Hint) × All (IsShort most) hs × (bytes ≡ flat_map hint_text hs)
 
--- so many digits fit, whatever they are, where a hint or a literal may begin
+-- the number of digits that fit, whatever they are, where a hint or a literal may begin
 abbrev pub digits_at : Place → ℕ
 digits_at places.Version = 0
 digits_at (places.Kind version) = 0

@@ -72,7 +72,7 @@ pub record IsNoted (hs : List Hint) (line : ℕ) (old new : List ℕ) : Type 0 w
   pub count : length new ≡ length old
   pub each : (k : ℕ) → k < length old → slice_index_or new k 0 ≡ (if uses (suc k) hs then line else slice_index_or old k 0)
 
--- the last uses of lines 1 to count, where so many lines of hints are gone through
+-- the last uses of lines 1 to count, where the hints of these lines are gone through
 pub record AreLast (hss : List (List Hint)) (count : ℕ) (last : List ℕ) : Type 0 where
   pub size : length last ≡ count
   pub each : (k : ℕ) → k < count → slice_index_or last k 0 ≡ last_use hss (suc k)

@@ -37,7 +37,7 @@ fn has_space(bytes: &[u8], at: usize) -> bool
     spaces.to_bitmask() != 0
 }
 
-/// Behind so many blocks from `at` on that are in order.
+/// The place behind the blocks from `at` on that are in order.
 #[inline(always)]
 fn blocks_end(bytes: &[u8], at: usize) -> usize
     requires some { 1 ≤ at }

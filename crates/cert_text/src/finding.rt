@@ -37,7 +37,7 @@ fn has_no_nought(bytes: &[u8], at: usize) -> bool
     (noughts & spaces).to_bitmask() == 0
 }
 
-/// Behind so many blocks behind the first byte that no 0 of them stands behind a space.
+/// The place behind those first blocks, behind the first byte, in which no 0 stands behind a space.
 fn blocks_end(line: &[u8]) -> usize
     requires { 1 ≤ length line.now }
     ensures from { 1 ≤ result }

@@ -7,7 +7,7 @@ ghost use Rattle.cert_text.specs.Text.{IsLiteral, IsHint};
 ghost use Rattle.cert_text.specs.Items.{IsItem, item_line, line_text, IsItemLine, IsLineText};
 
 use crate::finding::literals_end;
-use crate::spelled::{Hints, Literals, Targets};
+use crate::spelled::{Hints, LineNumbers, Literals};
 
 /// A line, a delete or the close. The lists go over slices of the text and copy nothing.
 #[derive(Drop)]
@@ -19,11 +19,11 @@ pub enum Item<'t> {
     },
     /// Numbers of lines that are not used any more. A number that names no live line has no effect.
     Delete {
-        lines: Targets<'t>,
+        lines: LineNumbers<'t>,
     },
     /// The numbers of the target lines, as many as the depth plus 2.
     Close {
-        targets: Targets<'t>,
+        targets: LineNumbers<'t>,
     },
 }
 
@@ -45,11 +45,11 @@ pub(crate) fn item_in(line: &[u8]) -> Item<'_>
     ensures { (item : SomeItem) → IsItem item → line.now ≡ item_line item → result ≡ item }
 {
     if line[0] == b'c' {
-        let targets = Targets::new(&line[5..]);
+        let targets = LineNumbers::new(&line[5..]);
         return Item::Close { targets };
     }
     if line[0] == b'd' {
-        let lines = Targets::new(&line[1..]);
+        let lines = LineNumbers::new(&line[1..]);
         return Item::Delete { lines };
     }
     let (literals, hints) = line_in(line);

@@ -41,8 +41,8 @@ fn header(bytes: &[u8], start: usize) -> Option<Head>
     }
 }
 
-/// So many pieces behind `start`, each with its share of the bytes and up to the end of a line. What is made
-/// of them is right however they are cut.
+/// The pieces behind `start`, one for each worker, each with its share of the bytes and up to the end of a
+/// line. What is made of them is right however they are cut.
 fn cut(alloc: Global, bytes: &[u8], start: usize, workers: usize) -> Result<Vec<Piece>, AllocError>
     requires start { start ≤ length bytes.now }
     requires some { 1 ≤ workers }
@@ -132,7 +132,7 @@ fn joined(bytes: &[u8], head: Head, start: usize, pieces: &Vec<Piece>) -> Option
     None
 }
 
-/// The same as `form`, by so many workers.
+/// The same as `form`, by this number of workers.
 pub fn form_by<R: Threads + Sync>(
     rt: &R,
     alloc: Global,

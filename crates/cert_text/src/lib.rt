@@ -26,6 +26,6 @@ pub use item::Item;
 pub use reader::Items;
 pub use refused::CertRefused;
 pub use scanning::form;
-pub use spelled::{Hints, Literals, Targets};
+pub use spelled::{Hints, LineNumbers, Literals};
 pub use view::CertView;
 pub use writing::{append, write};

@@ -7,7 +7,7 @@ ghost use Rattle.cert_text.specs.Items.{item_of, item_line, IsItem};
 ghost use Rattle.cert_text.specs.View.{AreMarks, IsShut, IsMarked, IsPartLine};
 
 use crate::finding::{find, literals_end};
-use crate::spelled::Targets;
+use crate::spelled::LineNumbers;
 use std::alloc::{AllocError, Global};
 
 /// The bytes of a line's literals: from `start` up to `end`, where the 0 behind them stands.
@@ -31,7 +31,7 @@ fn shut(ends: &mut Vec<u64>, number: u64, count: u64)
 }
 
 /// Shuts the lines that a delete names, at this count of lines.
-pub(crate) fn shut_all(ends: &mut Vec<u64>, numbers: Targets<'_>, count: u64)
+pub(crate) fn shut_all(ends: &mut Vec<u64>, numbers: LineNumbers<'_>, count: u64)
     ensures { IsShut numbers.entry count ends.old.items ends.new.items }
 {
     let mut numbers = numbers;
@@ -54,7 +54,7 @@ fn mark_part(
 {
     if line[0] == b'd' {
         let count = ends.len() as u64;
-        shut_all(ends, Targets::new(&line[1..]), count);
+        shut_all(ends, LineNumbers::new(&line[1..]), count);
         return Ok(());
     }
     let end = at + literals_end(line);
@@ -93,6 +93,6 @@ pub(crate) fn targets_at(alloc: Global, bytes: &[u8], close: usize) -> Result<Ve
     ensures { IfOk result (λ targets. targets.items
         ≡ numbers_in (slice_range bytes.now (close + 5) (length bytes.now - 1))) }
 {
-    let targets = Targets::new(&bytes[close + 5..bytes.len() - 1]);
+    let targets = LineNumbers::new(&bytes[close + 5..bytes.len() - 1]);
     targets.collect(alloc)
 }

@@ -1,6 +1,6 @@
 // Workers read a text at the same time. These calls stand only where the types are Send and Sync.
 
-use crate::{CertView, Hints, Item, Items, Literals, Targets};
+use crate::{CertView, Hints, Item, Items, LineNumbers, Literals};
 
 fn is_shared<T: Send + Sync>(_value: &T) {}
 
@@ -10,7 +10,7 @@ fn are_shared(view: &CertView<'_>, items: &Items<'_>, item: &Item<'_>) {
     is_shared(item);
 }
 
-fn lists_are_shared(literals: &Literals<'_>, hints: &Hints<'_>, targets: &Targets<'_>) {
+fn lists_are_shared(literals: &Literals<'_>, hints: &Hints<'_>, targets: &LineNumbers<'_>) {
     is_shared(literals);
     is_shared(hints);
     is_shared(targets);

@@ -44,7 +44,7 @@ fn digits_end(bytes: &[u8], at: usize) -> usize
 }
 
 /// The place behind a number with its sign and its space that begins at `at`, if there is one of at most
-/// so many digits.
+/// `most` digits.
 #[inline(always)]
 fn number_end(bytes: &[u8], at: usize, most: usize) -> Option<usize>
     requires within { at ≤ length bytes.now }

@@ -196,11 +196,11 @@ impl<'t> Iterator for Hints<'t> {
 /// Numbers of lines, those of a delete or the targets, in their order: an iterator over a slice of the text,
 /// without memory. They are from 1, and a number may be greater than any of a line.
 #[derive(Drop)]
-pub struct Targets<'t> {
+pub struct LineNumbers<'t> {
     rest: &'t [u8],
 }
 
-impl<'t> Model for Targets<'t> {
+impl<'t> Model for LineNumbers<'t> {
     ghost use Rattle.std.specs.Prelude.{List, ℕ};
     ghost use Rattle.cert_text.specs.Reading.{AreNumbers, numbers_in};
 
@@ -211,24 +211,24 @@ impl<'t> Model for Targets<'t> {
     ghost invariant = { λ a. AreNumbers a.rest.now };
 }
 
-impl<'t> Targets<'t> {
+impl<'t> LineNumbers<'t> {
     /// Over a slice that spells numbers, each behind a space.
-    pub(crate) fn new(rest: &'t [u8]) -> Targets<'t>
+    pub(crate) fn new(rest: &'t [u8]) -> LineNumbers<'t>
         requires { AreNumbers rest.now }
         ensures { result ≡ numbers_in rest.now }
     {
-        Targets { rest }
+        LineNumbers { rest }
     }
 
     /// The same numbers once more, from here on.
-    pub fn again(&self) -> Targets<'t>
+    pub fn again(&self) -> LineNumbers<'t>
         ensures { result ≡ self.now }
     {
-        Targets { rest: self.rest }
+        LineNumbers { rest: self.rest }
     }
 }
 
-impl<'t> Iterator for Targets<'t> {
+impl<'t> Iterator for LineNumbers<'t> {
     ghost use Rattle.std.specs.Iterator.{YieldsFirst, item_count};
 
     type Item = u64;

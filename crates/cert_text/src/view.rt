@@ -53,7 +53,7 @@ impl<'t> CertView<'t> {
         }
     }
 
-    /// The same by so many workers, who share the judging of the bytes.
+    /// The same by this number of workers, who share the judging of the bytes.
     pub fn read_by<R: Threads + Sync>(
         rt: &R,
         alloc: Global,
@@ -89,7 +89,7 @@ impl<'t> CertView<'t> {
     }
 
     /// It does nothing: its clause says what every view keeps to.
-    pub fn is_text(&self)
+    pub fn invariant(&self)
         ensures { IsCertificate self.now }
     {
         let _ = &self.form;

@@ -107,7 +107,7 @@ fn push_step(
         (slice_index_or derivation.now.hints index [])) ++ flat_map part_text
         (delete_of (ended_at derivation.now.hints targets.now (index + 1))))) }
 {
-    derivation.is_derivation();
+    derivation.invariant();
     let line = index + 1;
     let hints = derivation.hints(line);
     push_line(derivation.literals(line), hints, out)?;
@@ -131,7 +131,7 @@ pub fn append(
     ensures { OnOk result (out.new.items ≡ out.old.items ++ text_of
         (written kind depth derivation.now.lines derivation.now.hints targets.now)) }
 {
-    derivation.is_derivation();
+    derivation.invariant();
     let last = last_uses(alloc, derivation)?;
     let mut found = Vec::new(alloc);
     push_header(kind, depth, out)?;

@@ -69,7 +69,7 @@ fn take_all<'t>(
     Ok((Lines::AllGood, checker))
 }
 
-/// What so many workers say.
+/// What this number of workers say.
 fn by_workers<R: Threads + Sync>(
     rt: &R,
     alloc: Global,

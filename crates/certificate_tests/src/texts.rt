@@ -2,7 +2,9 @@
 ghost use Rattle.std.specs.Prelude.{◌≡◌, length, IfOk};
 
 use crate::worked::{log_of_false, minus};
-use cert_text::{CertRefused, CertView, Hints, Item, Items, Literals, Targets, form, laws, write};
+use cert_text::{
+    CertRefused, CertView, Hints, Item, Items, LineNumbers, Literals, form, laws, write,
+};
 use cnf_base::Hint;
 use derivation::NamedLog;
 use log_trim::trim;
@@ -32,7 +34,7 @@ fn push_hints(hints: Hints<'_>, out: &mut Vec<u64>) -> Result<(), AllocError> {
     Ok(())
 }
 
-fn push_targets(targets: Targets<'_>, out: &mut Vec<u64>) -> Result<(), AllocError> {
+fn push_targets(targets: LineNumbers<'_>, out: &mut Vec<u64>) -> Result<(), AllocError> {
     for target in targets {
         out.push(target)?;
     }
@@ -59,7 +61,7 @@ fn tells_of_each_line(rt: HostRuntime) -> Result<(), Fail> {
         push_literals(view.literals(line), &mut told)?;
         push_hints(view.hints(line).again(), &mut told)?;
     }
-    view.is_text();
+    view.invariant();
     for number in 1..=view.depth() + 2 {
         told.push(view.target(number))?;
     }

@@ -1,4 +1,4 @@
--- The first place of so many that is not good.
+-- The first of a number of places that is not good.
 use Rattle.std.proofs.Common.{◌≡◌, ℕ, ◌+◌, ◌<◌, ◌≤◌, Option, Some, None, subst, arith}
 use Rattle.claim_check.specs.Bases.{IsFirst, IsFound}
 

@@ -11,7 +11,7 @@ use Rattle.ltl_closure.specs.declared.entry.Entry.{Entry}
 use Rattle.ltl_closure.specs.declared.entry.Entry.TheVariants as Is
 use Rattle.ltl_closure.proofs.Places.{closure_placed}
 use Rattle.enc_layout.specs.Letters.{Accepted, below}
-use Rattle.enc_layout.specs.Clauses.{Literal, Plus, Minus, Clause, letter_of, gate, part_b, part_c, part_e, start, next_clauses, before_clauses, is_strong_next}
+use Rattle.enc_layout.specs.Clauses.{Literal, Plus, Minus, Clause, letter_of, gate, gates_part, links_part, acceptance_part, start, next_clauses, before_clauses, is_strong_next}
 use Rattle.enc_layout.specs.Numbered.{IsInside}
 use Rattle.enc_layout.proofs.Standing.{entries_inside}
 use Rattle.enc_layout.proofs.ByIndex.{below_same, flat_map_below}
@@ -120,21 +120,21 @@ module _ (names : List (List ℕ)) (f : Formula) (entries : List Entry) (are : A
   last_same (NSince a b) x s = ap (last_entry (at (NSince a b))) s
   last_same (NTrigger a b) x s = ap (last_entry (at (NTrigger a b))) s
 
-  pub gates_here : part_of Pieces.Gate entries ≡ part_b f 0
+  pub gates_here : part_of Pieces.Gate entries ≡ gates_part f 0
   gates_here = over (entry_gate 0) (gate (letter_of f 0)) (gate_same names f entries are 0)
 
-  pub gates_next : part_of Pieces.NextGate entries ≡ part_b f 1
+  pub gates_next : part_of Pieces.NextGate entries ≡ gates_part f 1
   gates_next = over (entry_gate 1) (gate (letter_of f 1)) (gate_same names f entries are 1)
 
-  pub links : part_of Pieces.Next entries ++ part_of Pieces.Yesterday entries ≡ part_c f 1
+  pub links : part_of Pieces.Next entries ++ part_of Pieces.Yesterday entries ≡ links_part f 1
   links =
       ap₂ ◌++◌ (over (next_entry) (where_true is_next (next_clauses f 0)) next_same ∙ flat_filter is_next (next_clauses f 0) (closure f))
       (over (yesterday_entry) (where_true is_yesterday (before_clauses f 0)) yesterday_same ∙ flat_filter is_yesterday (before_clauses f 0) (closure f))
 
-  pub firsts : root_clauses f ++ part_of Pieces.Start entries ≡ part_c f 0
+  pub firsts : root_clauses f ++ part_of Pieces.Start entries ≡ links_part f 0
   firsts = ap (λ z. root_clauses f ++ z) (over start_entry (where_true is_yesterday (start f)) start_same ∙ flat_filter is_yesterday (start f) (closure f))
 
-  pub lasts : part_of Pieces.Last entries ≡ part_e f Kinds.Finite 0
+  pub lasts : part_of Pieces.Last entries ≡ acceptance_part f Kinds.Finite 0
   lasts =
       over last_entry (where_true is_strong_next (λ t. last_of f t ∷ [])) last_same
       ∙ (flat_filter is_strong_next (λ t. last_of f t ∷ []) (closure f) ∙ flat_one (last_of f) (filter is_strong_next (closure f)))

@@ -36,7 +36,7 @@ or_not : (b : Bool) (P : Type 0) → Decides b P → OrNot P
 or_not true P d = inl (d.0 refl)
 or_not false P d = inr (λ p. false≢true (d.1 p))
 
--- of so many the first that is not good
+-- the first of a number of places that is not good
 first_found : (Good : ℕ → Type 0) → ((k : ℕ) → OrNot (Good k)) → (n : ℕ) → (r : Option ℕ) × IsFound Good n r
 first_found Good each zero = (None, λ k lt. absurd (omega (arith, lt)))
 first_found Good each (suc n) = go (first_found Good each n) (each n)

@@ -164,7 +164,8 @@ fn push_part(piece: Piece, entries: &[Entry], out: &mut ClauseList) -> Result<()
 
 /// A first state has the root.
 fn push_root(closure: &Closure<'_>, out: &mut ClauseList) -> Result<(), AllocError>
-    ensures { OnOk result (out.new ≡ out.old ++ rows (width closure.now.formula) (root_clauses closure.now.formula)) }
+    ensures { OnOk result
+        (out.new ≡ out.old ++ rows (width closure.now.formula) (root_clauses closure.now.formula)) }
 {
     let width = closure.entries().len() as u32;
     out.push(&[outside(width, 2), entry(false, width, closure.root())])

@@ -19,7 +19,7 @@ use ltl_closure::Closure;
 use ltl_syntax::Kind;
 use std::alloc::{AllocError, Global};
 
-/// After so many clauses of single questions the solver is made anew.
+/// The number of clauses of single questions after which the solver is made anew.
 const MANY_GATES: u32 = 1500;
 
 /// How a next state is reached: on the same level, or on the one below it by meeting the level's

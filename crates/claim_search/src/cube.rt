@@ -21,7 +21,7 @@ pub fn signed(letter: u32, negated: bool) -> Literal {
     }
 }
 
-/// The literal of the same entry at the next state, where there are so many entries.
+/// The literal of the same entry at the next state, where there are `width` entries.
 pub fn at_next(of: Literal, width: u32) -> Literal {
     signed(of.letter.0.saturating_add(width), of.negated)
 }

@@ -84,7 +84,7 @@ impl<'c> Search<'c> {
         })
     }
 
-    /// Goes on where it stood, for so many questions of a solver, or one more, or for so many turns
+    /// Goes on where it stood, for this number of questions of a solver, or one more, or for as many turns
     /// that ask none. What it comes to does not depend on how its questions are cut into calls. After a
     /// certificate, an end or an error it has ended: each further call says so.
     pub fn advance(&mut self, questions: u64) -> Result<Progress, AllocError> {

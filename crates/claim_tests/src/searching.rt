@@ -1,5 +1,5 @@
-// What the search finds is lawful, it refutes within so many questions, it ends where a formula has a trace,
-// and its certificate is the same however its questions are cut into calls.
+// What the search finds is lawful, it refutes within a known number of questions, it ends where a formula has
+// a trace, and its certificate is the same however its questions are cut into calls.
 ghost use Rattle.std.specs.Prelude.{◌≤◌, length};
 
 use claim_check::{Certificate, HintedLines, Verdict, check};
@@ -78,7 +78,7 @@ fn sum_of(certificate: &Certificate) -> u64 {
     add_lines(sum, &certificate.lines)
 }
 
-/// What a search comes to that is asked for so many questions at a time.
+/// What a search comes to that is asked for `step` questions at a time.
 fn found(search: &mut Search<'_>, questions: u64, step: u64) -> Result<Progress, AllocError> {
     for _ in 0..questions {
         if search.asked() >= questions {

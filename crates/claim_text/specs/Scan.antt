@@ -47,7 +47,7 @@ blank = outside Kinds.Infinite [] []
 abbrev pub certificate_of : Draft → Certificate
 certificate_of d = record { kind = d.kind; layers = d.layers; lines = d.lines; target = d.target }
 
--- so many targets are wanted
+-- the number of targets that are wanted
 abbrev pub wanted_in : Section → Layer → ℕ
 wanted_in sections.Outside l = 1
 wanted_in sections.Base l = base_count l

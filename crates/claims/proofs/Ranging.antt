@@ -13,7 +13,7 @@ use Rattle.ltl_closure.proofs.Entries.{closure_root}
 use Rattle.ltl_closure.proofs.Places.{place_from_one, place_within}
 use Rattle.ltl_closure.proofs.Known.{next_in, yesterday_in}
 use Rattle.enc_layout.specs.Letters.{Meaning}
-use Rattle.enc_layout.specs.Clauses.{Literal, Plus, Minus, Clause, letter_of, strong_gate, weak_gate, gate, part_b, part_c, part_e, start, next_clauses, before_clauses, is_strong_next}
+use Rattle.enc_layout.specs.Clauses.{Literal, Plus, Minus, Clause, letter_of, strong_gate, weak_gate, gate, gates_part, links_part, acceptance_part, start, next_clauses, before_clauses, is_strong_next}
 use Rattle.enc_layout.proofs.Each.{Each-append, Each-flat_map, Each-map}
 use Rattle.enc_layout.proofs.Carries.{argument_in}
 use Rattle.enc_layout.proofs.Within.{letter_in}
@@ -113,24 +113,24 @@ module _ (f : Formula) where
   start_ranges (NWeakYesterday a) m = ((first_range, (here (NWeakYesterday a) m, tt)), tt)
   start_ranges e m = tt
 
-  links_range : Each Ranges (part_c f 1)
+  links_range : Each Ranges (links_part f 1)
   links_range = Each-append Ranges (flat_map (next_clauses f 0) (nexts f)) (flat_map (before_clauses f 0) (yesterdays f))
       (Each-flat_map Ranges (next_clauses f 0) (nexts f) next_ranges) (Each-flat_map Ranges (before_clauses f 0) (yesterdays f) before_ranges)
 
-  starts_range : Each Ranges (part_c f 0)
+  starts_range : Each Ranges (links_part f 0)
   starts_range =
       ((first_range, (here (pos_of f) (closure_root f), tt)), Each-flat_map Ranges (start f) (yesterdays f) (λ e m. start_ranges e (yesterday_in f e m)))
 
-  ends_range : Each Ranges (part_e f Kinds.Finite 0)
+  ends_range : Each Ranges (acceptance_part f Kinds.Finite 0)
   ends_range = Each-map Ranges (λ t. Minus last ∷ Minus (letter_of f 0 t) ∷ []) (filter is_strong_next (closure f))
       (λ e m. (last_range, (here e (Contains-from_filter is_strong_next (closure f) e m).0, tt)))
 
   clauses_range : Each Ranges (step_clauses f)
   clauses_range =
-      Each-append Ranges (part_b f 0) (part_b f 1 ++ (part_c f 1 ++ (part_c f 0 ++ part_e f Kinds.Finite 0))) (gates_range (letter_of f 0) here)
-      (Each-append Ranges (part_b f 1) (part_c f 1 ++ (part_c f 0 ++ part_e f Kinds.Finite 0)) (gates_range (letter_of f 1) next)
-      (Each-append Ranges (part_c f 1) (part_c f 0 ++ part_e f Kinds.Finite 0) links_range
-      (Each-append Ranges (part_c f 0) (part_e f Kinds.Finite 0) starts_range ends_range)))
+      Each-append Ranges (gates_part f 0) (gates_part f 1 ++ (links_part f 1 ++ (links_part f 0 ++ acceptance_part f Kinds.Finite 0))) (gates_range (letter_of f 0) here)
+      (Each-append Ranges (gates_part f 1) (links_part f 1 ++ (links_part f 0 ++ acceptance_part f Kinds.Finite 0)) (gates_range (letter_of f 1) next)
+      (Each-append Ranges (links_part f 1) (links_part f 0 ++ acceptance_part f Kinds.Finite 0) links_range
+      (Each-append Ranges (links_part f 0) (acceptance_part f Kinds.Finite 0) starts_range ends_range)))
 
   literal_known : (l : Literal) → Numbered (letter_in l) → IsKnown (greatest f) (signed f l)
   literal_known (Plus p) h = record { from_one = h.0; within = h.1 }

@@ -12,7 +12,7 @@ use Rattle.ltl_closure.proofs.Lists.{Contains-filter}
 use Rattle.ltl_closure.proofs.Entries.{closure_root}
 use Rattle.ltl_closure.proofs.Known.{next_in, yesterday_in}
 use Rattle.enc_layout.specs.Letters.{Meaning}
-use Rattle.enc_layout.specs.Clauses.{Clause, Minus, letter_of, part_b, part_c, part_e, start, next_clauses, before_clauses, is_strong_next}
+use Rattle.enc_layout.specs.Clauses.{Clause, Minus, letter_of, gates_part, links_part, acceptance_part, start, next_clauses, before_clauses, is_strong_next}
 use Rattle.enc_layout.proofs.Each.{Each-left, Each-right, flat_map-Each, map-Each}
 use Rattle.enc_layout.proofs.Gates.{IsTrueClause, gate_value}
 use Rattle.enc_layout.proofs.Carries.{argument_in, then1, then_not, agree}
@@ -32,15 +32,15 @@ module _ (f : Formula) (v : ℕ → Bool) (holds : Satisfies v (step_list f)) wh
   all = by_meaning f v (step_clauses f) (recursion_from_All (λ c. clause_value v c ≡ true) (step_list f) holds)
 
   -- what stands behind the gates of both states
-  links : Each T (part_c f 1 ++ (part_c f 0 ++ part_e f Kinds.Finite 0))
-  links = Each-right T (part_b f 1) (part_c f 1 ++ (part_c f 0 ++ part_e f Kinds.Finite 0)) (Each-right T (part_b f 0) _ all)
+  links : Each T (links_part f 1 ++ (links_part f 0 ++ acceptance_part f Kinds.Finite 0))
+  links = Each-right T (gates_part f 1) (links_part f 1 ++ (links_part f 0 ++ acceptance_part f Kinds.Finite 0)) (Each-right T (gates_part f 0) _ all)
 
-  ends : Each T (part_c f 0 ++ part_e f Kinds.Finite 0)
-  ends = Each-right T (part_c f 1) (part_c f 0 ++ part_e f Kinds.Finite 0) links
+  ends : Each T (links_part f 0 ++ acceptance_part f Kinds.Finite 0)
+  ends = Each-right T (links_part f 1) (links_part f 0 ++ acceptance_part f Kinds.Finite 0) links
 
-  gates : (i : ℕ) → i ≤ 1 → Each T (part_b f i)
-  gates zero le = Each-left T (part_b f 0) (part_b f 1 ++ (part_c f 1 ++ (part_c f 0 ++ part_e f Kinds.Finite 0))) all
-  gates (suc zero) le = Each-left T (part_b f 1) (part_c f 1 ++ (part_c f 0 ++ part_e f Kinds.Finite 0)) (Each-right T (part_b f 0) _ all)
+  gates : (i : ℕ) → i ≤ 1 → Each T (gates_part f i)
+  gates zero le = Each-left T (gates_part f 0) (gates_part f 1 ++ (links_part f 1 ++ (links_part f 0 ++ acceptance_part f Kinds.Finite 0))) all
+  gates (suc zero) le = Each-left T (gates_part f 1) (links_part f 1 ++ (links_part f 0 ++ acceptance_part f Kinds.Finite 0)) (Each-right T (gates_part f 0) _ all)
   gates (suc (suc i)) le = absurd (omega arith)
 
   value : (i : ℕ) → i ≤ 1 → (e : Norm) → Contains (closure f) e → V (letter_of f i e) ≡ val (state_in f v i) e
@@ -48,7 +48,7 @@ module _ (f : Formula) (v : ℕ → Bool) (holds : Satisfies v (step_list f)) wh
 
   linked : IsTrue (V after) → AreLinked f (state_in f v 0) (state_in f v 1)
   linked h =
-      let both : Each T (part_c f 1) = Each-left T (part_c f 1) (part_c f 0 ++ part_e f Kinds.Finite 0) links in
+      let both : Each T (links_part f 1) = Each-left T (links_part f 1) (links_part f 0 ++ acceptance_part f Kinds.Finite 0) links in
       let front = Each-left T (flat_map (next_clauses f 0) (nexts f)) (flat_map (before_clauses f 0) (yesterdays f)) both in
       let back = Each-right T (flat_map (next_clauses f 0) (nexts f)) (flat_map (before_clauses f 0) (yesterdays f)) both in
       record {
@@ -64,7 +64,7 @@ module _ (f : Formula) (v : ℕ → Bool) (holds : Satisfies v (step_list f)) wh
 
   begins : IsTrue (V first) → IsFirst f (state_in f v 0)
   begins h =
-      let c : Each T (part_c f 0) = Each-left T (part_c f 0) (part_e f Kinds.Finite 0) ends in
+      let c : Each T (links_part f 0) = Each-left T (links_part f 0) (acceptance_part f Kinds.Finite 0) ends in
       record {
         root = sym (value 0 (omega arith) (pos_of f) (closure_root f)) ∙ then1 (V first) (V (letter_of f 0 (pos_of f))) c.0 h;
         yesterday = λ a m.
@@ -77,7 +77,7 @@ module _ (f : Formula) (v : ℕ → Bool) (holds : Satisfies v (step_list f)) wh
 
   finishes : IsTrue (V last) → IsLast f (state_in f v 0)
   finishes h a m =
-      let c = Each-right T (part_c f 0) (part_e f Kinds.Finite 0) ends in
+      let c = Each-right T (links_part f 0) (acceptance_part f Kinds.Finite 0) ends in
       then_not (V last) (V (letter_of f 0 (NNext a)))
       (map-Each T (λ t. Minus last ∷ Minus (letter_of f 0 t) ∷ []) (filter is_strong_next (closure f)) c (NNext a)
       (Contains-filter is_strong_next (closure f) (NNext a) m refl)) h

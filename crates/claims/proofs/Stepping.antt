@@ -12,7 +12,7 @@ use Rattle.ltl_closure.proofs.Lists.{Contains-from_filter}
 use Rattle.ltl_closure.proofs.Entries.{closure_root}
 use Rattle.ltl_closure.proofs.Known.{next_in, yesterday_in}
 use Rattle.enc_layout.specs.Letters.{Meaning}
-use Rattle.enc_layout.specs.Clauses.{Literal, Plus, Minus, Clause, literal_true, clause_true, letter_of, part_b, part_c, part_e, start, next_clauses, before_clauses, is_strong_next}
+use Rattle.enc_layout.specs.Clauses.{Literal, Plus, Minus, Clause, literal_true, clause_true, letter_of, gates_part, links_part, acceptance_part, start, next_clauses, before_clauses, is_strong_next}
 use Rattle.enc_layout.proofs.Each.{Each-append, Each-flat_map, Each-map}
 use Rattle.enc_layout.proofs.Gates.{IsTrueClause}
 use Rattle.enc_layout.proofs.Carries.{next_value, argument_in}
@@ -74,7 +74,7 @@ module _ (f : Formula) (s u : RunState) (has_next is_first is_last : Bool) where
         let t = (Contains-from_filter is_yesterday (closure f) e m).1 in
         next e (yesterday_in f e m) ∙ (yesterday_value u e t ∙ (links.before e m ∙ sym (here (argument e) (argument_in f e (yesterday_in f e m))))))
 
-    links_true : Each T (part_c f 1)
+    links_true : Each T (links_part f 1)
     links_true = Each-append T (flat_map (next_clauses f 0) (nexts f)) (flat_map (before_clauses f 0) (yesterdays f))
         (Each-flat_map T (next_clauses f 0) (nexts f) next_true) (Each-flat_map T (before_clauses f 0) (yesterdays f) before_true)
 
@@ -88,7 +88,7 @@ module _ (f : Formula) (s u : RunState) (has_next is_first is_last : Bool) where
         (imp (V first) _ (λ h. only (V (letter_of f 0 (NWeakYesterday a))) (here (NWeakYesterday a) m ∙ (on_first h).weak_yesterday a m)), tt)
     start_true e m = tt
 
-    first_true : Each T (part_c f 0)
+    first_true : Each T (links_part f 0)
     first_true = (
       imp (V first) _ (λ h. only (V (letter_of f 0 (pos_of f))) (here (pos_of f) (closure_root f) ∙ (on_first h).root)),
       Each-flat_map T (start f) (yesterdays f) (λ e m. start_true e (yesterday_in f e m)),
@@ -98,17 +98,17 @@ module _ (f : Formula) (s u : RunState) (has_next is_first is_last : Bool) where
     strong_false (NNext a) m t h = here (NNext a) m ∙ ends (sym (last_value f s u has_next is_first is_last) ∙ h) a m
     strong_false e m t h = cc
 
-    last_true : Each T (part_e f Kinds.Finite 0)
+    last_true : Each T (acceptance_part f Kinds.Finite 0)
     last_true = Each-map T (λ t. Minus last ∷ Minus (letter_of f 0 t) ∷ []) (filter is_strong_next (closure f)) (λ e m.
         let w = Contains-from_filter is_strong_next (closure f) e m in
         imp (V last) _ (λ h. unless (V (letter_of f 0 e)) (strong_false e w.0 w.1 h)))
 
     clauses_true : Each T (step_clauses f)
     clauses_true =
-        Each-append T (part_b f 0) (part_b f 1 ++ (part_c f 1 ++ (part_c f 0 ++ part_e f Kinds.Finite 0))) (gates_true f (letter_of f 0) V s here)
-        (Each-append T (part_b f 1) (part_c f 1 ++ (part_c f 0 ++ part_e f Kinds.Finite 0)) (gates_true f (letter_of f 1) V u next)
-        (Each-append T (part_c f 1) (part_c f 0 ++ part_e f Kinds.Finite 0) links_true
-        (Each-append T (part_c f 0) (part_e f Kinds.Finite 0) first_true last_true)))
+        Each-append T (gates_part f 0) (gates_part f 1 ++ (links_part f 1 ++ (links_part f 0 ++ acceptance_part f Kinds.Finite 0))) (gates_true f (letter_of f 0) V s here)
+        (Each-append T (gates_part f 1) (links_part f 1 ++ (links_part f 0 ++ acceptance_part f Kinds.Finite 0)) (gates_true f (letter_of f 1) V u next)
+        (Each-append T (links_part f 1) (links_part f 0 ++ acceptance_part f Kinds.Finite 0) links_true
+        (Each-append T (links_part f 0) (acceptance_part f Kinds.Finite 0) first_true last_true)))
 
     pub step_true : Satisfies (step_values f s u has_next is_first is_last) (step_list f)
     step_true =

@@ -7,7 +7,7 @@ use Rattle.ltl_syntax.specs.Formula.{Formula}
 use Rattle.cnf_base.specs.declared.literal.Literal.{Literal as Signed}
 use Rattle.ltl_closure.specs.Closure.{closure}
 use Rattle.enc_layout.specs.Letters.{Meaning, Here, Accepted, EntryAt}
-use Rattle.enc_layout.specs.Clauses.{Literal, Plus, Minus, Clause, part_b, part_c, part_e}
+use Rattle.enc_layout.specs.Clauses.{Literal, Plus, Minus, Clause, gates_part, links_part, acceptance_part}
 
 -- the letters of a step beside those of the entries: there is a next state, the state is a first one, the state is a last one
 abbrev pub after : Meaning
@@ -21,7 +21,7 @@ last = Accepted 0
 
 -- the gates of both states, the links between them, what a first state has, and what a last one has
 abbrev pub step_clauses : Formula → List Clause
-step_clauses f = part_b f 0 ++ (part_b f 1 ++ (part_c f 1 ++ (part_c f 0 ++ part_e f Kinds.Finite 0)))
+step_clauses f = gates_part f 0 ++ (gates_part f 1 ++ (links_part f 1 ++ (links_part f 0 ++ acceptance_part f Kinds.Finite 0)))
 
 -- how many entries there are
 abbrev pub width : Formula → ℕ

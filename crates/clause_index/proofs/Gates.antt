@@ -9,7 +9,7 @@ use Rattle.ltl_closure.specs.declared.entry.Entry.{Entry}
 use Rattle.ltl_closure.specs.declared.entry.Entry.TheVariants as Is
 use Rattle.ltl_closure.proofs.Places.{closure_placed}
 use Rattle.enc_layout.specs.Letters.{LayoutValue, below}
-use Rattle.enc_layout.specs.Clauses.{Clause, letter_of, gate, part_b}
+use Rattle.enc_layout.specs.Clauses.{Clause, letter_of, gate, gates_part}
 use Rattle.enc_layout.proofs.ByIndex.{below_same, flat_map_below}
 use Rattle.clause_index.specs.Rows.{row_at}
 use Rattle.clause_index.specs.ByNumber.{entry_gate, gate_size, gates_before}
@@ -93,7 +93,7 @@ module _ (names : List (List ℕ)) (f : Formula) (entries : List Entry) (are : A
   gate_same i (NSince a b) x s = ap (entry_gate i (place_in (closure f) (NSince a b))) s
   gate_same i (NTrigger a b) x s = ap (entry_gate i (place_in (closure f) (NTrigger a b))) s
 
-  gates_same : (i : ℕ) → below (length entries) (gates_by entries i) ≡ part_b f i
+  gates_same : (i : ℕ) → below (length entries) (gates_by entries i) ≡ gates_part f i
   gates_same i =
       ap (λ n. below n (gates_by entries i)) are.long
       ∙ (below_same (length (closure f)) (gates_by entries i) (λ k. gate (letter_of f i) (get_or (closure f) k (NConst false))) (λ k lt.
@@ -101,12 +101,12 @@ module _ (names : List (List ℕ)) (f : Formula) (entries : List Entry) (are : A
       ∙ sym (flat_map_below (gate (letter_of f i)) (closure f) (NConst false)))
 
   -- how many gates' clauses there are
-  pub gates_total : (i : ℕ) → length (part_b f i) ≡ gates_before entries (length entries)
+  pub gates_total : (i : ℕ) → length (gates_part f i) ≡ gates_before entries (length entries)
   gates_total i = sym (ap length (gates_same i)) ∙ gates_long entries i (length entries)
 
   -- a clause of the gates is one of an entry's gate
   pub gate_row : (layout : LayoutValue) (i t rest index : ℕ) → IsNumber (length entries) t → gates_before entries (t - 1) + rest ≡ index → rest < gate_size (entry_at entries t)
-      → row_at layout (entry_gate i t (entry_at entries t)) rest ≡ row_at layout (part_b f i) index
+      → row_at layout (entry_gate i t (entry_at entries t)) rest ≡ row_at layout (gates_part f i) index
   gate_row layout i t rest index number is lt =
       let x = entry_at entries t in
       let again : suc (t - 1) ≡ t = omega (arith, number.0) in
@@ -114,4 +114,4 @@ module _ (names : List (List ℕ)) (f : Formula) (entries : List Entry) (are : A
       let long = gate_long i (suc (t - 1)) (entry_at entries t) in
       ap (λ n. row_at layout (entry_gate i n x) rest) (sym again)
       ∙ (sym (row_below layout.kind layout.counts (length entries) (gates_by entries i) (t - 1) rest (gates_before entries (t - 1)) inside (omega arith) (gates_long entries i (t - 1)))
-      ∙ (ap (λ z. row_at layout z (gates_before entries (t - 1) + rest)) (gates_same i) ∙ ap (row_at layout (part_b f i)) is))
+      ∙ (ap (λ z. row_at layout z (gates_before entries (t - 1) + rest)) (gates_same i) ∙ ap (row_at layout (gates_part f i)) is))

@@ -7,7 +7,7 @@ use Rattle.ltl_closure.specs.Norm.{Norm, NConst, NYesterday, NWeakYesterday, pos
 use Rattle.ltl_closure.specs.Closure.{closure, nexts, yesterdays, is_yesterday}
 use Rattle.ltl_closure.specs.Entries.{place_in}
 use Rattle.enc_layout.specs.Letters.{Meaning, LayoutValue, Here, EntryAt}
-use Rattle.enc_layout.specs.Clauses.{Plus, Minus, literal_in, part_a, part_c, start, next_clauses, before_clauses}
+use Rattle.enc_layout.specs.Clauses.{Plus, Minus, literal_in, chain_part, links_part, start, next_clauses, before_clauses}
 use Rattle.clause_index.specs.Rows.{row_at, link_rows}
 use Rattle.clause_index.specs.Counts.{chain_size}
 use Rattle.clause_index.specs.ByNumber.{number_at, argument_at, weak_at, is_weak}
@@ -21,7 +21,7 @@ module _ (layout : LayoutValue) where
   abbrev pub minus : Meaning → Signed
   minus p = literal_in layout.kind layout.counts (Minus p)
 
-  pub chain_row : (step index : ℕ) → index < chain_size step → minus (Here step) ∷ plus (Here (step - 1)) ∷ [] ≡ row_at layout (part_a step) index
+  pub chain_row : (step index : ℕ) → index < chain_size step → minus (Here step) ∷ plus (Here (step - 1)) ∷ [] ≡ row_at layout (chain_part step) index
   chain_row zero index lt = absurd (omega arith)
   chain_row (suc j) index lt =
       let one : suc j - 1 ≡ j = omega arith in
@@ -29,7 +29,7 @@ module _ (layout : LayoutValue) where
       rw first (ap (λ n. minus (Here (suc j)) ∷ plus (Here n) ∷ []) one)
 
   module _ (f : Formula) where
-    pub root_row : (root : ℕ) → root ≡ place_in (closure f) (pos_of f) → minus (Here 0) ∷ plus (EntryAt 0 root) ∷ [] ≡ row_at layout (part_c f 0) 0
+    pub root_row : (root : ℕ) → root ≡ place_in (closure f) (pos_of f) → minus (Here 0) ∷ plus (EntryAt 0 root) ∷ [] ≡ row_at layout (links_part f 0) 0
     root_row root is = ap (λ n. minus (Here 0) ∷ plus (EntryAt 0 n) ∷ []) is
 
     -- what a yesterday request is at the first state
@@ -38,7 +38,7 @@ module _ (layout : LayoutValue) where
     start_row (NWeakYesterday a) h = refl
     start_row e h = cc
 
-    starts_row : (k : ℕ) → k < length (yesterdays f) → row_at layout (part_c f 0) (1 + k) ≡ row_at layout (start f (get_or (yesterdays f) k (NConst false))) 0
+    starts_row : (k : ℕ) → k < length (yesterdays f) → row_at layout (links_part f 0) (1 + k) ≡ row_at layout (start f (get_or (yesterdays f) k (NConst false))) 0
     starts_row k lt =
         let same : k / 1 ≡ k = omega arith in
         let none : k % 1 ≡ 0 = omega arith in
@@ -47,12 +47,12 @@ module _ (layout : LayoutValue) where
         ∙ rw (same, none) refl)
 
     pub first_row : (k n index : ℕ) (w : Bool) → k < length (yesterdays f) → 1 + k ≡ index → n ≡ number_at f (yesterdays f) k → w ≡ weak_at f (yesterdays f) k
-        → minus (Here 0) ∷ (if w then plus (EntryAt 0 n) else minus (EntryAt 0 n)) ∷ [] ≡ row_at layout (part_c f 0) index
+        → minus (Here 0) ∷ (if w then plus (EntryAt 0 n) else minus (EntryAt 0 n)) ∷ [] ≡ row_at layout (links_part f 0) index
     first_row k n index w lt is ni wi =
         ap (λ b. minus (Here 0) ∷ (if b then plus (EntryAt 0 n) else minus (EntryAt 0 n)) ∷ []) wi
         ∙ (ap (λ m. minus (Here 0) ∷ (if weak_at f (yesterdays f) k then plus (EntryAt 0 m) else minus (EntryAt 0 m)) ∷ []) ni
         ∙ (start_row (get_or (yesterdays f) k (NConst false)) (is_yesterday_at f k lt)
-        ∙ (sym (starts_row k lt) ∙ ap (row_at layout (part_c f 0)) is)))
+        ∙ (sym (starts_row k lt) ∙ ap (row_at layout (links_part f 0)) is)))
 
     -- a link, by its request's number and its argument's
     pub next_row : (step n a index : ℕ) → 0 < step → index < length (nexts f) * 2 → n ≡ number_at f (nexts f) (index / 2) → a ≡ argument_at f (nexts f) (index / 2)
@@ -78,31 +78,31 @@ module _ (layout : LayoutValue) where
         ∙ ap (λ i. row_at layout (flat_map (before_clauses f i) (yesterdays f)) index) (sym one))))
 
     -- the links to the step before
-    pub later_left : (step index : ℕ) → 0 < step → index < length (nexts f) * 2 → row_at layout (flat_map (next_clauses f (step - 1)) (nexts f)) index ≡ row_at layout (part_c f step) index
+    pub later_left : (step index : ℕ) → 0 < step → index < length (nexts f) * 2 → row_at layout (flat_map (next_clauses f (step - 1)) (nexts f)) index ≡ row_at layout (links_part f step) index
     later_left zero index some lt = absurd (omega arith)
     later_left (suc j) index some lt =
         let one : suc j - 1 ≡ j = omega arith in
         ap (λ i. row_at layout (flat_map (next_clauses f i) (nexts f)) index) one
         ∙ sym (row_left layout.kind layout.counts (flat_map (next_clauses f j) (nexts f)) (flat_map (before_clauses f j) (yesterdays f)) index (omega (arith, length-nexts f j)))
 
-    pub later_right : (step k index : ℕ) → 0 < step → length (nexts f) * 2 + k ≡ index → row_at layout (flat_map (before_clauses f (step - 1)) (yesterdays f)) k ≡ row_at layout (part_c f step) index
+    pub later_right : (step k index : ℕ) → 0 < step → length (nexts f) * 2 + k ≡ index → row_at layout (flat_map (before_clauses f (step - 1)) (yesterdays f)) k ≡ row_at layout (links_part f step) index
     later_right zero k index some is = absurd (omega arith)
     later_right (suc j) k index some is =
         let one : suc j - 1 ≡ j = omega arith in
         ap (λ i. row_at layout (flat_map (before_clauses f i) (yesterdays f)) k) one
         ∙ (sym (row_right layout.kind layout.counts (flat_map (next_clauses f j) (nexts f)) (flat_map (before_clauses f j) (yesterdays f)) (length (nexts f) * 2) k (length-nexts f j))
-        ∙ ap (row_at layout (part_c f (suc j))) is)
+        ∙ ap (row_at layout (links_part f (suc j))) is)
 
 pub link_at : {h t s : Signed} (h' t' s' : Signed) (index : ℕ) → h' ≡ h → t' ≡ t → s' ≡ s → slice_index_or (link_rows h' t' s') index [] ≡ slice_index_or (link_rows h t s) index []
 link_at h' t' s' index hi ti si = cc
 
-pub links_first : (f : Formula) (step index : ℕ) → step ≡ 0 → index < length (part_c f step) → index < 1 + length (yesterdays f)
+pub links_first : (f : Formula) (step index : ℕ) → step ≡ 0 → index < length (links_part f step) → index < 1 + length (yesterdays f)
 links_first f step index is lt =
-    let all : index < length (part_c f 0) = subst (λ n. index < length (part_c f n)) is lt in
+    let all : index < length (links_part f 0) = subst (λ n. index < length (links_part f n)) is lt in
     let starts = length-starts f in
     omega arith
 
-pub links_later : (f : Formula) (step : ℕ) → 0 < step → length (part_c f step) ≡ length (nexts f) * 2 + length (yesterdays f) * 2
+pub links_later : (f : Formula) (step : ℕ) → 0 < step → length (links_part f step) ≡ length (nexts f) * 2 + length (yesterdays f) * 2
 links_later f zero some = absurd (omega arith)
 links_later f (suc j) some =
     let a = length-nexts f j in

@@ -9,7 +9,7 @@ use Rattle.ltl_closure.specs.Closure.{closure as closure_of, nexts, yesterdays, 
 use Rattle.ltl_closure.specs.Entries.{ClosureValue, AreEntries}
 use Rattle.ltl_closure.specs.declared.entry.Entry.{Entry}
 use Rattle.enc_layout.specs.Letters.{LayoutValue}
-use Rattle.enc_layout.specs.Clauses.{Clause, layout_of, state_clauses, part_b, part_d, part_e, part_f, step_clauses, clauses_through, literal_in, counts, signed_clauses, clause_list, is_strong_next}
+use Rattle.enc_layout.specs.Clauses.{Clause, layout_of, state_clauses, gates_part, pairs_part, acceptance_part, pruning_part, step_clauses, clauses_through, literal_in, counts, signed_clauses, clause_list, is_strong_next}
 use Rattle.clause_index.specs.declared.sizes.Sizes.{Sizes}
 use Rattle.clause_index.specs.declared.place.Section.{Section}
 use Rattle.clause_index.specs.declared.place.Section.TheVariants as sections
@@ -23,7 +23,7 @@ use Rattle.clause_index.proofs.Stands.{Stand, stands_whole, stands_left, stands_
 use Rattle.clause_index.proofs.Gates.{gates_total}
 use Rattle.clause_index.proofs.Strong.{strong_total}
 use Rattle.std.specs.Prelude.{filter}
-use Rattle.clause_index.proofs.Sizing.{step_states, length-states, length-d, length-e, length-f, length-steps}
+use Rattle.clause_index.proofs.Sizing.{step_states, length-states, length-pairs_part, length-acceptance_part, length-pruning_part, length-steps}
 
 -- how many clauses there are
 pub list_long : (f : Formula) (kind : Kind) (d : ℕ) → length (clause_list f kind d) ≡ before_step kind (sizes_of f kind) (d + 1)
@@ -33,11 +33,11 @@ list_long f kind d =
 
 pub section_long : (f : Formula) (kind : Kind) (i : ℕ) (s : Section) → length (section_clauses f kind i s) ≡ section_size kind (sizes_of f kind) i s
 section_long f kind i sections.States = length-states f kind i
-section_long f kind i sections.Pairs = length-d f kind i
-section_long f kind i sections.Acceptance = length-e f kind i
-section_long f kind i sections.Pruning = length-f f kind i
+section_long f kind i sections.Pairs = length-pairs_part f kind i
+section_long f kind i sections.Acceptance = length-acceptance_part f kind i
+section_long f kind i sections.Pruning = length-pruning_part f kind i
 
--- the number of the first clause behind so many of step i
+-- the number of the first clause behind the first n of step i
 abbrev pub number_behind : Formula → Kind → ℕ → ℕ → ℕ
 number_behind f kind i n = 1 + (before_step kind (sizes_of f kind) i + n)
 
@@ -47,10 +47,10 @@ module _ (f : Formula) (kind : Kind) (d i : ℕ) (le : i ≤ d) where
   s = sizes_of f kind
 
   abbrev last : List Clause
-  last = part_e f kind i ++ part_f f kind i
+  last = acceptance_part f kind i ++ pruning_part f kind i
 
   abbrev late : List Clause
-  late = part_d f kind i ++ (part_e f kind i ++ part_f f kind i)
+  late = pairs_part f kind i ++ (acceptance_part f kind i ++ pruning_part f kind i)
 
   abbrev first : ℕ
   first = 1 + before_step kind (sizes_of f kind) i
@@ -65,7 +65,7 @@ module _ (f : Formula) (kind : Kind) (d i : ℕ) (le : i ≤ d) where
   late_stand = stands_right f kind d first (state_size s i) (state_clauses f i) late (length-states f kind i) both_stand
 
   last_stand : Stand f kind d (first + state_size s i + pairs_size kind s i) last
-  last_stand = stands_right f kind d (first + state_size s i) (pairs_size kind s i) (part_d f kind i) last (length-d f kind i) late_stand
+  last_stand = stands_right f kind d (first + state_size s i) (pairs_size kind s i) (pairs_part f kind i) last (length-pairs_part f kind i) late_stand
 
   abbrev at : Section → ℕ
   at t = number_behind f kind i (before_section kind (sizes_of f kind) i t)
@@ -75,16 +75,16 @@ module _ (f : Formula) (kind : Kind) (d i : ℕ) (le : i ≤ d) where
       stands_at f kind d first (at sections.States) (state_clauses f i) (omega arith) (stands_left f kind d first (state_clauses f i) late both_stand)
   section_stands sections.Pairs =
       let n = first + state_size s i in
-      stands_at f kind d n (at sections.Pairs) (part_d f kind i) (omega arith) (stands_left f kind d n (part_d f kind i) last late_stand)
+      stands_at f kind d n (at sections.Pairs) (pairs_part f kind i) (omega arith) (stands_left f kind d n (pairs_part f kind i) last late_stand)
   section_stands sections.Acceptance =
       let n = first + state_size s i + pairs_size kind s i in
-      stands_at f kind d n (at sections.Acceptance) (part_e f kind i) (omega arith)
-      (stands_left f kind d n (part_e f kind i) (part_f f kind i) last_stand)
+      stands_at f kind d n (at sections.Acceptance) (acceptance_part f kind i) (omega arith)
+      (stands_left f kind d n (acceptance_part f kind i) (pruning_part f kind i) last_stand)
   section_stands sections.Pruning =
       let n = first + state_size s i + pairs_size kind s i in
       let e = accept_size kind s in
-      stands_at f kind d (n + e) (at sections.Pruning) (part_f f kind i) (omega arith)
-      (stands_right f kind d n e (part_e f kind i) (part_f f kind i) (length-e f kind i) last_stand)
+      stands_at f kind d (n + e) (at sections.Pruning) (pruning_part f kind i) (omega arith)
+      (stands_right f kind d n e (acceptance_part f kind i) (pruning_part f kind i) (length-acceptance_part f kind i) last_stand)
 
 pub section_within : (f : Formula) (kind : Kind) (i : ℕ) (t : Section) (k : ℕ) (s : Sizes) → s ≡ sizes_of f kind → k < section_size s.kind s i t
     → k < length (section_clauses f kind i t)
@@ -128,7 +128,7 @@ pub sizes_made : (c : ClosureValue) (entries : List Entry) → AreEntries c.name
     → g ≡ gates_before entries (length entries) → x ≡ length (nexts c.formula) → y ≡ length (yesterdays c.formula) → e ≡ length (eventualities c.formula) → s ≡ strong_before (nexts c.formula) (length (nexts c.formula))
     → ◌≡◌ {A = Sizes} (record { kind = kind; gates = g; nexts = x; yesterdays = y; eventualities = e; strong = s }) (sizes_of c.formula c.kind)
 sizes_made c entries are kind g x y e s ki gi xi yi ei si =
-    let gates : g ≡ length (part_b c.formula 0) = gi ∙ sym (gates_total c.names c.formula entries are 0) in
+    let gates : g ≡ length (gates_part c.formula 0) = gi ∙ sym (gates_total c.names c.formula entries are 0) in
     let strong : s ≡ length (filter is_strong_next (closure_of c.formula)) = si ∙ sym (strong_total c.formula) in
     cc
 

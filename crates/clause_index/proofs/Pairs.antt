@@ -10,12 +10,12 @@ use Rattle.ltl_syntax.specs.Formula.{Formula}
 use Rattle.ltl_closure.specs.Closure.{nexts, yesterdays, eventualities}
 use Rattle.enc_layout.proofs.Counting.{length-carried}
 use Rattle.enc_layout.specs.Letters.{LayoutValue, EntryAt, Equal, LoopTo, Differs, Fulfilled, below}
-use Rattle.enc_layout.specs.Clauses.{Clause, Plus, Minus, literal_in, carried, place_clauses, equal_clause, fulfilled_clauses, loop_clause, closing_clauses, pair_clauses, part_d}
+use Rattle.enc_layout.specs.Clauses.{Clause, Plus, Minus, literal_in, carried, place_clauses, equal_clause, fulfilled_clauses, loop_clause, closing_clauses, pair_clauses, pairs_part}
 use Rattle.clause_index.specs.Rows.{row_at}
 use Rattle.clause_index.specs.Counts.{sizes_of, pair_size, near_size, fulfilled_size}
 use Rattle.clause_index.specs.ByNumber.{place_by, fulfilled_by, number_at, right_number, request_number}
 use Rattle.clause_index.proofs.Rows.{row_left, row_right, row_even, row_blocks, block_within}
-use Rattle.clause_index.proofs.Sizing.{length-even, length-places, length-closing, fulfilled_long, pair_far, pair_near, length-d}
+use Rattle.clause_index.proofs.Sizing.{length-even, length-places, length-closing, fulfilled_long, pair_far, pair_near, length-pairs_part}
 use Rattle.clause_index.proofs.Links.{plus, minus}
 
 fulfilled_same : (f : Formula) (i l m : ℕ) → l < i → fulfilled_by i l (suc m) (right_number f m) ≡ fulfilled_clauses f i l m
@@ -135,13 +135,13 @@ pair_some Kinds.Finite f = omega arith
 pub record IsInPair (layout : LayoutValue) (f : Formula) (kind : Kind) (i index size : ℕ) : Type 0 where
   pub earlier : index / size < i
   pub within : index % size < length (pair_clauses f kind i (index / size))
-  pub row : row_at layout (pair_clauses f kind i (index / size)) (index % size) ≡ row_at layout (part_d f kind i) index
+  pub row : row_at layout (pair_clauses f kind i (index / size)) (index % size) ≡ row_at layout (pairs_part f kind i) index
 
-in_pair : (layout : LayoutValue) (f : Formula) (kind : Kind) (i index : ℕ) → index < length (part_d f kind i) → IsInPair layout f kind i index (pair_size kind (sizes_of f kind))
+in_pair : (layout : LayoutValue) (f : Formula) (kind : Kind) (i index : ℕ) → index < length (pairs_part f kind i) → IsInPair layout f kind i index (pair_size kind (sizes_of f kind))
 in_pair layout f kind zero index lt = absurd (omega arith)
 in_pair layout f kind (suc j) index lt =
     let size = pair_size kind (sizes_of f kind) in
-    let total = length-d f kind (suc j) in
+    let total = length-pairs_part f kind (suc j) in
     let less = near_less kind f in
     let some = pair_some kind f in
     let before : index / pair_size kind (sizes_of f kind) < suc j = block_within size (suc j) index (omega arith) in
@@ -162,7 +162,7 @@ in_pair layout f kind (suc j) index lt =
       row = sym (row_blocks layout.kind layout.counts size (suc j) (pair_clauses f kind (suc j)) index some (λ k h. pair_far f kind (suc j) k (omega arith)) before inside);
     }
 
-pub in_pair_of : (layout : LayoutValue) (f : Formula) (kind : Kind) (i index size : ℕ) → size ≡ pair_size kind (sizes_of f kind) → index < length (part_d f kind i) → IsInPair layout f kind i index size
+pub in_pair_of : (layout : LayoutValue) (f : Formula) (kind : Kind) (i index size : ℕ) → size ≡ pair_size kind (sizes_of f kind) → index < length (pairs_part f kind i) → IsInPair layout f kind i index size
 in_pair_of layout f kind i index size is lt = subst (IsInPair layout f kind i index) (sym is) (in_pair layout f kind i index lt)
 
 pub equal_all : (layout : LayoutValue) (f : Formula) (i l n : ℕ) → n ≡ length (carried f)

@@ -11,7 +11,7 @@ use Rattle.ltl_closure.specs.Norm.{Norm, NConst, NLetter, NNotLetter, NAnd, NOr,
 use Rattle.ltl_closure.specs.Closure.{closure, nexts, yesterdays, eventualities, is_yesterday}
 use Rattle.ltl_closure.proofs.Lists.{Contains-from_filter}
 use Rattle.enc_layout.specs.Letters.{Meaning, Accepted, EmptyAt, LoopTo, Equal, Differs, Fulfilled, Seen, Unpruned, below}
-use Rattle.enc_layout.specs.Clauses.{Plus, Minus, letter_of, carried, part_a, part_b, gate, start, next_clauses, before_clauses, part_c, place_clauses, equal_clause, fulfilled_clauses, loop_clause, closing_clauses, pair_clauses, part_d, is_strong_next, part_e, seen_clauses, new_clauses, pruned_clause, part_f, state_clauses, step_clauses}
+use Rattle.enc_layout.specs.Clauses.{Plus, Minus, letter_of, carried, chain_part, gates_part, gate, start, next_clauses, before_clauses, links_part, place_clauses, equal_clause, fulfilled_clauses, loop_clause, closing_clauses, pair_clauses, pairs_part, is_strong_next, acceptance_part, seen_clauses, new_clauses, pruned_clause, pruning_part, state_clauses, step_clauses}
 use Rattle.enc_layout.proofs.ByIndex.{flat_map_below}
 use Rattle.enc_layout.proofs.Counting.{length-carried}
 use Rattle.clause_index.specs.declared.sizes.Sizes.{Sizes}
@@ -141,12 +141,12 @@ module _ (f : Formula) where
       omega arith
 
   -- the parts
-  pub length-a : (i : ℕ) → length (part_a i) ≡ chain_size i
-  length-a zero = refl
-  length-a (suc j) = refl
+  pub length-chain_part : (i : ℕ) → length (chain_part i) ≡ chain_size i
+  length-chain_part zero = refl
+  length-chain_part (suc j) = refl
 
-  pub length-b : (i : ℕ) → length (part_b f i) ≡ length (part_b f 0)
-  length-b i = gates_long (letter_of f i) (letter_of f 0) (closure f)
+  pub length-gates_part : (i : ℕ) → length (gates_part f i) ≡ length (gates_part f 0)
+  length-gates_part i = gates_long (letter_of f i) (letter_of f 0) (closure f)
 
   pub length-starts : length (flat_map (start f) (yesterdays f)) ≡ length (yesterdays f) * 1
   length-starts = length-flat 1 (start f) (yesterdays f) (NConst false) (start_one f)
@@ -157,25 +157,25 @@ module _ (f : Formula) where
   pub length-yesterdays : (j : ℕ) → length (flat_map (before_clauses f j) (yesterdays f)) ≡ length (yesterdays f) * 2
   length-yesterdays j = length-flat 2 (before_clauses f j) (yesterdays f) (NConst false) (λ k lt. refl)
 
-  pub length-c : (kind : Kind) (i : ℕ) → length (part_c f i) ≡ link_size (sizes_of f kind) i
-  length-c kind zero = let a = length-starts in omega arith
-  length-c kind (suc j) =
+  pub length-links_part : (kind : Kind) (i : ℕ) → length (links_part f i) ≡ link_size (sizes_of f kind) i
+  length-links_part kind zero = let a = length-starts in omega arith
+  length-links_part kind (suc j) =
       let a = length-nexts j in
       let b = length-yesterdays j in
       let c = length-append (flat_map (next_clauses f j) (nexts f)) (flat_map (before_clauses f j) (yesterdays f)) in
       omega arith
 
-  pub length-d : (kind : Kind) (i : ℕ) → length (part_d f kind i) ≡ pairs_size kind (sizes_of f kind) i
-  length-d kind zero = refl
-  length-d kind (suc j) =
+  pub length-pairs_part : (kind : Kind) (i : ℕ) → length (pairs_part f kind i) ≡ pairs_size kind (sizes_of f kind) i
+  length-pairs_part kind zero = refl
+  length-pairs_part kind (suc j) =
       let a = length-even (pair_size kind (sizes_of f kind)) j (pair_clauses f kind (suc j)) (λ l lt. pair_far kind (suc j) l (omega arith)) in
       let b = pair_near kind (suc j) j refl in
       let c = length-append (below j (pair_clauses f kind (suc j))) (pair_clauses f kind (suc j) j) in
       omega arith
 
-  pub length-e : (kind : Kind) (i : ℕ) → length (part_e f kind i) ≡ accept_size kind (sizes_of f kind)
-  length-e Kinds.Infinite i = let a = length-map (nexts f) (λ t. Minus (EmptyAt i) ∷ Minus (letter_of f i t) ∷ []) in omega arith
-  length-e Kinds.Finite i = length-map (filter is_strong_next (closure f)) (λ t. Minus (Accepted i) ∷ Minus (letter_of f i t) ∷ [])
+  pub length-acceptance_part : (kind : Kind) (i : ℕ) → length (acceptance_part f kind i) ≡ accept_size kind (sizes_of f kind)
+  length-acceptance_part Kinds.Infinite i = let a = length-map (nexts f) (λ t. Minus (EmptyAt i) ∷ Minus (letter_of f i t) ∷ []) in omega arith
+  length-acceptance_part Kinds.Finite i = length-map (filter is_strong_next (closure f)) (λ t. Minus (Accepted i) ∷ Minus (letter_of f i t) ∷ [])
 
   pub seen_long : (i l : ℕ) → length (seen_clauses f i l) ≡ 1 + length (eventualities f)
   seen_long i l =
@@ -194,39 +194,39 @@ module _ (f : Formula) where
   pub all_seen_long : (i : ℕ) → length (below i (seen_clauses f i)) ≡ i * (1 + length (eventualities f))
   all_seen_long i = length-even (1 + length (eventualities f)) i (seen_clauses f i) (λ l lt. seen_long i l)
 
-  pub length-f : (kind : Kind) (i : ℕ) → length (part_f f kind i) ≡ i * prune_size kind (sizes_of f kind)
-  length-f Kinds.Infinite i =
+  pub length-pruning_part : (kind : Kind) (i : ℕ) → length (pruning_part f kind i) ≡ i * prune_size kind (sizes_of f kind)
+  length-pruning_part Kinds.Infinite i =
       let a = all_seen_long i in
       let b = length-even (1 + 3 * length (eventualities f)) i (λ j. below (length (eventualities f)) (new_clauses f i j) ++ pruned_clause f i j ∷ []) (λ j lt. pruned_long i j) in
       let c = length-append (below i (seen_clauses f i)) (below i (λ j. below (length (eventualities f)) (new_clauses f i j) ++ pruned_clause f i j ∷ [])) in
       omega arith
-  length-f Kinds.Finite i = length-even 1 i (λ j. (Minus Unpruned ∷ Minus (Equal j i) ∷ []) ∷ []) (λ j lt. refl)
+  length-pruning_part Kinds.Finite i = length-even 1 i (λ j. (Minus Unpruned ∷ Minus (Equal j i) ∷ []) ∷ []) (λ j lt. refl)
 
   pub length-states : (kind : Kind) (i : ℕ) → length (state_clauses f i) ≡ state_size (sizes_of f kind) i
   length-states kind i =
-      let a = length-a i in
-      let b = length-b i in
-      let c = length-c kind i in
-      let ab = length-append (part_a i) (part_b f i ++ part_c f i) in
-      let bc = length-append (part_b f i) (part_c f i) in
+      let a = length-chain_part i in
+      let b = length-gates_part i in
+      let c = length-links_part kind i in
+      let ab = length-append (chain_part i) (gates_part f i ++ links_part f i) in
+      let bc = length-append (gates_part f i) (links_part f i) in
       omega arith
 
   -- a step is its states and what comes behind them
-  pub step_states : (kind : Kind) (i : ℕ) → step_clauses f kind i ≡ state_clauses f i ++ (part_d f kind i ++ (part_e f kind i ++ part_f f kind i))
+  pub step_states : (kind : Kind) (i : ℕ) → step_clauses f kind i ≡ state_clauses f i ++ (pairs_part f kind i ++ (acceptance_part f kind i ++ pruning_part f kind i))
   step_states kind i =
-      let late = part_d f kind i ++ (part_e f kind i ++ part_f f kind i) in
-      sym (append_assoc (part_a i) (part_b f i ++ part_c f i) late ∙ ap (λ z. part_a i ++ z) (append_assoc (part_b f i) (part_c f i) late))
+      let late = pairs_part f kind i ++ (acceptance_part f kind i ++ pruning_part f kind i) in
+      sym (append_assoc (chain_part i) (gates_part f i ++ links_part f i) late ∙ ap (λ z. chain_part i ++ z) (append_assoc (gates_part f i) (links_part f i) late))
 
   length-step : (kind : Kind) (i : ℕ) → length (step_clauses f kind i) ≡ step_size kind (sizes_of f kind) i
   length-step kind i =
       let s = length-states kind i in
-      let d = length-d kind i in
-      let e = length-e kind i in
-      let g = length-f kind i in
+      let d = length-pairs_part kind i in
+      let e = length-acceptance_part kind i in
+      let g = length-pruning_part kind i in
       let all = ap length (step_states kind i) in
-      let sd = length-append (state_clauses f i) (part_d f kind i ++ (part_e f kind i ++ part_f f kind i)) in
-      let de = length-append (part_d f kind i) (part_e f kind i ++ part_f f kind i) in
-      let ef = length-append (part_e f kind i) (part_f f kind i) in
+      let sd = length-append (state_clauses f i) (pairs_part f kind i ++ (acceptance_part f kind i ++ pruning_part f kind i)) in
+      let de = length-append (pairs_part f kind i) (acceptance_part f kind i ++ pruning_part f kind i) in
+      let ef = length-append (acceptance_part f kind i) (pruning_part f kind i) in
       omega arith
 
 before_one : (kind : Kind) (s : Sizes) → before_step kind s 1 ≡ before_step kind s 0 + step_size kind s 0

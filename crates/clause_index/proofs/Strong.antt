@@ -11,7 +11,7 @@ use Rattle.ltl_closure.specs.Norm.{Norm, NConst, NLetter, NNotLetter, NAnd, NOr,
 use Rattle.ltl_closure.specs.Closure.{closure, nexts, is_next}
 use Rattle.ltl_closure.proofs.Lists.{Contains-from_filter}
 use Rattle.enc_layout.specs.Letters.{LayoutValue, Accepted, EmptyAt, EntryAt}
-use Rattle.enc_layout.specs.Clauses.{Minus, literal_in, letter_of, accepted_clause, is_strong_next, part_e}
+use Rattle.enc_layout.specs.Clauses.{Minus, literal_in, letter_of, accepted_clause, is_strong_next, acceptance_part}
 use Rattle.clause_index.specs.Rows.{row_at}
 use Rattle.clause_index.specs.ByNumber.{number_at, weak_at, is_weak, strong_before}
 use Rattle.clause_index.proofs.Rows.{row_right, row_map}
@@ -113,7 +113,7 @@ module _ (f : Formula) where
 
   module _ (layout : LayoutValue) (i : ℕ) where
     pub end_row : (k number index : ℕ) → k < length (nexts f) → strong_before (nexts f) k ≡ index → weak_at f (nexts f) k ≡ false → index < strong_before (nexts f) (length (nexts f)) → number ≡ number_at f (nexts f) k
-        → minus layout (Accepted i) ∷ minus layout (EntryAt i number) ∷ [] ≡ row_at layout (part_e f Kinds.Finite i) index
+        → minus layout (Accepted i) ∷ minus layout (EntryAt i number) ∷ [] ≡ row_at layout (acceptance_part f Kinds.Finite i) index
     end_row k number index lt is w within n =
         let total = strong_total in
         let strong = filter is_strong_next (closure f) in
@@ -128,10 +128,10 @@ module _ (f : Formula) where
         ap (λ m. minus layout (EmptyAt i) ∷ minus layout (EntryAt i m) ∷ []) n
         ∙ sym (row_map layout.kind layout.counts (λ t. Minus (EmptyAt i) ∷ Minus (letter_of f i t) ∷ []) (nexts f) (NConst false) index lt)
 
-    pub accepted_row : (index : ℕ) → index ≡ 0 → map (literal_in layout.kind layout.counts) (accepted_clause i) ≡ row_at layout (part_e f Kinds.Infinite i) index
+    pub accepted_row : (index : ℕ) → index ≡ 0 → map (literal_in layout.kind layout.counts) (accepted_clause i) ≡ row_at layout (acceptance_part f Kinds.Infinite i) index
     accepted_row index is = rw is refl
 
-    pub behind_accepted : (k index : ℕ) → 1 + k ≡ index → row_at layout (map (λ t. Minus (EmptyAt i) ∷ Minus (letter_of f i t) ∷ []) (nexts f)) k ≡ row_at layout (part_e f Kinds.Infinite i) index
+    pub behind_accepted : (k index : ℕ) → 1 + k ≡ index → row_at layout (map (λ t. Minus (EmptyAt i) ∷ Minus (letter_of f i t) ∷ []) (nexts f)) k ≡ row_at layout (acceptance_part f Kinds.Infinite i) index
     behind_accepted k index is =
         sym (row_right layout.kind layout.counts (accepted_clause i ∷ []) (map (λ t. Minus (EmptyAt i) ∷ Minus (letter_of f i t) ∷ []) (nexts f)) 1 k refl)
-        ∙ ap (row_at layout (part_e f Kinds.Infinite i)) is
+        ∙ ap (row_at layout (acceptance_part f Kinds.Infinite i)) is

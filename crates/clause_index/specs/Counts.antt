@@ -4,14 +4,14 @@ use Rattle.ltl_syntax.specs.declared.node.Kind.{Kind}
 use Rattle.ltl_syntax.specs.declared.node.Kind.TheVariants as Kinds
 use Rattle.ltl_syntax.specs.Formula.{Formula}
 use Rattle.ltl_closure.specs.Closure.{closure, nexts, yesterdays, eventualities}
-use Rattle.enc_layout.specs.Clauses.{part_b, is_strong_next}
+use Rattle.enc_layout.specs.Clauses.{gates_part, is_strong_next}
 use Rattle.clause_index.specs.declared.sizes.Sizes.{Sizes}
 
 -- what the counts of a formula's clauses follow from
 abbrev pub sizes_of : Formula → Kind → Sizes
 sizes_of f kind = record {
   kind = kind;
-  gates = length (part_b f 0);
+  gates = length (gates_part f 0);
   nexts = length (nexts f);
   yesterdays = length (yesterdays f);
   eventualities = length (eventualities f);

@@ -7,6 +7,6 @@ use Rattle.enc_layout.specs.Letters.{below}
 abbrev pub plain : ℕ → Literal
 plain n = record { letter = record { 0 = n }; negated = false }
 
--- the literals of so many letters, each so far behind the one before it
+-- the literals of a number of letters, each equally far behind the one before it
 abbrev pub evenly : ℕ → ℕ → ℕ → List Literal
 evenly first apart count = below count (λ k. plain (first + k * apart) ∷ [])

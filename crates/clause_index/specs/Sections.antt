@@ -2,7 +2,7 @@
 use Rattle.std.specs.Prelude.{ℕ, ◌+◌, ◌*◌, List}
 use Rattle.ltl_syntax.specs.declared.node.Kind.{Kind}
 use Rattle.ltl_syntax.specs.Formula.{Formula}
-use Rattle.enc_layout.specs.Clauses.{Clause, state_clauses, part_d, part_e, part_f}
+use Rattle.enc_layout.specs.Clauses.{Clause, state_clauses, pairs_part, acceptance_part, pruning_part}
 use Rattle.clause_index.specs.declared.sizes.Sizes.{Sizes}
 use Rattle.clause_index.specs.declared.place.Section.{Section}
 use Rattle.clause_index.specs.declared.place.Section.TheVariants as sections
@@ -11,9 +11,9 @@ use Rattle.clause_index.specs.Counts.{state_size, pairs_size, accept_size, prune
 -- the clauses of a section at step i
 abbrev pub section_clauses : Formula → Kind → ℕ → Section → List Clause
 section_clauses f kind i sections.States = state_clauses f i
-section_clauses f kind i sections.Pairs = part_d f kind i
-section_clauses f kind i sections.Acceptance = part_e f kind i
-section_clauses f kind i sections.Pruning = part_f f kind i
+section_clauses f kind i sections.Pairs = pairs_part f kind i
+section_clauses f kind i sections.Acceptance = acceptance_part f kind i
+section_clauses f kind i sections.Pruning = pruning_part f kind i
 
 -- how many they are
 abbrev pub section_size : Kind → Sizes → ℕ → Section → ℕ

@@ -4,7 +4,7 @@ ghost use Rattle.std.specs.Prelude.{◌≡◌, ◌+◌, ◌<◌, ◌≤◌, [], 
 ghost use Rattle.ltl_syntax.specs.declared.node.Kind.TheVariants as Kinds;
 ghost use Rattle.ltl_closure.specs.Closure.{nexts};
 ghost use Rattle.enc_layout.specs.Letters.{LoopTo, EmptyAt, Fits, below};
-ghost use Rattle.enc_layout.specs.Clauses.{Plus, Minus, letter_of, layout_of, literal_in, accepted_clause, part_e};
+ghost use Rattle.enc_layout.specs.Clauses.{Plus, Minus, letter_of, layout_of, literal_in, accepted_clause, acceptance_part};
 ghost use Rattle.clause_index.specs.Literals.{literals};
 ghost use Rattle.clause_index.specs.Rows.{row_at};
 ghost use Rattle.clause_index.specs.ByNumber.{weak_at, strong_before};
@@ -70,7 +70,8 @@ fn infinite(closure: &Closure<'_>, layout: &Layout, step: u32, index: u64) -> Fo
     requires few { step ≤ 1000 }
     requires fits { Fits layout.now step }
     requires within { index < 1 + length (nexts closure.now.formula) }
-    ensures { literals result ≡ row_at layout.now (part_e closure.now.formula Kinds.Infinite step) index }
+    ensures { literals result
+        ≡ row_at layout.now (acceptance_part closure.now.formula Kinds.Infinite step) index }
 {
     if index == 0 {
         return accepted(layout, step);
@@ -123,7 +124,8 @@ fn finite(closure: &Closure<'_>, layout: &Layout, step: u32, index: u64) -> Foun
     requires fits { Fits layout.now step }
     requires few_nexts { length (nexts closure.now.formula) ≤ 98306 }
     requires within { index < strong_before (nexts closure.now.formula) (length (nexts closure.now.formula)) }
-    ensures { literals result ≡ row_at layout.now (part_e closure.now.formula Kinds.Finite step) index }
+    ensures { literals result
+        ≡ row_at layout.now (acceptance_part closure.now.formula Kinds.Finite step) index }
 {
     let request = next_at(closure, strong_spot(closure, index));
     let accepted = layout.negative(step, Part::Accepted);
@@ -136,8 +138,9 @@ pub fn acceptance(closure: &Closure<'_>, layout: &Layout, step: u32, index: u64)
     requires few { step ≤ 1000 }
     requires fits { Fits layout.now step }
     requires few_nexts { length (nexts closure.now.formula) ≤ 98306 }
-    requires within { index < length (part_e closure.now.formula closure.now.kind step) }
-    ensures { literals result ≡ row_at layout.now (part_e closure.now.formula closure.now.kind step) index }
+    requires within { index < length (acceptance_part closure.now.formula closure.now.kind step) }
+    ensures { literals result
+        ≡ row_at layout.now (acceptance_part closure.now.formula closure.now.kind step) index }
 {
     match closure.kind() {
         Kind::Infinite => infinite(closure, layout, step, index),

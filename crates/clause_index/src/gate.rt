@@ -3,7 +3,7 @@
 ghost use Rattle.std.specs.Prelude.{◌≡◌, ◌+◌, ◌-◌, ◌<◌, ◌≤◌, [], ◌++◌, length, slice_index_or, OnOk, OnErr};
 ghost use Rattle.ltl_closure.specs.Entries.{IsNumber, entry_at};
 ghost use Rattle.enc_layout.specs.Letters.{Fits};
-ghost use Rattle.enc_layout.specs.Clauses.{layout_of, part_b};
+ghost use Rattle.enc_layout.specs.Clauses.{layout_of, gates_part};
 ghost use Rattle.enc_layout.specs.Numbered.{IsInside, Extends};
 ghost use Rattle.clause_index.specs.Literals.{literals};
 ghost use Rattle.clause_index.specs.Rows.{row_at, negation_rows, and_rows, strong_rows, gate_rows};
@@ -203,8 +203,8 @@ pub fn gates(
     requires own { layout.now ≡ layout_of closure.now }
     requires few { step ≤ 1000 }
     requires fits { Fits layout.now step }
-    requires within { index < length (part_b closure.now.formula step) }
-    ensures { literals result ≡ row_at layout.now (part_b closure.now.formula step) index }
+    requires within { index < length (gates_part closure.now.formula step) }
+    ensures { literals result ≡ row_at layout.now (gates_part closure.now.formula step) index }
 {
     let spot = gate_spot(closure.entries(), samples, index);
     gate_at(

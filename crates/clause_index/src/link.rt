@@ -4,7 +4,7 @@
 ghost use Rattle.std.specs.Prelude.{◌≡◌, ◌+◌, ◌-◌, ◌*◌, ◌<◌, ◌≤◌, [], length, slice_index_or, flat_map};
 ghost use Rattle.ltl_closure.specs.Closure.{nexts, yesterdays};
 ghost use Rattle.enc_layout.specs.Letters.{Fits};
-ghost use Rattle.enc_layout.specs.Clauses.{layout_of, part_a, part_c, next_clauses, before_clauses};
+ghost use Rattle.enc_layout.specs.Clauses.{layout_of, chain_part, links_part, next_clauses, before_clauses};
 ghost use Rattle.clause_index.specs.Literals.{literals};
 ghost use Rattle.clause_index.specs.Rows.{row_at, link_rows};
 ghost use Rattle.clause_index.specs.Counts.{chain_size};
@@ -20,7 +20,7 @@ pub fn chain(layout: &Layout, step: u32, index: u64) -> Found
     requires few { step ≤ 1000 }
     requires fits { Fits layout.now step }
     requires within { index < chain_size step }
-    ensures { literals result ≡ row_at layout.now (part_a step) index }
+    ensures { literals result ≡ row_at layout.now (chain_part step) index }
 {
     let here = layout.negative(step, Part::Here);
     Found::Two(here, layout.positive(step - 1, Part::Here))
@@ -42,7 +42,7 @@ fn first(closure: &Closure<'_>, layout: &Layout, index: u64) -> Found
     requires own { layout.now ≡ layout_of closure.now }
     requires fits { Fits layout.now 0 }
     requires within { index < 1 + length (yesterdays closure.now.formula) }
-    ensures { literals result ≡ row_at layout.now (part_c closure.now.formula 0) index }
+    ensures { literals result ≡ row_at layout.now (links_part closure.now.formula 0) index }
 {
     let here = layout.negative(0, Part::Here);
     if index == 0 {
@@ -93,8 +93,8 @@ pub fn links(closure: &Closure<'_>, layout: &Layout, step: u32, index: u64) -> F
     requires own { layout.now ≡ layout_of closure.now }
     requires few { step ≤ 1000 }
     requires fits { Fits layout.now step }
-    requires within { index < length (part_c closure.now.formula step) }
-    ensures { literals result ≡ row_at layout.now (part_c closure.now.formula step) index }
+    requires within { index < length (links_part closure.now.formula step) }
+    ensures { literals result ≡ row_at layout.now (links_part closure.now.formula step) index }
 {
     if step == 0 {
         return first(closure, layout, index);

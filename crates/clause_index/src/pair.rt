@@ -6,7 +6,7 @@ ghost use Rattle.ltl_syntax.specs.declared.node.Kind.TheVariants as Kinds;
 ghost use Rattle.ltl_closure.specs.Closure.{eventualities};
 ghost use Rattle.ltl_closure.specs.Entries.{IsNumber};
 ghost use Rattle.enc_layout.specs.Letters.{Equal, Differs, Fits, below};
-ghost use Rattle.enc_layout.specs.Clauses.{Plus, layout_of, literal_in, carried, place_clauses, fulfilled_clauses, loop_clause, closing_clauses, pair_clauses, part_d};
+ghost use Rattle.enc_layout.specs.Clauses.{Plus, layout_of, literal_in, carried, place_clauses, fulfilled_clauses, loop_clause, closing_clauses, pair_clauses, pairs_part};
 ghost use Rattle.clause_index.specs.Literals.{literals};
 ghost use Rattle.clause_index.specs.Rows.{row_at, comparison_rows, same_rows, either_rows};
 ghost use Rattle.clause_index.specs.Counts.{sizes_of, fulfilled_size};
@@ -253,8 +253,9 @@ pub fn pairs(closure: &Closure<'_>, layout: &Layout, sizes: Sizes, step: u32, in
     requires sizes { sizes ≡ sizes_of closure.now.formula closure.now.kind }
     requires few { step ≤ 1000 }
     requires fits { Fits layout.now step }
-    requires within { index < length (part_d closure.now.formula closure.now.kind step) }
-    ensures { literals result ≡ row_at layout.now (part_d closure.now.formula closure.now.kind step) index }
+    requires within { index < length (pairs_part closure.now.formula closure.now.kind step) }
+    ensures { literals result
+        ≡ row_at layout.now (pairs_part closure.now.formula closure.now.kind step) index }
 {
     let size = sizes.pair();
     let earlier = (index / size) as u32;

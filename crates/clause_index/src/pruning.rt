@@ -6,7 +6,7 @@ ghost use Rattle.ltl_syntax.specs.declared.node.Kind.TheVariants as Kinds;
 ghost use Rattle.ltl_closure.specs.Closure.{eventualities};
 ghost use Rattle.ltl_closure.specs.Entries.{IsNumber};
 ghost use Rattle.enc_layout.specs.Letters.{Unpruned, Equal, Fits, below};
-ghost use Rattle.enc_layout.specs.Clauses.{Minus, layout_of, literal_in, new_clauses, pruned_clause, part_f};
+ghost use Rattle.enc_layout.specs.Clauses.{Minus, layout_of, literal_in, new_clauses, pruned_clause, pruning_part};
 ghost use Rattle.clause_index.specs.Literals.{literals};
 ghost use Rattle.clause_index.specs.Rows.{row_at, new_rows};
 ghost use Rattle.clause_index.specs.ByNumber.{seen_pair, new_by, pruned_row};
@@ -145,8 +145,9 @@ fn infinite(closure: &Closure<'_>, layout: &Layout, step: u32, index: u64) -> Fo
     requires few { step ≤ 1000 }
     requires fits { Fits layout.now step }
     requires few_eventualities { length (eventualities closure.now.formula) ≤ 98306 }
-    requires within { index < length (part_f closure.now.formula Kinds.Infinite step) }
-    ensures { literals result ≡ row_at layout.now (part_f closure.now.formula Kinds.Infinite step) index }
+    requires within { index < length (pruning_part closure.now.formula Kinds.Infinite step) }
+    ensures { literals result
+        ≡ row_at layout.now (pruning_part closure.now.formula Kinds.Infinite step) index }
 {
     let count = closure.eventualities().len() as u64;
     let one = 1 + count;
@@ -180,8 +181,9 @@ pub fn pruning(closure: &Closure<'_>, layout: &Layout, step: u32, index: u64) ->
     requires few { step ≤ 1000 }
     requires fits { Fits layout.now step }
     requires few_eventualities { length (eventualities closure.now.formula) ≤ 98306 }
-    requires within { index < length (part_f closure.now.formula closure.now.kind step) }
-    ensures { literals result ≡ row_at layout.now (part_f closure.now.formula closure.now.kind step) index }
+    requires within { index < length (pruning_part closure.now.formula closure.now.kind step) }
+    ensures { literals result
+        ≡ row_at layout.now (pruning_part closure.now.formula closure.now.kind step) index }
 {
     match closure.kind() {
         Kind::Infinite => infinite(closure, layout, step, index),

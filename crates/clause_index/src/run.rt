@@ -26,7 +26,7 @@ impl Model for Run {
 }
 
 impl Run {
-    /// So many literals, the first one of this letter. The last letter is at most 16,777,216.
+    /// This number of literals, the first one of this letter. The last letter is at most 16,777,216.
     pub fn of(first: Letter, apart: u32, count: u32) -> Run
         requires few { count ≤ 16777216 }
         requires last { first.0 + (count - 1) * apart ≤ 16777216 }

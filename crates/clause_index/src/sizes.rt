@@ -148,7 +148,7 @@ impl Sizes {
     }
 }
 
-/// How many pairs so many steps make.
+/// How many pairs this number of steps makes.
 fn pairs_below(count: u32) -> u64
     requires { count ≤ 1001 }
     ensures pairs { result ≡ count * (count - 1) / 2 }

@@ -87,6 +87,13 @@ impl Log {
         self.hints.truncate(count);
     }
 
+    /// It does nothing: its clause says what every log keeps to.
+    pub fn invariant(&self)
+        ensures { IsLog self.now }
+    {
+        let _ = &self.lines;
+    }
+
     /// Lends the log for reading.
     pub fn view(&self) -> LogView<'_>
         ensures same { result ≡ self.now }
@@ -115,7 +122,7 @@ impl<'a> Model for LogView<'a> {
 
 impl<'a> LogView<'a> {
     /// It does nothing: its clause says what every view keeps to.
-    pub fn is_log(&self)
+    pub fn invariant(&self)
         ensures { IsLog self.now }
     {
         let _ = &self.log;

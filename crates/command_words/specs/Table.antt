@@ -14,7 +14,7 @@ pub record OptionRow : Type 0 where
   pub word : List ℕ
   pub number : Option Range
 
--- how far the source is read: not at all, until more than so many bytes were taken, or to its end
+-- how far the source is read: not at all, until more than a number of bytes were taken, or to its end
 pub data Extent : Type 0 where
   Nothing : Extent
   UpTo : ℕ → Extent

@@ -23,8 +23,8 @@ pub enum Advance {
     Taken(u32),
 }
 
-/// The next kept occurrences from a place on, and the place behind them: at most so many, and none from `end`
-/// on.
+/// The next kept occurrences from a place on, and the place behind them: at most this number, and none from
+/// `end` on.
 fn gather(
     task: &Task<'_>,
     marks: &Vec<bool>,

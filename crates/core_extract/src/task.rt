@@ -39,7 +39,7 @@ impl<'t> Task<'t> {
         ensures kind { IfOk result (λ task. task.kind ≡ kind) }
         ensures asked { IfOk result (λ task. task.asked ≡ asked) }
     {
-        table.is_table();
+        table.invariant();
         let order = nodes_under(alloc, table, root)?;
         let by_node = node_sizes(alloc, table)?;
         let sizes = sizes_of(alloc, &order, &by_node)?;
@@ -60,7 +60,7 @@ fn node_sizes(alloc: Global, table: &FormulaTable) -> Result<Vec<u32>, AllocErro
     ensures each { IfOk result (λ sizes. (k : ℕ) → k < length table.now.nodes
         → slice_index_or sizes.items k 0 ≡ nodes_in (tree_at table.now k)) }
 {
-    table.is_table();
+    table.invariant();
     let mut sizes = Vec::new(alloc);
     'nodes: for number in 0..table.len() {
         let size = size_of(table, number, &sizes);
@@ -77,7 +77,7 @@ fn size_of(table: &FormulaTable, number: u32, sizes: &Vec<u32>) -> u32
         ≡ nodes_in (tree_at table.now k) }
     ensures { result ≡ nodes_in (tree_at table.now number) }
 {
-    table.is_table();
+    table.invariant();
     match table.node(number) {
         Node::Const(_) => 1,
         Node::Letter(_) => 1,

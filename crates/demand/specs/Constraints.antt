@@ -13,7 +13,7 @@ abbrev pub AreBefore : ℕ → Pruning → Type 0
 AreBefore i (prunings.Triple l j) = (l < j) × (j < i)
 AreBefore i (prunings.Pair j) = j < i
 
--- of states up to k, of so many places and of so many eventualities
+-- of states up to k, and of this number of places and of eventualities
 abbrev pub IsWithin : (k places eventualities : ℕ) → Constraint → Type 0
 IsWithin k places eventualities (constraints.Place l i q value) = (l < i) × (i ≤ k) × (q < places)
 IsWithin k places eventualities (constraints.Loop l i) = (l < i) × (i ≤ k)

@@ -10,7 +10,7 @@ use crate::fulfilment::last_fulfilled;
 use crate::row::{Row, eventualities, is_carried, is_pending, places};
 use std::alloc::{AllocError, Global};
 
-/// So many turns of a question double what is taken for each state.
+/// The number of turns of a question that double what is taken for each state.
 const TURNS: u32 = 4;
 
 /// An eventuality that is pending at the last state, by its index from 0, and the state at which it was
@@ -73,7 +73,7 @@ fn push_fulfilments(
     Ok(())
 }
 
-/// Takes so many of the places at which the carries differ.
+/// Takes this number of the places at which the carries differ.
 fn push_places(
     rows: &[Row],
     earlier: u32,

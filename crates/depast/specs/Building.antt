@@ -8,7 +8,7 @@ use Rattle.depast.specs.declared.symbol.Symbol.TheVariants as symbols
 use Rattle.depast.specs.Names.{new_letter}
 use Rattle.depast.specs.Symbols.{Letters}
 
--- letters are names of the table, and new names begin with one underscore more than so many
+-- letters are names of the table, and new names begin with one underscore more than this number
 abbrev pub letters_by : Table → ℕ → Letters
 letters_by t most = record { many = length t.names; old = λ n. Letter (Name (slice_index_or t.names n [])); new = new_letter most }
 

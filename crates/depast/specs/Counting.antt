@@ -10,7 +10,7 @@ use Rattle.ltl_syntax.specs.Table.{Table, tree_at}
 use Rattle.depast.specs.declared.counts.Counts.{Counts}
 use Rattle.depast.specs.Names.{most_leading}
 
--- the size of so many steps back, where no step back is an operand of this size
+-- the size of this number of steps back, where no step back is an operand of this size
 abbrev pub step_size : ℕ → ℕ → ℕ
 step_size zero r = r
 step_size (suc m) r = 1
@@ -49,7 +49,7 @@ residue_size₂ StrongRelease r q = r + q + 1
 residue_size₂ Since r q = 1
 residue_size₂ Trigger r q = 1
 
--- the size of so many axioms, each joined to what is before it, of which each takes so much beside twice its operand
+-- the size of a number of axioms, each joined to what is before it, of which each takes this much beside twice its operand
 abbrev pub chain_size : ℕ → ℕ → ℕ → ℕ
 chain_size each zero r = 0
 chain_size each (suc n) r = each * suc n + 2 * r + 2 * n

@@ -1,4 +1,4 @@
--- Where the truth of what a new name stands for is read: a formula of the table, so many positions back.
+-- Where the truth of what a new name stands for is read: a formula of the table, a number of positions back.
 use Rattle.std.specs.Prelude.{◌≡◌, ℕ, ◌+◌, ◌-◌, ◌<◌, ◌≤◌, ◌↔◌, ◌⊎◌, Bool, true, false, nat_lt, if◌then◌else◌, IsTrue, List, [], ◌∷◌, ◌++◌, length, slice_index_or, Contains, ⊤}
 use Rattle.ltl_syntax.specs.declared.node.Node.{Node}
 use Rattle.ltl_syntax.specs.declared.node.Node.TheVariants as nodes
@@ -14,12 +14,12 @@ use Rattle.depast.specs.declared.sources.Source.{Source}
 use Rattle.depast.specs.declared.lifting.Meanings.{Meanings}
 use Rattle.depast.specs.Lifting.{meanings, meanings₁, meanings₂}
 
--- the formula holds so many positions back. Where there is no such position, the last word is said by `beyond`
+-- the formula holds this number of positions back. Where there is no such position, the last word is said by `beyond`
 abbrev pub HeldBack : Trace → Formula → ℕ → Bool → ℕ → Type 0
 HeldBack t f back true i = back ≤ i → Holds t f (i - back)
 HeldBack t f back false i = (back ≤ i) × Holds t f (i - back)
 
--- so many positions back, or always where there is no such position
+-- this number of positions back, or always where there is no such position
 abbrev pub behind : Bool → ℕ → Formula → Formula
 behind true m f = Unary (HistoricallyIn m m) f
 behind false m f = Unary (YesterdayTimes m) f

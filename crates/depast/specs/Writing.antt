@@ -45,7 +45,7 @@ abbrev pub trees_at : Table → List ℕ → List Formula
 trees_at t [] = []
 trees_at t (number ∷ rest) = tree_at t number ∷ trees_at t rest
 
--- the last start, or the last two, are within so many symbols
+-- the last start, or the last two, are within this number of symbols
 abbrev pub HasOne : List ℕ → ℕ → Type 0
 HasOne [] n = ⊥
 HasOne (start ∷ rest) n = start ≤ n

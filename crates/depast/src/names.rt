@@ -4,7 +4,7 @@ ghost use Rattle.depast.specs.Names.{new_name, underscores};
 
 use std::alloc::{AllocError, Global};
 
-/// How new names begin where the names of a formula begin with at most so many underscores.
+/// How new names begin where the names of a formula begin with at most this number of underscores.
 #[derive(Drop)]
 pub struct NewNames {
     pub most: usize,

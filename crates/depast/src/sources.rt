@@ -11,7 +11,8 @@ use crate::postorder::postorder;
 use ltl_syntax::{BinaryOp, FormulaTable, Node, UnaryOp};
 use std::alloc::{AllocError, Global};
 
-/// The formula under a node, so many positions back. Where there is no such position, `beyond` is its value.
+/// The formula under a node, a number of positions back. Where there is no such position, `beyond` is its
+/// value.
 #[derive(Clone, Copy, Debug)]
 pub struct Source {
     pub node: u32,

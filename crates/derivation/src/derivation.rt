@@ -35,7 +35,7 @@ impl Derivation {
     }
 
     /// It does nothing: its clause says what every derivation keeps to.
-    pub fn is_derivation(&self)
+    pub fn invariant(&self)
         ensures { IsDerivation self.now }
     {
         let _ = &self.lines;

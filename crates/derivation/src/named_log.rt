@@ -42,10 +42,10 @@ impl NamedLog {
     }
 
     /// It does nothing: its clause says what every derivation keeps to.
-    pub fn is_derivation(&self)
+    pub fn invariant(&self)
         ensures { IsDerivation self.now }
     {
-        let _ = self.log.view();
+        self.log.invariant();
     }
 
     /// The log itself: its hints name inputs by the order in which these were put in.

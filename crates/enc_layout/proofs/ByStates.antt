@@ -10,7 +10,7 @@ use Rattle.ltl_closure.proofs.Lists.{Contains-filter}
 use Rattle.ltl_closure.proofs.Entries.{closure_root}
 use Rattle.ltl_closure.proofs.Known.{next_in, yesterday_in}
 use Rattle.enc_layout.specs.Letters.{Meaning, Here, below}
-use Rattle.enc_layout.specs.Clauses.{letter_of, part_a, part_b, start, next_clauses, before_clauses, part_c, state_clauses}
+use Rattle.enc_layout.specs.Clauses.{letter_of, chain_part, gates_part, start, next_clauses, before_clauses, links_part, state_clauses}
 use Rattle.enc_layout.proofs.Each.{Each-left, Each-right, below-Each, flat_map-Each}
 use Rattle.enc_layout.proofs.Gates.{IsTrueClause, gate_value}
 use Rattle.enc_layout.proofs.Carries.{argument_in, then1, then_not, agree}
@@ -20,17 +20,17 @@ module _ (f : Formula) (d : ℕ) (v : Meaning → Bool)
   at_step : (i : ℕ) → i ≤ d → Each (IsTrueClause v) (state_clauses f i)
   at_step i le = below-Each (IsTrueClause v) (suc d) (state_clauses f) holds i (omega arith)
 
-  late : (i : ℕ) → i ≤ d → Each (IsTrueClause v) (part_b f i ++ part_c f i)
-  late i le = Each-right (IsTrueClause v) (part_a i) (part_b f i ++ part_c f i) (at_step i le)
+  late : (i : ℕ) → i ≤ d → Each (IsTrueClause v) (gates_part f i ++ links_part f i)
+  late i le = Each-right (IsTrueClause v) (chain_part i) (gates_part f i ++ links_part f i) (at_step i le)
 
-  in_a : (i : ℕ) → i ≤ d → Each (IsTrueClause v) (part_a i)
-  in_a i le = Each-left (IsTrueClause v) (part_a i) (part_b f i ++ part_c f i) (at_step i le)
+  in_a : (i : ℕ) → i ≤ d → Each (IsTrueClause v) (chain_part i)
+  in_a i le = Each-left (IsTrueClause v) (chain_part i) (gates_part f i ++ links_part f i) (at_step i le)
 
-  in_b : (i : ℕ) → i ≤ d → Each (IsTrueClause v) (part_b f i)
-  in_b i le = Each-left (IsTrueClause v) (part_b f i) (part_c f i) (late i le)
+  in_b : (i : ℕ) → i ≤ d → Each (IsTrueClause v) (gates_part f i)
+  in_b i le = Each-left (IsTrueClause v) (gates_part f i) (links_part f i) (late i le)
 
-  in_c : (i : ℕ) → i ≤ d → Each (IsTrueClause v) (part_c f i)
-  in_c i le = Each-right (IsTrueClause v) (part_b f i) (part_c f i) (late i le)
+  in_c : (i : ℕ) → i ≤ d → Each (IsTrueClause v) (links_part f i)
+  in_c i le = Each-right (IsTrueClause v) (gates_part f i) (links_part f i) (late i le)
 
   -- the states that the letters give
   abbrev pub given : States

@@ -9,7 +9,7 @@ use Rattle.ltl_closure.proofs.Lists.{Contains-here, Contains-there}
 use Rattle.ltl_closure.specs.Keys.{needs}
 use Rattle.ltl_closure.proofs.Entries.{closure_closed}
 use Rattle.enc_layout.specs.Letters.{Meaning}
-use Rattle.enc_layout.specs.Clauses.{Clause, clause_true, letter_of, gate, part_b}
+use Rattle.enc_layout.specs.Clauses.{Clause, clause_true, letter_of, gate, gates_part}
 use Rattle.enc_layout.proofs.Each.{flat_map-Each}
 
 abbrev pub IsTrueClause : (Meaning → Bool) → Clause → Type 0
@@ -42,7 +42,7 @@ first_child f a e rest n c = closure_closed f e a c (subst (λ z. Contains z a) 
 pub second_child : (f : Formula) (a b e : Norm) (rest : List Norm) → needs e ≡ a ∷ b ∷ rest → Contains (closure f) e → Contains (closure f) b
 second_child f a b e rest n c = closure_closed f e b c (subst (λ z. Contains z b) (sym n) (Contains-there a (b ∷ rest) b (Contains-here b rest)))
 
-module _ (f : Formula) (i : ℕ) (v : Meaning → Bool) (holds : Each (IsTrueClause v) (part_b f i)) where
+module _ (f : Formula) (i : ℕ) (v : Meaning → Bool) (holds : Each (IsTrueClause v) (gates_part f i)) where
   -- the state that the letters of step i give
   abbrev pub state_of : RunState
   state_of e = v (letter_of f i e)

@@ -15,7 +15,7 @@ use Rattle.ltl_closure.proofs.Entries.{closure_root}
 use Rattle.ltl_closure.proofs.Known.{next_in, yesterday_in, eventuality_in}
 use Rattle.enc_layout.proofs.Pairing.{pair_from_triple}
 use Rattle.enc_layout.specs.Letters.{Meaning, Unpruned, Here, Accepted, EmptyAt, Repeated, Seen, Equal, LoopTo, Differs, Fulfilled, New, below}
-use Rattle.enc_layout.specs.Clauses.{Clause, Plus, Minus, clause_true, letter_of, carried, carried_letter, eventuality, part_a, part_b, start, next_clauses, before_clauses, part_c, place_clauses, equal_clause, fulfilled_clauses, loop_clause, closing_clauses, pair_clauses, part_d, is_strong_next, part_e, seen_clauses, new_clauses, pruned_clause, part_f, state_clauses, step_clauses, clauses_through}
+use Rattle.enc_layout.specs.Clauses.{Clause, Plus, Minus, clause_true, letter_of, carried, carried_letter, eventuality, chain_part, gates_part, start, next_clauses, before_clauses, links_part, place_clauses, equal_clause, fulfilled_clauses, loop_clause, closing_clauses, pair_clauses, pairs_part, is_strong_next, acceptance_part, seen_clauses, new_clauses, pruned_clause, pruning_part, state_clauses, step_clauses, clauses_through}
 use Rattle.enc_layout.proofs.Each.{Each-append, Each-left, Each-right, Each-below, below-Each, map-Each}
 use Rattle.enc_layout.proofs.Gates.{IsTrueClause}
 use Rattle.enc_layout.proofs.ByStates.{state_value, gives_run}
@@ -30,8 +30,8 @@ six P a b c d e g h =
     (Each-left P a _ h, (Each-left P b _ h1, (Each-left P c _ h2, (Each-left P d _ h3, (Each-left P e g h4, Each-right P e g h4)))))
 
 module _ (f : Formula) (kind : Kind) (d : ℕ) (v : Meaning → Bool) (holds : Each (IsTrueClause v) (clauses_through f kind d)) where
-  in_parts : (i : ℕ) → i ≤ d → Each (IsTrueClause v) (part_a i) × (Each (IsTrueClause v) (part_b f i) × (Each (IsTrueClause v) (part_c f i) × (Each (IsTrueClause v) (part_d f kind i) × (Each (IsTrueClause v) (part_e f kind i) × Each (IsTrueClause v) (part_f f kind i)))))
-  in_parts i le = six (IsTrueClause v) (part_a i) (part_b f i) (part_c f i) (part_d f kind i) (part_e f kind i) (part_f f kind i) (below-Each (IsTrueClause v) (suc d) (step_clauses f kind) holds i (omega arith))
+  in_parts : (i : ℕ) → i ≤ d → Each (IsTrueClause v) (chain_part i) × (Each (IsTrueClause v) (gates_part f i) × (Each (IsTrueClause v) (links_part f i) × (Each (IsTrueClause v) (pairs_part f kind i) × (Each (IsTrueClause v) (acceptance_part f kind i) × Each (IsTrueClause v) (pruning_part f kind i)))))
+  in_parts i le = six (IsTrueClause v) (chain_part i) (gates_part f i) (links_part f i) (pairs_part f kind i) (acceptance_part f kind i) (pruning_part f kind i) (below-Each (IsTrueClause v) (suc d) (step_clauses f kind) holds i (omega arith))
 
   -- the states that the letters give
   abbrev pub read : States
@@ -41,7 +41,7 @@ module _ (f : Formula) (kind : Kind) (d : ℕ) (v : Meaning → Bool) (holds : E
   of_states : Each (IsTrueClause v) (below (suc d) (state_clauses f))
   of_states = Each-below (IsTrueClause v) (suc d) (state_clauses f) (λ i lt.
       let p = in_parts i (omega arith) in
-      Each-append (IsTrueClause v) (part_a i) (part_b f i ++ part_c f i) p.0 (Each-append (IsTrueClause v) (part_b f i) (part_c f i) p.1.0 p.1.1.0))
+      Each-append (IsTrueClause v) (chain_part i) (gates_part f i ++ links_part f i) p.0 (Each-append (IsTrueClause v) (gates_part f i) (links_part f i) p.1.0 p.1.1.0))
 
   pub value : (i : ℕ) → i ≤ d → (e : Norm) → Contains (closure f) e → v (letter_of f i e) ≡ val (read i) e
   value i le e m = state_value f d v of_states i le e m

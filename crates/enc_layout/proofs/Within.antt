@@ -15,7 +15,7 @@ use Rattle.ltl_closure.proofs.Entries.{closure_root}
 use Rattle.ltl_closure.proofs.Places.{place_from_one, place_within}
 use Rattle.ltl_closure.proofs.Known.{next_in, yesterday_in, eventuality_in}
 use Rattle.enc_layout.specs.Letters.{Meaning, Unpruned, Here, Accepted, EmptyAt, Seen, Equal, LoopTo, Differs, Fulfilled, New, below, IsLetter}
-use Rattle.enc_layout.specs.Clauses.{Literal, Clause, Plus, Minus, counts, letter_of, carried, eventuality, part_a, part_b, gate, start, next_clauses, before_clauses, part_c, place_clauses, equal_clause, fulfilled_clauses, loop_clause, closing_clauses, pair_clauses, part_d, accepted_clause, is_strong_next, part_e, seen_clauses, new_clauses, pruned_clause, part_f, step_clauses, clauses_through}
+use Rattle.enc_layout.specs.Clauses.{Literal, Clause, Plus, Minus, counts, letter_of, carried, eventuality, chain_part, gates_part, gate, start, next_clauses, before_clauses, links_part, place_clauses, equal_clause, fulfilled_clauses, loop_clause, closing_clauses, pair_clauses, pairs_part, accepted_clause, is_strong_next, acceptance_part, seen_clauses, new_clauses, pruned_clause, pruning_part, step_clauses, clauses_through}
 use Rattle.enc_layout.proofs.Each.{Each-append, Each-below, Each-flat_map, Each-map}
 use Rattle.enc_layout.proofs.Gates.{first_child, second_child}
 use Rattle.enc_layout.proofs.Carries.{argument_in, right_in, carried_in}
@@ -35,7 +35,7 @@ module _ (f : Formula) (kind : Kind) (d : ℕ) where
   pub entry : (i : ℕ) → i ≤ d → (e : Norm) → Contains (closure f) e → IsLetter kind (counts f) d (letter_of f i e)
   entry i le e m = (le, place_from_one (closure f) e, place_within (closure f) e m)
 
-  within_a : (i : ℕ) → i ≤ d → Each AreKnown (part_a i)
+  within_a : (i : ℕ) → i ≤ d → Each AreKnown (chain_part i)
   within_a zero le = tt
   within_a (suc j) le = ((le, (omega arith, tt)), tt)
 
@@ -86,7 +86,7 @@ module _ (f : Formula) (kind : Kind) (d : ℕ) where
       let z = entry i le (NWeakYesterday (NTrigger a b)) (third_child f a b (NWeakYesterday (NTrigger a b)) (NTrigger a b) refl m) in
       ((g, (y, tt)), ((g, (x, (z, tt))), ((g, (y, (x, tt))), ((g, (y, (z, tt))), tt))))
 
-  within_b : (i : ℕ) → i ≤ d → Each AreKnown (part_b f i)
+  within_b : (i : ℕ) → i ≤ d → Each AreKnown (gates_part f i)
   within_b i le = Each-flat_map AreKnown (gate (letter_of f i)) (closure f) (within_gate i le)
 
   within_start : (e : Norm) → Contains (closure f) e → Each AreKnown (start f e)
@@ -101,7 +101,7 @@ module _ (f : Formula) (kind : Kind) (d : ℕ) where
       let y = entry l ll (argument e) (argument_in f e m) in
       ((le, (x, (y, tt))), ((le, (x, (y, tt))), tt))
 
-  within_c : (i : ℕ) → i ≤ d → Each AreKnown (part_c f i)
+  within_c : (i : ℕ) → i ≤ d → Each AreKnown (links_part f i)
   within_c zero le = ((le, (entry 0 le (pos_of f) (closure_root f), tt)), Each-flat_map AreKnown (start f) (yesterdays f) (λ e m. within_start e (yesterday_in f e m)))
   within_c (suc j) le =
       Each-append AreKnown (flat_map (next_clauses f j) (nexts f)) (flat_map (before_clauses f j) (yesterdays f))
@@ -177,19 +177,19 @@ within_closings : (f : Formula) (kind : Kind) (d i l : ℕ) → i ≤ d → l < 
 within_closings f Kinds.Infinite d i l le lt = within_closing f d i l le lt
 within_closings f Kinds.Finite d i l le lt = tt
 
-within_d : (f : Formula) (kind : Kind) (d i : ℕ) → i ≤ d → Each (AreKnown f kind d) (part_d f kind i)
+within_d : (f : Formula) (kind : Kind) (d i : ℕ) → i ≤ d → Each (AreKnown f kind d) (pairs_part f kind i)
 within_d f kind d i le = Each-below (AreKnown f kind d) i (pair_clauses f kind i) (λ l lt.
     Each-append (AreKnown f kind d) (below (length (carried f)) (place_clauses f i l)) (equal_clause f i l ∷ closing_clauses f kind i l)
     (Each-below (AreKnown f kind d) (length (carried f)) (place_clauses f i l) (within_place f kind d i l le lt))
     (within_equal f kind d i l le lt, within_closings f kind d i l le lt))
 
-within_e : (f : Formula) (kind : Kind) (d i : ℕ) → i ≤ d → Each (AreKnown f kind d) (part_e f kind i)
+within_e : (f : Formula) (kind : Kind) (d i : ℕ) → i ≤ d → Each (AreKnown f kind d) (acceptance_part f kind i)
 within_e f Kinds.Infinite d i le =
     (within_accepted f d i le, Each-map (AreKnown f Kinds.Infinite d) (λ t. Minus (EmptyAt i) ∷ Minus (letter_of f i t) ∷ []) (nexts f) (λ e m. (le, (entry f Kinds.Infinite d i le e (next_in f e m), tt))))
 within_e f Kinds.Finite d i le =
     Each-map (AreKnown f Kinds.Finite d) (λ t. Minus (Accepted i) ∷ Minus (letter_of f i t) ∷ []) (filter is_strong_next (closure f)) (λ e m. (le, (entry f Kinds.Finite d i le e (Contains-from_filter is_strong_next (closure f) e m).0, tt)))
 
-within_f : (f : Formula) (kind : Kind) (d i : ℕ) → i ≤ d → Each (AreKnown f kind d) (part_f f kind i)
+within_f : (f : Formula) (kind : Kind) (d i : ℕ) → i ≤ d → Each (AreKnown f kind d) (pruning_part f kind i)
 within_f f Kinds.Infinite d i le =
     Each-append (AreKnown f Kinds.Infinite d) (below i (seen_clauses f i)) (below i (λ j. below (length (eventualities f)) (new_clauses f i j) ++ pruned_clause f i j ∷ []))
     (Each-below (AreKnown f Kinds.Infinite d) i (seen_clauses f i) (λ l lt. within_seen f d i l le lt))
@@ -202,5 +202,5 @@ within_f f Kinds.Finite d i le = Each-below (AreKnown f Kinds.Finite d) i (λ j.
 pub within : (f : Formula) (kind : Kind) (d : ℕ) → Each (AreKnown f kind d) (clauses_through f kind d)
 within f kind d = Each-below (AreKnown f kind d) (suc d) (step_clauses f kind) (λ i lt.
     let le : i ≤ d = omega arith in
-    join6 (AreKnown f kind d) (part_a i) (part_b f i) (part_c f i) (part_d f kind i) (part_e f kind i) (part_f f kind i)
+    join6 (AreKnown f kind d) (chain_part i) (gates_part f i) (links_part f i) (pairs_part f kind i) (acceptance_part f kind i) (pruning_part f kind i)
     (within_a f kind d i le) (within_b f kind d i le) (within_c f kind d i le) (within_d f kind d i le) (within_e f kind d i le) (within_f f kind d i le))

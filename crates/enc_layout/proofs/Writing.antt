@@ -19,7 +19,7 @@ use Rattle.ltl_closure.proofs.Places.{entry_place}
 use Rattle.ltl_word.proofs.Search.{¬_decided, first_or_none}
 use Rattle.enc_layout.proofs.Pairing.{triple_from_pair}
 use Rattle.enc_layout.specs.Letters.{Meaning, Unpruned, Here, Accepted, EmptyAt, Repeated, Seen, Equal, LoopTo, Differs, Fulfilled, New, below}
-use Rattle.enc_layout.specs.Clauses.{Clause, Plus, Minus, clause_true, letter_of, carried, carried_letter, eventuality, part_a, part_b, gate, start, next_clauses, before_clauses, part_c, place_clauses, equal_clause, fulfilled_clauses, loop_clause, closing_clauses, pair_clauses, part_d, is_strong_next, part_e, seen_clauses, new_clauses, pruned_clause, part_f, step_clauses, clauses_through}
+use Rattle.enc_layout.specs.Clauses.{Clause, Plus, Minus, clause_true, letter_of, carried, carried_letter, eventuality, chain_part, gates_part, gate, start, next_clauses, before_clauses, links_part, place_clauses, equal_clause, fulfilled_clauses, loop_clause, closing_clauses, pair_clauses, pairs_part, is_strong_next, acceptance_part, seen_clauses, new_clauses, pruned_clause, pruning_part, step_clauses, clauses_through}
 use Rattle.enc_layout.proofs.Each.{Each-append, Each-below, Each-flat_map, Each-map}
 use Rattle.enc_layout.proofs.Gates.{first_child, second_child}
 use Rattle.enc_layout.proofs.Carries.{next_value, place_of, argument_in, right_in, carried_in, carried_from, carried_same, below_some}
@@ -132,7 +132,7 @@ module _ (f : Formula) (r : States) (k : ℕ) (accepted final : Bool) (v : Meani
   here_is : (i : ℕ) → IsTrue (v (Here i)) → i ≤ k
   here_is i h = means (Here i) h
 
-  write_a : (i : ℕ) → Each T (part_a i)
+  write_a : (i : ℕ) → Each T (chain_part i)
   write_a zero = tt
   write_a (suc j) = (imp (v (Here (suc j))) _ (λ h. let n = here_is (suc j) h in only (v (Here j)) (makes (Here j) (omega arith))), tt)
 
@@ -152,7 +152,7 @@ module _ (f : Formula) (r : States) (k : ℕ) (accepted final : Bool) (v : Meani
   write_gate i (NRelease a b) m = weak_true (v (letter_of f i (NRelease a b))) (v (letter_of f i a)) (v (letter_of f i b)) (v (letter_of f i (NWeakNext (NRelease a b)))) (val (r i) a) (val (r i) b) (r i (NWeakNext (NRelease a b))) (entry_value i (NRelease a b) m) (entry_value i a (first_child f a (NRelease a b) _ refl m)) (entry_value i b (second_child f a b (NRelease a b) _ refl m)) (entry_value i (NWeakNext (NRelease a b)) (third_child f a b (NWeakNext (NRelease a b)) (NRelease a b) refl m))
   write_gate i (NTrigger a b) m = weak_true (v (letter_of f i (NTrigger a b))) (v (letter_of f i a)) (v (letter_of f i b)) (v (letter_of f i (NWeakYesterday (NTrigger a b)))) (val (r i) a) (val (r i) b) (r i (NWeakYesterday (NTrigger a b))) (entry_value i (NTrigger a b) m) (entry_value i a (first_child f a (NTrigger a b) _ refl m)) (entry_value i b (second_child f a b (NTrigger a b) _ refl m)) (entry_value i (NWeakYesterday (NTrigger a b)) (third_child f a b (NWeakYesterday (NTrigger a b)) (NTrigger a b) refl m))
 
-  write_b : (i : ℕ) → Each T (part_b f i)
+  write_b : (i : ℕ) → Each T (gates_part f i)
   write_b i = Each-flat_map T (gate (letter_of f i)) (closure f) (write_gate i)
 
   module _ (run : IsRun f k r) where
@@ -173,7 +173,7 @@ module _ (f : Formula) (r : States) (k : ℕ) (accepted final : Bool) (v : Meani
         let t = (Contains-from_filter is_yesterday (closure f) e m).1 in
         entry_value (suc j) e (yesterday_in f e m) ∙ (yesterday_value (r (suc j)) e t ∙ (run.before j (omega arith) e m ∙ sym (entry_value j (argument e) (argument_in f e (yesterday_in f e m))))))
 
-    write_c : (i : ℕ) → Each T (part_c f i)
+    write_c : (i : ℕ) → Each T (links_part f i)
     write_c zero = (
       imp (v (Here 0)) _ (λ h. only (v (letter_of f 0 (pos_of f))) (entry_value 0 (pos_of f) (closure_root f) ∙ run.root)),
       Each-flat_map T (start f) (yesterdays f) (λ e m. write_start e (yesterday_in f e m)),
@@ -259,7 +259,7 @@ module _ (f : Formula) (r : States) (k : ℕ) (accepted final : Bool) (v : Meani
         )),
       )
 
-  write_d : (kind : Kind) (i : ℕ) → Each T (part_d f kind i)
+  write_d : (kind : Kind) (i : ℕ) → Each T (pairs_part f kind i)
   write_d kind i = Each-below T i (pair_clauses f kind i) (λ l lt.
       Each-append T (below (length (carried f)) (place_clauses f i l)) (equal_clause f i l ∷ closing_clauses f kind i l)
       (Each-below T (length (carried f)) (place_clauses f i l) (write_place i l))
@@ -280,7 +280,7 @@ module _ (f : Formula) (r : States) (k : ℕ) (accepted final : Bool) (v : Meani
     accepted_at : (i : ℕ) → IsTrue (v (Accepted i)) → IsAccepted f r i kind
     accepted_at i h = let w = means (Accepted i) h in subst (λ n. IsAccepted f r n kind) (sym w.1) (given w.0)
 
-  write_e : (kind : Kind) → (IsTrue accepted → IsAccepted f r k kind) → (i : ℕ) → Each T (part_e f kind i)
+  write_e : (kind : Kind) → (IsTrue accepted → IsAccepted f r k kind) → (i : ℕ) → Each T (acceptance_part f kind i)
   write_e Kinds.Infinite given i = (
     imp (v (Accepted i)) _ (λ h. ors (v (EmptyAt i)) _ (λ off. write_loop i (accepted_at Kinds.Infinite given i h) off)),
     Each-map T (λ t. Minus (EmptyAt i) ∷ Minus (letter_of f i t) ∷ []) (nexts f) (λ e m.
@@ -308,7 +308,7 @@ module _ (f : Formula) (r : States) (k : ℕ) (accepted final : Bool) (v : Meani
     ),
   )
 
-  write_f : (kind : Kind) (i : ℕ) → (IsTrue final → IsPrunedAt f r i kind → ⊥) → Each T (part_f f kind i)
+  write_f : (kind : Kind) (i : ℕ) → (IsTrue final → IsPrunedAt f r i kind → ⊥) → Each T (pruning_part f kind i)
   write_f Kinds.Infinite i given =
       Each-append T (below i (seen_clauses f i)) (below i (λ j. below (length (eventualities f)) (new_clauses f i j) ++ pruned_clause f i j ∷ []))
       (Each-below T i (seen_clauses f i) (λ l lt. write_seen i l lt))
@@ -333,5 +333,5 @@ module _ (f : Formula) (r : States) (k : ℕ) (accepted final : Bool) (v : Meani
 
   pub writes : (kind : Kind) (d : ℕ) → IsRun f k r → (IsTrue accepted → IsAccepted f r k kind) → ((i : ℕ) → i ≤ d → IsTrue final → IsPrunedAt f r i kind → ⊥) → Each T (clauses_through f kind d)
   writes kind d run acc unpruned = Each-below T (suc d) (step_clauses f kind) (λ i lt.
-      join6 T (part_a i) (part_b f i) (part_c f i) (part_d f kind i) (part_e f kind i) (part_f f kind i)
+      join6 T (chain_part i) (gates_part f i) (links_part f i) (pairs_part f kind i) (acceptance_part f kind i) (pruning_part f kind i)
       (write_a i) (write_b i) (write_c run i) (write_d kind i) (write_e kind acc i) (write_f kind i (unpruned i (omega arith))))

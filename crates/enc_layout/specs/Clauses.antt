@@ -53,12 +53,12 @@ counts f = record { entries = length (closure f); places = length (carried f); e
 abbrev pub layout_of : ClosureValue → LayoutValue
 layout_of c = record { kind = c.kind; counts = counts c.formula }
 
--- A. A state is there only where the one before it is
-abbrev pub part_a : ℕ → List Clause
-part_a zero = []
-part_a (suc j) = (Minus (Here (suc j)) ∷ Plus (Here j) ∷ []) ∷ []
+-- The chain. A state is there only where the one before it is
+abbrev pub chain_part : ℕ → List Clause
+chain_part zero = []
+chain_part (suc j) = (Minus (Here (suc j)) ∷ Plus (Here j) ∷ []) ∷ []
 
--- B. The gates of the entries.
+-- The gates of the entries.
 -- g is: b, or a and r
 abbrev pub strong_gate : Meaning → Meaning → Meaning → Meaning → List Clause
 strong_gate g a b r =
@@ -89,10 +89,10 @@ gate v (NSince a b) = strong_gate (v (NSince a b)) (v a) (v b) (v (NYesterday (N
 gate v (NTrigger a b) = weak_gate (v (NTrigger a b)) (v a) (v b) (v (NWeakYesterday (NTrigger a b)))
 
 -- the gates of step i
-abbrev pub part_b : Formula → ℕ → List Clause
-part_b f i = flat_map (gate (letter_of f i)) (closure f)
+abbrev pub gates_part : Formula → ℕ → List Clause
+gates_part f i = flat_map (gate (letter_of f i)) (closure f)
 
--- C. The root and the yesterday requests at state 0, and the requests between neighbours.
+-- The links. The root and the yesterday requests at state 0, and the requests between neighbours.
 -- a yesterday request is false at state 0, a weak one true
 abbrev pub start : Formula → Norm → List Clause
 start f (NYesterday a) = (Minus (Here 0) ∷ Minus (letter_of f 0 (NYesterday a)) ∷ []) ∷ []
@@ -114,11 +114,11 @@ before_clauses f j t =
     ∷ []
 
 -- the links of a step to the one before it
-abbrev pub part_c : Formula → ℕ → List Clause
-part_c f zero = (Minus (Here 0) ∷ Plus (letter_of f 0 (pos_of f)) ∷ []) ∷ flat_map (start f) (yesterdays f)
-part_c f (suc j) = flat_map (next_clauses f j) (nexts f) ++ flat_map (before_clauses f j) (yesterdays f)
+abbrev pub links_part : Formula → ℕ → List Clause
+links_part f zero = (Minus (Here 0) ∷ Plus (letter_of f 0 (pos_of f)) ∷ []) ∷ flat_map (start f) (yesterdays f)
+links_part f (suc j) = flat_map (next_clauses f j) (nexts f) ++ flat_map (before_clauses f j) (yesterdays f)
 
--- D. What the letters of the pair l, i mean.
+-- The pairs. What the letters of the pair l, i mean.
 -- place q + 1 of the carries: where they differ, and what equal carries say there
 abbrev pub place_clauses : Formula → ℕ → ℕ → ℕ → List Clause
 place_clauses f i l q =
@@ -164,10 +164,10 @@ abbrev pub pair_clauses : Formula → Kind → ℕ → ℕ → List Clause
 pair_clauses f kind i l = below (length (carried f)) (place_clauses f i l) ++ equal_clause f i l ∷ closing_clauses f kind i l
 
 -- those of each pair of step i
-abbrev pub part_d : Formula → Kind → ℕ → List Clause
-part_d f kind i = below i (pair_clauses f kind i)
+abbrev pub pairs_part : Formula → Kind → ℕ → List Clause
+pairs_part f kind i = below i (pair_clauses f kind i)
 
--- E. By what rule a run is accepted.
+-- Acceptance. By what rule a run is accepted.
 -- no next request is true, or the run closes to some earlier state
 abbrev pub accepted_clause : ℕ → Clause
 accepted_clause i = Minus (Accepted i) ∷ Plus (EmptyAt i) ∷ below i (λ l. Plus (LoopTo l i) ∷ [])
@@ -178,11 +178,11 @@ is_strong_next (NNext a) = true
 is_strong_next e = false
 
 -- acceptance at step i
-abbrev pub part_e : Formula → Kind → ℕ → List Clause
-part_e f Kinds.Infinite i = accepted_clause i ∷ map (λ t. Minus (EmptyAt i) ∷ Minus (letter_of f i t) ∷ []) (nexts f)
-part_e f Kinds.Finite i = map (λ t. Minus (Accepted i) ∷ Minus (letter_of f i t) ∷ []) (filter is_strong_next (closure f))
+abbrev pub acceptance_part : Formula → Kind → ℕ → List Clause
+acceptance_part f Kinds.Infinite i = accepted_clause i ∷ map (λ t. Minus (EmptyAt i) ∷ Minus (letter_of f i t) ∷ []) (nexts f)
+acceptance_part f Kinds.Finite i = map (λ t. Minus (Accepted i) ∷ Minus (letter_of f i t) ∷ []) (filter is_strong_next (closure f))
 
--- F. Which pairs prune.
+-- Pruning. Which pairs prune.
 -- what equal carries at l and i say of the repeats and the eventualities seen at i
 abbrev pub seen_clauses : Formula → ℕ → ℕ → List Clause
 seen_clauses f i l =
@@ -203,23 +203,23 @@ pruned_clause f i j =
     Minus Unpruned ∷ Minus (Equal j i) ∷ Minus (Repeated j) ∷ below (length (eventualities f)) (λ m. Plus (New j i (suc m)) ∷ [])
 
 -- pruning at step i
-abbrev pub part_f : Formula → Kind → ℕ → List Clause
-part_f f Kinds.Infinite i = below i (seen_clauses f i) ++ below i (λ j. below (length (eventualities f)) (new_clauses f i j) ++ pruned_clause f i j ∷ [])
-part_f f Kinds.Finite i = below i (λ j. (Minus Unpruned ∷ Minus (Equal j i) ∷ []) ∷ [])
+abbrev pub pruning_part : Formula → Kind → ℕ → List Clause
+pruning_part f Kinds.Infinite i = below i (seen_clauses f i) ++ below i (λ j. below (length (eventualities f)) (new_clauses f i j) ++ pruned_clause f i j ∷ [])
+pruning_part f Kinds.Finite i = below i (λ j. (Minus Unpruned ∷ Minus (Equal j i) ∷ []) ∷ [])
 
 -- what the letters of the states, those of the pairs, and those of pruning say at step i
 abbrev pub state_clauses : Formula → ℕ → List Clause
-state_clauses f i = part_a i ++ (part_b f i ++ part_c f i)
+state_clauses f i = chain_part i ++ (gates_part f i ++ links_part f i)
 
 abbrev pub loop_clauses : Formula → Kind → ℕ → List Clause
-loop_clauses f kind i = part_d f kind i ++ part_e f kind i
+loop_clauses f kind i = pairs_part f kind i ++ acceptance_part f kind i
 
 abbrev pub prune_clauses : Formula → Kind → ℕ → List Clause
-prune_clauses f kind i = part_f f kind i
+prune_clauses f kind i = pruning_part f kind i
 
 -- the clauses of step i
 abbrev pub step_clauses : Formula → Kind → ℕ → List Clause
-step_clauses f kind i = part_a i ++ (part_b f i ++ (part_c f i ++ (part_d f kind i ++ (part_e f kind i ++ part_f f kind i))))
+step_clauses f kind i = chain_part i ++ (gates_part f i ++ (links_part f i ++ (pairs_part f kind i ++ (acceptance_part f kind i ++ pruning_part f kind i))))
 
 -- those of steps 0 to d
 abbrev pub clauses_through : Formula → Kind → ℕ → List Clause

@@ -116,7 +116,7 @@ impl Layout {
         ensures fits { Fits self.now result }
         ensures greatest { (d : ℕ) → d ≤ at_most → Fits self.now d → d ≤ result }
     {
-        self.fits_first();
+        self.invariant();
         let mut depth = at_most;
         while depth > 0 && !self.fits(depth) {
             depth -= 1;
@@ -180,7 +180,7 @@ impl Layout {
         }
     }
 
-    fn fits_first(&self)
+    fn invariant(&self)
         ensures { Fits self.now 0 }
     {
         let _ = &self.kind;

@@ -4,7 +4,7 @@ use Rattle.ltl_syntax.specs.declared.node.Node.{Node}
 use Rattle.ltl_syntax.specs.declared.node.Node.TheVariants as nodes
 use Rattle.ltl_syntax.specs.Table.{Table, tree_at, has_child}
 use Rattle.ltl_syntax.specs.Size.{formula_size, node_size}
-use Rattle.formula_copy.specs.declared.parts.Part.{Part}
+use Rattle.formula_copy.specs.declared.parts.TablePart.{TablePart}
 
 -- which numbers of nodes are marked
 abbrev pub Marks : Type 0
@@ -55,7 +55,7 @@ pub record AreUnder (t : Table) (root : ℕ) (M : Marks) : Type 0 where
   pub size : sum_below (marked_size t M) (suc root) ≡ formula_size (tree_at t root)
 
 -- a formula's root, the marks of the nodes under it, and its size
-pub record IsPart (t : Table) (root : ℕ) (part : Part) : Type 0 where
+pub record IsPart (t : Table) (root : ℕ) (part : TablePart) : Type 0 where
   pub table : part.table.now ≡ t
   pub root_is : part.root ≡ root
   pub there : root < length t.nodes

@@ -5,7 +5,7 @@ ghost use Rattle.ltl_syntax.specs.Size.{sizes, node_size, HasOrder};
 ghost use Rattle.formula_copy.specs.Under.{IsPart};
 ghost use Rattle.formula_copy.specs.Copy.{numbers_in, IsMoved, IsCopyOfNode, StandsOnRoots, IsCopyOf, HasGrown};
 
-use crate::parts::Part;
+use crate::parts::TablePart;
 use ltl_syntax::{FormulaTable, Node};
 use std::alloc::{AllocError, Global};
 
@@ -68,7 +68,11 @@ fn copy_node(
 }
 
 /// Copies the part's tree behind the nodes of the table, and answers the number of its root there.
-pub fn copy(alloc: Global, part: &Part<'_>, target: &mut FormulaTable) -> Result<u32, AllocError>
+pub fn copy(
+    alloc: Global,
+    part: &TablePart<'_>,
+    target: &mut FormulaTable,
+) -> Result<u32, AllocError>
     requires part { IsPart part.now.table.now part.now.root part.now }
     requires room { sizes target.old.nodes + part.now.size ≤ 16384 }
     requires names { length target.old.names ≤ length target.old.nodes }

@@ -6,5 +6,5 @@ mod parts;
 mod putting;
 
 pub use copying::{copy, put};
-pub use parts::Part;
+pub use parts::TablePart;
 pub use putting::{put_node, put_tree, tree_size};

@@ -14,23 +14,27 @@ use std::alloc::{AllocError, Global};
 /// A formula under a root, with a mark for each node up to the root that stands under it or is it, and its
 /// size.
 #[derive(Drop)]
-pub struct Part<'t> {
+pub struct TablePart<'t> {
     pub table: &'t FormulaTable,
     pub root: u32,
     pub marks: Vec<bool>,
     pub size: u32,
 }
 
-impl<'t> Part<'t> {
+impl<'t> TablePart<'t> {
     /// The formula under a node.
-    pub fn of(alloc: Global, table: &'t FormulaTable, root: u32) -> Result<Part<'t>, AllocError>
+    pub fn of(
+        alloc: Global,
+        table: &'t FormulaTable,
+        root: u32,
+    ) -> Result<TablePart<'t>, AllocError>
         requires { root < length table.now.nodes }
         ensures part { IfOk result (IsPart table.now root) }
         ensures few { IfOk result (λ part. part.size ≤ 4177920) }
     {
         let marks = marks_under(alloc, table, root)?;
         let size = marked_size(table, root, &marks);
-        Ok(Part {
+        Ok(TablePart {
             table,
             root,
             marks,

@@ -5,7 +5,7 @@ ghost use Rattle.ltl_syntax.specs.Size.{formula_size};
 ghost use Rattle.formula_copy.specs.Copy.{IsPut, IsPutOn};
 
 use crate::copying::copy;
-use crate::parts::Part;
+use crate::parts::TablePart;
 use ltl_syntax::{FormulaTable, Node, PushRefused};
 use std::alloc::{AllocError, Global};
 
@@ -17,7 +17,7 @@ pub fn tree_size(alloc: Global, table: &FormulaTable, root: u32) -> Result<u32, 
     ensures size { IfOk result (λ size. size ≡ formula_size (tree_at table.now root)) }
     ensures few { IfOk result (λ size. size ≤ 4177920) }
 {
-    Ok(Part::of(alloc, table, root)?.size)
+    Ok(TablePart::of(alloc, table, root)?.size)
 }
 
 /// Puts the tree under a node of one table behind the nodes of another, and answers the number of its root
@@ -32,7 +32,7 @@ pub fn put_tree(
     requires names { length target.old.names ≤ length target.old.nodes }
     ensures { IfOk result (IsPut table.now root target.old target.new) }
 {
-    let part = Part::of(alloc, table, root)?;
+    let part = TablePart::of(alloc, table, root)?;
     if target.size() + part.size > MAX_SIZE {
         return Ok(None);
     }

@@ -17,7 +17,7 @@ use Rattle.lasso_eval.specs.Windows.{same, shows}
 use Rattle.lasso_eval.specs.Following.{FollowsOne}
 use Rattle.lasso_eval.proofs.Turning.{Turns, Holds-turns}
 
--- what repeats holds where it holds so many rounds later
+-- what repeats holds where it holds a number of rounds later
 module _ (A : Claim) (p start : ℕ) (ra : Repeats A p start) where
   pub rounds_later : (c r : ℕ) → A (start + r) → A (start + (r + c * p))
   rounds_later zero r x = let e : start + r ≡ start + (r + 0 * p) = omega arith in subst A e x

@@ -22,7 +22,7 @@ step spans.Release a b neighbour = b && (a || neighbour)
 step spans.WeakUntil a b neighbour = (a || b) && (b || neighbour)
 step spans.Always a b neighbour = b && neighbour
 
--- the value at a position, where so many positions on the value is this
+-- the value at a position, where the value this number of positions on is this
 abbrev pub swept_back : Span → List Bool → List Bool → ℕ → ℕ → Bool → Bool
 swept_back span a b zero at value = value
 swept_back span a b (suc count) at value = step span (cell a at) (cell b at) (swept_back span a b count (suc at) value)

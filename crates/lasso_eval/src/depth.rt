@@ -79,7 +79,7 @@ pub fn columns_of(trace: &Trace, depth: u32) -> u128
     }
 }
 
-/// The column to which so many columns come back.
+/// The column to which this number of columns comes back.
 pub fn loop_start_of(trace: &Trace, depth: u32, count: usize) -> usize
     requires { count ≡ columns trace.now depth }
     ensures { result ≡ loop_start trace.now depth }

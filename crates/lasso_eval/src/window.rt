@@ -65,7 +65,7 @@ fn is_at_least(place: Option<usize>, last: usize) -> bool
     }
 }
 
-// The nearest place from so many positions behind the last column on, by one round.
+// The nearest place from this number of positions behind the last column on, by one round.
 fn nearest_behind(sought: bool, first: u8, a: &[bool], loop_start: usize) -> Option<usize>
     requires within { loop_start ≤ length a.now }
     requires few { length a.now ≤ max_cells }

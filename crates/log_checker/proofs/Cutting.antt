@@ -8,7 +8,7 @@ use Rattle.cert_text.specs.Live.{IsGoodLine}
 use Rattle.log_checker.specs.Judging.{IsFirstBad}
 use Rattle.log_checker.specs.Pieces.{cut_at, AreCuts}
 
--- as far as this place the cuts follow one another from the first line on, and stay within so many lines
+-- as far as this place the cuts follow one another from the first line on, and stay within the number of lines
 pub record AreBegun (place : ℕ) (cuts : List ℕ) (count : ℕ) : Type 0 where
   pub first : cut_at cuts 0 ≡ 0
   pub order : (piece : ℕ) → piece < place → cut_at cuts piece ≤ cut_at cuts (suc piece)

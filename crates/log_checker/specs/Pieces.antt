@@ -13,7 +13,7 @@ use Rattle.log_checker.specs.declared.worker.Area.{Area}
 abbrev pub cut_at : List ℕ → ℕ → ℕ
 cut_at cuts place = slice_index_or cuts place 0
 
--- the pieces between the cuts follow one another from the first line, which counts as 0, up to so many lines; none ends before it begins
+-- the pieces between the cuts follow one another from the first line, which counts as 0, up to the number of lines; none ends before it begins
 pub record AreCuts (cuts : List ℕ) (count : ℕ) : Type 0 where
   pub first : cut_at cuts 0 ≡ 0
   pub order : (piece : ℕ) → suc piece < length cuts → cut_at cuts piece ≤ cut_at cuts (suc piece)

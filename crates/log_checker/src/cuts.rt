@@ -28,7 +28,7 @@ fn line_from(view: &CertView<'_>, byte: usize) -> u64
     low
 }
 
-/// Where a piece ends that begins at line `begin`, where so many pieces end with it. Lines are counted from 0
+/// Where a piece ends that begins at line `begin`, where `ended` pieces end with it. Lines are counted from 0
 /// here.
 fn piece_end(view: &CertView<'_>, begin: u64, ended: usize, pieces: usize) -> u64
     requires begins { begin ≤ length (lines_of view.now.parts) }

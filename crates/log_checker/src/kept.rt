@@ -8,7 +8,7 @@ ghost use Rattle.log_checker.specs.Kept.{KeptValue, with_line, without, Ascends,
 ghost use Rattle.log_checker.specs.Kept.{line_of, blank, AreOthers, IsAt};
 
 use crate::judge::NamedLines;
-use cert_text::{Literals, Targets};
+use cert_text::{LineNumbers, Literals};
 use std::alloc::{AllocError, Global};
 use std::marker::Model;
 
@@ -106,7 +106,7 @@ fn index_of(entries: &Vec<Entry<'_>>, number: u64) -> Option<usize>
     Some(place)
 }
 
-/// Where the live line stands that has so many live ones before it.
+/// Where the live line stands that has this number of live ones before it.
 fn live_place(entries: &Vec<Entry<'_>>, place: u64) -> usize
     requires { place < length (live_of entries.now.items) }
     ensures within { result < length entries.now.items }
@@ -198,7 +198,7 @@ impl<'t> Kept<'t> {
     }
 
     /// Lets the lines of these numbers go, where they are live.
-    pub fn delete(&mut self, lines: Targets<'t>)
+    pub fn delete(&mut self, lines: LineNumbers<'t>)
         ensures { self.new ≡ without self.old lines.entry }
     {
         let mut rest = lines;

@@ -51,8 +51,8 @@ impl Model for Scratch {
 }
 
 impl Scratch {
-    /// For so many workers, from 1 to 16, over the letters from 1 to `letters`. All memory that judging
-    /// needs is taken here.
+    /// For 1 to 16 workers, over the letters from 1 to `letters`. All memory that judging needs is taken
+    /// here.
     pub fn new(alloc: Global, workers: u32, letters: u32) -> Result<Scratch, AllocError>
         requires some { 1 ≤ workers }
         requires few { workers ≤ 16 }

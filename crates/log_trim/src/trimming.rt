@@ -49,7 +49,7 @@ fn needed(alloc: Global, log: &NamedLog, targets: &[u64]) -> Result<Vec<bool>, A
     ensures closed { IfOk result (λ flags. IsClosed log.now (marked flags.items)) }
     ensures needed { IfOk result (λ flags. AreTheNeeded log.now targets.now (marked flags.items)) }
 {
-    log.is_derivation();
+    log.invariant();
     let count = log.lines() as usize;
     let mut flags = vec![in alloc; false; count]?;
     'targets: for target in targets {
@@ -80,7 +80,7 @@ fn renumber(
     ensures { IfOk result (λ new. new.items
         ≡ map (renumbered (marked flags.now.items) log.now.lines) (slice_index_or log.now.hints index [])) }
 {
-    log.is_derivation();
+    log.invariant();
     let line = index + 1;
     let mut new = Vec::new(alloc);
     'hints: for place in 0..log.hints(line) {
@@ -111,7 +111,7 @@ fn keep_line(
         (AreKept (marked flags.now.items) log.now (index + 1) kept.new.lines kept.new.hints
         kept.new.table.items) }
 {
-    log.is_derivation();
+    log.invariant();
     if flags[index as usize] {
         let hints = renumber(alloc, log, flags, index, &kept.table)?;
         kept.lines.push(log.literals(index + 1))?;
@@ -149,7 +149,7 @@ pub fn trim(
     requires { AreLines log targets.now }
     ensures { IfOk result (λ r. (M : Marks) × IsTrimmed log targets.now r.0 r.1.items M) }
 {
-    log.is_derivation();
+    log.invariant();
     let flags = needed(alloc, &log, targets)?;
     let kept = keep_lines(alloc, &log, &flags)?;
     let mut numbers = Vec::new(alloc);

@@ -20,7 +20,7 @@ pub record MemoryOutput : Type 0 where
   pub calls : ℕ
   pub faults : ℕ
 
--- the call after so many calls is a named one; none is named once the numbers stand still
+-- the call after this number of calls is a named one; none is named once the numbers stand still
 abbrev pub names_next : List ℕ → ℕ → Bool
 names_next failing calls = nat_lt (next_count calls) last_count && list_any (λ number. number == next_count calls) failing
 
@@ -32,10 +32,10 @@ refuses_read s = names_next s.failing s.calls
 abbrev pub refuses_write : MemoryOutput → Bool
 refuses_write s = names_next s.failing s.calls || nat_le s.room (length s.content)
 
--- how many bytes the next read gives into so many places
+-- how many bytes the next read gives into this number of places
 abbrev pub amount_given : MemoryInput → ℕ → ℕ
 amount_given s places = min (min (length s.rest) s.step) places
 
--- how many bytes the next write takes of so many
+-- how many bytes the next write takes of this number
 abbrev pub amount_taken : MemoryOutput → ℕ → ℕ
 amount_taken s bytes = min (min (s.room - length s.content) s.step) bytes

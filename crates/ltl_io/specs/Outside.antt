@@ -18,7 +18,7 @@ Grows bytes before after = IfSome before (λ content. after ≡ Some (content ++
 abbrev pub Loses : List ℕ → Option (List ℕ) → Option (List ℕ) → Type 0
 Loses bytes before after = IfSome before (λ rest. (left : List ℕ) × (rest ≡ bytes ++ left) × (after ≡ Some left))
 
--- a told rest lost a front of at most so many bytes, and is untouched behind it
+-- a told rest lost a front of at most this number of bytes, and is untouched behind it
 abbrev pub LosesAtMost : ℕ → Option (List ℕ) → Option (List ℕ) → Type 0
 LosesAtMost most before after = IfSome before (λ rest. (bytes left : List ℕ) × (rest ≡ bytes ++ left) × (length bytes ≤ most) × (after ≡ Some left))
 

@@ -36,7 +36,7 @@ abbrev pub passes : Bool → ℕ → Bool
 passes true c = is_xid_start c || (c == 95)
 passes false c = is_xid_continue c
 
--- the text begins with a character of a word, of so many bytes; 0 where it does not
+-- the text begins with a character of a word, of this number of bytes; 0 where it does not
 pub record FrontChar (first : Bool) (text : List ℕ) (size : ℕ) : Type 0 where
   pub char : 0 < size → (c : ℕ) × IsScalar c × (passes first c ≡ true) × (text ≡ encode_utf8 c ++ drop size text) × (length (encode_utf8 c) ≡ size)
   pub none : size ≡ 0 → (c : ℕ) (rest : List ℕ) → IsScalar c → text ≡ encode_utf8 c ++ rest → passes first c ≡ false

@@ -79,7 +79,7 @@ byte_of [] end i = end
 byte_of (t ∷ ts) end zero = t.start
 byte_of (t ∷ ts) end (suc i) = byte_of ts end i
 
--- the byte at which so many tokens of the text have been passed
+-- the byte at which this number of tokens of the text have been passed
 abbrev pub byte_at : List ℕ → List Token → Option ℕ → Option ℕ
 byte_at text ts None = None
 byte_at text ts (Some i) = Some (byte_of ts (length text) i)

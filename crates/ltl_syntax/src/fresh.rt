@@ -15,7 +15,7 @@ pub fn has_no_fresh(alloc: Global, table: &FormulaTable, root: u32) -> Result<bo
     requires { root < length table.now.nodes }
     ensures { IfOk result (λ none. IsTrue none ↔ HasNoFresh (tree_at table.now root)) }
 {
-    table.is_table();
+    table.invariant();
     let order = nodes_under(alloc, table, root)?;
     'places: for place in 0..order.len() {
         if is_fresh(table.node(order[place])) {

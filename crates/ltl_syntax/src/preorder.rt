@@ -13,7 +13,7 @@ pub fn nodes_under(alloc: Global, table: &FormulaTable, root: u32) -> Result<Vec
     requires { root < length table.now.nodes }
     ensures { IfOk result (λ order. order.items ≡ order_at table.now root) }
 {
-    table.is_table();
+    table.invariant();
     let mut order = Vec::new(alloc);
     let mut stack = Vec::new(alloc);
     stack.push(root)?;
@@ -38,7 +38,7 @@ fn visit(
     ensures stack { OnOk result (All (λ n. n < length table.now.nodes) stack.new.items) }
     ensures longer { OnOk result (length order.new.items ≡ length order.old.items + 1) }
 {
-    table.is_table();
+    table.invariant();
     order.push(number)?;
     match table.node(number) {
         Node::Const(_) => {}

@@ -38,7 +38,7 @@ pub fn replace(
     ensures nodes { IfOk result (λ r. length r.0.nodes ≡ length table.now.nodes) }
     ensures names { IfOk result (λ r. r.0.names ≡ table.now.names) }
 {
-    table.is_table();
+    table.invariant();
     let order = nodes_under(alloc, table, root)?;
     let marks = marked(alloc, table.len(), places)?;
     let mut nodes = nodes_of(alloc, table)?;
@@ -102,12 +102,12 @@ fn assembled(
     ensures names { IfOk result (λ copy. copy.names ≡ table.now.names) }
     ensures table { IfOk result (λ copy. IsTable copy.nodes copy.names) }
 {
-    table.is_table();
+    table.invariant();
     let mut copy = named(alloc, table)?;
     'nodes: for index in 0..nodes.len() {
         add(&mut copy, nodes[index])?;
     }
-    copy.is_table();
+    copy.invariant();
     Ok(copy)
 }
 

@@ -166,7 +166,7 @@ impl FormulaTable {
     }
 
     /// Does nothing: its contract says what holds of every table.
-    pub fn is_table(&self)
+    pub fn invariant(&self)
         ensures { IsTable self.now.nodes self.now.names }
     {
         let _nodes = &self.nodes;

@@ -16,7 +16,7 @@ use Rattle.past_monitor.specs.Monitor.{MonitorValue, formula_at, formula_of, Sta
 use Rattle.past_monitor.specs.Line.{IsStateOf}
 use Rattle.past_monitor.specs.Text.{lines_of, is_blank, AreStates, IsBad, line_at, IsFirstBad, AreAnswers, lines_left, bytes_left, IsWatched}
 
--- so many lines of the text are done: they have these states, and the answers to them
+-- this number of lines of the text are done: they have these states, and the answers to them
 pub record IsWatching (f : Formula) (text : List ℕ) (rest : Option (List ℕ)) (m : MonitorValue) (answers : List Bool) (number : ℕ) : Type 0 where
   pub past : IsPast f
   pub formula : formula_of m ≡ f

@@ -45,7 +45,7 @@ reach (Letter p) = 0
 reach (Unary op a) = reach₁ op
 reach (Binary op a b) = reach₂ op
 
--- of which formula they are: of the operand where an operator looks back so many positions, else of the formula itself
+-- of which formula they are: of the operand where an operator looks back a number of positions, else of the formula itself
 abbrev pub watched₁ : UnaryOp → Formula → Formula
 watched₁ one.Not a = Unary one.Not a
 watched₁ one.Next a = Unary one.Next a

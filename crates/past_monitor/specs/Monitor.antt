@@ -41,7 +41,7 @@ StandAbove formulas i (Binary op a b) = ((j : ℕ) × (j < i) × (formula_at for
 abbrev pub AreAll : List Formula → Type 0
 AreAll formulas = (0 < length formulas) × ((i : ℕ) → i < length formulas → StandAbove formulas i (formula_at formulas i))
 
--- so many nodes are under the root: as many as are marked, where those under the root are marked and no others
+-- the number of nodes under the root: as many as are marked, where those under the root are marked and no others
 pub record AreUnder (t : Table) (root : ℕ) (many : ℕ) : Type 0 where
   pub marks : List Bool
   pub each : (i : ℕ) → IsTrue (slice_index_or marks i false) ↔ IsUnder t root i

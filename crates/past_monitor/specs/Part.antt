@@ -95,7 +95,7 @@ value₂ two.StrongRelease r a b = false
 value₂ two.Since r a b = b || (a && value_back r 1 a)
 value₂ two.Trigger r a b = b && (a || value_back r 1 a)
 
--- which value joins the ring: the operand's where an operator looks back so many positions, else its own
+-- which value joins the ring: the operand's where an operator looks back a number of positions, else its own
 abbrev pub joining₁ : UnaryOp → Bool → Bool → Bool
 joining₁ one.Not a v = v
 joining₁ one.Next a v = v

@@ -32,7 +32,7 @@ pub record IsRing (room first : ℕ) (sought : Bool) (found : ℕ) (values : Lis
   pub reserved : capacity ≡ room
   pub counted : found ≡ found_in sought first values
 
--- the value so many positions back, where 0 is the position of the present value; one that is not there is not the one that is sought
+-- the value this number of positions back, where 0 is the position of the present value; one that is not there is not the one sought
 abbrev pub value_back : RingValue → ℕ → Bool → Bool
 value_back r age present = slice_index_or (present ∷ r.values) age (not r.sought)
 

@@ -172,7 +172,7 @@ fn binary_value(op: BinaryOp, kept: &Ring, a: bool, b: bool) -> bool
     }
 }
 
-// Which value joins the ring: the operand's where an operator looks back so many positions, else its own.
+// Which value joins the ring: the operand's where an operator looks back a number of positions, else its own.
 fn joins(node: Node, values: &[bool], value: bool) -> bool
     requires { HasChildrenBelow (length values.now) node }
     ensures { result ≡ joining values.now node value }

@@ -56,8 +56,8 @@ impl Ring {
         })
     }
 
-    /// The value so many positions back, where 0 is the position of the present value. One that is not there
-    /// is not the one that is sought.
+    /// The value `age` positions back, where 0 is the position of the present value. One that is not there is
+    /// not the one that is sought.
     pub fn back(&self, age: usize, present: bool) -> bool
         ensures { result ≡ value_back self.now age present }
     {
@@ -92,7 +92,7 @@ impl Ring {
         self.values.push_front_reserved(present);
     }
 
-    // 1 where the value so many positions back is the one that is sought, else 0.
+    // 1 where the value `age` positions back is the one that is sought, else 0.
     fn counted(&self, age: usize, present: bool) -> usize
         ensures { result ≡ counted_at self.now age present }
     {

@@ -2,7 +2,7 @@
 use Rattle.std.specs.Prelude.{◌≡◌, ℕ, List, ◌++◌, length}
 use Rattle.program_input.specs.Parts.{IsSeparator, EndsLine, BeginsLine}
 
--- a separator line begins so many bytes from the start, and this stands behind it
+-- a separator line begins this number of bytes from the start, and this stands behind it
 pub record OpensSecond (bytes : List ℕ) (start : ℕ) (second : List ℕ) : Type 0 where
   pub before : List ℕ
   pub line : List ℕ

@@ -566,7 +566,7 @@ fn show_rows<R: Threads + Abort + Sync>(rt: &R, alloc: Global, rows: &[Row]) -> 
     Ok(())
 }
 
-/// A piece so many times, and what stands behind.
+/// A piece `count` times, and what stands behind.
 fn repeated(alloc: Global, piece: &[u8], count: u32, last: &[u8]) -> Result<Vec<u8>, AllocError> {
     let mut text = Vec::new(alloc);
     for _ in 0..count {

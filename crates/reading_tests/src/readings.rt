@@ -97,7 +97,7 @@ fn first_faults(rt: HostRuntime) {
     }
 }
 
-/// So many negations of one letter.
+/// A number of negations of one letter.
 fn negations(rt: &impl Abort, alloc: Global, count: u32) -> Vec<u8> {
     let mut text = Vec::new(alloc);
     for _ in 0..count {
@@ -118,7 +118,7 @@ fn counts_nodes(rt: HostRuntime) {
     is_refused(&rt, shown(rt.alloc(), &more), Refused::Nodes(16_385));
 }
 
-/// So many bounded operators of size 255, and a letter behind so many negations.
+/// `count` bounded operators of size 255, and a letter behind a number of negations.
 fn far_next(rt: &impl Abort, alloc: Global, count: u32, negations: u32) -> Vec<u8> {
     let mut text = Vec::new(alloc);
     for _ in 0..count {

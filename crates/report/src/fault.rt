@@ -20,14 +20,14 @@ pub enum Fault {
     Lexical(u32),
     /// The tokens read as no formula, by the byte of the first that is wrong.
     Grammar(u32),
-    /// The formula has so many nodes.
+    /// The number of nodes of the formula.
     Nodes(u32),
-    /// The formula without past operators would have so many nodes.
+    /// The number of nodes that the formula without past operators would have.
     PastNodes(u32),
     /// The clauses of the depth that was asked for have too many letters. The number is the greatest depth
     /// that has not.
     Letters(u32),
-    /// The table of truth values has so many cells.
+    /// The number of cells of the table of truth values.
     Cells(u128),
     /// The second part is no certificate text. The number is its first byte, from 0 at its own start, with
     /// which no such text goes on, or its length.

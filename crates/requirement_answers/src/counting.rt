@@ -13,7 +13,7 @@ use crate::numbers::is_given;
 use requirement_document::Document;
 use requirement_questions::Answer;
 
-/// So many of so many.
+/// How many of how many.
 #[derive(Clone, Copy, Debug, PartialEq, Eq)]
 pub struct Tally {
     pub good: usize,

@@ -65,7 +65,8 @@ fn assembled(
 ) -> Report
     ensures { (d : DocumentValue) (scope : AScope) → IsTogether d together.value
         → AreCores d together.value.conflicts.items cores.items
-        → AreReplies d together.value.left.items (questions_of d scope together.value.left.items) replied.items
+        → AreReplies d together.value.left.items
+        (questions_of d scope together.value.left.items) replied.items
         → AreChecks d (given_numbers d) (behaviours_of d scope) checked.items → IsReport d scope result }
 {
     let together = Box::into_inner(together);
@@ -106,7 +107,8 @@ fn all_checks(alloc: Global, document: &Document, scope: Scope) -> Result<Vec<Ch
     requires recorded { length document.now.behaviours.items < 4294967296 }
     requires traces { RecordsTraces (document_in document.now) }
     ensures checks { IfOk result (λ found. AreChecks (document_in document.now)
-        (given_numbers (document_in document.now)) (behaviours_of (document_in document.now) scope) found.items) }
+        (given_numbers (document_in document.now))
+        (behaviours_of (document_in document.now) scope) found.items) }
     ensures refused { IfErr result (IsRefused (document_in document.now) scope) }
 {
     let given = given_numbers(alloc, document)?;

@@ -50,7 +50,7 @@ answered d steps a (answers.Cannot b) = because_of d b.value.members.items
 answered d steps a answers.Undecided = undecided a (tried steps)
 answered d steps a (answers.TooLarge size) = undecided a (large size)
 
--- so many of all that is given are left
+-- how many of all that is given are left
 abbrev pub together_article : DocumentValue → ℕ → ℕ → ℕ → ℕ → List Member → Answer → List ℕ
 together_article d steps number left all aside a =
     begun (sort_of askings.Together a) number (word_of askings.Together a) (of_all left all)

@@ -17,7 +17,7 @@ use requirement_questions::{Answer, Limits, Member};
 use requirement_report::{item_asked, put_of_all, put_worded, question_words, word_of};
 use std::alloc::{AllocError, Global};
 
-/// So many items, and of how many.
+/// How many items, and of how many.
 #[derive(Clone, Copy)]
 pub struct Left {
     pub left: usize,

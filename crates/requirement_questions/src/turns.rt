@@ -1,5 +1,5 @@
 // The two searches in turns: one for claims that refute the formula, question by question, and one for a trace
-// that satisfies it, depth by depth. A depth is asked once the other search has asked so many questions that
+// that satisfies it, depth by depth. A depth is asked once the other search has asked questions enough that
 // the depth has earned its turn, so neither is far behind where the other would have answered. What a depth
 // costs is told by what was learnt at those before it, as a question of the solver cannot be broken off.
 ghost use Rattle.std.specs.Prelude.{◌≡◌, IsTrue, IfOk, IfSome};
@@ -95,7 +95,7 @@ impl<'c> Attempt<'c> {
         self.search.claims()
     }
 
-    /// One turn more: the next depth, or some questions of the search for claims, at most so many. Nothing is
+    /// One turn more: the next depth, or some questions of the search for claims, at most `most`. Nothing is
     /// left where memory runs out.
     pub fn turn(self, most: u64) -> Result<Attempted<'c>, AllocError>
         ensures { IfOk result (IsAttempted self.entry) }
@@ -137,7 +137,8 @@ fn deepened<'c>(
     }
 }
 
-/// What so many questions of the search for claims come to. What it finds is judged before it is believed.
+/// What this number of questions of the search for claims comes to. What it finds is judged before it is
+/// believed.
 fn advanced<'c>(
     alloc: Global,
     closure: &'c Closure<'c>,

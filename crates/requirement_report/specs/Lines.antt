@@ -6,7 +6,7 @@ use Rattle.std.specs.Fmt.{decimal}
 abbrev pub worded : List ℕ → ℕ → List ℕ
 worded words n = words ++ decimal n
 
--- so many of so many
+-- how many of how many
 abbrev pub of_all : ℕ → ℕ → List ℕ
 of_all good all = decimal good ++ worded (codes " of ") all
 

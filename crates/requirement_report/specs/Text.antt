@@ -134,7 +134,7 @@ abbrev pub without_line : DocumentValue → List Member → List ℕ
 without_line d [] = []
 without_line d (m ∷ ms) = inner (codes "without: " ++ members_text d (m ∷ ms))
 
--- so many of all that is given are left
+-- how many of all that is given are left
 abbrev pub together_block : DocumentValue → ℕ → ℕ → ℕ → List Member → Answer → List ℕ
 together_block d steps left all without answer =
     head (word_of askings.Together answer) (of_all left all) ++ (without_line d without ++ answer_lines d steps askings.Together answer)

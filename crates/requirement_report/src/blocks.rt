@@ -16,7 +16,7 @@ use requirement_document::Document;
 use requirement_questions::{Answer, Limits, Member};
 use std::alloc::{AllocError, Global};
 
-/// So many items, and of how many.
+/// How many items, and of how many.
 #[derive(Clone, Copy)]
 pub struct Left {
     pub left: usize,

@@ -15,7 +15,7 @@ pub fn put_worded(words: &[u8], number: u128, out: &mut Vec<u8>) -> Result<(), A
     out.extend_from_slice(buffer.format(number).as_bytes())
 }
 
-/// Adds so many of so many.
+/// Adds how many of how many.
 pub fn put_of_all(good: u128, all: u128, out: &mut Vec<u8>) -> Result<(), AllocError>
     ensures { OnOk result (out.new.items ≡ out.old.items ++ of_all good all) }
 {

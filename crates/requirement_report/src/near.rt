@@ -22,7 +22,7 @@ pub fn is_near(alloc: Global, one: &Known, other: &Known) -> Result<bool, AllocE
     is_mistyped(alloc, one, other)
 }
 
-/// The letter, which stands in so many items, ready to be compared.
+/// The letter, with the number of items in which it stands, ready to be compared.
 pub fn known(alloc: Global, letter: &str, count: usize) -> Result<Known, AllocError>
     ensures { IfOk result (λ made. known_in made ≡ record { letter = letter.now; count = count }) }
 {

@@ -2,13 +2,13 @@
 use Rattle.std.specs.Prelude.{◌≡◌, ◌≢◌, ℕ, ◌<◌, length}
 use Rattle.ltl_syntax.specs.Formula.{Formula}
 use Rattle.ltl_syntax.specs.Table.{Table, tree_at, IsRoot}
-use Rattle.formula_copy.specs.declared.parts.Part.{Part}
+use Rattle.formula_copy.specs.declared.parts.TablePart.{TablePart}
 use Rattle.system_check.specs.declared.joining.Copies.{Copies}
 use Rattle.system_check.specs.System.{system_of, whole_of}
 use Rattle.formula_copy.specs.Under.{IsPart}
 
 -- the part is that of its own table and root
-abbrev pub IsPartOf : Part → Type 0
+abbrev pub IsPartOf : TablePart → Type 0
 IsPartOf part = IsPart part.table.now part.root part
 
 -- the copies are three roots of the table

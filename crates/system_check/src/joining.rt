@@ -8,7 +8,7 @@ ghost use Rattle.system_check.specs.Joining.{IsJoining};
 ghost use Rattle.system_check.specs.Formulas.{HasFormulas, AreCopies, IsPartOf};
 
 use crate::forms::forms_of;
-use formula_copy::{Part, copy, put};
+use formula_copy::{TablePart, copy, put};
 use ltl_syntax::{BinaryOp, FormulaTable, Node, UnaryOp};
 use std::alloc::{AllocError, Global};
 
@@ -61,9 +61,9 @@ pub fn join_parts(
     ensures { IsJoining (tree_at start.now start_root) (tree_at step.now step_root)
         (tree_at goal.now goal_root) result }
 {
-    let start_part = Part::of(alloc, start, start_root)?;
-    let step_part = Part::of(alloc, step, step_root)?;
-    let goal_part = Part::of(alloc, goal, goal_root)?;
+    let start_part = TablePart::of(alloc, start, start_root)?;
+    let step_part = TablePart::of(alloc, step, step_root)?;
+    let goal_part = TablePart::of(alloc, goal, goal_root)?;
     let size = start_part.size + step_part.size + goal_part.size + 4;
     if size > MAX_SIZE {
         return Err(JoinRefused::Nodes(size));
@@ -90,9 +90,9 @@ struct Copies {
 /// The parts, copied into one table, with the operators that join them.
 fn assemble(
     alloc: Global,
-    start: &Part<'_>,
-    step: &Part<'_>,
-    goal: &Part<'_>,
+    start: &TablePart<'_>,
+    step: &TablePart<'_>,
+    goal: &TablePart<'_>,
 ) -> Result<Joined, AllocError>
     requires start { IsPartOf start.now }
     requires step { IsPartOf step.now }

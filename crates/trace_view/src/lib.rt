@@ -11,6 +11,6 @@ mod lines;
 mod names;
 
 pub use diagram::svg;
-pub use grid::{CELL_LIMIT, Grid, GridRefused, Row};
+pub use grid::{CELL_LIMIT, Grid, GridRefused};
 pub use letters::letters_of;
 pub use lines::text;

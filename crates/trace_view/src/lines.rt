@@ -20,8 +20,8 @@ pub struct Measures {
     block: usize,
 }
 
-/// The grid as lines of at most so many columns, where one state fits: the numbers of the states, a line
-/// for each letter, and a line that shows the loop. What does not fit stands in further blocks below.
+/// The grid as lines of at most this number of columns, where one state fits: the numbers of the states, a
+/// line for each letter, and a line that shows the loop. What does not fit stands in further blocks below.
 #[tactic(auto, using(crate::proofs::Pieces::piece_behind))]
 pub fn text(alloc: Global, grid: &Grid, width: usize) -> Result<Vec<u8>, AllocError>
     ensures { IfOk result (λ lines. lines.items ≡ text grid.now width) }

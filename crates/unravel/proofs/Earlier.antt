@@ -9,7 +9,7 @@ use Rattle.cnf_base.specs.declared.literal.Literal.{Literal as Signed}
 use Rattle.cnf_base.specs.Meaning.{Satisfies, literal_value}
 use Rattle.cdcl.specs.Solving.{AreTrue}
 use Rattle.enc_layout.specs.Letters.{Here}
-use Rattle.enc_layout.specs.Clauses.{number_in, part_a, part_b, part_c, state_clauses}
+use Rattle.enc_layout.specs.Clauses.{number_in, chain_part, gates_part, links_part, state_clauses}
 use Rattle.enc_layout.specs.Assigned.{positive_of}
 use Rattle.enc_layout.proofs.Each.{Each-left, below-Each}
 use Rattle.enc_layout.proofs.Gates.{IsTrueClause}
@@ -24,7 +24,7 @@ module _ (f : Formula) (kind : Kind) (d : ℕ) (v : ℕ → Bool) (holds : Satis
   here_before k le here =
       let w = by_number f kind v in
       let all = below-Each (IsTrueClause w) (suc d) (state_clauses f) (clauses_true f kind v (states_through f d) holds) (suc k) (omega arith) in
-      then1 (w (Here (suc k))) (w (Here k)) (Each-left (IsTrueClause w) (part_a (suc k)) (part_b f (suc k) ++ part_c f (suc k)) all).0 here
+      then1 (w (Here (suc k))) (w (Here k)) (Each-left (IsTrueClause w) (chain_part (suc k)) (gates_part f (suc k) ++ links_part f (suc k)) all).0 here
 
   here_down : (k i : ℕ) → k ≤ d → IsTrue (v (number_in f kind (Here k))) → i ≤ k → IsTrue (v (number_in f kind (Here i)))
   here_down zero i le here ik = let e : zero ≡ i = omega arith in subst (λ n. IsTrue (v (number_in f kind (Here n)))) e here

@@ -1,6 +1,6 @@
-// The first question of a depth, whether a run of so many states is accepted, turn by turn: the solver is
-// asked, and the run that it finds is looked at. Where no rule accepts it, what refuses it, and other runs by
-// each of its states, is put in, and the question is asked again.
+// The first question of a depth, whether a run of its length is accepted, turn by turn: the solver is asked,
+// and the run that it finds is looked at. Where no rule accepts it, what refuses it, and other runs by each
+// of its states, is put in, and the question is asked again.
 ghost use Rattle.std.specs.Prelude.{◌≤◌, IfOk, OnOk};
 ghost use Rattle.enc_layout.specs.Letters.{Fits};
 ghost use Rattle.enc_layout.specs.Clauses.{layout_of};
@@ -17,8 +17,8 @@ use ltl_closure::Closure;
 use ltl_run::Close;
 use std::alloc::{AllocError, Global};
 
-/// So many turns are taken. Behind the last one the whole list is put in, so the question ends whatever a turn
-/// puts in. No question is known that takes a tenth of them.
+/// The number of turns that are taken. Behind the last one the whole list is put in, so the question ends
+/// whatever a turn puts in. No question is known that takes a tenth of them.
 pub const TURNS: u32 = 2000;
 
 /// What a turn comes to.

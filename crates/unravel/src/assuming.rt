@@ -102,7 +102,7 @@ pub fn assume(
     Ok(())
 }
 
-/// Assumes no state any more where the search was hard: the log had so many lines before it, and has many
+/// Assumes no state any more where the search was hard: the log had `before` lines before it, and has many
 /// more now.
 pub fn begin_anew(inputs: &Inputs, before: u64, states: &mut Vec<Literal>)
     ensures { (states.new.items ≡ states.old.items) ⊎ (states.new.items ≡ []) }

@@ -24,7 +24,8 @@ fn rejection(
 ) -> Result<u64, AllocError>
     requires few { state ≤ 1000 }
     requires fits { Fits (layout_of closure.now) state }
-    requires letters { solver.old.letters ≡ letters_through closure.now.kind (counts closure.now.formula) depth }
+    requires letters { solver.old.letters
+        ≡ letters_through closure.now.kind (counts closure.now.formula) depth }
     requires within { state ≤ depth }
     requires refused { Refuses solver.old (accepted_question closure.now.formula closure.now.kind state) }
     ensures letters { solver.new.letters ≡ solver.old.letters }
@@ -44,7 +45,8 @@ fn rejection(
 fn pruning(closure: &Closure<'_>, solver: &mut Solver, depth: u32) -> Result<u64, AllocError>
     requires few { depth ≤ 1000 }
     requires fits { Fits (layout_of closure.now) depth }
-    requires letters { solver.old.letters ≡ letters_through closure.now.kind (counts closure.now.formula) depth }
+    requires letters { solver.old.letters
+        ≡ letters_through closure.now.kind (counts closure.now.formula) depth }
     requires refused { Refuses solver.old (unpruned_question closure.now.formula closure.now.kind depth) }
     ensures letters { solver.new.letters ≡ solver.old.letters }
     ensures longer { IsLonger solver.old.log solver.new.log }
@@ -68,7 +70,8 @@ pub fn close(
 ) -> Result<Vec<u64>, AllocError>
     requires few { depth ≤ 1000 }
     requires fits { Fits (layout_of closure.now) depth }
-    requires letters { solver.old.letters ≡ letters_through closure.now.kind (counts closure.now.formula) depth }
+    requires letters { solver.old.letters
+        ≡ letters_through closure.now.kind (counts closure.now.formula) depth }
     requires refused { AreRefused closure.now.formula closure.now.kind depth solver.old }
     ensures letters { OnOk result (solver.new.letters ≡ solver.old.letters) }
     ensures inputs { OnOk result (solver.new.log.inputs ≡ solver.old.log.inputs) }

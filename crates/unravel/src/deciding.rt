@@ -127,8 +127,7 @@ fn refuted(
 {
     let Inputs { solver, names, .. } = replace(inputs, Inputs::new(alloc));
     let log = solver.into_log();
-    // What the view says of the log's lines.
-    let _ = log.view();
+    log.invariant();
     Decision::Unsat {
         depth,
         log: NamedLog::of(log, names),

@@ -32,7 +32,7 @@ pub fn add_numbers(
     Ok(())
 }
 
-/// Puts clauses of a part of the pair in: those from a place of the part on, so many.
+/// Puts clauses of a part of the pair in: this number of them, from a place of the part on.
 fn add_some(
     listed: &Listed<'_>,
     pair: Pair,

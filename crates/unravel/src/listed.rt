@@ -82,7 +82,7 @@ fn is_place(closure: &Closure<'_>, place: u32) -> bool
     place - nexts < closure.yesterdays().len()
 }
 
-/// Of these numbers those from a place on, so many at most.
+/// Of these numbers those from a place on, `count` at most.
 fn some_of(numbers: Numbers, from: u64, count: u64) -> Numbers
     requires { numbers.first + numbers.count < 2 ^ 60 }
     ensures first { numbers.first ≤ result.first }
@@ -151,7 +151,7 @@ impl<'c> Listed<'c> {
         }
     }
 
-    /// The numbers of clauses of a part of the pair: those from a place of the part on, so many at most. None
+    /// The numbers of clauses of a part of the pair: those from a place of the part on, `count` at most. None
     /// where there is no such part.
     pub fn part(&self, pair: Pair, part: PairPart, from: u64, count: u64) -> Numbers
         ensures { AreNumbersIn self.now result }

@@ -1,5 +1,5 @@
-// The two questions of a depth: whether a run of so many states is accepted, and whether one is pruned
-// nowhere. Where there is no run at all both are refused, so that need not be asked.
+// The two questions of a depth: whether a run of its length is accepted, and whether one is pruned nowhere.
+// Where there is no run at all both are refused, so that need not be asked.
 ghost use Rattle.std.specs.Prelude.{◌≤◌, ◌+◌, IfOk, OnOk};
 ghost use Rattle.enc_layout.specs.Letters.{Fits};
 ghost use Rattle.enc_layout.specs.Clauses.{layout_of};

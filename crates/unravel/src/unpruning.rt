@@ -1,5 +1,5 @@
-// The second question of a depth, whether a run of so many states is pruned nowhere, turn by turn as the
-// first: where the run that is found is pruned somewhere, how it is at each such state is put in.
+// The second question of a depth, whether a run of its length is pruned nowhere, turn by turn as the first:
+// where the run that is found is pruned somewhere, how it is at each such state is put in.
 ghost use Rattle.std.specs.Prelude.{◌≤◌, IfOk, OnOk};
 ghost use Rattle.enc_layout.specs.Letters.{Fits};
 ghost use Rattle.enc_layout.specs.Clauses.{layout_of};

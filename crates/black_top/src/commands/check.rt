@@ -54,7 +54,7 @@ pub fn check<R: Threads + Sync, G: Gate + Sync>(
     }
 }
 
-/// VERIFIED or REJECTED, or why the text is not checked. Its lines are checked by so many workers.
+/// VERIFIED or REJECTED, or why the text is not checked. Its lines are checked by this number of workers.
 fn judge<R: Threads + Sync, G: Gate + Sync>(
     rt: &R,
     alloc: Global,

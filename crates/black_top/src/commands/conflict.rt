@@ -14,7 +14,8 @@ use ltl_syntax::print;
 use std::alloc::{AllocError, Global};
 use std::thread::Threads;
 
-/// The printed core of a refuted formula, where one is asked for. Its tests are done by so many workers.
+/// The printed core of a refuted formula, where one is asked for. Its tests are done by this number of
+/// workers.
 pub fn shown_core<R: Threads + Sync, G: Gate + Sync>(
     rt: &R,
     alloc: Global,

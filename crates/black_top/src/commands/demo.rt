@@ -19,7 +19,7 @@ use report::{Shown, Summary};
 use std::alloc::{AllocError, Global};
 use unravel::{Decision, decide_in_force};
 
-/// The summary of the ring of so many places.
+/// The summary of the ring with this number of places.
 pub fn demo(alloc: Global, number: u32) -> Result<Output, AllocError>
     requires low { 2 ≤ number }
     requires high { number ≤ 64 }

@@ -1,5 +1,5 @@
 // Going back: the entries above a level come off the trail, and their letters may be decided again. Of the
-// lists that were visited for the entries that stay, those below `sure` need no new visit. After
+// lists that were visited for the entries that stay, those below `lasting` need no new visit. After
 // Marques-Silva and Sakallah, GRASP (1999).
 ghost use Rattle.std.specs.Prelude.{◌≡◌, ◌≢◌, ◌↔◌, ℕ, ◌<◌, ◌≤◌, ◌⊎◌, All, Contains, IsTrue, None, length, slice_index_or};
 ghost use Rattle.cdcl_state.specs.StateValue.{IsBack};
@@ -9,8 +9,8 @@ ghost use Rattle.cdcl_activity.specs.Order.{IsWaiting};
 
 use crate::state::State;
 use crate::store::has;
-use cdcl_activity::choices::Choices;
-use cdcl_trail::assigned::{Assigned, Entry};
+use cdcl_activity::Choices;
+use cdcl_trail::{Assigned, Entry};
 use cnf_base::Literal;
 
 impl State {
@@ -21,10 +21,10 @@ impl State {
         let count = self.assigned.front(level);
         release(&self.assigned, &mut self.choices, count);
         self.assigned.cut(count);
-        let sure = smaller(self.sure, count);
-        self.sure = sure;
-        self.head = sure;
-        loosen(count, &mut self.done, &mut self.firm);
+        let lasting = smaller(self.lasting, count);
+        self.lasting = lasting;
+        self.propagated = lasting;
+        loosen(count, &mut self.units_done, &mut self.units_trail);
     }
 
     /// Takes back the first decision that is none of these literals, and all that came after it.
@@ -43,8 +43,8 @@ impl State {
     fn catch_up(&mut self)
         ensures { IsFront self.old self.new }
     {
-        if self.head < self.assigned.len() {
-            let level = self.assigned.level_at(self.head);
+        if self.propagated < self.assigned.len() {
+            let level = self.assigned.level_at(self.propagated);
             self.backjump(level);
         }
     }
@@ -104,27 +104,29 @@ pub fn smaller(a: usize, b: usize) -> usize
 }
 
 /// The short clauses are visited again where an entry that made one true was taken back.
-pub fn loosen(count: usize, done: &mut usize, firm: &mut usize)
-    ensures all { ((firm.old ≤ count) × (done.new ≡ done.old) × (firm.new ≡ firm.old))
-        ⊎ ((done.new ≡ 0) × (firm.new ≡ 0)) }
-    ensures kept { firm.old ≤ count → (done.new ≡ done.old) × (firm.new ≡ firm.old) }
+pub fn loosen(count: usize, units_done: &mut usize, units_trail: &mut usize)
+    ensures all { ((units_trail.old ≤ count) × (units_done.new ≡ units_done.old)
+        × (units_trail.new ≡ units_trail.old)) ⊎ ((units_done.new ≡ 0) × (units_trail.new ≡ 0)) }
+    ensures kept { units_trail.old ≤ count → (units_done.new ≡ units_done.old)
+        × (units_trail.new ≡ units_trail.old) }
 {
-    if count < *firm {
-        *done = 0;
-        *firm = 0;
+    if count < *units_trail {
+        *units_done = 0;
+        *units_trail = 0;
         return;
     }
 }
 
 /// All short clauses are true by the entries of the trail: until now, or only now.
-pub fn settle(count: usize, len: usize, done: &mut usize, firm: &mut usize)
-    ensures all { ((count ≤ done.old) × (done.new ≡ done.old) × (firm.new ≡ firm.old))
-        ⊎ ((done.new ≡ count) × (firm.new ≡ len)) }
-    ensures kept { count ≤ done.old → (done.new ≡ done.old) × (firm.new ≡ firm.old) }
+pub fn settle(count: usize, len: usize, units_done: &mut usize, units_trail: &mut usize)
+    ensures all { ((count ≤ units_done.old) × (units_done.new ≡ units_done.old)
+        × (units_trail.new ≡ units_trail.old)) ⊎ ((units_done.new ≡ count) × (units_trail.new ≡ len)) }
+    ensures kept { count ≤ units_done.old → (units_done.new ≡ units_done.old)
+        × (units_trail.new ≡ units_trail.old) }
 {
-    if *done < count {
-        *done = count;
-        *firm = len;
+    if *units_done < count {
+        *units_done = count;
+        *units_trail = len;
         return;
     }
 }

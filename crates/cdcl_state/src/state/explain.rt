@@ -10,8 +10,7 @@ ghost use Rattle.cnf_base.specs.Literal.{opposite};
 ghost use Rattle.cdcl_analyze.specs.declared.analyze.Cut.TheVariants.{Decisions};
 
 use crate::state::State;
-use cdcl_analyze::analyze::{Cut, Learnt, explain, explain_forced};
-use cdcl_analyze::graph::ImplicationGraph;
+use cdcl_analyze::{Cut, ImplicationGraph, Learnt, explain, explain_forced};
 use cnf_base::{Hint, Literal};
 use std::alloc::{AllocError, Global};
 

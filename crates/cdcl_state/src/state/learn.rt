@@ -1,6 +1,6 @@
 // A learnt clause is put behind the lines and watched, the trail is cut to the second highest of its levels,
-// and its first literal is forced there, without a new visit of what stays below `sure`. After Marques-Silva
-// and Sakallah, GRASP (1999).
+// and its first literal is forced there, without a new visit of what stays below `lasting`. After
+// Marques-Silva and Sakallah, GRASP (1999).
 ghost use Rattle.std.specs.Prelude.{◌≡◌, ◌<◌, ◌≤◌, ◌↔◌, [], ◌∷◌, ◌++◌, All, length, Some, OnErr, OnOk, IsTrue};
 ghost use Rattle.cnf_base.specs.Known.{IsKnown};
 ghost use Rattle.cdcl_state.specs.StateValue.{MayStand, with_log, with_trail};
@@ -13,8 +13,8 @@ ghost use Rattle.cnf_base.specs.declared.literal.Hint.TheVariants.{Line};
 use crate::state::State;
 use crate::state::backjump::{loosen, release, smaller};
 use crate::store::store;
-use cdcl_analyze::analyze::Learnt;
-use cdcl_trail::assigned::Entry;
+use cdcl_analyze::Learnt;
+use cdcl_trail::Entry;
 use cnf_base::{Hint, Literal};
 use std::alloc::AllocError;
 
@@ -29,7 +29,7 @@ impl State {
             (with_line self.old.log learnt.now.clause.items learnt.now.hints.items)) self.new) }
         ensures refused { OnErr result (IsUnturned self.old self.new learnt.now) }
     {
-        self.assigned.told();
+        self.assigned.invariant();
         let line = self.log.derive(&learnt.clause, &learnt.hints)?;
         match store(&learnt.clause, Hint::Line(line), &mut self.watches) {
             Ok(()) => {}
@@ -41,18 +41,18 @@ impl State {
         let front = self.assigned.front(level);
         release(&self.assigned, &mut self.choices, front);
         self.assigned.cut(front);
-        let sure = smaller(self.sure, front);
-        loosen(front, &mut self.done, &mut self.firm);
-        self.head = 0;
-        self.sure = 0;
+        let lasting = smaller(self.lasting, front);
+        loosen(front, &mut self.units_done, &mut self.units_trail);
+        self.propagated = 0;
+        self.lasting = 0;
         self.assigned.assign(Entry {
             literal: learnt.clause[0],
             level,
             reason: Some(Hint::Line(line)),
         })?;
-        self.assigned.told();
-        self.head = sure;
-        self.sure = sure;
+        self.assigned.invariant();
+        self.propagated = lasting;
+        self.lasting = lasting;
         Ok(())
     }
 
@@ -84,7 +84,7 @@ impl State {
             (with_line self.old.log learnt.now.clause.items learnt.now.hints.items)) self.new) }
         ensures refused { OnErr result (IsUnturned self.old self.new learnt.now) }
     {
-        self.assigned.told();
+        self.assigned.invariant();
         let line = self.derive_short(&learnt.clause, &learnt.hints, &learnt.clause)?;
         self.backjump(0);
         self.force(learnt.clause[0], line)?;

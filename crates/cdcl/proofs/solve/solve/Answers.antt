@@ -7,7 +7,7 @@ use Rattle.cdcl_state.specs.StateValue.{StateValue, with_log}
 use Rattle.cdcl.specs.declared.solve.Answer.{Answer}
 use Rattle.cdcl.specs.Solving.{IsAfter, IsFound, IsLineOf, IsNegated}
 use Rattle.cdcl.proofs.Search.{after_none, after_unturned, search_propagated, search_assumed, search_free, assumed_negated, turn_falls, decision_falls, inputs_true}
-use Rattle.cdcl.proofs.Ending.{search_start, conflict_none, conflict_rested, rest_falls, all_assumed, not_decided, refuted_negated, line_found}
+use Rattle.cdcl.proofs.Ending.{search_start, conflict_none, conflict_restarted, falls_at_restart, all_assumed, not_decided, refuted_negated, line_found}
 use Rattle.cdcl.proofs.solve.solve.Goals as goal
 
 none_case : {X A : Type 0} (P : X → Type 0) (o : Option X) → o ≡ None → MatchOption o A P → A
@@ -29,7 +29,7 @@ returns-then-is_assumed-clause-answer c =
     let learnt = c.in_ok-learnt-in-Some.learnt in
     let assumptions = c.args.assumptions.now in
     let search = search_propagated c.args.state.now c.search.state s assumptions c.search.invariant c.propagate.ensures.grown in
-    let each = all_assumed s.trail c.bounded.ensures.apart assumptions search.guided (c.is_assumed.ensures.yes c.if-is_assumed.true) in
+    let each = all_assumed s.trail c.invariant.ensures.apart assumptions search.guided (c.is_assumed.ensures.yes c.if-is_assumed.true) in
     found c.finish.result c.finish.new.state assumptions learnt.clause.items
     (assumed_negated s.log s.trail learnt assumptions c.in_ok-learnt-in-Some.ensures.learnt (c.in_ok-learnt-in-Some.ensures.decided refl) each) c.finish.ensures.answer
 
@@ -54,15 +54,15 @@ search-smaller-in-Some c =
     let derived : mid ≡ with_log t (with_line t.log clause hints) = ap (λ (x : StateValue). with_log x (with_line x.log clause hints)) same in
     let turn = c.in_ok-learn-in-Some.ensures.turned in
     let letters = ap (λ (x : StateValue). x.letters) turn.after ∙ ap (λ (x : StateValue). x.letters) same ∙ c.propagate.ensures.grown.letters in
-    rest_falls first c.learn.new.self c.rest.new.state c.rest.new.pace.left c.search.pace.left letters
-    (turn_falls first t mid c.learn.new.self clause hints c.propagate.ensures.grown c.bounded.ensures.short derived turn) c.rest.ensures
+    falls_at_restart first c.learn.new.self c.restart.new.state c.restart.new.pace.left c.search.pace.left letters
+    (turn_falls first t mid c.learn.new.self clause hints c.propagate.ensures.grown c.invariant.ensures.short derived turn) c.restart.ensures
 
 pub search-preserved-in-Some : goal.search-preserved-in-Some
 search-preserved-in-Some c =
     let learnt = c.in_ok-learnt-in-Some-2.learnt in
     let free = c.is_assumed.ensures.no (not_true c.if-is_assumed.false) in
-    conflict_rested c.args.state.now c.search.state c.propagate.new.self c.args.assumptions.now c.search.invariant c.propagate.ensures.grown free c.analyze.new.self c.learn.new.self c.rest.new.state
-    learnt.clause.items learnt.hints.items c.rest.new.pace.left c.search.pace.left c.analyze.ensures.same c.in_ok-learn-in-Some.ensures.turned c.rest.ensures
+    conflict_restarted c.args.state.now c.search.state c.propagate.new.self c.args.assumptions.now c.search.invariant c.propagate.ensures.grown free c.analyze.new.self c.learn.new.self c.restart.new.state
+    learnt.clause.items learnt.hints.items c.restart.new.pace.left c.search.pace.left c.analyze.ensures.same c.in_ok-learn-in-Some.ensures.turned c.restart.ensures
 
 pub returns-in_err-learn-in-Some-clause-kept : goal.returns-in_err-learn-in-Some-clause-kept
 returns-in_err-learn-in-Some-clause-kept c =
@@ -71,16 +71,16 @@ returns-in_err-learn-in-Some-clause-kept c =
     (subst (IsAfter c.args.state.now) (sym c.analyze.ensures.same) search.after) c.in_err-learn-in-Some.ensures.refused
 
 -- lines were to be forgotten, and there was no memory for it
-pub returns-in_err-rest-in-Some-clause-kept : goal.returns-in_err-rest-in-Some-clause-kept
-returns-in_err-rest-in-Some-clause-kept c =
+pub returns-in_err-restart-in-Some-clause-kept : goal.returns-in_err-restart-in-Some-clause-kept
+returns-in_err-restart-in-Some-clause-kept c =
     let learnt = c.in_ok-learnt-in-Some-2.learnt in
     let free = c.is_assumed.ensures.no (not_true c.if-is_assumed.false) in
-    let search = conflict_rested c.args.state.now c.search.state c.propagate.new.self c.args.assumptions.now c.search.invariant c.propagate.ensures.grown free c.analyze.new.self c.learn.new.self c.rest.new.state
-    learnt.clause.items learnt.hints.items c.rest.new.pace.left c.search.pace.left c.analyze.ensures.same c.in_ok-learn-in-Some.ensures.turned c.rest.ensures in
+    let search = conflict_restarted c.args.state.now c.search.state c.propagate.new.self c.args.assumptions.now c.search.invariant c.propagate.ensures.grown free c.analyze.new.self c.learn.new.self c.restart.new.state
+    learnt.clause.items learnt.hints.items c.restart.new.pace.left c.search.pace.left c.analyze.ensures.same c.in_ok-learn-in-Some.ensures.turned c.restart.ensures in
     search.after
 
-pub returns-in_err-rest-in-Some-clause-near : goal.returns-in_err-rest-in-Some-clause-near
-returns-in_err-rest-in-Some-clause-near c clause hints negated step =
+pub returns-in_err-restart-in-Some-clause-near : goal.returns-in_err-restart-in-Some-clause-near
+returns-in_err-restart-in-Some-clause-near c clause hints negated step =
     let free = c.is_assumed.ensures.no (not_true c.if-is_assumed.false) in
     absurd (conflict_none c.args.state.now c.search.state c.propagate.new.self c.args.assumptions.now c.search.invariant c.propagate.ensures.grown free clause hints negated step)
 
@@ -90,8 +90,8 @@ search-smaller-in-Continue-branch-8 c =
     let new = c.decide.new.self in
     let decided = c.in_ok-decide-in-Assume.ensures.decided in
     let letters = ap (λ (x : StateValue). x.letters) decided.after ∙ c.propagate.ensures.grown.letters in
-    rest_falls c.search.state new new c.search.pace.left c.search.pace.left letters
-    (decision_falls c.search.state t new c.in-Assume.literal c.propagate.ensures.grown c.bounded.ensures.short decided) (inl (refl, refl))
+    falls_at_restart c.search.state new new c.search.pace.left c.search.pace.left letters
+    (decision_falls c.search.state t new c.in-Assume.literal c.propagate.ensures.grown c.invariant.ensures.short decided) (inl (refl, refl))
 
 pub search-preserved-in-Continue-branch-8 : goal.search-preserved-in-Continue-branch-8
 search-preserved-in-Continue-branch-8 c =
@@ -104,8 +104,8 @@ search-smaller c =
     let new = c.decide-in-Search.new.self in
     let decided = c.in_ok-decide-in-Search.ensures.decided in
     let letters = ap (λ (x : StateValue). x.letters) decided.after ∙ c.propagate.ensures.grown.letters in
-    rest_falls c.search.state new new c.search.pace.left c.search.pace.left letters
-    (decision_falls c.search.state t new c.in-Search.literal c.propagate.ensures.grown c.bounded.ensures.short decided) (inl (refl, refl))
+    falls_at_restart c.search.state new new c.search.pace.left c.search.pace.left letters
+    (decision_falls c.search.state t new c.in-Search.literal c.propagate.ensures.grown c.invariant.ensures.short decided) (inl (refl, refl))
 
 pub search-preserved : goal.search-preserved
 search-preserved c =
@@ -117,7 +117,7 @@ pub explain_false-requires-clause-forced : goal.explain_false-requires-clause-fo
 explain_false-requires-clause-forced c =
     let s = c.propagate.new.self in
     let search = search_propagated c.args.state.now c.search.state s c.args.assumptions.now c.search.invariant c.propagate.ensures.grown in
-    not_decided s.trail c.bounded.ensures.apart c.args.assumptions.now search.guided c.requires.consistent c.in-Refuted.literal c.in-Refuted.ensures.0
+    not_decided s.trail c.invariant.ensures.apart c.args.assumptions.now search.guided c.requires.consistent c.in-Refuted.literal c.in-Refuted.ensures.0
 
 pub returns-in-Refuted-clause-answer : goal.returns-in-Refuted-clause-answer
 returns-in-Refuted-clause-answer c =
@@ -126,7 +126,7 @@ returns-in-Refuted-clause-answer c =
     let assumptions = c.args.assumptions.now in
     let search = search_propagated c.args.state.now c.search.state s assumptions c.search.invariant c.propagate.ensures.grown in
     found c.finish-in-Refuted.result c.finish-in-Refuted.new.state assumptions learnt.clause.items
-    (refuted_negated s assumptions c.in-Refuted.literal learnt c.bounded.ensures.apart search.guided c.in-Refuted.ensures.0 c.in_ok-learnt-in-Refuted.ensures.learnt) c.finish-in-Refuted.ensures.answer
+    (refuted_negated s assumptions c.in-Refuted.literal learnt c.invariant.ensures.apart search.guided c.in-Refuted.ensures.0 c.in_ok-learnt-in-Refuted.ensures.learnt) c.finish-in-Refuted.ensures.answer
 
 pub returns-in-Done-clause-answer : goal.returns-in-Done-clause-answer
 returns-in-Done-clause-answer c =

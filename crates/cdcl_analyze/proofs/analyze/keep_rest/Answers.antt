@@ -10,7 +10,7 @@ use Rattle.cdcl_analyze.proofs.analyze.keep_rest.Goals as goal
 
 pub down-init : goal.down-init
 down-init c = record {
-  rest = rest_start _ _ _ _ _ _ _ _ _ c.told.ensures.told c.requires.can_walk.within c.requires.fresh.unasked c.requires.fresh.none_follows;
+  rest = rest_start _ _ _ _ _ _ _ _ _ c.invariant.ensures.told c.requires.can_walk.within c.requires.fresh.unasked c.requires.fresh.none_follows;
   hints = refl;
   size = refl;
   waiting = c.requires.can_walk.waiting;
@@ -27,7 +27,7 @@ mark-requires c =
     let place = c.in-Some.place in
     let low : place < length trail = omega (arith, c.in-Some.ensures.next.low, c.down.invariant.high, c.requires.can_walk.within) in
     let entry : c.entry-entry.result ≡ get_or trail place blank_entry = c.entry-entry.ensures ∙ get_or_default trail place _ blank_entry low in
-    let known = subst (λ (e : Entry). e.literal.letter.0 < length c.args.graph.now.values) (sym entry) (c.told.ensures.told.known place blank_entry low) in
+    let known = subst (λ (e : Entry). e.literal.letter.0 < length c.args.graph.now.values) (sym entry) (c.invariant.ensures.told.known place blank_entry low) in
     omega (arith, known, c.requires.can_walk.size, c.down.invariant.size, c.pop.ensures.room)
 
 pub returns-in_err-mark-clause-size : goal.returns-in_err-mark-clause-size
@@ -40,13 +40,13 @@ pub returns-then-place-base-clause-can_walk : goal.returns-then-place-base-claus
 returns-then-place-base-clause-can_walk c = record {
   within = omega (arith, c.requires.base, c.requires.can_walk.within);
   size = omega (arith, c.requires.can_walk.size, c.mark.ensures.room, c.pop.ensures.room, c.down.invariant.size);
-  waiting = waiting_again _ _ _ _ _ _ _ _ _ c.told.ensures.told c.requires.can_walk.within _ _ c.down.end c.down.marks c.pop.new.self c.down.invariant.high c.down.invariant.waiting c.pop.ensures.marks c.pop.ensures.found c.down.invariant.rest
+  waiting = waiting_again _ _ _ _ _ _ _ _ _ c.invariant.ensures.told c.requires.can_walk.within _ _ c.down.end c.down.marks c.pop.new.self c.down.invariant.high c.down.invariant.waiting c.pop.ensures.marks c.pop.ensures.found c.down.invariant.rest
       c.in-Some.place c.entry-entry.result c.in-Some.ensures.next c.entry-entry.ensures c.mark.new.self c.if-place-base.true c.down.invariant.low c.in_ok-mark.ensures.only c.in_ok-mark.ensures.waits;
 }
 
 pub returns-then-place-base-clause-rest : goal.returns-then-place-base-clause-rest
 returns-then-place-base-clause-rest c =
-    rest_marked _ _ _ _ _ _ _ _ _ c.told.ensures.told c.requires.can_walk.within _ _ c.down.end c.down.marks c.pop.new.self c.down.invariant.high c.down.invariant.waiting c.pop.ensures.marks c.pop.ensures.found c.down.invariant.rest
+    rest_marked _ _ _ _ _ _ _ _ _ c.invariant.ensures.told c.requires.can_walk.within _ _ c.down.end c.down.marks c.pop.new.self c.down.invariant.high c.down.invariant.waiting c.pop.ensures.marks c.pop.ensures.found c.down.invariant.rest
     c.in-Some.place c.entry-entry.result c.in-Some.ensures.next c.entry-entry.ensures c.mark.new.self c.if-place-base.true c.down.invariant.low c.in_ok-mark.ensures.only c.in_ok-mark.ensures.found c.in_ok-mark.ensures.kept
 
 pub returns-then-place-base-clause-hints : goal.returns-then-place-base-clause-hints
@@ -76,9 +76,9 @@ returns-in_err-follows-clause-size c = c.follows.ensures.size ∙ c.pop.ensures.
 pub down-preserved-in_ok-keep : goal.down-preserved-in_ok-keep
 down-preserved-in_ok-keep c =
     let trail = c.args.graph.now.trail in
-    let kept = asked_kept _ _ _ _ _ _ _ _ _ c.told.ensures.told c.requires.can_walk.within _ _ c.down.end c.down.marks c.pop.new.self c.down.invariant.high c.down.invariant.waiting c.pop.ensures.marks c.pop.ensures.found c.down.invariant.rest
+    let kept = asked_kept _ _ _ _ _ _ _ _ _ c.invariant.ensures.told c.requires.can_walk.within _ _ c.down.end c.down.marks c.pop.new.self c.down.invariant.high c.down.invariant.waiting c.pop.ensures.marks c.pop.ensures.found c.down.invariant.rest
     c.in-Some.place c.entry-entry.result c.in-Some.ensures.next c.entry-entry.ensures c.follows.new.marks c.if-place-base.false c.in_ok-follows.ensures.grows c.deny.new.self c.keep.new.learnt.clause.items c.keep.new.learnt.places.items
-    (omega (arith, c.requires.can_walk.size, c.down.invariant.size, c.pop.ensures.room, c.follows.ensures.size, c.told-then-not-branch.ensures))
+    (omega (arith, c.requires.can_walk.size, c.down.invariant.size, c.pop.ensures.room, c.follows.ensures.size, c.invariant-then-not-branch.ensures))
     (λ h. false≢true (sym c.if-not-branch.true ∙ c.in_ok-follows.ensures.outcome.1 h)) c.deny.ensures
     (c.in_ok-keep.ensures.clause ∙ ap (λ l. c.down.learnt.clause.items ++ l ∷ []) c.opposite.ensures) c.in_ok-keep.ensures.places in
     record {
@@ -99,7 +99,7 @@ down-smaller c = c.in-Some.ensures.next.low
 pub down-preserved : goal.down-preserved
 down-preserved c =
     let trail = c.args.graph.now.trail in
-    let follows = asked_follows _ _ _ _ _ _ _ _ _ c.told.ensures.told c.requires.can_walk.within _ _ c.down.end c.down.marks c.pop.new.self c.down.invariant.high c.down.invariant.waiting c.pop.ensures.marks c.pop.ensures.found c.down.invariant.rest
+    let follows = asked_follows _ _ _ _ _ _ _ _ _ c.invariant.ensures.told c.requires.can_walk.within _ _ c.down.end c.down.marks c.pop.new.self c.down.invariant.high c.down.invariant.waiting c.pop.ensures.marks c.pop.ensures.found c.down.invariant.rest
     c.in-Some.place c.entry-entry.result c.in-Some.ensures.next c.entry-entry.ensures c.follows.new.marks c.if-place-base.false c.in_ok-follows.ensures.grows (c.in_ok-follows.ensures.outcome.0 c.if-not-branch.false) in
     record {
       rest = follows.0;
@@ -122,7 +122,7 @@ returns-clause-can_walk c = record {
 
 pub returns-clause-rest : goal.returns-clause-rest
 returns-clause-rest c =
-    rest_ended _ _ _ _ _ _ _ _ _ c.told.ensures.told c.requires.can_walk.within _ _ c.down.end c.down.marks c.pop.new.self c.down.invariant.high c.down.invariant.waiting c.pop.ensures.marks c.pop.ensures.found c.down.invariant.rest c.down.invariant.low c.in_default.ensures.next
+    rest_ended _ _ _ _ _ _ _ _ _ c.invariant.ensures.told c.requires.can_walk.within _ _ c.down.end c.down.marks c.pop.new.self c.down.invariant.high c.down.invariant.waiting c.pop.ensures.marks c.pop.ensures.found c.down.invariant.rest c.down.invariant.low c.in_default.ensures.next
 
 pub returns-clause-hints : goal.returns-clause-hints
 returns-clause-hints c = c.down.invariant.hints

@@ -18,7 +18,7 @@ down-preserved-in-Some-reason c =
     let marked = c.in_ok-mark-in-Some-reason.ensures in
     record {
       walked = λ t like start. like_resolve graph t c.args.from c.down.end old popped like fits inside c.down.invariant.waiting k c.entry-entry.result c.pop.ensures.marks next c.entry-entry.ensures _ _ _ (c.down.invariant.walked t like start)
-          c.told.ensures (IsMarked c.mark.new.marks) c.in-Some-reason.hint (read_literals c.reason-clause.result) _ _ _ c.in-Some-reason.is c.reason-clause.ensures.same marked.kept marked.all cited.clause cited.hints cited.places;
+          c.invariant.ensures (IsMarked c.mark.new.marks) c.in-Some-reason.hint (read_literals c.reason-clause.result) _ _ _ c.in-Some-reason.is c.reason-clause.ensures.same marked.kept marked.all cited.clause cited.hints cited.places;
       decided = λ t like start. subst (All (IsDecision t)) (sym cited.places) (c.down.invariant.decided t like start);
       size = c.mark.ensures.size ∙ c.pop.ensures.room ∙ c.down.invariant.size;
       waiting = marked.waiting k (still_waiting graph.trail c.down.end k old popped c.down.invariant.waiting c.pop.ensures.marks next (omega (arith, fits, inside)));

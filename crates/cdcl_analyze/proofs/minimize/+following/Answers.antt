@@ -19,7 +19,7 @@ abbrev blank : Literal
 blank = record { letter = record { 0 = 0 }; negated = false }
 
 pub ask-place_of-place-requires : goal.ask-place_of-place-requires
-ask-place_of-place-requires t c = stands_known _ _ _ c.told.ensures.told c.requires.stands
+ask-place_of-place-requires t c = stands_known _ _ _ c.invariant.ensures.told c.requires.stands
 
 pub ask-returns-in_ok-mark-clause-grows : goal.ask-returns-in_ok-mark-clause-grows
 ask-returns-in_ok-mark-clause-grows t c = λ end stands.
@@ -41,7 +41,7 @@ ask-derive-requires t c =
 
 pub ask-returns-then-marked-clause-given : goal.ask-returns-then-marked-clause-given
 ask-returns-then-marked-clause-given t c = λ is_given.
-    let low = stands_known _ _ _ c.told.ensures.told c.requires.stands in
+    let low = stands_known _ _ _ c.invariant.ensures.told c.requires.stands in
     let was : IsMarked c.args.marks.now c.args.letter = (c.has-marked.ensures (omega (arith, low, c.requires.can_ask.size))).0 c.if-marked.true in
     marked_given _ _ c.derive.new.marks c.args.letter _ ((c.in_ok-follows-in-Some.ensures.grows (length c.args.graph.now.trail) c.requires.stands).marked c.args.letter was) c.in_ok-follows-in-Some.ensures.outcome
 
@@ -56,8 +56,8 @@ ask-returns-in-None-clause-grows t c = λ end stands.
 pub derive-returns-then-branch-clause-grows : goal.derive-returns-then-branch-clause-grows
 derive-returns-then-branch-clause-grows t c =
     let why = c.requires.reason in
-    let low = stands_known _ _ _ c.told.ensures.told (why.place, why.inside, why.is) in
-    derived c.args.graph.now.log.inputs c.args.graph.now.log.lines c.args.graph.now.trail c.args.base c.args.graph.now.values c.args.letter c.args.reason c.told.ensures.told c.told.ensures.is_trail why
+    let low = stands_known _ _ _ c.invariant.ensures.told (why.place, why.inside, why.is) in
+    derived c.args.graph.now.log.inputs c.args.graph.now.log.lines c.args.graph.now.trail c.args.base c.args.graph.now.values c.args.letter c.args.reason c.invariant.ensures.told c.invariant.ensures.is_trail why
     c.args.marks.now c.are_given.new.marks c.conclude.new.self (c.in_ok-are_given.ensures.grows why.place why.inside why.is) c.requires.unknown
     (omega (arith, low, c.requires.can_ask.size, c.are_given.ensures.size)) (c.in_ok-are_given.ensures.given c.if-branch.true) c.in_ok-conclude.ensures.concluded
 
@@ -72,7 +72,7 @@ derive-returns-clause-grows t c =
       | derive-else-steps-gt0-via-then-steps-gt0+in_ok-are_given+else-branch w ↦ rw w.marks-is (w.in_ok-are_given.ensures.grows why.place why.inside why.is)
       | derive-else-steps-gt0-via-else-steps-gt0 w ↦ rw w.marks-is (grows_itself inputs lines trail c.args.base why.place old c.requires.can_ask.consequences)
     ] in
-    not_derived inputs lines trail c.args.base c.args.graph.now.values c.args.letter c.args.reason c.told.ensures.told c.told.ensures.is_trail why
+    not_derived inputs lines trail c.args.base c.args.graph.now.values c.args.letter c.args.reason c.invariant.ensures.told c.invariant.ensures.is_trail why
     old c.else-steps-gt0.marks c.take_back.new.self c.deny.new.self _ c.requires.can_ask.consequences grows c.requires.unknown (ap (λ (cs : List Consequence). length cs) c.consequences-count.ensures)
     c.take_back.ensures.rest c.take_back.ensures.others c.take_back.ensures.unknown c.deny.ensures
 
@@ -88,7 +88,7 @@ are_given-ask-requires t c =
     let trail = c.args.graph.now.trail in
     let why = c.requires.reason in
     let stands = stands_before trail why.place (length trail) _ (omega (arith, why.inside))
-    (read_stands log.inputs log.lines trail c.args.base c.args.graph.now.values c.args.letter c.args.reason c.told.ensures.told c.told.ensures.is_trail why (read_literals c.reason-clause.result) c.reason-clause.ensures.same c.others.place
+    (read_stands log.inputs log.lines trail c.args.base c.args.graph.now.values c.args.letter c.args.reason c.invariant.ensures.told c.invariant.ensures.is_trail why (read_literals c.reason-clause.result) c.reason-clause.ensures.same c.others.place
     c.letter-other.result blank (omega arith) c.letter-other.ensures c.if-other-letter.false why.place why.inside why.is) in (
       search rules,
       (
@@ -110,7 +110,7 @@ are_given-returns-then-not-is_given-clause-grows t c = λ place low is.
       | are_given-in-None+in_ok-is_given-in-None w ↦
           rw w.marks-is (grows_on _ _ _ _ place _ _ _ (c.others.invariant.grows place low is)
           (w.in_ok-is_given-in-None.ensures.grows place
-          (read_stands log.inputs log.lines trail c.args.base c.args.graph.now.values c.args.letter c.args.reason c.told.ensures.told c.told.ensures.is_trail c.requires.reason (read_literals c.reason-clause.result) c.reason-clause.ensures.same c.others.place
+          (read_stands log.inputs log.lines trail c.args.base c.args.graph.now.values c.args.letter c.args.reason c.invariant.ensures.told c.invariant.ensures.is_trail c.requires.reason (read_literals c.reason-clause.result) c.reason-clause.ensures.same c.others.place
           c.letter-other.result blank (omega arith) c.letter-other.ensures c.if-other-letter.false place low is)))
     ]
 
@@ -125,7 +125,7 @@ are_given-others-preserved-then-other-letter t c =
     let before = c.others.invariant in
     record {
       size = before.size;
-      given = given_more inputs lines trail base c.args.graph.now.values c.args.letter c.args.reason c.told.ensures.told c.told.ensures.is_trail why why.place now now (read_literals c.reason-clause.result) c.others.place blank
+      given = given_more inputs lines trail base c.args.graph.now.values c.args.letter c.args.reason c.invariant.ensures.told c.invariant.ensures.is_trail why why.place now now (read_literals c.reason-clause.result) c.others.place blank
           (grows_itself inputs lines trail base why.place now (before.grows why.place why.inside why.is).consequences) (omega arith) before.given (inl (sym c.letter-other.ensures ∙ c.if-other-letter.true));
       grows = before.grows;
     }
@@ -150,16 +150,16 @@ are_given-others-preserved t c =
           let known : IsGiven trail base now c.letter-other.result = elim (w.in-Some.ensures.0 (sym w.is_given-is ∙ c.if-not-is_given.false)) [ inl kept ↦ inl kept | inr follows ↦ inr (inl follows) ] in
           rw w.marks-is (record {
             size = before.size;
-            given = given_more inputs lines trail base values letter c.args.reason c.told.ensures.told c.told.ensures.is_trail why why.place now now read i blank
+            given = given_more inputs lines trail base values letter c.args.reason c.invariant.ensures.told c.invariant.ensures.is_trail why why.place now now read i blank
                 (grows_itself inputs lines trail base why.place now (before.grows why.place why.inside why.is).consequences) low before.given (inr (subst (λ (x : ℕ). IsGiven trail base now x) other_is known));
             grows = before.grows;
           })
       | are_given-in-None+in_ok-is_given-in-None w ↦
           let new = w.ask.new.marks in
-          let grows : (place : ℕ) → place < length trail → (literal_at trail place).letter.0 ≡ letter → Grows inputs lines trail base place now new = λ place inside is. w.in_ok-is_given-in-None.ensures.grows place (read_stands inputs lines trail base values letter c.args.reason c.told.ensures.told c.told.ensures.is_trail why read c.reason-clause.ensures.same i c.letter-other.result blank low other_is c.if-other-letter.false place inside is) in
+          let grows : (place : ℕ) → place < length trail → (literal_at trail place).letter.0 ≡ letter → Grows inputs lines trail base place now new = λ place inside is. w.in_ok-is_given-in-None.ensures.grows place (read_stands inputs lines trail base values letter c.args.reason c.invariant.ensures.told c.invariant.ensures.is_trail why read c.reason-clause.ensures.same i c.letter-other.result blank low other_is c.if-other-letter.false place inside is) in
           rw w.marks-is (record {
             size = w.ask.ensures.size ∙ before.size;
-            given = given_more inputs lines trail base values letter c.args.reason c.told.ensures.told c.told.ensures.is_trail why why.place now new read i blank (grows why.place why.inside why.is) low before.given
+            given = given_more inputs lines trail base values letter c.args.reason c.invariant.ensures.told c.invariant.ensures.is_trail why why.place now new read i blank (grows why.place why.inside why.is) low before.given
                 (inr (subst (λ (x : ℕ). IsGiven trail base new x) other_is (w.in_ok-is_given-in-None.ensures.given (sym w.is_given-is ∙ c.if-not-is_given.false))));
             grows = λ place inside is. grows_on inputs lines trail base place c.args.marks.now now new (before.grows place inside is) (grows place inside is);
           })

@@ -29,20 +29,20 @@ along-preserved-then-holds c =
       named = c.along.invariant.named;
       grown = c.along.invariant.grown;
       letters = c.along.invariant.letters;
-      sure = c.along.invariant.sure;
+      lasting = c.along.invariant.lasting;
     }
 
 pub returns-in_err-hint-clause-grown : goal.returns-in_err-hint-clause-grown
 returns-in_err-hint-clause-grown c = grown_more c.args.assigned.now.trail c.along.assigned.trail c.visit.new.assigned.trail c.along.invariant.grown c.in_err-hint.ensures.grown
 
-pub returns-in_err-hint-clause-sure : goal.returns-in_err-hint-clause-sure
-returns-in_err-hint-clause-sure c = λ n low sure. c.in_err-hint.ensures.sure n low (c.along.invariant.sure n low sure)
+pub returns-in_err-hint-clause-lasting : goal.returns-in_err-hint-clause-lasting
+returns-in_err-hint-clause-lasting c = λ n low lasting. c.in_err-hint.ensures.lasting n low (c.along.invariant.lasting n low lasting)
 
 pub returns-in-Some-clause-grown : goal.returns-in-Some-clause-grown
 returns-in-Some-clause-grown c = grown_more c.args.assigned.now.trail c.along.assigned.trail c.visit.new.assigned.trail c.along.invariant.grown c.in_ok-hint.ensures.grown
 
-pub returns-in-Some-clause-sure : goal.returns-in-Some-clause-sure
-returns-in-Some-clause-sure c = λ n low sure. c.in_ok-hint.ensures.sure n low (c.along.invariant.sure n low sure)
+pub returns-in-Some-clause-lasting : goal.returns-in-Some-clause-lasting
+returns-in-Some-clause-lasting c = λ n low lasting. c.in_ok-hint.ensures.lasting n low (c.along.invariant.lasting n low lasting)
 
 pub along-preserved : goal.along-preserved
 along-preserved c =
@@ -55,7 +55,7 @@ along-preserved c =
       named = c.in_ok-hint.ensures.names ∙ c.along.invariant.named;
       grown = grown_more c.args.assigned.now.trail c.along.assigned.trail c.visit.new.assigned.trail c.along.invariant.grown c.in_ok-hint.ensures.grown;
       letters = c.in_ok-hint.ensures.letters ∙ c.along.invariant.letters;
-      sure = λ n low sure. c.in_ok-hint.ensures.sure n low (c.along.invariant.sure n low sure);
+      lasting = λ n low lasting. c.in_ok-hint.ensures.lasting n low (c.along.invariant.lasting n low lasting);
     }
 
 pub returns-clause-found : goal.returns-clause-found

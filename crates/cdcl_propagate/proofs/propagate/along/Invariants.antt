@@ -2,7 +2,7 @@ use Rattle.std.proofs.Common.{◌≡◌, ◌≤◌, ◌-◌, [], ℕ, length, ge
 use Rattle.cdcl_watches.specs.Watching.{code}
 use Rattle.cdcl_watches.specs.Watchers.{IsWalked, walked}
 use Rattle.cdcl_propagate.specs.Visit.{IsVisiting, IsGrown, false_at}
-use Rattle.cdcl_propagate.specs.Sure.{IsSure}
+use Rattle.cdcl_propagate.specs.Lasting.{IsLasting}
 use Rattle.cdcl_propagate.proofs.propagate.along.Given as goal
 
 abbrev pub invariant-along : goal.invariant-along
@@ -14,7 +14,7 @@ invariant-along l = record {
   named : l.arena.names ≡ l.initial.arena.names;
   grown : IsGrown l.initial.assigned.trail l.assigned.trail;
   letters : length l.assigned.values ≡ length l.initial.assigned.values;
-  sure : (n : ℕ) → n ≤ l.place → IsSure l.initial.arena.clauses l.initial.assigned.trail n → IsSure l.arena.clauses l.assigned.trail n;
+  lasting : (n : ℕ) → n ≤ l.place → IsLasting l.initial.arena.clauses l.initial.assigned.trail n → IsLasting l.arena.clauses l.assigned.trail n;
 }
 
 abbrev pub decreases-along : goal.decreases-along

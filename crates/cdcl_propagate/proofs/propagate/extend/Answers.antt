@@ -3,16 +3,16 @@ use Rattle.std.proofs.lemmas.List.{get_or_default}
 use Rattle.cdcl_trail.specs.Trail.{blank_entry}
 use Rattle.cdcl_trail.specs.declared.assigned.Entry.{Entry}
 use Rattle.cdcl_trail.proofs.Levels.{level_at, top_last}
-use Rattle.cdcl_propagate.specs.Sure.{IsSure}
-use Rattle.cdcl_propagate.proofs.Sure.{sure_more}
+use Rattle.cdcl_propagate.specs.Lasting.{IsLasting}
+use Rattle.cdcl_propagate.proofs.Lasting.{lasting_more}
 use Rattle.cdcl_propagate.proofs.propagate.extend.Goals as goal
 
-pub returns-then-entry-level-clause-sure : goal.returns-then-entry-level-clause-sure
-returns-then-entry-level-clause-sure c =
+pub returns-then-entry-level-clause-lasting : goal.returns-then-entry-level-clause-lasting
+returns-then-entry-level-clause-lasting c =
     let trail = c.args.assigned.now.trail in
-    let within : c.args.head < length trail = omega (arith, c.requires.ready.within) in
-    let old = subst (IsSure c.args.watches.now.clauses trail) (let e : c.args.sure.now ≡ c.args.head = omega arith in e) c.requires.sure in
-    let same : level_at trail c.args.head ≡ level_at trail (length trail - 1) =
-    ap (λ (e : Entry). e.level) (sym (c.entry.ensures ∙ get_or_default trail c.args.head c.entry.result blank_entry within)) ∙ c.if-entry-level.true ∙ c.level.ensures in
-    sure_more c.args.log.now.inputs c.args.log.now.lines c.args.watches.now.clauses trail c.args.head c.requires.ready.is_trail within
-    (top_last c.args.log.now.inputs c.args.log.now.lines trail c.args.head c.requires.ready.is_trail within same) c.requires.ready.guarded old
+    let within : c.args.propagated < length trail = omega (arith, c.requires.ready.within) in
+    let old = subst (IsLasting c.args.watches.now.clauses trail) (let e : c.args.lasting.now ≡ c.args.propagated = omega arith in e) c.requires.lasting in
+    let same : level_at trail c.args.propagated ≡ level_at trail (length trail - 1) =
+    ap (λ (e : Entry). e.level) (sym (c.entry.ensures ∙ get_or_default trail c.args.propagated c.entry.result blank_entry within)) ∙ c.if-entry-level.true ∙ c.level.ensures in
+    lasting_more c.args.log.now.inputs c.args.log.now.lines c.args.watches.now.clauses trail c.args.propagated c.requires.ready.is_trail within
+    (top_last c.args.log.now.inputs c.args.log.now.lines trail c.args.propagated c.requires.ready.is_trail within same) c.requires.ready.guarded old

@@ -13,7 +13,7 @@ returns-in-Some-clause-grown c =
 
 pub up-smaller : goal.up-smaller
 up-smaller c =
-    let bound = trail_bounded c.up.assigned.values c.up.assigned.trail c.told.ensures in
+    let bound = trail_bounded c.up.assigned.values c.up.assigned.trail c.invariant.ensures in
     omega (arith, c.in_ok-hint.ensures.letters, bound, c.up-test.true)
 
 pub up-preserved : goal.up-preserved
@@ -24,17 +24,17 @@ up-preserved c =
       letters = c.in_ok-hint.ensures.letters ∙ c.up.invariant.letters;
       named = c.in_ok-hint.ensures.names ∙ c.up.invariant.named;
       low = c.extend.ensures.low;
-      sure = c.extend.ensures.sure;
+      lasting = c.extend.ensures.lasting;
     }
 
-pub returns-in_err-hint-clause-sure : goal.returns-in_err-hint-clause-sure
-returns-in_err-hint-clause-sure c = c.in_err-hint.ensures.sure c.up.sure c.up.invariant.low c.up.invariant.sure
+pub returns-in_err-hint-clause-lasting : goal.returns-in_err-hint-clause-lasting
+returns-in_err-hint-clause-lasting c = c.in_err-hint.ensures.lasting c.up.lasting c.up.invariant.low c.up.invariant.lasting
 
-pub returns-in-Some-clause-sure : goal.returns-in-Some-clause-sure
-returns-in-Some-clause-sure c = c.in_ok-hint.ensures.sure c.up.sure c.up.invariant.low c.up.invariant.sure
+pub returns-in-Some-clause-lasting : goal.returns-in-Some-clause-lasting
+returns-in-Some-clause-lasting c = c.in_ok-hint.ensures.lasting c.up.lasting c.up.invariant.low c.up.invariant.lasting
 
-pub extend-requires-clause-sure : goal.extend-requires-clause-sure
-extend-requires-clause-sure c = c.in_ok-hint.ensures.sure c.up.sure c.up.invariant.low c.up.invariant.sure
+pub extend-requires-clause-lasting : goal.extend-requires-clause-lasting
+extend-requires-clause-lasting c = c.in_ok-hint.ensures.lasting c.up.lasting c.up.invariant.low c.up.invariant.lasting
 
 pub extend-requires-clause-ready : goal.extend-requires-clause-ready
 extend-requires-clause-ready c = none_case _ c.in_ok-hint.field-0 c.in-None.is c.in_ok-hint.ensures.found

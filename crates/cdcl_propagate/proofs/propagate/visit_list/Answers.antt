@@ -2,7 +2,7 @@ use Rattle.std.proofs.Common.{◌≡◌, ap, sym, ◌∙◌, subst}
 use Rattle.cdcl_watches.specs.Watching.{code, WatchValue}
 use Rattle.cdcl_watches.specs.Watchers.{numbers, walked}
 use Rattle.cdcl_watches.proofs.Gap.{closed_none}
-use Rattle.cdcl_propagate.specs.Sure.{IsSure}
+use Rattle.cdcl_propagate.specs.Lasting.{IsLasting}
 use Rattle.cdcl_propagate.specs.Visit.{IsVisiting}
 use Rattle.cdcl_propagate.proofs.Ready.{begin_visit}
 use Rattle.cdcl_propagate.proofs.propagate.visit_list.Goals as goal
@@ -15,6 +15,6 @@ along-found-requires-clause-visiting c =
     subst (IsVisiting c.args.log.now.inputs c.args.log.now.lines c.args.place 0 c.args.assigned.now) (sym start)
     (begin_visit c.args.log.now.inputs c.args.log.now.lines c.args.place c.args.assigned.now c.args.watches.now c.requires.there c.requires.ready)
 
-pub returns-clause-sure : goal.returns-clause-sure
-returns-clause-sure c = λ n low sure.
-    c.along-found.ensures.sure n low (subst (λ (w : WatchValue). IsSure w.clauses c.args.assigned.now.trail n) (sym c.watches.view_is) sure)
+pub returns-clause-lasting : goal.returns-clause-lasting
+returns-clause-lasting c = λ n low lasting.
+    c.along-found.ensures.lasting n low (subst (λ (w : WatchValue). IsLasting w.clauses c.args.assigned.now.trail n) (sym c.watches.view_is) lasting)

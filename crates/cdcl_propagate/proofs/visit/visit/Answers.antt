@@ -11,10 +11,10 @@ use Rattle.cdcl_watches.specs.Heads.{number_of, ArenaValue}
 use Rattle.cdcl_watches.specs.Watchers.{walked}
 use Rattle.cdcl_watches.proofs.Walks.{next_standing, next_watched}
 use Rattle.cdcl_propagate.specs.Visit.{IsVisiting, IsPassed, IsReplacement, AreFalseFrom, false_at, blank_hint}
-use Rattle.cdcl_propagate.specs.Sure.{IsSure}
-use Rattle.cdcl_propagate.proofs.SureVisit.{sure_moved, sure_grown}
+use Rattle.cdcl_propagate.specs.Lasting.{IsLasting}
+use Rattle.cdcl_propagate.proofs.LastingVisit.{lasting_moved, lasting_grown}
 use Rattle.cdcl_propagate.proofs.Guard.{visit_grown}
-use Rattle.cdcl_propagate.proofs.Faced.{faced_walked, faced_sure, walk_at}
+use Rattle.cdcl_propagate.proofs.Faced.{faced_walked, faced_lasting, walk_at}
 use Rattle.cdcl_propagate.proofs.At.{at_true, at_reason, at_conflict, at_moved, at_letters, visit_all, visit_same, same_watch, named_at, at_assigned, last_level}
 use Rattle.cdcl_propagate.proofs.visit.visit.Goals as goal
 
@@ -68,9 +68,9 @@ returns-then-holds-clause-found c =
       same = c.keep.ensures.length;
     }
 
-pub returns-then-holds-clause-sure : goal.returns-then-holds-clause-sure
-returns-then-holds-clause-sure c =
-    λ n low sure. faced_sure c.args.arena.now c.face.new.arena c.args.lists.now c.args.falsified c.args.walk.now.kept c.args.walk.now.next c.requires.walked c.requires.there c.args.head c.requires.head c.face.ensures.heads c.face.ensures.faced c.args.assigned.now.trail n sure
+pub returns-then-holds-clause-lasting : goal.returns-then-holds-clause-lasting
+returns-then-holds-clause-lasting c =
+    λ n low lasting. faced_lasting c.args.arena.now c.face.new.arena c.args.lists.now c.args.falsified c.args.walk.now.kept c.args.walk.now.next c.requires.walked c.requires.there c.args.head c.requires.head c.face.ensures.heads c.face.ensures.faced c.args.assigned.now.trail n lasting
 
 pub find-requires : goal.find-requires
 find-requires c =
@@ -118,12 +118,12 @@ returns-in-Some-clause-found c =
       same = c.in_ok-rewatch-in-Some.ensures.length;
     }
 
-pub returns-in-Some-clause-sure : goal.returns-in-Some-clause-sure
-returns-in-Some-clause-sure c =
+pub returns-in-Some-clause-lasting : goal.returns-in-Some-clause-lasting
+returns-in-Some-clause-lasting c =
     let at = walk_at c.args.arena.now c.face.new.arena c.args.lists.now c.args.falsified c.args.walk.now.kept c.args.walk.now.next c.requires.walked c.requires.there c.args.head c.requires.head c.face.ensures.heads c.face.ensures.faced c.args.log.now.inputs c.args.log.now.lines c.args.place c.args.assigned.now c.requires.falsified c.requires.visiting in
     let found : IsReplacement c.args.assigned.now.trail (clause_of c.face.new.arena.clauses (number_of c.face.new.arena.heads c.args.head)) c.in-Some.j = subst (λ r. IsReplacement c.args.assigned.now.trail r c.in-Some.j) c.clause-2.ensures c.in-Some.ensures in
-    λ n low sure. subst (λ cs. IsSure cs c.args.assigned.now.trail n) (sym c.in_ok-rewatch-in-Some.ensures.clauses)
-    (sure_moved c.face.new.arena.clauses c.args.assigned.now.trail n (number_of c.face.new.arena.heads c.args.head) at.known (faced_sure c.args.arena.now c.face.new.arena c.args.lists.now c.args.falsified c.args.walk.now.kept c.args.walk.now.next c.requires.walked c.requires.there c.args.head c.requires.head c.face.ensures.heads c.face.ensures.faced c.args.assigned.now.trail n sure) c.in-Some.j (false_at c.args.assigned.now.trail c.args.place)
+    λ n low lasting. subst (λ cs. IsLasting cs c.args.assigned.now.trail n) (sym c.in_ok-rewatch-in-Some.ensures.clauses)
+    (lasting_moved c.face.new.arena.clauses c.args.assigned.now.trail n (number_of c.face.new.arena.heads c.args.head) at.known (faced_lasting c.args.arena.now c.face.new.arena c.args.lists.now c.args.falsified c.args.walk.now.kept c.args.walk.now.next c.requires.walked c.requires.there c.args.head c.requires.head c.face.ensures.heads c.face.ensures.faced c.args.assigned.now.trail n lasting) c.in-Some.j (false_at c.args.assigned.now.trail c.args.place)
     (get_or (clause_of c.face.new.arena.clauses (number_of c.face.new.arena.heads c.args.head)) c.in-Some.j blank) found.behind found.within at.second refl found.not_false (omega (arith, low, c.requires.visiting.within)))
 
 pub returns-in_err-rewatch-in-Some-clause-kept : goal.returns-in_err-rewatch-in-Some-clause-kept
@@ -132,9 +132,9 @@ returns-in_err-rewatch-in-Some-clause-kept c =
     let same : (walked c.rewatch.new.arena c.rewatch.new.lists (code c.args.falsified) c.rewatch.new.walk.kept c.rewatch.new.walk.next) ≡ (walked c.face.new.arena c.args.lists.now (code c.args.falsified) c.args.walk.now.kept c.args.walk.now.next) = same_watch (walked c.rewatch.new.arena c.rewatch.new.lists (code c.args.falsified) c.rewatch.new.walk.kept c.rewatch.new.walk.next) (walked c.face.new.arena c.args.lists.now (code c.args.falsified) c.args.walk.now.kept c.args.walk.now.next) c.in_err-rewatch-in-Some.ensures.clauses c.in_err-rewatch-in-Some.ensures.lists c.in_err-rewatch-in-Some.ensures.names in
     subst (IsVisiting c.args.log.now.inputs c.args.log.now.lines c.args.place 0 c.args.assigned.now) (sym same) (visit_all c.args.log.now.inputs c.args.log.now.lines c.args.place c.args.walk.now.kept c.args.assigned.now (walked c.face.new.arena c.args.lists.now (code c.args.falsified) c.args.walk.now.kept c.args.walk.now.next) at.visiting)
 
-pub returns-in_err-rewatch-in-Some-clause-sure : goal.returns-in_err-rewatch-in-Some-clause-sure
-returns-in_err-rewatch-in-Some-clause-sure c =
-    λ n low sure. subst (λ cs. IsSure cs c.args.assigned.now.trail n) (sym c.in_err-rewatch-in-Some.ensures.clauses) (faced_sure c.args.arena.now c.face.new.arena c.args.lists.now c.args.falsified c.args.walk.now.kept c.args.walk.now.next c.requires.walked c.requires.there c.args.head c.requires.head c.face.ensures.heads c.face.ensures.faced c.args.assigned.now.trail n sure)
+pub returns-in_err-rewatch-in-Some-clause-lasting : goal.returns-in_err-rewatch-in-Some-clause-lasting
+returns-in_err-rewatch-in-Some-clause-lasting c =
+    λ n low lasting. subst (λ cs. IsLasting cs c.args.assigned.now.trail n) (sym c.in_err-rewatch-in-Some.ensures.clauses) (faced_lasting c.args.arena.now c.face.new.arena c.args.lists.now c.args.falsified c.args.walk.now.kept c.args.walk.now.next c.requires.walked c.requires.there c.args.head c.requires.head c.face.ensures.heads c.face.ensures.faced c.args.assigned.now.trail n lasting)
 
 pub keep-requires-2-clause-walked : goal.keep-requires-2-clause-walked
 keep-requires-2-clause-walked c =
@@ -150,13 +150,13 @@ returns-then-holds-2-clause-found c =
     let at = walk_at c.args.arena.now c.face.new.arena c.args.lists.now c.args.falsified c.args.walk.now.kept c.args.walk.now.next c.requires.walked c.requires.there c.args.head c.requires.head c.face.ensures.heads c.face.ensures.faced c.args.log.now.inputs c.args.log.now.lines c.args.place c.args.assigned.now c.requires.falsified c.requires.visiting in
     let first : c.get-other.result ≡ get_or (clause_of c.face.new.arena.clauses (number_of c.face.new.arena.heads c.args.head)) 0 blank = c.get-other.ensures ∙ ap (λ r. get_or r 0 blank) c.clause.ensures in
     let rest : AreFalseFrom c.args.assigned.now.trail (clause_of c.face.new.arena.clauses (number_of c.face.new.arena.heads c.args.head)) 2 (length (clause_of c.face.new.arena.clauses (number_of c.face.new.arena.heads c.args.head))) = subst (λ r. AreFalseFrom c.args.assigned.now.trail r 2 (length r)) c.clause-2.ensures c.in-None.ensures in
-    let named : c.lengthen-hint.result ≡ get_or (map hint_of c.face.new.arena.names) (number_of c.face.new.arena.heads c.args.head) blank_hint = named_at c.face.new.arena.names c.face.new.arena.clauses (number_of c.face.new.arena.heads c.args.head) c.name.result c.lengthen-hint.result at.visiting.stored.paired at.known c.lengthen-hint.ensures c.name.ensures in
+    let named : c.decode_hint-hint.result ≡ get_or (map hint_of c.face.new.arena.names) (number_of c.face.new.arena.heads c.args.head) blank_hint = named_at c.face.new.arena.names c.face.new.arena.clauses (number_of c.face.new.arena.heads c.args.head) c.name.result c.decode_hint-hint.result at.visiting.stored.paired at.known c.decode_hint-hint.ensures c.name.ensures in
     subst (IsConflict c.args.log.now.inputs c.args.log.now.lines (literals_of c.args.assigned.now.trail)) (sym named)
     (at_conflict c.args.log.now.inputs c.args.log.now.lines c.args.place c.args.walk.now.kept c.args.assigned.now (walked c.face.new.arena c.args.lists.now (code c.args.falsified) c.args.walk.now.kept c.args.walk.now.next) (number_of c.face.new.arena.heads c.args.head) at rest (subst (λ l. Contains (literals_of c.args.assigned.now.trail) (opposite l)) first (subst (Contains (literals_of c.args.assigned.now.trail)) c.opposite.ensures (c.holds-2.ensures.0 c.if-holds-2.true))))
 
-pub returns-then-holds-2-clause-sure : goal.returns-then-holds-2-clause-sure
-returns-then-holds-2-clause-sure c =
-    λ n low sure. faced_sure c.args.arena.now c.face.new.arena c.args.lists.now c.args.falsified c.args.walk.now.kept c.args.walk.now.next c.requires.walked c.requires.there c.args.head c.requires.head c.face.ensures.heads c.face.ensures.faced c.args.assigned.now.trail n sure
+pub returns-then-holds-2-clause-lasting : goal.returns-then-holds-2-clause-lasting
+returns-then-holds-2-clause-lasting c =
+    λ n low lasting. faced_lasting c.args.arena.now c.face.new.arena c.args.lists.now c.args.falsified c.args.walk.now.kept c.args.walk.now.next c.requires.walked c.requires.there c.args.head c.requires.head c.face.ensures.heads c.face.ensures.faced c.args.assigned.now.trail n lasting
 
 pub returns-in_err-assign-clause-kept : goal.returns-in_err-assign-clause-kept
 returns-in_err-assign-clause-kept c =
@@ -164,17 +164,17 @@ returns-in_err-assign-clause-kept c =
     visit_same c.args.log.now.inputs c.args.log.now.lines c.args.place 0 c.args.assigned.now c.assign.new.self (walked c.face.new.arena c.keep-2.new.lists (code c.args.falsified) c.keep-2.new.walk.kept c.keep-2.new.walk.next) c.in_err-assign.ensures.trail c.in_err-assign.ensures.letters
     (subst (IsVisiting c.args.log.now.inputs c.args.log.now.lines c.args.place 0 c.args.assigned.now) (sym c.keep-2.ensures.same) (visit_all c.args.log.now.inputs c.args.log.now.lines c.args.place c.args.walk.now.kept c.args.assigned.now (walked c.face.new.arena c.args.lists.now (code c.args.falsified) c.args.walk.now.kept c.args.walk.now.next) at.visiting))
 
-pub returns-in_err-assign-clause-sure : goal.returns-in_err-assign-clause-sure
-returns-in_err-assign-clause-sure c =
-    λ n low sure. subst (λ t. IsSure c.face.new.arena.clauses t n) (sym c.in_err-assign.ensures.trail) (faced_sure c.args.arena.now c.face.new.arena c.args.lists.now c.args.falsified c.args.walk.now.kept c.args.walk.now.next c.requires.walked c.requires.there c.args.head c.requires.head c.face.ensures.heads c.face.ensures.faced c.args.assigned.now.trail n sure)
+pub returns-in_err-assign-clause-lasting : goal.returns-in_err-assign-clause-lasting
+returns-in_err-assign-clause-lasting c =
+    λ n low lasting. subst (λ t. IsLasting c.face.new.arena.clauses t n) (sym c.in_err-assign.ensures.trail) (faced_lasting c.args.arena.now c.face.new.arena c.args.lists.now c.args.falsified c.args.walk.now.kept c.args.walk.now.next c.requires.walked c.requires.there c.args.head c.requires.head c.face.ensures.heads c.face.ensures.faced c.args.assigned.now.trail n lasting)
 
 pub returns-clause-kept : goal.returns-clause-kept
 returns-clause-kept c =
     let at = walk_at c.args.arena.now c.face.new.arena c.args.lists.now c.args.falsified c.args.walk.now.kept c.args.walk.now.next c.requires.walked c.requires.there c.args.head c.requires.head c.face.ensures.heads c.face.ensures.faced c.args.log.now.inputs c.args.log.now.lines c.args.place c.args.assigned.now c.requires.falsified c.requires.visiting in
     let first : c.get-other.result ≡ get_or (clause_of c.face.new.arena.clauses (number_of c.face.new.arena.heads c.args.head)) 0 blank = c.get-other.ensures ∙ ap (λ r. get_or r 0 blank) c.clause.ensures in
     let rest : AreFalseFrom c.args.assigned.now.trail (clause_of c.face.new.arena.clauses (number_of c.face.new.arena.heads c.args.head)) 2 (length (clause_of c.face.new.arena.clauses (number_of c.face.new.arena.heads c.args.head))) = subst (λ r. AreFalseFrom c.args.assigned.now.trail r 2 (length r)) c.clause-2.ensures c.in-None.ensures in
-    let named : c.lengthen-hint.result ≡ get_or (map hint_of c.face.new.arena.names) (number_of c.face.new.arena.heads c.args.head) blank_hint = named_at c.face.new.arena.names c.face.new.arena.clauses (number_of c.face.new.arena.heads c.args.head) c.name.result c.lengthen-hint.result at.visiting.stored.paired at.known c.lengthen-hint.ensures c.name.ensures in
-    let e : Entry = record { literal = c.get-other.result; level = c.level-level.result; reason = Some c.lengthen-hint.result } in
+    let named : c.decode_hint-hint.result ≡ get_or (map hint_of c.face.new.arena.names) (number_of c.face.new.arena.heads c.args.head) blank_hint = named_at c.face.new.arena.names c.face.new.arena.clauses (number_of c.face.new.arena.heads c.args.head) c.name.result c.decode_hint-hint.result at.visiting.stored.paired at.known c.decode_hint-hint.ensures c.name.ensures in
+    let e : Entry = record { literal = c.get-other.result; level = c.level-level.result; reason = Some c.decode_hint-hint.result } in
     let reason = at_reason c.args.log.now.inputs c.args.log.now.lines c.args.place c.args.walk.now.kept c.args.assigned.now (walked c.face.new.arena c.args.lists.now (code c.args.falsified) c.args.walk.now.kept c.args.walk.now.next) (number_of c.face.new.arena.heads c.args.head) at rest in
     let stands_first = last_level c.args.log.now.inputs c.args.log.now.lines c.args.assigned.now.trail at.visiting.is_trail (omega (arith, at.visiting.within)) (get_or (clause_of c.face.new.arena.clauses (number_of c.face.new.arena.heads c.args.head)) 0 blank) (get_or (map hint_of c.face.new.arena.names) (number_of c.face.new.arena.heads c.args.head) blank_hint) reason in
     let make : Literal → ℕ → Hint → Entry = λ u n h. record { literal = u; level = n; reason = Some h } in
@@ -191,8 +191,8 @@ returns-clause-found c =
     let at = walk_at c.args.arena.now c.face.new.arena c.args.lists.now c.args.falsified c.args.walk.now.kept c.args.walk.now.next c.requires.walked c.requires.there c.args.head c.requires.head c.face.ensures.heads c.face.ensures.faced c.args.log.now.inputs c.args.log.now.lines c.args.place c.args.assigned.now c.requires.falsified c.requires.visiting in
     let first : c.get-other.result ≡ get_or (clause_of c.face.new.arena.clauses (number_of c.face.new.arena.heads c.args.head)) 0 blank = c.get-other.ensures ∙ ap (λ r. get_or r 0 blank) c.clause.ensures in
     let rest : AreFalseFrom c.args.assigned.now.trail (clause_of c.face.new.arena.clauses (number_of c.face.new.arena.heads c.args.head)) 2 (length (clause_of c.face.new.arena.clauses (number_of c.face.new.arena.heads c.args.head))) = subst (λ r. AreFalseFrom c.args.assigned.now.trail r 2 (length r)) c.clause-2.ensures c.in-None.ensures in
-    let named : c.lengthen-hint.result ≡ get_or (map hint_of c.face.new.arena.names) (number_of c.face.new.arena.heads c.args.head) blank_hint = named_at c.face.new.arena.names c.face.new.arena.clauses (number_of c.face.new.arena.heads c.args.head) c.name.result c.lengthen-hint.result at.visiting.stored.paired at.known c.lengthen-hint.ensures c.name.ensures in
-    let e : Entry = record { literal = c.get-other.result; level = c.level-level.result; reason = Some c.lengthen-hint.result } in
+    let named : c.decode_hint-hint.result ≡ get_or (map hint_of c.face.new.arena.names) (number_of c.face.new.arena.heads c.args.head) blank_hint = named_at c.face.new.arena.names c.face.new.arena.clauses (number_of c.face.new.arena.heads c.args.head) c.name.result c.decode_hint-hint.result at.visiting.stored.paired at.known c.decode_hint-hint.ensures c.name.ensures in
+    let e : Entry = record { literal = c.get-other.result; level = c.level-level.result; reason = Some c.decode_hint-hint.result } in
     let reason = at_reason c.args.log.now.inputs c.args.log.now.lines c.args.place c.args.walk.now.kept c.args.assigned.now (walked c.face.new.arena c.args.lists.now (code c.args.falsified) c.args.walk.now.kept c.args.walk.now.next) (number_of c.face.new.arena.heads c.args.head) at rest in
     let stands_first = last_level c.args.log.now.inputs c.args.log.now.lines c.args.assigned.now.trail at.visiting.is_trail (omega (arith, at.visiting.within)) (get_or (clause_of c.face.new.arena.clauses (number_of c.face.new.arena.heads c.args.head)) 0 blank) (get_or (map hint_of c.face.new.arena.names) (number_of c.face.new.arena.heads c.args.head) blank_hint) reason in
     let make : Literal → ℕ → Hint → Entry = λ u n h. record { literal = u; level = n; reason = Some h } in
@@ -209,10 +209,10 @@ returns-clause-found c =
       same = c.keep-2.ensures.length;
     })
 
-pub returns-clause-sure : goal.returns-clause-sure
-returns-clause-sure c =
-    λ n low sure. subst (λ (a : ArenaValue). IsSure a.clauses c.assign.new.self.trail n) (sym c.note.ensures) (subst (λ t. IsSure c.face.new.arena.clauses t n) (sym c.in_ok-assign.ensures.trail)
-    (sure_grown c.face.new.arena.clauses c.args.assigned.now.trail n (record { literal = c.get-other.result; level = c.level-level.result; reason = Some c.lengthen-hint.result }) (omega (arith, low, c.requires.visiting.within)) (faced_sure c.args.arena.now c.face.new.arena c.args.lists.now c.args.falsified c.args.walk.now.kept c.args.walk.now.next c.requires.walked c.requires.there c.args.head c.requires.head c.face.ensures.heads c.face.ensures.faced c.args.assigned.now.trail n sure)))
+pub returns-clause-lasting : goal.returns-clause-lasting
+returns-clause-lasting c =
+    λ n low lasting. subst (λ (a : ArenaValue). IsLasting a.clauses c.assign.new.self.trail n) (sym c.note.ensures) (subst (λ t. IsLasting c.face.new.arena.clauses t n) (sym c.in_ok-assign.ensures.trail)
+    (lasting_grown c.face.new.arena.clauses c.args.assigned.now.trail n (record { literal = c.get-other.result; level = c.level-level.result; reason = Some c.decode_hint-hint.result }) (omega (arith, low, c.requires.visiting.within)) (faced_lasting c.args.arena.now c.face.new.arena c.args.lists.now c.args.falsified c.args.walk.now.kept c.args.walk.now.next c.requires.walked c.requires.there c.args.head c.requires.head c.face.ensures.heads c.face.ensures.faced c.args.assigned.now.trail n lasting)))
 
 pub note-requires : goal.note-requires
 note-requires c =

@@ -8,7 +8,7 @@ use Rattle.cdcl_state.proofs.copy.copy.Goals as goal
 pub heads-init : goal.heads-init
 heads-init c =
     let old = c.args.old.now in
-    let at = count_head old.heads 0 c.first-next.result c.told.ensures.apart (first_head old.heads c.first-next.result c.first-next.ensures) in
+    let at = count_head old.heads 0 c.first-next.result c.invariant.ensures.apart (first_head old.heads c.first-next.result c.first-next.ensures) in
     record {
       head = at.0;
       lists = refl;
@@ -19,7 +19,7 @@ pub heads-preserved : goal.heads-preserved
 heads-preserved c =
     let old = c.args.old.now in
     let head = c.in-Some.head in
-    let at = count_head old.heads (suc (number_of old.heads head)) c.after-next.result c.told.ensures.apart c.after-next.ensures in
+    let at = count_head old.heads (suc (number_of old.heads head)) c.after-next.result c.invariant.ensures.apart c.after-next.ensures in
     record {
       head = at.0;
       lists = c.in_ok-copy_clause.ensures.lists ∙ c.heads.invariant.lists;
@@ -30,6 +30,6 @@ pub heads-smaller : goal.heads-smaller
 heads-smaller c =
     let old = c.args.old.now in
     let head = c.in-Some.head in
-    let at = count_head old.heads (suc (number_of old.heads head)) c.after-next.result c.told.ensures.apart c.after-next.ensures in
+    let at = count_head old.heads (suc (number_of old.heads head)) c.after-next.result c.invariant.ensures.apart c.after-next.ensures in
     let low = number_low old.heads head (subst (λ o. IfSome o (Contains old.heads)) c.in-Some.is c.heads.invariant.head) in
     omega (arith, at.1, low.0, ap (count_at old.heads) c.in-Some.is)

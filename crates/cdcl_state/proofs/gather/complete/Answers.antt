@@ -18,8 +18,8 @@ returns-clause-kept c =
     let are = subst (λ (w : WatchValue). AreThere (names_of w) there) c.watches.view_is c.mark_watched.ensures in
     gathered_inputs (names_of old) there log c.put_missing.new.watches (c.put_missing.ensures.kept (names_of old) (gathered_there log old there c.requires.stored c.requires.long are))
 
-pub returns-clause-whole : goal.returns-clause-whole
-returns-clause-whole c =
+pub returns-clause-all_lines : goal.returns-clause-all_lines
+returns-clause-all_lines c =
     let log = c.args.log.now in
     let old = c.args.watches.now in
     let new = c.put_missing.new.watches in

@@ -8,7 +8,7 @@ pub copy-requires-clause-come : goal.copy-requires-clause-come
 copy-requires-clause-come c =
     let lists = length c.in_ok-watches.watches.lists in
     subst (λ (w : WatchValue). All (MayCome lists) w.clauses) (sym c.old.view_is)
-    (may_come lists c.args.old.now c.watching.ensures.watched (sym (emptied_lists c.args.old.now c.in_ok-watches.watches c.in_ok-watches.ensures)) c.requires)
+    (may_come lists c.args.old.now c.invariant.ensures.watched (sym (emptied_lists c.args.old.now c.in_ok-watches.watches c.in_ok-watches.ensures)) c.requires)
 
 pub copy-requires-clause-clauses : goal.copy-requires-clause-clauses
 copy-requires-clause-clauses c = ap (λ (w : WatchValue). w.clauses) c.in_ok-watches.ensures

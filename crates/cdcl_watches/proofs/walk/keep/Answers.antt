@@ -25,4 +25,4 @@ pub watch-requires : goal.watch-requires
 watch-requires c =
     let lists = c.args.lists.now in
     let fits = first_fits c.args.arena.now lists c.args.literal c.args.walk.now.kept c.args.walk.now.next c.requires.walked c.requires.there c.args.head c.requires.head c.args.first c.requires.first in
-    omega (arith, fits, c.few.ensures, length-set lists (code c.args.literal) (remove_range (get_or lists (code c.args.literal) []) c.args.walk.now.kept c.args.walk.now.next))
+    omega (arith, fits, c.invariant-2.ensures, length-set lists (code c.args.literal) (remove_range (get_or lists (code c.args.literal) []) c.args.walk.now.kept c.args.walk.now.next))

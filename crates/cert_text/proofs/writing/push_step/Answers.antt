@@ -12,7 +12,7 @@ returns c =
     let back : k + 1 - 1 ≡ k = omega arith in
     let same_hs = c.hints-hints.ensures ∙ ap (λ i. get_or log.hints i []) back in
     let same_ls = c.literals.ensures ∙ ap (λ i. get_or log.lines i []) back in
-    let (list, are) = c.is_derivation.ensures in
+    let (list, are) = c.invariant.ensures in
     let paired = are.paired in
     let same_ns = c.in_ok-ended.ensures log.hints k c.requires.last (omega (arith, c.requires.low, paired)) refl same_hs
     (λ m there. (hint_earlier list log are k m c.requires.low (subst (λ x. Contains x (hints.Line m)) same_hs there)).1) in

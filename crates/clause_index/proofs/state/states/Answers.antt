@@ -1,7 +1,7 @@
 use Rattle.std.proofs.Common.{◌≡◌, ◌+◌, ◌-◌, ◌<◌, ◌∙◌, arith, ap, length}
-use Rattle.enc_layout.specs.Clauses.{part_b}
+use Rattle.enc_layout.specs.Clauses.{gates_part}
 use Rattle.clause_index.specs.Counts.{chain_size}
-use Rattle.clause_index.proofs.Sizing.{length-b, length-c, length-states}
+use Rattle.clause_index.proofs.Sizing.{length-gates_part, length-links_part, length-states}
 use Rattle.clause_index.proofs.States.{chain_first, gates_middle, links_last}
 use Rattle.clause_index.proofs.state.states.Goals as goal
 
@@ -10,12 +10,12 @@ returns-then-index-first c =
     c.chain.ensures ∙ chain_first c.args.layout.now c.args.closure.now.formula c.args.step c.args.index (omega (arith, c.if-index-first.true, c.chain-first.ensures))
 
 pub gates-requires-clause-within : goal.gates-requires-clause-within
-gates-requires-clause-within c = omega (arith, c.if-behind-sizes.true, ap (λ s. s.gates) c.requires.sizes, length-b c.args.closure.now.formula c.args.step)
+gates-requires-clause-within c = omega (arith, c.if-behind-sizes.true, ap (λ s. s.gates) c.requires.sizes, length-gates_part c.args.closure.now.formula c.args.step)
 
 pub returns-then-behind-sizes : goal.returns-then-behind-sizes
 returns-then-behind-sizes c =
     let f = c.args.closure.now.formula in
-    let within : c.args.index - c.chain-first.result < length (part_b f c.args.step) = omega (arith, c.if-behind-sizes.true, ap (λ s. s.gates) c.requires.sizes, length-b f c.args.step) in
+    let within : c.args.index - c.chain-first.result < length (gates_part f c.args.step) = omega (arith, c.if-behind-sizes.true, ap (λ s. s.gates) c.requires.sizes, length-gates_part f c.args.step) in
     let at : chain_size c.args.step + (c.args.index - c.chain-first.result) ≡ c.args.index = omega (arith, c.if-index-first.false, c.chain-first.ensures) in
     c.gates.ensures ∙ gates_middle c.args.layout.now f c.args.step (c.args.index - c.chain-first.result) c.args.index within at
 
@@ -23,7 +23,7 @@ pub links-requires-clause-within : goal.links-requires-clause-within
 links-requires-clause-within c =
     let f = c.args.closure.now.formula in
     let kind = c.args.closure.now.kind in
-    omega (arith, c.requires.within, c.if-index-first.false, c.if-behind-sizes.false, c.chain-first.ensures, ap (λ s. s.gates) c.requires.sizes, length-c f kind c.args.step, length-states f kind c.args.step)
+    omega (arith, c.requires.within, c.if-index-first.false, c.if-behind-sizes.false, c.chain-first.ensures, ap (λ s. s.gates) c.requires.sizes, length-links_part f kind c.args.step, length-states f kind c.args.step)
 
 pub returns : goal.returns
 returns c =

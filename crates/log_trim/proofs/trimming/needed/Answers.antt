@@ -14,7 +14,7 @@ mark_hints-requires c = record {
   from_one = c.lines-test.true;
   in_list = c.lines.invariant.left;
   lines = λ m h.
-      let w = hints_within c.args.log.now c.lines.left m (hints_at c.args.log.now.hints c.lines.left) c.is_derivation.ensures c.lines-test.true c.lines.invariant.left refl h in
+      let w = hints_within c.args.log.now c.lines.left m (hints_at c.args.log.now.hints c.lines.left) c.invariant.ensures c.lines-test.true c.lines.invariant.left refl h in
       (w.0, omega (arith, w.1, c.lines.invariant.long));
 }
 
@@ -22,11 +22,11 @@ pub lines-preserved-then-index : goal.lines-preserved-then-index
 lines-preserved-then-index c =
     let lt : c.lines.left - 1 < length c.lines.flags.items = omega (arith, c.lines-test.true, c.lines.invariant.left, c.lines.invariant.long) in
     record {
-      marked = line_on c.args.log.now c.args.targets.now c.lines.left c.lines.flags.items c.mark_hints.new.flags.items (hints_at c.args.log.now.hints c.lines.left) c.is_derivation.ensures c.lines-test.true c.lines.invariant.left
+      marked = line_on c.args.log.now c.args.targets.now c.lines.left c.lines.flags.items c.mark_hints.new.flags.items (hints_at c.args.log.now.hints c.lines.left) c.invariant.ensures c.lines-test.true c.lines.invariant.left
           (read_at c.lines.flags.items (c.lines.left - 1) c.index.result.now false lt c.index.ensures ∙ c.if-index.true) refl c.mark_hints.ensures.adds c.lines.invariant.marked;
       long = c.mark_hints.ensures.long ∙ c.lines.invariant.long;
       left = omega (arith, c.lines.invariant.left);
     }
 
 pub returns-clause-needed : goal.returns-clause-needed
-returns-clause-needed c = all_needed c.args.log.now c.args.targets.now c.lines.left (marked c.lines.flags.items) c.is_derivation.ensures c.lines-test.false c.lines.invariant.marked
+returns-clause-needed c = all_needed c.args.log.now c.args.targets.now c.lines.left (marked c.lines.flags.items) c.invariant.ensures c.lines-test.false c.lines.invariant.marked

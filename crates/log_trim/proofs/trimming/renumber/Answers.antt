@@ -15,7 +15,7 @@ overflow_sub-place c =
     let hints = hints_at log.hints (c.args.index + 1) in
     let lt : c.hints.place < length hints = omega (arith, c.hints-test.true, c.hints-place-end.ensures) in
     let at = told_at hints c.hints.place c.hint.result (Line c.in-Line.earlier) (Clause 0) c.hint.ensures c.in-Line.is in
-    omega (arith, (hint_at log c.args.index hints c.hints.place (Clause 0) c.in-Line.earlier c.is_derivation.ensures c.requires.line refl lt at).0)
+    omega (arith, (hint_at log c.args.index hints c.hints.place (Clause 0) c.in-Line.earlier c.invariant.ensures c.requires.line refl lt at).0)
 
 pub index-requires : goal.index-requires
 index-requires c =
@@ -23,7 +23,7 @@ index-requires c =
     let hints = hints_at log.hints (c.args.index + 1) in
     let lt : c.hints.place < length hints = omega (arith, c.hints-test.true, c.hints-place-end.ensures) in
     let at = told_at hints c.hints.place c.hint.result (Line c.in-Line.earlier) (Clause 0) c.hint.ensures c.in-Line.is in
-    let w = hint_at log c.args.index hints c.hints.place (Clause 0) c.in-Line.earlier c.is_derivation.ensures c.requires.line refl lt at in
+    let w = hint_at log c.args.index hints c.hints.place (Clause 0) c.in-Line.earlier c.invariant.ensures c.requires.line refl lt at in
     omega (arith, w.0, w.1, c.requires.table.count)
 
 pub hints-preserved : goal.hints-preserved
@@ -41,7 +41,7 @@ hints-preserved c =
       | in-Line+in_ok-push-in-Line w ↦
           let line = w.in-Line.earlier in
           let at = told_at hints i c.hint.result (Line line) (Clause 0) c.hint.ensures w.in-Line.is in
-          let b = hint_at log c.args.index hints i (Clause 0) line c.is_derivation.ensures c.requires.line refl lt at in
+          let b = hint_at log c.args.index hints i (Clause 0) line c.invariant.ensures c.requires.line refl lt at in
           map_on (renumbered M log.lines) hints i (Clause 0) (Line line) (Line w.index.result.now) c.hints.new.items c.match-hint.new.items lt at
           (ap Line (table_read M log.lines c.args.index line w.index.result.now c.args.table.now.items b.0 b.1 c.requires.table w.index.ensures)) c.hints.invariant
           (ap (λ (v : Vec Hint Global). v.items) w.new-is ∙ w.in_ok-push-in-Line.ensures.items)

@@ -23,7 +23,7 @@ of-requires c =
     let log = c.args.log in
     let M = marked c.in_ok-flags.flags.items in
     let k = c.in_ok-kept.kept in
-    let (list, are) = c.is_derivation.ensures in
+    let (list, are) = c.invariant.ensures in
     subst IsDerivation (sym (c.in_ok-kept.ensures.lines_are ∙ ends log M are.paired)) (list, trimmed_steps log M list are c.in_ok-flags.ensures.closed)
 
 pub returns : goal.returns
@@ -32,7 +32,7 @@ returns c =
     let targets = c.args.targets.now in
     let M = marked c.in_ok-flags.flags.items in
     let k = c.in_ok-kept.kept in
-    let (list, are) = c.is_derivation.ensures in (
+    let (list, are) = c.invariant.ensures in (
       M,
       record {
         marks = c.in_ok-flags.ensures.needed;

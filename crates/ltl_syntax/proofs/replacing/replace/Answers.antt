@@ -4,18 +4,18 @@ use Rattle.ltl_syntax.proofs.Cutting.{order_within, order_apart, replaced_tree}
 use Rattle.ltl_syntax.proofs.replacing.replace.Goals as goal
 
 pub cut-requires-clause-within : goal.cut-requires-clause-within
-cut-requires-clause-within c = order_within c.args.table.now c.args.root c.in_ok-order.order.items c.in_ok-nodes.nodes.items c.is_table.ensures c.requires.root c.in_ok-order.ensures c.in_ok-nodes.ensures
+cut-requires-clause-within c = order_within c.args.table.now c.args.root c.in_ok-order.order.items c.in_ok-nodes.nodes.items c.invariant.ensures c.requires.root c.in_ok-order.ensures c.in_ok-nodes.ensures
 
 pub cut-requires-clause-distinct : goal.cut-requires-clause-distinct
-cut-requires-clause-distinct c = order_apart c.args.table.now c.args.root c.in_ok-order.order.items c.is_table.ensures c.requires.root c.in_ok-order.ensures
+cut-requires-clause-distinct c = order_apart c.args.table.now c.args.root c.in_ok-order.order.items c.invariant.ensures c.requires.root c.in_ok-order.ensures
 
 pub cut-requires-clause-few : goal.cut-requires-clause-few
 cut-requires-clause-few c =
     let e = ap length c.in_ok-order.ensures in
-    let few = order_few c.args.table.now c.is_table.ensures c.args.root c.requires.root in
-    let all = c.is_table.ensures.few in omega arith
+    let few = order_few c.args.table.now c.invariant.ensures c.args.root c.requires.root in
+    let all = c.invariant.ensures.few in omega arith
 
 pub returns-clause-tree : goal.returns-clause-tree
 returns-clause-tree c =
-    replaced_tree c.args.table.now c.in_ok-copy.copy c.args.root c.in_ok-order.order.items c.args.places.now c.in_ok-marks.marks.items c.in_ok-nodes.nodes.items c.cut.new.nodes.items c.is_table.ensures c.in_ok-copy.ensures.table
+    replaced_tree c.args.table.now c.in_ok-copy.copy c.args.root c.in_ok-order.order.items c.args.places.now c.in_ok-marks.marks.items c.in_ok-nodes.nodes.items c.cut.new.nodes.items c.invariant.ensures c.in_ok-copy.ensures.table
     c.requires.root c.in_ok-order.ensures c.in_ok-nodes.ensures c.in_ok-marks.ensures.marked c.cut.ensures c.in_ok-copy.ensures.nodes c.in_ok-copy.ensures.names c.requires.apart

@@ -8,7 +8,7 @@ use Rattle.cdcl_state.proofs.state.State.decide.Goals as goal
 
 pub overflow_add-level : goal.overflow_add-level
 overflow_add-level c =
-    let bounded = trail_bounded c.self.inside.assigned.values c.self.inside.assigned.trail c.told.ensures in
+    let bounded = trail_bounded c.self.inside.assigned.values c.self.inside.assigned.trail c.invariant.ensures in
     omega (arith, bounded, c.self.invariant.few, c.len-level.ensures)
 
 pub invariant_of-self : goal.invariant_of-self
@@ -18,6 +18,6 @@ invariant_of-self c =
     let level = c.len-level.result + 1 in
     let e : Entry = record { literal = c.args.literal; level = level; reason = None } in
     let known : IsKnown c.self.inside.letters c.args.literal = subst (λ (s : StateValue). IsKnown s.letters c.args.literal) (sym c.self.view_is) c.requires.known in
-    state_assigned c.self.inside.letters a c.assign.new.self c.self.inside.watches c.self.inside.units.items log c.self.inside.head c.self.inside.sure c.self.inside.done c.self.inside.firm (length c.self.inside.marks.stamps) c.self.inside.whole e
+    state_assigned c.self.inside.letters a c.assign.new.self c.self.inside.watches c.self.inside.units.items log c.self.inside.propagated c.self.inside.lasting c.self.inside.units_done c.self.inside.units_trail (length c.self.inside.marks.stamps) c.self.inside.all_lines e
     c.self.invariant c.assign.ensures.letters (decision_stands log.inputs log.lines a.trail c.args.literal level c.self.invariant.ready.is_trail (ap (λ n. n + 1) c.len-level.ensures)) (λ _. known)
     (is_ok c.assign.result) c.assign.ensures.trail

@@ -18,7 +18,7 @@ force-requires-clause-stands c =
     let old = c.args.self.now in
     let learnt = c.args.learnt.now in
     let values = c.self.inside.assigned.values in
-    let told : AreValues values old.trail = subst (λ (s : StateValue). AreValues values s.trail) c.self.view_is c.told.ensures in
+    let told : AreValues values old.trail = subst (λ (s : StateValue). AreValues values s.trail) c.self.view_is c.invariant.ensures in
     let is_trail = subst (λ (s : StateValue). IsTrail s.log.inputs s.log.lines s.trail) c.self.view_is c.self.invariant.ready.is_trail in
     let mid_is : c.derive_short.new.self ≡ lined old learnt = c.in_ok-line.ensures.added.0 ∙ ap₂ (λ x y. with_log old (with_line old.log x y)) c.deref.ensures.value c.deref-2.ensures.value in
     (short_stands values old c.derive_short.new.self c.backjump.new.self c.in_ok-line.line learnt c.index.result.now told is_trail c.requires.learnt c.requires.asserting c.requires.short mid_is c.in_ok-line.ensures.added.1 c.backjump.ensures c.index.ensures).0
@@ -28,7 +28,7 @@ returns-clause-turned c =
     let old = c.args.self.now in
     let learnt = c.args.learnt.now in
     let values = c.self.inside.assigned.values in
-    let told : AreValues values old.trail = subst (λ (s : StateValue). AreValues values s.trail) c.self.view_is c.told.ensures in
+    let told : AreValues values old.trail = subst (λ (s : StateValue). AreValues values s.trail) c.self.view_is c.invariant.ensures in
     let is_trail = subst (λ (s : StateValue). IsTrail s.log.inputs s.log.lines s.trail) c.self.view_is c.self.invariant.ready.is_trail in
     let mid_is : c.derive_short.new.self ≡ lined old learnt = c.in_ok-line.ensures.added.0 ∙ ap₂ (λ x y. with_log old (with_line old.log x y)) c.deref.ensures.value c.deref-2.ensures.value in
     let stands = short_stands values old c.derive_short.new.self c.backjump.new.self c.in_ok-line.line learnt c.index.result.now told is_trail c.requires.learnt c.requires.asserting c.requires.short mid_is c.in_ok-line.ensures.added.1 c.backjump.ensures c.index.ensures in

@@ -10,6 +10,6 @@ use Rattle.cdcl_watches.specs.Watching.{IsWatch, clause_of}
 abbrev pub IsTrueBy : List Entry → ℕ → List Literal → Type 0
 IsTrueBy trail level clause = (j : ℕ) × (j < length trail) × Contains clause (literal_at trail j) × (place_level trail j ≤ level)
 
--- where a clause watches a literal that is false from a place below `sure` on, it has one that is true on no higher level
-abbrev pub IsSure : List (List Literal) → List Entry → ℕ → Type 0
-IsSure clauses trail sure = (c k : ℕ) (a : Literal) → c < length clauses → IsWatch (clause_of clauses c) a → k < sure → literal_at trail k ≡ opposite a → IsTrueBy trail (place_level trail k) (clause_of clauses c)
+-- where a clause watches a literal that is false from a place below `lasting` on, it has one that is true on no higher level
+abbrev pub IsLasting : List (List Literal) → List Entry → ℕ → Type 0
+IsLasting clauses trail lasting = (c k : ℕ) (a : Literal) → c < length clauses → IsWatch (clause_of clauses c) a → k < lasting → literal_at trail k ≡ opposite a → IsTrueBy trail (place_level trail k) (clause_of clauses c)
