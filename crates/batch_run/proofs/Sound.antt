@@ -30,7 +30,8 @@ plain_names none (Binary op a b) is p has = elim has [
 ]
 
 pub sat_has_trace : NoBrace → ((text : List ℕ) (f : Formula) → ReadsText text f → IsPrintable f) → SatIsSound → SatHasTrace
-sat_has_trace none printable sound kind asked line k (f, read, h) = (f, read, sound f kind h.limit k (plain_names none f (printable line f read.reads)) h.decided)
+sat_has_trace none printable sound kind asked line k (f, read, h) =
+    (f, read, sound f kind h.limit k (plain_names none f (printable line f read.reads)) h.decided)
 
 pub unsat_has_none : UnsatIsSound → UnsatHasNone
 unsat_has_none sound kind asked line k (f, read, h) = (f, read, λ (t, is, of, satisfies). sound f kind h.limit k t h.decided is of satisfies)

@@ -67,7 +67,8 @@ shown (Undecided k) = outcomes.Undecided k
 
 -- the line has a fault, or it has a verdict
 abbrev Comes : Kind → ℕ → List ℕ → Outcome → Type 0
-Comes kind asked line o = ((fault : FormulaFault) × (o ≡ refusal_of fault) × HasFormulaFault line fault) ⊎ ((v : Verdict) × (o ≡ shown v) × IsDecided kind asked line v)
+Comes kind asked line o =
+    ((fault : FormulaFault) × (o ≡ refusal_of fault) × HasFormulaFault line fault) ⊎ ((v : Verdict) × (o ≡ shown v) × IsDecided kind asked line v)
 
 comes : (kind : Kind) (asked : ℕ) (line : List ℕ) (o : Outcome) → IsOutcome kind asked line o → Comes kind asked line o
 comes kind asked line outcomes.Text h = inl (wrong.Long, refl, h)
@@ -84,8 +85,10 @@ one_limit f kind asked d e h k =
     let high = h.greatest e k.below k.fits in
     omega (arith, low, high)
 
-one_verdict_at : (f : Formula) (kind : Kind) (asked : ℕ) → VerdictIsOne → (v w : Verdict) → IsBatchVerdict f kind asked v → IsBatchVerdict f kind asked w → v ≡ w
-one_verdict_at f kind asked one v w h k = one f kind h.limit v w h.decided (subst (λ d. IsVerdict f kind d w) (one_limit f kind asked k.limit h.limit k.limited h.limited) k.decided)
+one_verdict_at : (f : Formula) (kind : Kind) (asked : ℕ) → VerdictIsOne → (v w : Verdict) → IsBatchVerdict f kind asked v
+    → IsBatchVerdict f kind asked w → v ≡ w
+one_verdict_at f kind asked one v w h k =
+    one f kind h.limit v w h.decided (subst (λ d. IsVerdict f kind d w) (one_limit f kind asked k.limit h.limit k.limited h.limited) k.decided)
 
 one_comes : (kind : Kind) (asked : ℕ) (line : List ℕ) → Below → (a b : Outcome) → Comes kind asked line a → Comes kind asked line b → a ≡ b
 one_comes kind asked line laws a b (inl (x, e, h)) (inl (y, e', k)) = e ∙ ap refusal_of (laws.one_fault line x y h k) ∙ sym e'
@@ -100,7 +103,8 @@ one_comes kind asked line laws a b (inr (v, e, d)) (inr (w, e', d')) =
 same_answer : (a b : Answer) → a.line ≡ b.line → a.outcome ≡ b.outcome → a ≡ b
 same_answer a b line outcome = ap₂ (λ n o. record { line = n; outcome = o }) line outcome
 
-answered_one : (kind : Kind) (asked : ℕ) → Below → (lines : List FormulaLine) (answers others : List Answer) → AreAnswered kind asked lines answers → AreAnswered kind asked lines others → answers ≡ others
+answered_one : (kind : Kind) (asked : ℕ) → Below → (lines : List FormulaLine) (answers others : List Answer) → AreAnswered kind asked lines answers
+    → AreAnswered kind asked lines others → answers ≡ others
 answered_one kind asked laws [] [] [] h k = refl
 answered_one kind asked laws [] [] (b ∷ others) h k = absurd k
 answered_one kind asked laws [] (a ∷ answers) others h k = absurd h
@@ -108,10 +112,12 @@ answered_one kind asked laws (l ∷ lines) [] others h k = absurd h
 answered_one kind asked laws (l ∷ lines) (a ∷ answers) [] h k = absurd k
 answered_one kind asked laws (l ∷ lines) (a ∷ answers) (b ∷ others) (n, h, more) (n', k, more') =
     ap₂ (λ v vs. v ∷ vs)
-    (same_answer a b (n ∙ sym n') (one_comes kind asked l.bytes laws a.outcome b.outcome (comes kind asked l.bytes a.outcome h) (comes kind asked l.bytes b.outcome k)))
+    (same_answer a b (n ∙ sym n')
+    (one_comes kind asked l.bytes laws a.outcome b.outcome (comes kind asked l.bytes a.outcome h) (comes kind asked l.bytes b.outcome k)))
     (answered_one kind asked laws lines answers others more more')
 
-pub answers_one : (kind : Kind) (asked : ℕ) (text : List ℕ) → Below → (answers others : List Answer) → AreAnswers kind asked text answers → AreAnswers kind asked text others → answers ≡ others
+pub answers_one : (kind : Kind) (asked : ℕ) (text : List ℕ) → Below → (answers others : List Answer) → AreAnswers kind asked text answers
+    → AreAnswers kind asked text others → answers ≡ others
 answers_one kind asked text laws answers others h k =
     let cut = lines_one text k.found.0 h.found.0 k.found.1 h.found.1 in
     let same = k.found.2 ∙ ap (formula_lines 1) cut ∙ sym h.found.2 in

@@ -41,7 +41,8 @@ pub record AreOutcomes (kind : Kind) (asked : ℕ) (lines : List Line) (worker w
 
 -- the lane of the line at this place has its outcome
 abbrev pub HasOutcome : List Lane → ℕ → Outcome → Type 0
-HasOutcome lanes at o = (lane : Lane) × (lane ≡ get_or lanes (at % length lanes) lane) × (at / length lanes < length lane.outcomes.items) × (o ≡ get_or lane.outcomes.items (at / length lanes) o)
+HasOutcome lanes at o = (lane : Lane) × (lane ≡ get_or lanes (at % length lanes) lane) × (at / length lanes < length lane.outcomes.items)
+    × (o ≡ get_or lane.outcomes.items (at / length lanes) o)
 
 -- the outcomes of lines that stand at this place and behind it, with the numbers of the lines
 abbrev pub AreTaken : List Lane → ℕ → List Line → List Answer → Type 0

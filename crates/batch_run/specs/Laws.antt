@@ -21,12 +21,15 @@ AnswersAreOne = (kind : Kind) (asked : ℕ) (text : List ℕ) (answers others : 
 
 -- a line that is answered SAT reads as a formula that a trace of the kind satisfies
 abbrev pub SatHasTrace : Type 0
-SatHasTrace = (kind : Kind) (asked : ℕ) (line : List ℕ) (k : ℕ) → IsOutcome kind asked line (outcomes.Sat k) → (f : Formula) × IsAccepted line f × IsSatisfiable f kind
+SatHasTrace =
+    (kind : Kind) (asked : ℕ) (line : List ℕ) (k : ℕ) → IsOutcome kind asked line (outcomes.Sat k) → (f : Formula) × IsAccepted line f × IsSatisfiable f kind
 
 -- one that is answered UNSAT reads as a formula that none does
 abbrev pub UnsatHasNone : Type 0
-UnsatHasNone = (kind : Kind) (asked : ℕ) (line : List ℕ) (k : ℕ) → IsOutcome kind asked line (outcomes.Unsat k) → (f : Formula) × IsAccepted line f × ¬ IsSatisfiable f kind
+UnsatHasNone = (kind : Kind) (asked : ℕ) (line : List ℕ) (k : ℕ) → IsOutcome kind asked line (outcomes.Unsat k) → (f : Formula) × IsAccepted line f
+    × ¬ IsSatisfiable f kind
 
 -- one that is answered UNDECIDED reads as a formula whose bound is above the depth
 abbrev pub UndecidedIsBelow : Type 0
-UndecidedIsBelow = (kind : Kind) (asked : ℕ) (line : List ℕ) (d : ℕ) → IsOutcome kind asked line (outcomes.Undecided d) → (f : Formula) × IsAccepted line f × (d < bound f kind)
+UndecidedIsBelow = (kind : Kind) (asked : ℕ) (line : List ℕ) (d : ℕ) → IsOutcome kind asked line (outcomes.Undecided d) → (f : Formula) × IsAccepted line f
+    × (d < bound f kind)

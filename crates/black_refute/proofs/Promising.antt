@@ -12,7 +12,8 @@ use Rattle.black_refute.specs.Inner.{Shows}
 use Rattle.black_refute.specs.Run.{IsGiven, IsAnswered}
 
 -- an output that was written whole is an answer
-pub answered : {words : List (List ℕ)} {rest before after : Option (List ℕ)} {s : Status} (out : Output) (text : List ℕ) → (a : Answer) × IsGiven words rest a × Shows out a → text ≡ out.text.items → Grows text before after → out.status ≡ s
+pub answered : {words : List (List ℕ)} {rest before after : Option (List ℕ)} {s : Status} (out : Output) (text : List ℕ)
+    → (a : Answer) × IsGiven words rest a × Shows out a → text ≡ out.text.items → Grows text before after → out.status ≡ s
     → IsAnswered words rest before after s
 answered {words} {rest} {before} {after} {s} out text (a, given, shows) same grown is = record {
   answer = a;

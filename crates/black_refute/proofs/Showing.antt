@@ -14,30 +14,36 @@ use Rattle.black_refute.specs.Answer.{Answer, certified}
 use Rattle.black_refute.specs.Refuting.{IsFound, certified_so}
 use Rattle.black_refute.specs.Inner.{Shows}
 
-pub shown : {E : Type 0} (Comes : Answer → Type 0) (answer : Answer) (r : Result Output E) → Comes answer → IfOk r (λ out. Shows out answer) → IfOk r (λ out. (a : Answer) × Comes a × Shows out a)
+pub shown : {E : Type 0} (Comes : Answer → Type 0) (answer : Answer) (r : Result Output E) → Comes answer → IfOk r (λ out. Shows out answer)
+    → IfOk r (λ out. (a : Answer) × Comes a × Shows out a)
 shown Comes answer (Ok out) given shows = (answer, given, shows)
 shown Comes answer (Err e) given shows = tt
 
-pub shown_as : {E : Type 0} (Comes Also : Answer → Type 0) (r : Result Output E) → ((a : Answer) → Comes a → Also a) → IfOk r (λ out. (a : Answer) × Comes a × Shows out a) → IfOk r (λ out. (a : Answer) × Also a × Shows out a)
+pub shown_as : {E : Type 0} (Comes Also : Answer → Type 0) (r : Result Output E) → ((a : Answer) → Comes a → Also a)
+    → IfOk r (λ out. (a : Answer) × Comes a × Shows out a) → IfOk r (λ out. (a : Answer) × Also a × Shows out a)
 shown_as Comes Also (Ok out) more (a, comes, shows) = (a, more a comes, shows)
 shown_as Comes Also (Err e) more h = tt
 
 -- the same where it comes by what an output says that is there
-pub shown_where : {E : Type 0} (Comes : Answer → Type 0) (Fact : Type 0) (answer : Answer) (r : Result Output E) → (Fact → Comes answer) → OnOk r Fact → IfOk r (λ out. Shows out answer)
+pub shown_where : {E : Type 0} (Comes : Answer → Type 0) (Fact : Type 0) (answer : Answer) (r : Result Output E) → (Fact → Comes answer) → OnOk r Fact
+    → IfOk r (λ out. Shows out answer)
     → IfOk r (λ out. (a : Answer) × Comes a × Shows out a)
 shown_where Comes Fact answer (Ok out) more fact shows = (answer, more fact, shows)
 shown_where Comes Fact answer (Err e) more fact shows = tt
 
 -- what stands behind the first bytes
-behind : (first more whole text : List ℕ) (start : ℕ) → start ≡ length first → whole ≡ first ++ more → text ≡ take (length whole - start) (drop start whole) → text ≡ more
+behind : (first more whole text : List ℕ) (start : ℕ) → start ≡ length first
+    → whole ≡ first ++ more → text ≡ take (length whole - start) (drop start whole) → text ≡ more
 behind first more whole text start at is cut =
     let rest : drop start whole ≡ more = ap₂ drop at is ∙ drop-append_seam first more in
     let size : length whole - start ≡ length more = omega (arith, at, ap length is ∙ length-append first more) in
     cut ∙ ap₂ take size rest ∙ take-length more
 
 -- UNSAT with the text of a lawful certificate behind it
-pub certified_shown : (kind : Kind) (f : Formula) (c : Certificate) (begun out : Output) (more text : List ℕ) (start : ℕ) → Shows begun (certified []) → out.status ≡ begun.status → start ≡ length begun.text.items
-    → out.text.items ≡ begun.text.items ++ more → text ≡ take (length out.text.items - start) (drop start out.text.items) → IsLawful f kind c → IsTextOf text c → (a : Answer) × IsFound kind true f a × Shows out a
+pub certified_shown : (kind : Kind) (f : Formula) (c : Certificate) (begun out : Output) (more text : List ℕ) (start : ℕ) → Shows begun (certified [])
+    → out.status ≡ begun.status → start ≡ length begun.text.items
+    → out.text.items ≡ begun.text.items ++ more → text ≡ take (length out.text.items - start) (drop start out.text.items) → IsLawful f kind c → IsTextOf text c
+    → (a : Answer) × IsFound kind true f a × Shows out a
 certified_shown kind f c begun out more text start shows status at is cut lawful spelled =
     let same : text ≡ more = behind begun.text.items more out.text.items text start at is cut in (
       certified more,

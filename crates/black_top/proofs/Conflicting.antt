@@ -24,11 +24,13 @@ pub record CoreLaws : Type 0 where
   pub apart : CoreIsApart
 
 -- what is shown of a core is one
-pub one_core : (core : Bool) (f : Formula) (kind : Kind) (asked : ℕ) (a b : Option (List ℕ)) → CoreIsOne → ShowsCore core f kind asked a → ShowsCore core f kind asked b → a ≡ b
+pub one_core : (core : Bool) (f : Formula) (kind : Kind) (asked : ℕ) (a b : Option (List ℕ)) → CoreIsOne → ShowsCore core f kind asked a
+    → ShowsCore core f kind asked b → a ≡ b
 one_core false f kind asked a b one h k = h ∙ sym k
 one_core true f kind asked a b one (g, is, said) (g', is', said') = said ∙ ap (λ x. Some (text_of x)) (one kind asked f g g' is is') ∙ sym said'
 
-conflict_of : (f g : Formula) (kind : Kind) (asked : ℕ) → CoreLaws → IsRefuted kind asked f → IsCore (tableau kind asked) f g → ShowsConflict f kind asked (text_of g)
+conflict_of : (f g : Formula) (kind : Kind) (asked : ℕ) → CoreLaws → IsRefuted kind asked f → IsCore (tableau kind asked) f g
+    → ShowsConflict f kind asked (text_of g)
 conflict_of f g kind asked laws refuted (places, reached, same) =
     let is : IsCore (tableau kind asked) f g = (places, reached, same) in
     record {
@@ -42,7 +44,8 @@ conflict_of f g kind asked laws refuted (places, reached, same) =
     }
 
 -- the core that is shown of a refuted formula tells which of its parts conflict
-pub tells_conflict : (core : Bool) (f : Formula) (kind : Kind) (asked : ℕ) (text : Option (List ℕ)) → CoreLaws → IsRefuted kind asked f → ShowsCore core f kind asked text → TellsConflict core f kind asked text
+pub tells_conflict : (core : Bool) (f : Formula) (kind : Kind) (asked : ℕ) (text : Option (List ℕ)) → CoreLaws → IsRefuted kind asked f
+    → ShowsCore core f kind asked text → TellsConflict core f kind asked text
 tells_conflict false f kind asked text laws refuted h = h
 tells_conflict true f kind asked text laws refuted (g, is, same) = (text_of g, same, conflict_of f g kind asked laws refuted is)
 
@@ -52,13 +55,16 @@ coreless false f kind asked e = refl
 coreless true f kind asked e = let no : false ≡ true = e in absurd (cc)
 
 -- where one is asked for, its text is shown
-pub core_shown : (core : Bool) (f g : Formula) (kind : Kind) (asked : ℕ) (text : List ℕ) → not core ≡ false → IsCore (tableau kind asked) f g → text ≡ text_of g → ShowsCore core f kind asked (Some text)
+pub core_shown : (core : Bool) (f g : Formula) (kind : Kind) (asked : ℕ) (text : List ℕ) → not core ≡ false → IsCore (tableau kind asked) f g → text ≡ text_of g
+    → ShowsCore core f kind asked (Some text)
 core_shown true f g kind asked text e is same = (g, is, ap Some same)
 core_shown false f g kind asked text e is same = let no : true ≡ false = e in absurd (cc)
 
 -- an output that shows UNSAT with a core, and a certificate behind it where one is asked for
-pub unsat_shown : (f : Formula) (kind : Kind) (asked limit k : ℕ) (core cert : Bool) (begun out : Output) (conflict found : Option (List ℕ)) → IsVerdict f kind limit (Unsat k) → ShowsCore core f kind asked found → conflict ≡ found
-    → Shows begun (unsat k conflict None) → out.status ≡ begun.status → AddsShown cert f kind k begun.text.items out.text.items → (a : Answer) × IsDecided f kind asked limit core cert a × Shows out a
+pub unsat_shown : (f : Formula) (kind : Kind) (asked limit k : ℕ) (core cert : Bool) (begun out : Output) (conflict found : Option (List ℕ))
+    → IsVerdict f kind limit (Unsat k) → ShowsCore core f kind asked found → conflict ≡ found
+    → Shows begun (unsat k conflict None) → out.status ≡ begun.status → AddsShown cert f kind k begun.text.items out.text.items
+    → (a : Answer) × IsDecided f kind asked limit core cert a × Shows out a
 unsat_shown f kind asked limit k core cert begun out conflict found verdict is same shows status adds =
     let lines : begun.text.items ≡ unsat_lines k conflict = shows.text ∙ append-nil (unsat_lines k conflict) in (
       unsat k conflict adds.shown,

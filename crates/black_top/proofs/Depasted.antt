@@ -19,7 +19,9 @@ use Rattle.report.specs.declared.status.Status.TheVariants as statuses
 use Rattle.report.specs.Status.{has_read}
 use Rattle.program_input.specs.Taking.{AreLeft, IsTakenWhole}
 use Rattle.black_top.specs.Answer.{Answer, refused, depasted, lifted, status_of, text_of}
-use Rattle.black_top.specs.Depast.{IsSplit, IsRaised, not_json, not_trace, empty_loop, empty_states, many_cells, raised, IsShownBy, IsWithout, too_large, small, IsPartAnswer, unread, accepted, IsDepasted, IsReadAgain, IsSound, KeepsTruth, PrintsLifted, Prints, PrintsWithoutPast, OfFormula, DepastPromise}
+use Rattle.black_top.specs.Depast.{IsSplit, IsRaised, not_json, not_trace, empty_loop, empty_states, many_cells, raised, IsShownBy, IsWithout, too_large, small}
+use Rattle.black_top.specs.Depast.{IsPartAnswer, unread, accepted, IsDepasted, IsReadAgain, IsSound, KeepsTruth, PrintsLifted, Prints, PrintsWithoutPast}
+use Rattle.black_top.specs.Depast.{OfFormula, DepastPromise}
 use Rattle.black_top.specs.declared.output.Output.{Output}
 use Rattle.black_top.specs.Inner.{Shows}
 use Rattle.black_top.specs.Run.{IsAnswered}
@@ -63,7 +65,8 @@ one_by_trace : IsOneReading → (f : Formula) (t : Trace) (a b : Answer) → ByT
 one_by_trace one f t a b (inl (m, e, x)) (inl (n, g, y)) = e ∙ ap (λ k. refused (faults.Cells k)) (x.0 ∙ sym y.0) ∙ sym g
 one_by_trace one f t a b (inl (m, e, x)) (inr (u, g, few, is, reads)) = absurd (omega (arith, x.0, x.1, few))
 one_by_trace one f t a b (inr (u, e, few, is, reads)) (inl (n, g, y)) = absurd (omega (arith, y.0, y.1, few))
-one_by_trace one f t a b (inr (u, e, few, is, reads)) (inr (v, g, few', is', reads')) = e ∙ ap (lifted (depast f)) (one_lifted one f t u v is is' reads reads') ∙ sym g
+one_by_trace one f t a b (inr (u, e, few, is, reads)) (inr (v, g, few', is', reads')) =
+    e ∙ ap (lifted (depast f)) (one_lifted one f t u v is is' reads reads') ∙ sym g
 
 one_by_reading : IsOneReading → (f : Formula) (r : Result Trace TraceFault) (a b : Answer) → ByReading f r a → ByReading f r b → a ≡ b
 one_by_reading one f (Ok t) a b h k = one_by_trace one f t a b h k
@@ -90,7 +93,8 @@ one_without one f second a b (too_large m x) (small b' few k) = absurd (omega (a
 one_without one f second a b (small a' few h) (too_large n y) = absurd (omega (arith, y.0, y.1, few))
 one_without one f second a b (small a' few h) (small b' few' k) = one_shown one f second a b h k
 
-one_part : IsOneReading → (part : List ℕ) (second : Option (List ℕ)) → TextLaws → (a b : Answer) → IsPartAnswer part second a → IsPartAnswer part second b → a ≡ b
+one_part : IsOneReading → (part : List ℕ) (second : Option (List ℕ)) → TextLaws → (a b : Answer) → IsPartAnswer part second a
+    → IsPartAnswer part second b → a ≡ b
 one_part one part second laws a b (unread x h) (unread y k) = ap refused (one_fault part laws x y h k)
 one_part one part second laws a b (unread x h) (accepted g b' read again k) = absurd (refused_not_accepted part laws x g h read)
 one_part one part second laws a b (accepted f a' read again h) (unread y k) = absurd (refused_not_accepted part laws y f k read)
@@ -98,7 +102,8 @@ one_part one part second laws a b (accepted f a' read again h) (accepted g b' re
     let tree : g ≡ f = laws.one_formula part g f read'.reads read.reads in
     one_without one f second a b h (subst (λ x. IsWithout x second b) tree k)
 
-one_split : (bytes part : List ℕ) (second : Option (List ℕ)) (part' : List ℕ) (second' : Option (List ℕ)) → IsSplit bytes part second → IsSplit bytes part' second' → (part' ≡ part) × (second' ≡ second)
+one_split : (bytes part : List ℕ) (second : Option (List ℕ)) (part' : List ℕ) (second' : Option (List ℕ)) → IsSplit bytes part second
+    → IsSplit bytes part' second' → (part' ≡ part) × (second' ≡ second)
 one_split bytes part None part' None h k = (k.1 ∙ sym h.1, refl)
 one_split bytes part None part' (Some second') h k = absurd (cut_or_none bytes part' second' k h.0)
 one_split bytes part (Some second) part' None h k = absurd (cut_or_none bytes part second h k.0)
@@ -111,35 +116,45 @@ one_depasted one bytes laws a b (part, second, split, h) (part', second', split'
 
 -- ---- what is shown
 
-pub alone_shown : {E : Type 0} (f g : Formula) (second : Option (List ℕ)) (r : Result Output E) → second ≡ None → g ≡ depast f → IfOk r (λ out. Shows out (depasted g))
+pub alone_shown : {E : Type 0} (f g : Formula) (second : Option (List ℕ)) (r : Result Output E) → second ≡ None → g ≡ depast f
+    → IfOk r (λ out. Shows out (depasted g))
     → IfOk r (λ out. (a : Answer) × IsShownBy f second a × Shows out a)
-alone_shown f g second (Ok out) none same shows = (depasted (depast f), subst (λ s. IsShownBy f s (depasted (depast f))) (sym none) refl, subst (λ h. Shows out (depasted h)) same shows)
+alone_shown f g second (Ok out) none same shows =
+    (depasted (depast f), subst (λ s. IsShownBy f s (depasted (depast f))) (sym none) refl, subst (λ h. Shows out (depasted h)) same shows)
 alone_shown f g second (Err e) none same shows = tt
 
-pub raised_shown : {E : Type 0} (f g : Formula) (text : List ℕ) (t u : Trace) (r : Result Output E) → g ≡ depast f → IsReading text (Ok t) → cells t f ≤ max_cells → IsLifted f t u
+pub raised_shown : {E : Type 0} (f g : Formula) (text : List ℕ) (t u : Trace) (r : Result Output E) → g ≡ depast f → IsReading text (Ok t)
+    → cells t f ≤ max_cells → IsLifted f t u
     → IfOk r (λ out. Shows out (lifted g u)) → OnOk r (IsReading (trace_text u) (Ok u)) → IfOk r (λ out. (a : Answer) × IsRaised f text a × Shows out a)
-raised_shown f g text t u (Ok out) same read few is shows reads = (lifted (depast f) u, raised t u read few is reads, subst (λ h. Shows out (lifted h u)) same shows)
+raised_shown f g text t u (Ok out) same read few is shows reads =
+    (lifted (depast f) u, raised t u read few is reads, subst (λ h. Shows out (lifted h u)) same shows)
 raised_shown f g text t u (Err e) same read few is shows reads = tt
 
 -- ---- what was printed
 
-raised_prints : PastLaws → (f : Formula) (text : List ℕ) (before after : Option (List ℕ)) (a : Answer) → IsRaised f text a → statuses.Good ≡ status_of a → Grows (text_of a) before after → PrintsLifted f text before after
-raised_prints laws f text before after a (raised t u read few is reads) e g = record { given = t; read = read; shown = u; is = is; reads = reads; kept = laws.kept f t u (read_trace text t read) is; printed = g }
+raised_prints : PastLaws → (f : Formula) (text : List ℕ) (before after : Option (List ℕ)) (a : Answer) → IsRaised f text a → statuses.Good ≡ status_of a
+    → Grows (text_of a) before after → PrintsLifted f text before after
+raised_prints laws f text before after a (raised t u read few is reads) e g =
+    record { given = t; read = read; shown = u; is = is; reads = reads; kept = laws.kept f t u (read_trace text t read) is; printed = g }
 raised_prints laws f text before after a (not_json h) e g = absurd (cc)
 raised_prints laws f text before after a (not_trace h) e g = absurd (cc)
 raised_prints laws f text before after a (empty_loop h) e g = absurd (cc)
 raised_prints laws f text before after a (empty_states h) e g = absurd (cc)
 raised_prints laws f text before after a (many_cells t count h many) e g = absurd (cc)
 
-shown_prints : PastLaws → (f : Formula) (second before after : Option (List ℕ)) (a : Answer) → IsShownBy f second a → statuses.Good ≡ status_of a → Grows (text_of a) before after → Prints f second before after
+shown_prints : PastLaws → (f : Formula) (second before after : Option (List ℕ)) (a : Answer) → IsShownBy f second a → statuses.Good ≡ status_of a
+    → Grows (text_of a) before after → Prints f second before after
 shown_prints laws f None before after a h e g = subst (λ x. Grows (text_of x) before after) h g
 shown_prints laws f (Some text) before after a h e g = raised_prints laws f text before after a h e g
 
-prints_of : PastLaws → (f : Formula) (second before after : Option (List ℕ)) (a : Answer) → IsReadAgain f → IsWithout f second a → statuses.Good ≡ status_of a → Grows (text_of a) before after → PrintsWithoutPast f second before after
+prints_of : PastLaws → (f : Formula) (second before after : Option (List ℕ)) (a : Answer) → IsReadAgain f → IsWithout f second a → statuses.Good ≡ status_of a
+    → Grows (text_of a) before after → PrintsWithoutPast f second before after
 prints_of laws f second before after a again (too_large count h) e g = absurd (cc)
-prints_of laws f second before after a again (small answer few h) e g = record { sound = laws.sound f few; reads = again; prints = shown_prints laws f second before after a h e g }
+prints_of laws f second before after a again (small answer few h) e g =
+    record { sound = laws.sound f few; reads = again; prints = shown_prints laws f second before after a h e g }
 
-part_prints : PastLaws → (rest : Option (List ℕ)) (bytes part : List ℕ) (second before after : Option (List ℕ)) (a : Answer) → AreLeft rest bytes → IsSplit bytes part second → IsPartAnswer part second a → statuses.Good ≡ status_of a → Grows (text_of a) before after
+part_prints : PastLaws → (rest : Option (List ℕ)) (bytes part : List ℕ) (second before after : Option (List ℕ)) (a : Answer) → AreLeft rest bytes
+    → IsSplit bytes part second → IsPartAnswer part second a → statuses.Good ≡ status_of a → Grows (text_of a) before after
     → OfFormula rest (λ f second. PrintsWithoutPast f second before after)
 part_prints laws rest bytes part second before after a left split (unread fault h) e g = absurd (not_refused statuses.Good fault refl e)
 part_prints laws rest bytes part second before after a left split (accepted f answer read again h) e g = record {
@@ -161,13 +176,15 @@ good_from {words} {rest} {before} {after} laws asks h =
 
 -- ---- the promise
 
-pub depast_broken : (IsQuiet : Type 0) (rest left before after : Option (List ℕ)) (status : Status) → IsBroken IsQuiet status → (IsTrue (has_read status) → IsTakenWhole rest left) → DepastPromise rest left before after status
+pub depast_broken : (IsQuiet : Type 0) (rest left before after : Option (List ℕ)) (status : Status) → IsBroken IsQuiet status
+    → (IsTrue (has_read status) → IsTakenWhole rest left) → DepastPromise rest left before after status
 depast_broken IsQuiet rest left before after status broken taken = record {
   when_good = λ e. absurd (broken_not status statuses.Good broken.none refl e);
   taken = taken;
 }
 
-pub depast_kept : PastLaws → (words : List (List ℕ)) (rest left before after : Option (List ℕ)) (status : Status) → Asks words Depast → IsAnswered words rest before after status → IsTakenWhole rest left → DepastPromise rest left before after status
+pub depast_kept : PastLaws → (words : List (List ℕ)) (rest left before after : Option (List ℕ)) (status : Status) → Asks words Depast
+    → IsAnswered words rest before after status → IsTakenWhole rest left → DepastPromise rest left before after status
 depast_kept laws words rest left before after status asks answer taken = record {
   when_good = λ e. good_from laws asks (subst (IsAnswered words rest before after) e answer);
   taken = λ read. taken;

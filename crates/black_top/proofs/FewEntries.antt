@@ -43,10 +43,12 @@ module _ (names : List (List ℕ)) where
   length-push ns n = ap length (trees_after-push names [] ns n) ∙ length-append (Trees ns) (made names (Trees ns) n ∷ [])
 
   tree_last : (ns : List Node) (n : Node) → tree_among (Trees (ns ++ n ∷ [])) (length (Trees ns)) ≡ made names (Trees ns) n
-  tree_last ns n = ap (λ ts. tree_among ts (length (Trees ns))) (trees_after-push names [] ns n) ∙ get_or-append_seam (Trees ns) (made names (Trees ns) n) [] (Const false)
+  tree_last ns n =
+      ap (λ ts. tree_among ts (length (Trees ns))) (trees_after-push names [] ns n) ∙ get_or-append_seam (Trees ns) (made names (Trees ns) n) [] (Const false)
 
   tree_before : (ns : List Node) (n : Node) (i : ℕ) → i < length (Trees ns) → tree_among (Trees (ns ++ n ∷ [])) i ≡ tree_among (Trees ns) i
-  tree_before ns n i lt = ap (λ ts. tree_among ts i) (trees_after-push names [] ns n) ∙ get_or-append (Trees ns) (made names (Trees ns) n ∷ []) (Const false) i lt
+  tree_before ns n i lt =
+      ap (λ ts. tree_among ts i) (trees_after-push names [] ns n) ∙ get_or-append (Trees ns) (made names (Trees ns) n ∷ []) (Const false) i lt
 
   leaf : (f : Formula) (ns : List Node) (n : Node) → made names (Trees ns) n ≡ f → node_size n ≡ formula_size f → Built f ns
   leaf f ns n is size = record {
@@ -87,7 +89,8 @@ module _ (names : List (List ℕ)) where
         more = let m = x.more in let k = z.more in omega (arith, length-push z.nodes n);
         there = omega (arith, length-push z.nodes n);
         tree = tree_last z.nodes n ∙ rw (first, z.tree) refl;
-        others = λ i lt. tree_before z.nodes n i (let m = x.more in let k = z.more in omega arith) ∙ (z.others i (let m = x.more in omega arith) ∙ x.others i lt);
+        others = λ i lt. tree_before z.nodes n i (let m = x.more in let k = z.more in omega arith)
+            ∙ (z.others i (let m = x.more in omega arith) ∙ x.others i lt);
         size = let s = x.size in let t = z.size in omega (arith, sizes-push z.nodes n);
       }
 

@@ -1,5 +1,6 @@
 -- The text of the ring: opening parentheses, `p0`, and then the text of each part.
-use Rattle.std.proofs.Common.{◌≡◌, ◌∙◌, ℕ, zero, suc, ◌+◌, ◌-◌, ◌*◌, ◌/◌, ◌≤◌, List, [], ◌∷◌, ◌++◌, length, replicate, refl, sym, ap, ap₂, subst, arith, add-one, append_assoc, length-append}
+use Rattle.std.proofs.Common.{◌≡◌, ◌∙◌, ℕ, zero, suc, ◌+◌, ◌-◌, ◌*◌, ◌/◌, ◌≤◌, List, [], ◌∷◌, ◌++◌, length, replicate, refl, sym, ap, ap₂, subst, arith}
+use Rattle.std.proofs.Common.{add-one, append_assoc, length-append}
 use Rattle.std.specs.Prelude.{codes}
 use Rattle.std.specs.List.{flat_map}
 use Rattle.std.proofs.lemmas.Grind.{flat_map-append}
@@ -57,7 +58,8 @@ flat_each : (n : ℕ) (g : ℕ → Formula) → flat_map part_text (below n (λ 
 flat_each n g = flat_below n (λ i. g i ∷ []) ∙ below_same n (λ i. flat_map part_text (g i ∷ [])) (λ i. part_text (g i)) (λ i lt. append-nil (part_text (g i)))
 
 flat_later : (n : ℕ) → flat_map part_text (below n (apart_from_later n)) ≡ below n (later_text n)
-flat_later n = flat_below n (apart_from_later n) ∙ below_same n (λ i. flat_map part_text (apart_from_later n i)) (later_text n) (λ i lt. flat_each (n - (i + 1)) (λ k. apart i (i + 1 + k)))
+flat_later n = flat_below n (apart_from_later n)
+    ∙ below_same n (λ i. flat_map part_text (apart_from_later n i)) (later_text n) (λ i lt. flat_each (n - (i + 1)) (λ k. apart i (i + 1 + k)))
 
 parts_text : (n : ℕ) → flat_map part_text (ring_parts n) ≡ below n (move_text n) ++ (below n return_text ++ below n (later_text n))
 parts_text n =

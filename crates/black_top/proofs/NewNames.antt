@@ -1,11 +1,13 @@
 -- A formula without past operators reads again: its new names are words that are not reserved, and so it can be printed where the formula can.
-use Rattle.std.proofs.Common.{◌≡◌, ℕ, zero, suc, ◌+◌, ◌-◌, ◌%◌, ◌/◌, ◌<◌, Bool, true, false, ◌&&◌, ◌||◌, ◌==◌, if◌then◌else◌, List, [], ◌∷◌, ◌++◌, decimal, refl, ap₂, arith}
+use Rattle.std.proofs.Common.{◌≡◌, ℕ, zero, suc, ◌+◌, ◌-◌, ◌%◌, ◌/◌, ◌<◌, Bool, true, false, ◌&&◌, ◌||◌, ◌==◌, if◌then◌else◌, List, [], ◌∷◌, ◌++◌, decimal}
+use Rattle.std.proofs.Common.{refl, ap₂, arith}
 use Rattle.std.specs.Fmt.{digit_glyph, digits_onto, digits}
 use Rattle.std.specs.List.{list_all}
 use Rattle.std.proofs.lemmas.Bool.Decides.{nat_tests}
 use Rattle.ltl_syntax.specs.declared.node.UnaryOp.{UnaryOp}
 use Rattle.ltl_syntax.specs.declared.node.BinaryOp.{BinaryOp}
-use Rattle.ltl_syntax.specs.declared.node.UnaryOp.TheVariants.{Always, AlwaysIn, Eventually, EventuallyIn, Historically, HistoricallyIn, Next, NextTimes, Not, Once, OnceIn, WeakNext, WeakYesterday, Yesterday, YesterdayTimes}
+use Rattle.ltl_syntax.specs.declared.node.UnaryOp.TheVariants.{Always, AlwaysIn, Eventually, EventuallyIn, Historically, HistoricallyIn, Next, NextTimes, Not}
+use Rattle.ltl_syntax.specs.declared.node.UnaryOp.TheVariants.{Once, OnceIn, WeakNext, WeakYesterday, Yesterday, YesterdayTimes}
 use Rattle.ltl_syntax.specs.declared.node.BinaryOp.TheVariants.{And, Iff, Implies, Or, Release, Since, StrongRelease, Trigger, Until, WeakUntil}
 use Rattle.ltl_syntax.specs.Formula.{Formula, Const, Name, Fresh, Letter, Unary, Binary}
 use Rattle.ltl_lexer.specs.Tokens.{IsWord}
@@ -14,7 +16,8 @@ use Rattle.ltl_parser.specs.Text.{IsWithin, IsPrintable, IsAccepted}
 use Rattle.ltl_parser.proofs.Readings.{read_is_printable}
 use Rattle.ltl_parser.proofs.Printing.{printed_reads}
 use Rattle.depast.specs.Names.{most_leading, underscores, new_letter}
-use Rattle.depast.specs.Depast.{taken, step_back, joined_back, residue, residue₁, residue₂, yesterday_axiom, weak_yesterday_axiom, since_axiom, trigger_axiom, back_axioms, axioms, axioms₁, axioms₂, conjoined, letter_for, depast}
+use Rattle.depast.specs.Depast.{taken, step_back, joined_back, residue, residue₁, residue₂, yesterday_axiom, weak_yesterday_axiom, since_axiom, trigger_axiom}
+use Rattle.depast.specs.Depast.{back_axioms, axioms, axioms₁, axioms₂, conjoined, letter_for, depast}
 use Rattle.black_top.specs.Depast.{IsReadAgain}
 
 -- ---- the new names
@@ -22,7 +25,8 @@ use Rattle.black_top.specs.Depast.{IsReadAgain}
 digit_byte : (d : ℕ) → d < 10 → is_word_byte (digit_glyph false d) ≡ true
 digit_byte d h = grind (arith, nat_tests)
 
-more_digits : (b : Bool) (xs ys : List ℕ) → list_all is_word_byte xs ≡ true → list_all is_word_byte ys ≡ true → list_all is_word_byte (if b then xs else ys) ≡ true
+more_digits : (b : Bool) (xs ys : List ℕ)
+    → list_all is_word_byte xs ≡ true → list_all is_word_byte ys ≡ true → list_all is_word_byte (if b then xs else ys) ≡ true
 more_digits true xs ys h k = h
 more_digits false xs ys h k = k
 
@@ -30,7 +34,8 @@ digits_are : (k n : ℕ) (rest : List ℕ) → list_all is_word_byte rest ≡ tr
 digits_are zero n rest h = h
 digits_are (suc k) n rest h =
     let one : list_all is_word_byte (digit_glyph false (n % 10) ∷ rest) ≡ true = ap₂ (λ p q. p && q) (digit_byte (n % 10) (omega arith)) h in
-    more_digits (n / 10 == 0) (digit_glyph false (n % 10) ∷ rest) (digits_onto k 10 false (n / 10) (digit_glyph false (n % 10) ∷ rest)) one (digits_are k (n / 10) (digit_glyph false (n % 10) ∷ rest) one)
+    more_digits (n / 10 == 0) (digit_glyph false (n % 10) ∷ rest) (digits_onto k 10 false (n / 10) (digit_glyph false (n % 10) ∷ rest)) one
+    (digits_are k (n / 10) (digit_glyph false (n % 10) ∷ rest) one)
 
 decimal_bytes : (n : ℕ) → list_all is_word_byte (decimal n) ≡ true
 unfolding digits
@@ -111,7 +116,8 @@ module _ (z : ℕ → Formula) (plain : (k : ℕ) → IsPrintable (z k)) where
   residue_printable (Letter (Name name)) n h = h
   residue_printable (Letter (Fresh i)) n h = absurd h
   residue_printable (Unary op a) n h = residue₁_printable op (n + taken a) (residue z n a) h.0 (residue_printable a n h.1)
-  residue_printable (Binary op a b) n h = residue₂_printable op (n + taken a + taken b) (residue z n a) (residue z (n + taken a) b) (residue_printable a n h.0) (residue_printable b (n + taken a) h.1)
+  residue_printable (Binary op a b) n h = residue₂_printable op (n + taken a + taken b) (residue z n a) (residue z (n + taken a) b) (residue_printable a n h.0)
+      (residue_printable b (n + taken a) h.1)
 
   yesterday_printable : (a : Formula) (k : ℕ) → IsPrintable a → IsPrintable (yesterday_axiom a (z k))
   yesterday_printable a k h = let p = plain k in ((tt, p), (tt, ((h, (tt, p)), ((tt, h), (tt, (tt, p))))))
@@ -125,10 +131,12 @@ module _ (z : ℕ → Formula) (plain : (k : ℕ) → IsPrintable (z k)) where
   trigger_printable : (a b : Formula) (k : ℕ) → IsPrintable a → IsPrintable b → IsPrintable (trigger_axiom a b (z k))
   trigger_printable a b k h i = let p = plain k in ((p, i), (tt, ((p, (tt, (p, i))), ((tt, p), (tt, (p, (i, h)))))))
 
-  back_printable : (says : Formula → Formula → Formula) → ((a : Formula) (k : ℕ) → IsPrintable a → IsPrintable (says a (z k))) → (k : ℕ) (c : Formula) → IsPrintable c → (n : ℕ) → ArePrintable (back_axioms says z k c n)
+  back_printable : (says : Formula → Formula → Formula) → ((a : Formula) (k : ℕ) → IsPrintable a → IsPrintable (says a (z k))) → (k : ℕ) (c : Formula)
+      → IsPrintable c → (n : ℕ) → ArePrintable (back_axioms says z k c n)
   back_printable says s k c h zero = tt
   back_printable says s k c h (suc n) =
-      printable_append (back_axioms says z k c n) (says (step_back z k c n) (z (k + n)) ∷ []) (back_printable says s k c h n) (s (step_back z k c n) (k + n) (step_printable k c h n), tt)
+      printable_append (back_axioms says z k c n) (says (step_back z k c n) (z (k + n)) ∷ []) (back_printable says s k c h n)
+      (s (step_back z k c n) (k + n) (step_printable k c h n), tt)
 
   axioms₁_printable : (op : UnaryOp) (k : ℕ) (c : Formula) → IsPrintable c → ArePrintable (axioms₁ z k op c)
   axioms₁_printable Not k c h = tt
@@ -163,11 +171,15 @@ module _ (z : ℕ → Formula) (plain : (k : ℕ) → IsPrintable (z k)) where
   axioms_printable (Const b) n h = tt
   axioms_printable (Letter p) n h = tt
   axioms_printable (Unary op a) n h =
-      printable_append (axioms z n a) (axioms₁ z (n + taken a) op (residue z n a)) (axioms_printable a n h.1) (axioms₁_printable op (n + taken a) (residue z n a) (residue_printable a n h.1))
+      printable_append (axioms z n a) (axioms₁ z (n + taken a) op (residue z n a)) (axioms_printable a n h.1)
+      (axioms₁_printable op (n + taken a) (residue z n a) (residue_printable a n h.1))
   axioms_printable (Binary op a b) n h =
-      printable_append (axioms z n a) (axioms z (n + taken a) b ++ axioms₂ z (n + taken a + taken b) op (residue z n a) (residue z (n + taken a) b)) (axioms_printable a n h.0)
-      (printable_append (axioms z (n + taken a) b) (axioms₂ z (n + taken a + taken b) op (residue z n a) (residue z (n + taken a) b)) (axioms_printable b (n + taken a) h.1)
-      (axioms₂_printable op (n + taken a + taken b) (residue z n a) (residue z (n + taken a) b) (residue_printable a n h.0) (residue_printable b (n + taken a) h.1)))
+      printable_append (axioms z n a) (axioms z (n + taken a) b ++ axioms₂ z (n + taken a + taken b) op (residue z n a) (residue z (n + taken a) b))
+      (axioms_printable a n h.0)
+      (printable_append (axioms z (n + taken a) b) (axioms₂ z (n + taken a + taken b) op (residue z n a) (residue z (n + taken a) b))
+      (axioms_printable b (n + taken a) h.1)
+      (axioms₂_printable op (n + taken a + taken b) (residue z n a) (residue z (n + taken a) b) (residue_printable a n h.0)
+      (residue_printable b (n + taken a) h.1)))
 
 conjoined_printable : (xs : List Formula) (f : Formula) → IsPrintable f → ArePrintable xs → IsPrintable (conjoined f xs)
 conjoined_printable [] f h k = h
@@ -176,7 +188,8 @@ conjoined_printable (x ∷ xs) f h k = conjoined_printable xs (Binary And f x) (
 depast_printable : (f : Formula) → IsPrintable f → IsPrintable (depast f)
 depast_printable f h =
     let new = new_printable (most_leading f) in
-    conjoined_printable (axioms (letter_for f) 0 f) (residue (letter_for f) 0 f) (residue_printable (letter_for f) new f 0 h) (axioms_printable (letter_for f) new f 0 h)
+    conjoined_printable (axioms (letter_for f) 0 f) (residue (letter_for f) 0 f) (residue_printable (letter_for f) new f 0 h)
+    (axioms_printable (letter_for f) new f 0 h)
 
 -- what is accepted reads again without its past operators
 pub read_again : (part : List ℕ) (f : Formula) → IsAccepted part f → IsReadAgain f

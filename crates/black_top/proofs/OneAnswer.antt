@@ -6,7 +6,8 @@ use Rattle.cert_check.specs.Answer.{AnswersAreOne}
 use Rattle.core_extract.specs.Laws.{CoreIsOne}
 use Rattle.batch_run.specs.Laws.{AnswersAreOne as BatchesAreOne}
 use Rattle.command_words.specs.Words.{Command, Solve, Check, Trace as TraceWord, Demo, Batch, System, Monitor, Depast, kind_of, depth_of, core_of, cert_of}
-use Rattle.black_top.specs.Answer.{Answer, refused, sat, unsat, undecided, holds, fails, checked, summary, batched, depasted, lifted, AreAlike, no_path, paths_hold, path_fails, watched}
+use Rattle.black_top.specs.Answer.{Answer, refused, sat, unsat, undecided, holds, fails, checked, summary, batched, depasted, lifted, AreAlike, no_path}
+use Rattle.black_top.specs.Answer.{paths_hold, path_fails, watched}
 use Rattle.past_monitor.specs.Laws.{HasOneAnswer}
 use Rattle.black_top.specs.Trace.{IsJudged}
 use Rattle.black_top.specs.Check.{IsChecked}
@@ -56,8 +57,10 @@ alike a b same = subst (AreAlike a) same (alike_itself a)
 
 -- a command has one answer
 one_answer_of : (bytes : List ℕ) → Laws → (c : Command) (a b : Answer) → Answers c bytes a → Answers c bytes b → AreAlike a b
-one_answer_of bytes laws (Solve settings) a b h k = one_solved (kind_of settings) (depth_of settings) (core_of settings) (cert_of settings) bytes laws.text laws.one_verdict laws.one_core a b h k
-one_answer_of bytes laws (Check settings) a b h k = alike a b (one_parted (IsChecked (kind_of settings)) (one_check (kind_of settings) laws.one_check) bytes laws.text a b h k)
+one_answer_of bytes laws (Solve settings) a b h k =
+    one_solved (kind_of settings) (depth_of settings) (core_of settings) (cert_of settings) bytes laws.text laws.one_verdict laws.one_core a b h k
+one_answer_of bytes laws (Check settings) a b h k =
+    alike a b (one_parted (IsChecked (kind_of settings)) (one_check (kind_of settings) laws.one_check) bytes laws.text a b h k)
 one_answer_of bytes laws TraceWord a b h k = alike a b (one_parted IsJudged (one_judgement laws.one_reading) bytes laws.text a b h k)
 one_answer_of bytes laws (Demo n) a b h k = alike a b (one_shown n laws.one_verdict a b h k)
 one_answer_of bytes laws (Batch settings) a b h k = alike a b (one_batched (kind_of settings) (depth_of settings) bytes laws.one_batch a b h k)

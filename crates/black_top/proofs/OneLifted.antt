@@ -1,5 +1,6 @@
 -- A trace has one lifted trace whose states are sets, as those of a text that reads back are.
-use Rattle.std.proofs.Common.{◌≡◌, ◌∙◌, ℕ, suc, ◌+◌, ◌-◌, ◌%◌, ◌<◌, ◌↔◌, inl, inr, Bool, true, false, List, [], ◌∷◌, length, slice_index_or, Contains, Result, Ok, refl, sym, ap, subst, arith, lt-ltb, le-ltb}
+use Rattle.std.proofs.Common.{◌≡◌, ◌∙◌, ℕ, suc, ◌+◌, ◌-◌, ◌%◌, ◌<◌, ◌↔◌, inl, inr, Bool, true, false, List, [], ◌∷◌, length, slice_index_or, Contains, Result}
+use Rattle.std.proofs.Common.{Ok, refl, sym, ap, subst, arith, lt-ltb, le-ltb}
 use Rattle.std.specs.Bool.{Decides}
 use Rattle.std.specs.Str.{bytes_eq}
 use Rattle.std.proofs.lemmas.Bool.{cond-true, cond-false}
@@ -24,17 +25,19 @@ text_decided xs ys = turn (bytes_eq xs ys) (bytes_eq-Decides xs ys) where
   turn false d = no (λ e. let f : false ≡ true = d.1 e in cc)
 
 -- each name is new or old, so both have the same names at each position
-same_names : (f : Formula) (t u v : Trace) → IsLifted f t u → IsLifted f t v → (i : ℕ) → IsPosition t i → (name : List ℕ) → Contains (state_at v i) name ↔ Contains (state_at u i) name
-same_names f t u v h k i at name = elim (first_or_none (λ n. name ≡ new_name (most_leading f) n) (λ n. text_decided name (new_name (most_leading f) n)) (taken f)) [
-  | inl w ↦
-      let a = h.new_names i at w.0 w.1 in
-      let b = k.new_names i at w.0 w.1 in
-      subst (λ n. Contains (state_at v i) n ↔ Contains (state_at u i) n) (sym w.2) (λ c. a.1 (b.0 c), λ c. b.1 (a.0 c))
-  | inr old ↦
-      let a = h.old_names i at name old in
-      let b = k.old_names i at name old in
-      (λ c. a.1 (b.0 c), λ c. b.1 (a.0 c))
-]
+same_names : (f : Formula) (t u v : Trace) → IsLifted f t u → IsLifted f t v → (i : ℕ) → IsPosition t i → (name : List ℕ)
+    → Contains (state_at v i) name ↔ Contains (state_at u i) name
+same_names f t u v h k i at name =
+    elim (first_or_none (λ n. name ≡ new_name (most_leading f) n) (λ n. text_decided name (new_name (most_leading f) n)) (taken f)) [
+      | inl w ↦
+          let a = h.new_names i at w.0 w.1 in
+          let b = k.new_names i at w.0 w.1 in
+          subst (λ n. Contains (state_at v i) n ↔ Contains (state_at u i) n) (sym w.2) (λ c. a.1 (b.0 c), λ c. b.1 (a.0 c))
+      | inr old ↦
+          let a = h.old_names i at name old in
+          let b = k.old_names i at name old in
+          (λ c. a.1 (b.0 c), λ c. b.1 (a.0 c))
+    ]
 
 -- sets with the same names are sets of the same written names
 sets_moved : (ws us ws' vs : List Names) → AreSetsOf ws us → AreSetsOf ws' vs → length us ≡ length vs
@@ -92,7 +95,8 @@ same_trace : (u v : Trace) → ◌≡◌ {A = Result Trace TraceFault} (Ok u) (O
 same_trace u v e = cc
 
 -- two lifted traces whose texts read back are one
-pub one_lifted : IsOneReading → (f : Formula) (t u v : Trace) → IsLifted f t u → IsLifted f t v → IsReading (trace_text u) (Ok u) → IsReading (trace_text v) (Ok v) → u ≡ v
+pub one_lifted : IsOneReading → (f : Formula) (t u v : Trace) → IsLifted f t u → IsLifted f t v → IsReading (trace_text u) (Ok u)
+    → IsReading (trace_text v) (Ok v) → u ≡ v
 one_lifted one f t u v h k (w, json, is, a) (w', json', is', b) =
     same_trace u v (one (trace_text u) (Ok u) (Ok v) (w, json, is, a) (w, json, is, moved f t u v w w' h k a b) (λ e. absurd (cc)) (λ e. absurd (cc)))
 

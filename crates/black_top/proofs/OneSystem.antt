@@ -12,13 +12,16 @@ use Rattle.report.specs.declared.fault.Fault.TheVariants as faults
 use Rattle.report.specs.Texts.{Proof}
 use Rattle.black_top.specs.Answer.{Answer, refused, no_path, undecided, shown_formula, AreAlike}
 use Rattle.black_top.specs.Solve.{number_of}
-use Rattle.black_top.specs.System.{AreParts, part_bytes, IsFaulty, lexical, grammar, HasFault, in_start, in_step, in_goal, ProvesWhole, IsDecided, pathless, kept, broken, undecided_yet, IsSettled, too_large, no_start, no_step, too_deep, decided, IsSystemAnswer, unparted, too_long, faulty, settled}
+use Rattle.black_top.specs.System.{AreParts, part_bytes, IsFaulty, lexical, grammar, HasFault, in_start, in_step, in_goal, ProvesWhole, IsDecided, pathless}
+use Rattle.black_top.specs.System.{kept, broken, undecided_yet, IsSettled, too_large, no_start, no_step, too_deep, decided, IsSystemAnswer, unparted, too_long}
+use Rattle.black_top.specs.System.{faulty, settled}
 use Rattle.program_input.proofs.OneText.{TextLaws}
 use Rattle.black_top.proofs.Solved.{one_limit, not_too_deep, sat_depth, unsat_depth, undecided_depth}
 use Rattle.black_top.proofs.ThreeParts.{AreSame, same_parts, parts_or_few}
 
 -- the formula that is printed with a certificate is one
-one_formula : (cert : Bool) (whole : Formula) (j k : ℕ) (a b : Option Proof) → ProvesWhole cert whole j a → ProvesWhole cert whole k b → shown_formula a ≡ shown_formula b
+one_formula : (cert : Bool) (whole : Formula) (j k : ℕ) (a b : Option Proof) → ProvesWhole cert whole j a → ProvesWhole cert whole k b
+    → shown_formula a ≡ shown_formula b
 one_formula false whole j k a b none none' = ap shown_formula none ∙ sym (ap shown_formula none')
 one_formula true whole j k a b (text, is, lawful, how) (text', is', lawful', how') = ap shown_formula is ∙ sym (ap shown_formula is')
 
@@ -33,7 +36,8 @@ module _ (start step goal : Formula) (limit : ℕ) (cert : Bool) (one : VerdictI
   one_decided a b (broken i p u h l r) (pathless i' h') = absurd (u i' h')
   one_decided a b (pathless i h) (undecided_yet i' u' h') = absurd (u' i h)
   one_decided a b (undecided_yet i u h) (pathless i' h') = absurd (u i' h')
-  one_decided a b (kept i p u h l) (kept i' p' u' h' l') = (unsat_depth i i' (one _ kinds.Infinite limit (Unsat i) (Unsat i') h h'), one_formula cert (whole_of start step goal) i i' p p' l l')
+  one_decided a b (kept i p u h l) (kept i' p' u' h' l') =
+      (unsat_depth i i' (one _ kinds.Infinite limit (Unsat i) (Unsat i') h h'), one_formula cert (whole_of start step goal) i i' p p' l l')
   one_decided a b (kept i p u h l) (broken i' p' u' h' l' r') = let e = one _ kinds.Infinite limit (Unsat i) (Sat i') h h' in absurd (cc)
   one_decided a b (kept i p u h l) (undecided_yet i' u' h') = let e = one _ kinds.Infinite limit (Unsat i) (Undecided i') h h' in absurd (cc)
   one_decided a b (broken i p u h l r) (kept i' p' u' h' l') = let e = one _ kinds.Infinite limit (Sat i) (Unsat i') h h' in absurd (cc)
@@ -41,7 +45,8 @@ module _ (start step goal : Formula) (limit : ℕ) (cert : Bool) (one : VerdictI
   one_decided a b (broken i p u h l r) (undecided_yet i' u' h') = let e = one _ kinds.Infinite limit (Sat i) (Undecided i') h h' in absurd (cc)
   one_decided a b (undecided_yet i u h) (kept i' p' u' h' l') = let e = one _ kinds.Infinite limit (Undecided i) (Unsat i') h h' in absurd (cc)
   one_decided a b (undecided_yet i u h) (broken i' p' u' h' l' r') = let e = one _ kinds.Infinite limit (Undecided i) (Sat i') h h' in absurd (cc)
-  one_decided a b (undecided_yet i u h) (undecided_yet i' u' h') = ap undecided (undecided_depth i i' (one _ kinds.Infinite limit (Undecided i) (Undecided i') h h'))
+  one_decided a b (undecided_yet i u h) (undecided_yet i' u' h') =
+      ap undecided (undecided_depth i i' (one _ kinds.Infinite limit (Undecided i) (Undecided i') h h'))
 
 -- ---- three formulas
 
@@ -68,12 +73,15 @@ module _ (wanted : Option ℕ) (cert : Bool) (start step goal : Formula) (one : 
   one_settled a b (too_deep number limit m is e force less) (too_deep number' limit' m' is' e' force' less') =
       let same : Some number ≡ Some number' = sym e ∙ e' in
       let there : number' ≡ number = cc in
-      ap (λ d. refused (faults.Letters d)) (one_limit (whole_of start step goal) kinds.Infinite number limit limit' force (subst (λ n. IsInForce (whole_of start step goal) kinds.Infinite n limit') there force'))
-  one_settled a b (too_deep number limit m is e force less) (decided limit' answer' m' is' force' reach' h') = absurd (not_too_deep kinds.Infinite wanted (whole_of start step goal) number limit limit' e force less force' reach')
+      ap (λ d. refused (faults.Letters d)) (one_limit (whole_of start step goal) kinds.Infinite number limit limit' force
+      (subst (λ n. IsInForce (whole_of start step goal) kinds.Infinite n limit') there force'))
+  one_settled a b (too_deep number limit m is e force less) (decided limit' answer' m' is' force' reach' h') =
+      absurd (not_too_deep kinds.Infinite wanted (whole_of start step goal) number limit limit' e force less force' reach')
   one_settled a b (decided limit answer m is force reach h) (too_large m') = absurd (omega (arith, m, m'))
   one_settled a b (decided limit answer m is force reach h) (no_start m' n') = absurd (n' is.start_form)
   one_settled a b (decided limit answer m is force reach h) (no_step m' p' n') = absurd (n' is.step_form)
-  one_settled a b (decided limit answer m is force reach h) (too_deep number' limit' m' is' e' force' less') = absurd (not_too_deep kinds.Infinite wanted (whole_of start step goal) number' limit' limit e' force' less' force reach)
+  one_settled a b (decided limit answer m is force reach h) (too_deep number' limit' m' is' e' force' less') =
+      absurd (not_too_deep kinds.Infinite wanted (whole_of start step goal) number' limit' limit e' force' less' force reach)
   one_settled a b (decided limit answer m is force reach h) (decided limit' answer' m' is' force' reach' h') =
       let same = one_limit (whole_of start step goal) kinds.Infinite (number_of wanted) limit limit' force force' in
       one_decided start step goal limit cert one a b h (subst (λ d. IsDecided start step goal d cert b) (sym same) h')
@@ -134,7 +142,8 @@ module _ (laws : TextLaws) where
     pub same_goal : (f : Formula) → ReadsText goal' f → ReadsText goal f
     same_goal f r = subst (λ x. ReadsText x f) (sym same.goal_same) r
 
-  pub one_system_answer : (wanted : Option ℕ) (cert : Bool) (bytes : List ℕ) → VerdictIsOne → (a b : Answer) → IsSystemAnswer wanted cert bytes a → IsSystemAnswer wanted cert bytes b → AreAlike a b
+  pub one_system_answer : (wanted : Option ℕ) (cert : Bool) (bytes : List ℕ) → VerdictIsOne → (a b : Answer) → IsSystemAnswer wanted cert bytes a
+      → IsSystemAnswer wanted cert bytes b → AreAlike a b
   one_system_answer wanted cert bytes one a b (unparted n) (unparted m) = refl
   one_system_answer wanted cert bytes one a b (unparted n) (too_long s t g q long) = absurd (parts_or_few bytes s t g q n)
   one_system_answer wanted cert bytes one a b (unparted n) (faulty s t g fault q short h) = absurd (parts_or_few bytes s t g q n)
@@ -143,14 +152,19 @@ module _ (laws : TextLaws) where
   one_system_answer wanted cert bytes one a b (faulty s t g fault p short h) (unparted n) = absurd (parts_or_few bytes s t g p n)
   one_system_answer wanted cert bytes one a b (settled s t g f f' f'' answer p short r r' r'' h) (unparted n) = absurd (parts_or_few bytes s t g p n)
   one_system_answer wanted cert bytes one a b (too_long s t g p long) (too_long s' t' g' q long') = refl
-  one_system_answer wanted cert bytes one a b (too_long s t g p long) (faulty s' t' g' fault q short h) = let e = same_bytes bytes s t g s' t' g' p q in absurd (omega (arith, e, long, short))
-  one_system_answer wanted cert bytes one a b (too_long s t g p long) (settled s' t' g' f f' f'' answer q short r r' r'' h) = let e = same_bytes bytes s t g s' t' g' p q in absurd (omega (arith, e, long, short))
-  one_system_answer wanted cert bytes one a b (faulty s t g fault p short h) (too_long s' t' g' q long) = let e = same_bytes bytes s t g s' t' g' p q in absurd (omega (arith, e, long, short))
-  one_system_answer wanted cert bytes one a b (settled s t g f f' f'' answer p short r r' r'' h) (too_long s' t' g' q long) = let e = same_bytes bytes s t g s' t' g' p q in absurd (omega (arith, e, long, short))
+  one_system_answer wanted cert bytes one a b (too_long s t g p long) (faulty s' t' g' fault q short h) = let e = same_bytes bytes s t g s' t' g' p q in
+      absurd (omega (arith, e, long, short))
+  one_system_answer wanted cert bytes one a b (too_long s t g p long) (settled s' t' g' f f' f'' answer q short r r' r'' h) = let e =
+      same_bytes bytes s t g s' t' g' p q in absurd (omega (arith, e, long, short))
+  one_system_answer wanted cert bytes one a b (faulty s t g fault p short h) (too_long s' t' g' q long) = let e = same_bytes bytes s t g s' t' g' p q in
+      absurd (omega (arith, e, long, short))
+  one_system_answer wanted cert bytes one a b (settled s t g f f' f'' answer p short r r' r'' h) (too_long s' t' g' q long) = let e =
+      same_bytes bytes s t g s' t' g' p q in absurd (omega (arith, e, long, short))
   one_system_answer wanted cert bytes one a b (faulty s t g fault p short h) (faulty s' t' g' fault' q short' k) =
       ap refused (one_fault bytes p.behind s t g fault fault' h (same_fault bytes s t g s' t' g' p q fault' k))
   one_system_answer wanted cert bytes one a b (faulty s t g fault p short h) (settled s' t' g' f f' f'' answer q short' r r' r'' k) =
-      absurd (fault_unread bytes p.behind s t g fault f f' f'' h (same_start bytes s t g s' t' g' p q f r) (same_step bytes s t g s' t' g' p q f' r') (same_goal bytes s t g s' t' g' p q f'' r''))
+      absurd (fault_unread bytes p.behind s t g fault f f' f'' h (same_start bytes s t g s' t' g' p q f r) (same_step bytes s t g s' t' g' p q f' r')
+      (same_goal bytes s t g s' t' g' p q f'' r''))
   one_system_answer wanted cert bytes one a b (settled s t g f f' f'' answer p short r r' r'' h) (faulty s' t' g' fault q short' k) =
       absurd (fault_unread bytes p.behind s t g fault f f' f'' (same_fault bytes s t g s' t' g' p q fault k) r r' r'')
   one_system_answer wanted cert bytes one a b (settled s t g f f' f'' answer p short r r' r'' h) (settled s' t' g' i i' i'' answer' q short' x x' x'' k) =
@@ -158,4 +172,5 @@ module _ (laws : TextLaws) where
       let step_same = laws.one_formula t f' i' r' (same_step bytes s t g s' t' g' p q i' x') in
       let goal_same = laws.one_formula g f'' i'' r'' (same_goal bytes s t g s' t' g' p q i'' x'') in
       one_settled wanted cert f f' f'' one a b h
-      (subst (λ z. IsSettled wanted cert z f' f'' b) (sym start_same) (subst (λ z. IsSettled wanted cert i z f'' b) (sym step_same) (subst (λ z. IsSettled wanted cert i i' z b) (sym goal_same) k)))
+      (subst (λ z. IsSettled wanted cert z f' f'' b) (sym start_same)
+      (subst (λ z. IsSettled wanted cert i z f'' b) (sym step_same) (subst (λ z. IsSettled wanted cert i i' z b) (sym goal_same) k)))

@@ -1,5 +1,6 @@
 -- How large the formula of a text can be, and where the faults of a text lie.
-use Rattle.std.proofs.Common.{◌≡◌, ◌∙◌, ℕ, zero, suc, ◌+◌, ◌*◌, ◌<◌, ◌≤◌, List, [], ◌∷◌, ◌++◌, length, get_or, Option, Some, None, refl, ap, arith, length-append}
+use Rattle.std.proofs.Common.{◌≡◌, ◌∙◌, ℕ, zero, suc, ◌+◌, ◌*◌, ◌<◌, ◌≤◌, List, [], ◌∷◌, ◌++◌, length, get_or, Option, Some, None, refl, ap, arith}
+use Rattle.std.proofs.Common.{length-append}
 use Rattle.std.specs.Prelude.{slice_range}
 use Rattle.ltl_syntax.specs.Formula.{Formula}
 use Rattle.ltl_syntax.specs.Size.{formula_size}
@@ -51,7 +52,8 @@ kind_small (kinds.Unary word) bytes s = word_small word bytes (numbers_fit bytes
 kind_small (kinds.Binary word) bytes s = omega arith
 kind_small kinds.Identifier bytes s = omega arith
 
-tokens_small : (text : List ℕ) (ts : List Token) → ((i : ℕ) (d : Token) → i < length ts → IsPartOf text (get_or ts i d)) → node_count (symbols text ts) ≤ 255 * length ts
+tokens_small : (text : List ℕ) (ts : List Token) → ((i : ℕ) (d : Token) → i < length ts → IsPartOf text (get_or ts i d))
+    → node_count (symbols text ts) ≤ 255 * length ts
 tokens_small text [] all = omega arith
 tokens_small text (t ∷ ts) all =
     let here = kind_small t.kind (slice_range text t.start t.end) (all 0 t (omega arith)).spells in
@@ -74,12 +76,14 @@ lexical_from place text (t ∷ ts) byte (rest, next, more) =
     let m = length-append next.bytes rest in
     omega (arith, lexical_from t.end rest ts byte more, next.start, next.end, l, m)
 
-byte_within : (text : List ℕ) (ts : List Token) → ((i : ℕ) (d : Token) → i < length ts → IsPartOf text (get_or ts i d)) → (i : ℕ) → byte_of ts (length text) i ≤ length text
+byte_within : (text : List ℕ) (ts : List Token) → ((i : ℕ) (d : Token) → i < length ts → IsPartOf text (get_or ts i d)) → (i : ℕ)
+    → byte_of ts (length text) i ≤ length text
 byte_within text [] all i = omega arith
 byte_within text (t ∷ ts) all zero = let p = all 0 t (omega arith) in omega (arith, p.order, p.within)
 byte_within text (t ∷ ts) all (suc i) = byte_within text ts (λ j d lt. all (suc j) d (omega arith)) i
 
-place_within : (text : List ℕ) (ts : List Token) → AreTokens 0 text ts None → (place : Option ℕ) (byte : ℕ) → byte_at text ts place ≡ Some byte → byte ≤ length text
+place_within : (text : List ℕ) (ts : List Token) → AreTokens 0 text ts None → (place : Option ℕ) (byte : ℕ) → byte_at text ts place ≡ Some byte
+    → byte ≤ length text
 place_within text ts lexed None byte e = absurd (cc)
 place_within text ts lexed (Some i) byte e =
     let same : byte_of ts (length text) i ≡ byte = cc in

@@ -1,5 +1,6 @@
 -- The text of a trace whose states are sets of names that are text reads back as it.
-use Rattle.std.proofs.Common.{◌≡◌, ◌≤◌, ℕ, List, [], ◌∷◌, ◌++◌, map, codes, Bool, true, false, Some, option_map, option_and_then, IsUtf8, Contains, refl, sym, ap, ◌∙◌, arith, append-nil}
+use Rattle.std.proofs.Common.{◌≡◌, ◌≤◌, ℕ, List, [], ◌∷◌, ◌++◌, map, codes, Bool, true, false, Some, option_map, option_and_then, IsUtf8, Contains, refl, sym}
+use Rattle.std.proofs.Common.{ap, ◌∙◌, arith, append-nil}
 use Rattle.std.proofs.lemmas.Str.{IsUtf8-append, IsUtf8-nil}
 use Rattle.std.specs.Prelude.{⊤}
 use Rattle.json.specs.Json as json
@@ -27,7 +28,8 @@ use Rattle.black_top.proofs.Ordered.{here, later}
 read_outline : (d : Data) → tree.HasNumbers (outline d) → tree.depth (outline d) ≤ 127 → of_json (outline d) ≡ Some d → read (compact_text d) ≡ Some d
 read_outline d numbers shallow is =
     ap read (sym (print-outline d))
-    ∙ ap (λ ts. option_and_then of_json (option_and_then (λ p. json.if_last p.0 p.1) (json.value max_depth ts))) (tokens-print (tree.json_tokens (outline d)) (ArePrintable-json_tokens (outline d) numbers) ∙ sym (append-nil (tree.json_tokens (outline d))))
+    ∙ ap (λ ts. option_and_then of_json (option_and_then (λ p. json.if_last p.0 p.1) (json.value max_depth ts)))
+    (tokens-print (tree.json_tokens (outline d)) (ArePrintable-json_tokens (outline d) numbers) ∙ sym (append-nil (tree.json_tokens (outline d))))
     ∙ ap (λ o. option_and_then of_json (option_and_then (λ p. json.if_last p.0 p.1) o)) (value-json_tokens (outline d) max_depth [] shallow)
     ∙ is
 
@@ -64,7 +66,8 @@ trace_read : (t : Trace) → read (trace_text t) ≡ Some (trace_data t)
 trace_read (Infinite stem again) =
     let a = states_depth stem in
     let b = states_depth again in
-    read_outline (trace_data (Infinite stem again)) (tt, (states_numbers again, (states_numbers stem, tt))) (omega arith) (rw (states_read again, states_read stem) refl)
+    read_outline (trace_data (Infinite stem again)) (tt, (states_numbers again, (states_numbers stem, tt))) (omega arith)
+    (rw (states_read again, states_read stem) refl)
 trace_read (Finite states) =
     let a = states_depth states in
     read_outline (trace_data (Finite states)) (tt, (states_numbers states, tt)) (omega arith) (rw (states_read states) refl)
@@ -84,9 +87,11 @@ comma_text true = IsUtf8-are_ascii (44 ∷ []) refl
 comma_text false = IsUtf8-nil
 
 item_text : (later : Bool) (d : Data) (ds : Items) → IsUtf8 (compact_text d) → IsUtf8 (items_text true ds) → IsUtf8 (items_text later (item d ds))
-item_text later d ds one more = IsUtf8-append (comma_if later) (compact_text d ++ items_text true ds) (comma_text later) (IsUtf8-append (compact_text d) (items_text true ds) one more)
+item_text later d ds one more =
+    IsUtf8-append (comma_if later) (compact_text d ++ items_text true ds) (comma_text later) (IsUtf8-append (compact_text d) (items_text true ds) one more)
 
-member_text : (later : Bool) (k : List ℕ) (d : Data) (ms : Members) → IsUtf8 k → IsUtf8 (compact_text d) → IsUtf8 (members_text true ms) → IsUtf8 (members_text later (member k d ms))
+member_text : (later : Bool) (k : List ℕ) (d : Data) (ms : Members) → IsUtf8 k → IsUtf8 (compact_text d) → IsUtf8 (members_text true ms)
+    → IsUtf8 (members_text later (member k d ms))
 member_text later k d ms key one more =
     IsUtf8-append (comma_if later) (quoted k ++ 58 ∷ (compact_text d ++ members_text true ms)) (comma_text later)
     (IsUtf8-append (quoted k) (58 ∷ (compact_text d ++ members_text true ms)) (IsUtf8-quoted k key)
@@ -95,7 +100,8 @@ member_text later k d ms key one more =
 
 names_text : (b : Bool) (names : Names) → AreTexts names → IsUtf8 (items_text b (items_of (map string names)))
 names_text b [] h = IsUtf8-are_ascii (93 ∷ []) refl
-names_text b (n ∷ names) h = item_text b (string n) (items_of (map string names)) (IsUtf8-quoted n (h n (here n names))) (names_text true names (λ m c. h m (later n names m c)))
+names_text b (n ∷ names) h =
+    item_text b (string n) (items_of (map string names)) (IsUtf8-quoted n (h n (here n names))) (names_text true names (λ m c. h m (later n names m c)))
 
 array_text : (ds : Items) → IsUtf8 (items_text false ds) → IsUtf8 (compact_text (array ds))
 array_text ds h = IsUtf8-append (91 ∷ []) (items_text false ds) (IsUtf8-are_ascii (91 ∷ []) refl) h
@@ -124,13 +130,15 @@ text_there (Infinite stem again) h =
     let stems = member (codes "stem") (states_data stem) no_members in
     let loops = member (codes "loop") (states_data again) stems in
     object_text (member (codes "kind") (string (codes "infinite")) loops)
-    (member_text false (codes "kind") (string (codes "infinite")) loops (IsUtf8-are_ascii (codes "kind") refl) (IsUtf8-quoted (codes "infinite") (IsUtf8-are_ascii (codes "infinite") refl))
+    (member_text false (codes "kind") (string (codes "infinite")) loops (IsUtf8-are_ascii (codes "kind") refl)
+    (IsUtf8-quoted (codes "infinite") (IsUtf8-are_ascii (codes "infinite") refl))
     (member_text true (codes "loop") (states_data again) stems (IsUtf8-are_ascii (codes "loop") refl) (states_array again h.1)
     (member_text true (codes "stem") (states_data stem) no_members (IsUtf8-are_ascii (codes "stem") refl) (states_array stem h.0) no_more)))
 text_there (Finite states) h =
     let own = member (codes "states") (states_data states) no_members in
     object_text (member (codes "kind") (string (codes "finite")) own)
-    (member_text false (codes "kind") (string (codes "finite")) own (IsUtf8-are_ascii (codes "kind") refl) (IsUtf8-quoted (codes "finite") (IsUtf8-are_ascii (codes "finite") refl))
+    (member_text false (codes "kind") (string (codes "finite")) own (IsUtf8-are_ascii (codes "kind") refl)
+    (IsUtf8-quoted (codes "finite") (IsUtf8-are_ascii (codes "finite") refl))
     (member_text true (codes "states") (states_data states) no_members (IsUtf8-are_ascii (codes "states") refl) (states_array states h) no_more))
 
 -- ---- and so it reads back

@@ -1,5 +1,6 @@
 -- The text of the ring of at most 64 places is accepted, and reads as the ring.
-use Rattle.std.proofs.Common.{◌≡◌, ◌∙◌, ℕ, zero, suc, ◌+◌, ◌-◌, ◌*◌, ◌/◌, ◌%◌, ◌<◌, ◌≤◌, inl, inr, Bool, true, false, ◌&&◌, List, [], ◌∷◌, ◌++◌, length, refl, sym, ap, ap₂, subst, arith, length-append}
+use Rattle.std.proofs.Common.{◌≡◌, ◌∙◌, ℕ, zero, suc, ◌+◌, ◌-◌, ◌*◌, ◌/◌, ◌%◌, ◌<◌, ◌≤◌, inl, inr, Bool, true, false, ◌&&◌, List, [], ◌∷◌, ◌++◌, length, refl}
+use Rattle.std.proofs.Common.{sym, ap, ap₂, subst, arith, length-append}
 use Rattle.std.specs.Prelude.{codes, nat_lt, if◌then◌else◌}
 use Rattle.std.specs.Fmt.{decimal}
 use Rattle.std.specs.List.{list_all}
@@ -58,7 +59,8 @@ small_below zero g each = tt
 small_below (suc n) g each = small_append (below n g) (g n) (small_below n g (λ i lt. each i (omega (arith, lt)))) (each n (omega arith))
 
 -- a place and another text, joined by an operator
-both_short : (op second : List ℕ) (i : ℕ) → i < 64 → length op ≤ 4 → length second ≤ 5 → length (codes "(" ++ text_of (place i) ++ op ++ second ++ codes ")") ≤ 14
+both_short : (op second : List ℕ) (i : ℕ)
+    → i < 64 → length op ≤ 4 → length second ≤ 5 → length (codes "(" ++ text_of (place i) ++ op ++ second ++ codes ")") ≤ 14
 both_short op second i few low high =
     let a = place_short i few in
     let c = length-append (codes "(" ++ text_of (place i) ++ op ++ second) (codes ")") in
@@ -106,9 +108,13 @@ parts_small n few =
     let goes = below n (λ i. moves i (place_behind n i) ∷ []) in
     let comes = below n (λ i. returns i ∷ []) in
     let away = below n (apart_from_later n) in
-    let go = small_below n (λ i. moves i (place_behind n i) ∷ []) (λ i lt. (move_small i (place_behind n i) (omega (arith, lt, few)) (behind_few n i lt few), tt)) in
+    let go = small_below n (λ i. moves i (place_behind n i) ∷ [])
+    (λ i lt. (move_small i (place_behind n i) (omega (arith, lt, few)) (behind_few n i lt few), tt)) in
     let come = small_below n (λ i. returns i ∷ []) (λ i lt. (return_small i (omega (arith, lt, few)), tt)) in
-    let stay = small_below n (apart_from_later n) (λ i lt. small_below (n - (i + 1)) (λ k. apart i (i + 1 + k) ∷ []) (λ k less. (apart_small i (i + 1 + k) (omega (arith, lt, few)) (omega (arith, lt, few, less)), tt))) in
+    let stay = small_below n (apart_from_later n) (λ i lt. small_below (n - (i + 1)) (λ k. apart i (i + 1 + k) ∷ []) (λ k less. (
+      apart_small i (i + 1 + k) (omega (arith, lt, few)) (omega (arith, lt, few, less)),
+      tt,
+    ))) in
     small_append (goes ++ comes) away (small_append goes comes go come) stay
 
 -- ---- the ring

@@ -117,7 +117,8 @@ run_trace laws f kind k printable (r, run, accepted) =
     let rule = (laws.rules f kind k r).0 accepted in
     let given = laws.traces f kind k r rule.0 (plain_names laws f printable) rule.1 in
     let text = name_text laws f printable in
-    let w = listed [] (λ i. IsShownWell f r k (r i)) (suc k) (λ i low. let one = each_shown f r k rule.0 given.0 given.1 i (omega arith) in shown_well f r k text (r i) one.0 one.1) in
+    let w = listed [] (λ i. IsShownWell f r k (r i)) (suc k)
+    (λ i low. let one = each_shown f r k rule.0 given.0 given.1 i (omega arith) in shown_well f r k text (r i) one.0 one.1) in
     let count = w.1.0 in
     let are : AreShown f r k w.0 = record { states_length = count; first = λ i low. (w.1.1 i (omega arith)).0 } in
     let gives = shown_gives f r k kind rule.0 w.0 rule.1 are in

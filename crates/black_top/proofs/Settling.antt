@@ -15,7 +15,8 @@ pub in_force : (c : ClosureValue) (f : Formula) (kind : Kind) (n d : ℕ) → c.
 in_force c f kind n d formula same force = subst (λ k. IsInForce f k n d) same (subst (λ g. IsInForce g c.kind n d) formula force)
 
 -- the depth that was asked for is refused
-pub refused_letters : (c : ClosureValue) (kind : Kind) (wanted : Option ℕ) (core cert : Bool) (f : Formula) (d : ℕ) → c.formula ≡ f → c.kind ≡ kind → IsTooDeep c.formula c.kind wanted d
+pub refused_letters : (c : ClosureValue) (kind : Kind) (wanted : Option ℕ) (core cert : Bool) (f : Formula) (d : ℕ)
+    → c.formula ≡ f → c.kind ≡ kind → IsTooDeep c.formula c.kind wanted d
     → IsSettled kind wanted core cert f (refused (faults.Letters d))
 refused_letters c kind wanted core cert f d formula same (n, is, force, less) = too_deep n d is (in_force c f kind n d formula same force) less
 
@@ -24,7 +25,8 @@ number_is (Some m) n e = e
 number_is None n e = e
 
 -- the verdict at the limit
-pub settled_at : (c : ClosureValue) (kind : Kind) (wanted : Option ℕ) (core cert : Bool) (f : Formula) (n d : ℕ) → c.formula ≡ f → c.kind ≡ kind → n ≡ unwrap_or wanted 64 → IsLimit c.formula c.kind wanted d
+pub settled_at : (c : ClosureValue) (kind : Kind) (wanted : Option ℕ) (core cert : Bool) (f : Formula) (n d : ℕ)
+    → c.formula ≡ f → c.kind ≡ kind → n ≡ unwrap_or wanted 64 → IsLimit c.formula c.kind wanted d
     → (a : Answer) → IsDecided c.formula c.kind n d core cert a → IsSettled kind wanted core cert f a
 settled_at c kind wanted core cert f n d formula same is (force, reached) a there =
     let h = subst (λ k. IsDecided f k n d core cert a) same (subst (λ g. IsDecided g c.kind n d core cert a) formula there) in

@@ -44,7 +44,8 @@ no_newline x line other none (suc k, lt, e) = none (k, omega arith, e)
 one_more : (x : ℕ) (xs : List ℕ) → x ≢ 10 → (lines : List (List ℕ)) → AreLines xs lines → (more : List (List ℕ)) × AreLines (x ∷ xs) more
 one_more x xs other [] e = ((x ∷ []) ∷ [], ([], (no_newline x [] other (λ (k, lt, f). absurd (omega arith)), inr (ap (λ l. x ∷ l) e, refl, omega arith)), refl))
 one_more x xs other (line ∷ lines) (rest, (none, inl e), more) = ((x ∷ line) ∷ lines, (rest, (no_newline x line other none, inl (ap (λ l. x ∷ l) e)), more))
-one_more x xs other (line ∷ lines) (rest, (none, inr (e, r, p)), more) = ((x ∷ line) ∷ lines, (rest, (no_newline x line other none, inr (ap (λ l. x ∷ l) e, r, omega arith)), more))
+one_more x xs other (line ∷ lines) (rest, (none, inr (e, r, p)), more) =
+    ((x ∷ line) ∷ lines, (rest, (no_newline x line other none, inr (ap (λ l. x ∷ l) e, r, omega arith)), more))
 
 some_lines : (text : List ℕ) → (lines : List (List ℕ)) × AreLines text lines
 some_lines [] = ([], refl)
@@ -80,7 +81,8 @@ module _ (f : Formula) (kind : Kind) (first : HasFewLetters f kind 0) where
   ]
 
 some_limit : (f : Formula) (kind : Kind) (asked : ℕ) → formula_size f ≤ 16384 → (d : ℕ) × IsBatchLimit f kind asked d
-some_limit f kind asked few = let c = counts_few f (small_closure f few) in greatest f kind (few_at_first kind (counts f) c.few_entries c.few_eventualities) asked
+some_limit f kind asked few = let c = counts_few f (small_closure f few) in
+    greatest f kind (few_at_first kind (counts f) c.few_entries c.few_eventualities) asked
 
 -- ---- answers
 

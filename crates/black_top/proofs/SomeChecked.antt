@@ -1,5 +1,6 @@
 -- `check` has an answer: a text has a form fault or says a certificate, and of that there is a first bad line or none, and a first bad target or none.
-use Rattle.std.proofs.Common.{◌≡◌, ◌≢◌, ◌∙◌, ℕ, zero, suc, ◌+◌, ◌<◌, ◌≤◌, ◌⊎◌, inl, inr, Bool, true, false, List, [], ◌∷◌, get_or, All, Contains, Option, Some, None, refl, sym, ap₂, subst, arith}
+use Rattle.std.proofs.Common.{◌≡◌, ◌≢◌, ◌∙◌, ℕ, zero, suc, ◌+◌, ◌<◌, ◌≤◌, ◌⊎◌, inl, inr, Bool, true, false, List, [], ◌∷◌, get_or, All, Contains, Option, Some}
+use Rattle.std.proofs.Common.{None, refl, sym, ap₂, subst, arith}
 use Rattle.std.proofs.lemmas.Bool.{cases_lt}
 use Rattle.std.proofs.lemmas.List.Elements.{All-nil, All-cons, All-head, All-tail}
 use native.Mathlib.Decide.{dec_le}
@@ -17,7 +18,8 @@ use Rattle.cert_text.specs.Laws.{OthersHaveOne}
 use Rattle.log_checker.specs.Judging.{IsFirstBad, IsFirstBadLine}
 use Rattle.log_checker.specs.Laws.{FirstBadIsThere}
 use Rattle.cert_check.specs.Lawful.{target_literals, IsGoodTarget}
-use Rattle.cert_check.specs.Answer.{Answer as CheckAnswer, FormFault, OtherKind, TooManyLetters, BadLine, BadTarget, Verified, HasFewLetters, AreGoodLines, IsAnswer, AllGoodIsVerified}
+use Rattle.cert_check.specs.Answer.{Answer as CheckAnswer, FormFault, OtherKind, TooManyLetters, BadLine, BadTarget, Verified, HasFewLetters, AreGoodLines}
+use Rattle.cert_check.specs.Answer.{IsAnswer, AllGoodIsVerified}
 use Rattle.core_extract.specs.Laws.{LimitIsThere}
 use Rattle.black_top.specs.Check.{shown_of, IsChecked}
 use Rattle.black_top.proofs.SomeBatched.{same_number}
@@ -86,7 +88,8 @@ all_or_not lits (l ∷ line) = elim (contains_or_not lits l) [
 target_or_not : (f : Formula) (c : Certificate) (i : ℕ) → IsGoodTarget f c i ⊎ ¬ IsGoodTarget f c i
 target_or_not f c i = by (live_line c.parts (get_or c.targets i 0)) refl
   where
-    bad : (line : List Literal) → live_line c.parts (get_or c.targets i 0) ≡ Some line → ¬ All (Contains (target_literals f c.kind c.depth i)) line → ¬ IsGoodTarget f c i
+    bad : (line : List Literal) → live_line c.parts (get_or c.targets i 0) ≡ Some line → ¬ All (Contains (target_literals f c.kind c.depth i)) line
+        → ¬ IsGoodTarget f c i
     bad line e none (other, is, all) =
         let both : Some line ≡ Some other = sym e ∙ is in
         let same : other ≡ line = cc in
@@ -123,7 +126,8 @@ module _ (laws : CheckLaws) (f : Formula) (few : formula_size f ≤ 16384) (kind
     by_targets fits lines (Some i) bad = (BadTarget (suc i), (c, is, e, fits, lines, i, refl, bad))
     by_targets fits lines None good = (Verified, laws.good f kind text c is e fits lines good)
 
-    by_lines : HasFewLetters f c → (o : Option ℕ) → IsFirstBadLine (clause_list f c.kind c.depth) (letters_through c.kind (counts f) c.depth) c.parts o → IsFound
+    by_lines : HasFewLetters f c → (o : Option ℕ)
+        → IsFirstBadLine (clause_list f c.kind c.depth) (letters_through c.kind (counts f) c.depth) c.parts o → IsFound
     by_lines fits (Some k) bad = (BadLine (suc k), (c, is, e, fits, k, refl, bad))
     by_lines fits None good = let w = first_or_none (IsGoodTarget f c) (target_or_not f c) (c.depth + 2) in by_targets fits good w.0 w.1
 

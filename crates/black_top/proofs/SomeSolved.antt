@@ -20,7 +20,8 @@ use Rattle.core_extract.specs.Laws.{LimitIsThere, CoreIsThere}
 use Rattle.report.specs.declared.fault.Fault.TheVariants as faults
 use Rattle.black_top.specs.Answer.{Answer, refused, sat, unsat, undecided, holds, fails}
 use Rattle.black_top.specs.Conflict.{ShowsCore}
-use Rattle.black_top.specs.Solve.{IsReached, number_of, IsDecided, satisfiable, unsatisfiable, undecided_yet, IsSettled, too_deep, decided, IsSolved, unreadable, settled}
+use Rattle.black_top.specs.Solve.{IsReached, number_of, IsDecided, satisfiable, unsatisfiable, undecided_yet, IsSettled, too_deep, decided, IsSolved}
+use Rattle.black_top.specs.Solve.{unreadable, settled}
 use Rattle.black_top.specs.Trace.{IsJudged, not_json, not_trace, empty_loop, empty_states, many_cells, satisfied, violated}
 use Rattle.black_top.proofs.Ordered.{sets_length}
 use Rattle.black_top.proofs.RunTraces.{RunLaws, run_trace}
@@ -42,7 +43,8 @@ pub run_of : (f : Formula) (kind : Kind) (limit k : ℕ) → IsVerdict f kind li
 run_of f kind limit k (accepted low each has) = has
 
 -- the limit in force is below the depth that was asked for, or that depth is reached
-pub reached_or_below : (f : Formula) (kind : Kind) (wanted : Option ℕ) (d : ℕ) → IsInForce f kind (number_of wanted) d → IsReached wanted d ⊎ ((n : ℕ) × (wanted ≡ Some n) × IsInForce f kind n d × (d < n))
+pub reached_or_below : (f : Formula) (kind : Kind) (wanted : Option ℕ) (d : ℕ) → IsInForce f kind (number_of wanted) d
+    → IsReached wanted d ⊎ ((n : ℕ) × (wanted ≡ Some n) × IsInForce f kind n d × (d < n))
 reached_or_below f kind None d force = inl tt
 reached_or_below f kind (Some n) d force = elim (cases_lt d n) [
   | inl less ↦ inr (n, refl, force, less)
@@ -61,7 +63,8 @@ module _ (laws : SearchLaws) (part : List ℕ) (f : Formula) (read : IsAccepted 
   some_decided limit (Unsat k) h = let w = shown_core core in (unsat k w.0 None, unsatisfiable k w.0 None h w.1 refl)
   some_decided limit (Undecided k) h = (undecided k, undecided_yet k h)
 
-some_settled : SearchLaws → (part : List ℕ) (f : Formula) → IsAccepted part f → (kind : Kind) (wanted : Option ℕ) (core : Bool) → (a : Answer) × IsSettled kind wanted core false f a
+some_settled : SearchLaws → (part : List ℕ) (f : Formula) → IsAccepted part f → (kind : Kind) (wanted : Option ℕ) (core : Bool)
+    → (a : Answer) × IsSettled kind wanted core false f a
 some_settled laws part f read kind wanted core =
     let limit = laws.limit f kind (number_of wanted) read.few in
     elim (reached_or_below f kind wanted limit.0 limit.1) [
@@ -72,7 +75,8 @@ some_settled laws part f read kind wanted core =
           (w.0, decided limit.0 w.0 limit.1 is w.1)
     ]
 
-pub some_solved : EachHasOutcome → SearchLaws → (kind : Kind) (wanted : Option ℕ) (core : Bool) (part : List ℕ) → (a : Answer) × IsSolved kind wanted core false part a
+pub some_solved : EachHasOutcome → SearchLaws → (kind : Kind) (wanted : Option ℕ) (core : Bool) (part : List ℕ)
+    → (a : Answer) × IsSolved kind wanted core false part a
 some_solved outcome laws kind wanted core part = elim (accepted_or_refused outcome part) [
   | inl (f, read) ↦ let w = some_settled laws part f read kind wanted core in (w.0, settled f w.0 read w.1)
   | inr (fault, h) ↦ (refused fault, unreadable fault h)

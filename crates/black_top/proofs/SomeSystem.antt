@@ -19,7 +19,9 @@ use Rattle.report.specs.declared.fault.Fault.{Fault}
 use Rattle.report.specs.declared.fault.Fault.TheVariants as faults
 use Rattle.black_top.specs.Answer.{Answer, refused, no_path, paths_hold, path_fails, undecided}
 use Rattle.black_top.specs.Solve.{number_of}
-use Rattle.black_top.specs.System.{AreParts, HasFewSeparators, part_bytes, IsFaulty, lexical, grammar, in_start, in_step, in_goal, IsDecided, pathless, kept, broken, undecided_yet, IsSettled, too_large, no_start, no_step, too_deep, decided, IsSystemAnswer, unparted, too_long, faulty, settled}
+use Rattle.black_top.specs.System.{AreParts, HasFewSeparators, part_bytes, IsFaulty, lexical, grammar, in_start, in_step, in_goal, IsDecided, pathless, kept}
+use Rattle.black_top.specs.System.{broken, undecided_yet, IsSettled, too_large, no_start, no_step, too_deep, decided, IsSystemAnswer, unparted, too_long}
+use Rattle.black_top.specs.System.{faulty, settled}
 use Rattle.black_top.proofs.RunTraces.{run_trace}
 use Rattle.program_input.proofs.SomeParts.{EachHasOutcome, cut_or_not}
 use Rattle.black_top.proofs.SomeSolved.{SearchLaws, run_of, reached_or_below}

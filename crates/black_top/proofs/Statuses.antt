@@ -7,7 +7,8 @@ use Rattle.report.specs.declared.summary.Shown.{Shown}
 use Rattle.report.specs.declared.summary.Shown.TheVariants as verdicts
 use Rattle.batch_run.specs.Texts.{is_clean}
 use Rattle.report.specs.Status.{is_answer, fault_status}
-use Rattle.black_top.specs.Answer.{Answer, refused, sat, unsat, undecided, holds, fails, checked, summary, batched, no_path, paths_hold, path_fails, watched, depasted, lifted, shown_status, are_true, status_of}
+use Rattle.black_top.specs.Answer.{Answer, refused, sat, unsat, undecided, holds, fails, checked, summary, batched, no_path, paths_hold, path_fails, watched}
+use Rattle.black_top.specs.Answer.{depasted, lifted, shown_status, are_true, status_of}
 use Rattle.report.proofs.Statuses.{fault_refuses, refusal_answers}
 
 shown_answers : (v : Shown) → is_answer (shown_status v) ≡ true

@@ -22,7 +22,8 @@ use Rattle.program_input.proofs.OneText.{TextLaws, refused_not_accepted}
 -- ---- the text
 
 -- the ring's text is not refused
-pub not_refused : (n : ℕ) (text : List ℕ) (fault : Fault) → TextLaws → IsAccepted (text_of (ring n)) (ring n) → text ≡ text_of (ring n) → RefusesPart text fault → ⊥
+pub not_refused : (n : ℕ) (text : List ℕ) (fault : Fault) → TextLaws → IsAccepted (text_of (ring n)) (ring n) → text ≡ text_of (ring n)
+    → RefusesPart text fault → ⊥
 not_refused n text fault laws accepted is refuses =
     refused_not_accepted (text_of (ring n)) laws fault (ring n) (subst (λ t. RefusesPart t fault) is refuses) accepted
 
@@ -40,9 +41,11 @@ summary_with number nodes entries letters verdict = record { number = number; no
 laid_same : (c : ClosureValue) (n : ℕ) → c.formula ≡ ring n → c.kind ≡ kinds.Infinite → layout_of c ≡ layout (ring n) kinds.Infinite
 laid_same c n formula kind = ap₂ layout formula kind
 
-pub summed : (n limit nodes entries letters : ℕ) (verdict : Shown) (v : Verdict) (c : ClosureValue) (l : LayoutValue) → c.formula ≡ ring n → c.kind ≡ kinds.Infinite → l ≡ layout_of c
+pub summed : (n limit nodes entries letters : ℕ) (verdict : Shown) (v : Verdict) (c : ClosureValue) (l : LayoutValue) → c.formula ≡ ring n
+    → c.kind ≡ kinds.Infinite → l ≡ layout_of c
     → IsInForce (ring n) kinds.Infinite 64 limit → IsVerdict c.formula c.kind limit v → nodes ≡ nodes_in (ring n) → entries ≡ length (closure c.formula)
-    → letters ≡ letters_through l.kind l.counts n → verdict ≡ shown_verdict v → IsShown n (summary (record { number = n; nodes = nodes; entries = entries; letters = letters; verdict = verdict }))
+    → letters ≡ letters_through l.kind l.counts n → verdict ≡ shown_verdict v
+    → IsShown n (summary (record { number = n; nodes = nodes; entries = entries; letters = letters; verdict = verdict }))
 summed n limit nodes entries letters verdict v c l formula kind laid force decided counted entered lettered is =
     let there = subst (λ k. IsVerdict (ring n) k limit v) kind (subst (λ g. IsVerdict g c.kind limit v) formula decided) in
     let all = entered ∙ ap (λ g. length (closure g)) formula in
@@ -57,5 +60,6 @@ summed n limit nodes entries letters verdict v c l formula kind laid force decid
 -- a ring has one summary
 pub one_shown : (n : ℕ) → VerdictIsOne → (a b : Answer) → IsShown n a → IsShown n b → a ≡ b
 one_shown n one a b (shown limit v force h) (shown limit' v' force' h') =
-    let same : limit ≡ limit' = let low = force'.greatest limit force.below force.fits in let high = force.greatest limit' force'.below force'.fits in omega (arith, low, high) in
+    let same : limit ≡ limit' = let low = force'.greatest limit force.below force.fits in let high = force.greatest limit' force'.below force'.fits in
+    omega (arith, low, high) in
     ap (λ w. summary (summary_of n w)) (one (ring n) kinds.Infinite limit v v' h (subst (λ d. IsVerdict (ring n) kinds.Infinite d v') (sym same) h'))

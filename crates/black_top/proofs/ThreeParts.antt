@@ -21,7 +21,8 @@ after_length after text (inl (e, f)) = let k = ap length e in let l = ap length 
 after_length after text (inr e) = let k = ap length e ∙ length-append (10 ∷ []) text in (omega (arith, k), omega (arith, k))
 
 -- a cut leaves out a few bytes
-pub cut_length : (bytes part second : List ℕ) → IsCut bytes part second → (length part + length second + 3 ≤ length bytes) × (length bytes ≤ length part + length second + 6)
+pub cut_length : (bytes part second : List ℕ) → IsCut bytes part second
+    → (length part + length second + 3 ≤ length bytes) × (length bytes ≤ length part + length second + 6)
 cut_length bytes part second h =
     let whole = ap length h.whole ∙ length-append (h.before ++ h.line) h.after in
     let front = length-append h.before h.line in
@@ -30,7 +31,8 @@ cut_length bytes part second h =
     let a = after_length h.after second h.ends in
     (omega (arith, whole, front, l.0, b.0, a.0), omega (arith, whole, front, l.1, b.1, a.1))
 
-pub parts_length : (bytes : List ℕ) (parts : Three) → AreCut bytes parts → (part_bytes parts.start.now parts.step.now parts.goal.now ≤ length bytes) × (length bytes ≤ part_bytes parts.start.now parts.step.now parts.goal.now + 12)
+pub parts_length : (bytes : List ℕ) (parts : Three) → AreCut bytes parts
+    → (part_bytes parts.start.now parts.step.now parts.goal.now ≤ length bytes) × (length bytes ≤ part_bytes parts.start.now parts.step.now parts.goal.now + 12)
 parts_length bytes parts h =
     let one = cut_length bytes parts.start.now h.behind h.first in
     let two = cut_length h.behind parts.step.now parts.goal.now h.second in
@@ -39,13 +41,15 @@ parts_length bytes parts h =
 -- ---- one cut
 
 -- the parts, and what stands behind the first separator, are one
-pub record AreSame (bytes start step goal start' step' goal' : List ℕ) (p : AreParts bytes start step goal) (q : AreParts bytes start' step' goal') : Type 0 where
+pub record AreSame (bytes start step goal start' step' goal' : List ℕ) (p : AreParts bytes start step goal)
+    (q : AreParts bytes start' step' goal') : Type 0 where
   pub behind : p.behind ≡ q.behind
   pub start_same : start ≡ start'
   pub step_same : step ≡ step'
   pub goal_same : goal ≡ goal'
 
-pub same_parts : (bytes start step goal start' step' goal' : List ℕ) (p : AreParts bytes start step goal) (q : AreParts bytes start' step' goal') → AreSame bytes start step goal start' step' goal' p q
+pub same_parts : (bytes start step goal start' step' goal' : List ℕ) (p : AreParts bytes start step goal) (q : AreParts bytes start' step' goal')
+    → AreSame bytes start step goal start' step' goal' p q
 same_parts bytes start step goal start' step' goal' p q =
     let one = cut_one bytes start p.behind start' q.behind p.first q.first in
     let two = cut_one p.behind step goal step' goal' p.second (subst (λ b. IsCut b step' goal') (sym one.1) q.second) in

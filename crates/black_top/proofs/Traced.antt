@@ -17,7 +17,8 @@ use Rattle.report.specs.Status.{has_read}
 use Rattle.program_input.specs.Taking.{IsTakenWhole}
 use Rattle.black_top.specs.Answer.{Answer, refused, holds, fails, status_of, text_of}
 use Rattle.black_top.specs.Reading.{IsParted}
-use Rattle.black_top.specs.Trace.{IsJudged, not_json, not_trace, empty_loop, empty_states, many_cells, satisfied, violated, PrintsHolds, PrintsFails, OfTrace, TracePromise}
+use Rattle.black_top.specs.Trace.{IsJudged, not_json, not_trace, empty_loop, empty_states, many_cells, satisfied, violated, PrintsHolds, PrintsFails, OfTrace}
+use Rattle.black_top.specs.Trace.{TracePromise}
 use Rattle.black_top.specs.Run.{IsAnswered}
 use Rattle.black_top.proofs.Asking.{command_given}
 use Rattle.black_top.proofs.Parted.{HasOne, parted}
@@ -71,7 +72,8 @@ one_judgement one f text a b h k =
     let same : r ≡ s = one text r s read read' (λ e. subst (λ q. ByReading f q a) e by) (λ e. subst (λ q. ByReading f q b) e by') in
     one_by_reading f s a b (subst (λ q. ByReading f q a) same by) by'
 
-judged_holds : (f : Formula) (text : List ℕ) (before after : Option (List ℕ)) (a : Answer) → IsJudged f text a → statuses.Good ≡ status_of a → Grows (text_of a) before after
+judged_holds : (f : Formula) (text : List ℕ) (before after : Option (List ℕ)) (a : Answer) → IsJudged f text a → statuses.Good ≡ status_of a
+    → Grows (text_of a) before after
     → (t : Trace) × IsReading text (Ok t) × PrintsHolds f t before after
 judged_holds f text before after a (satisfied t h few is) e g = (t, h, (is, g))
 judged_holds f text before after a (not_json h) e g = absurd (cc)
@@ -81,7 +83,8 @@ judged_holds f text before after a (empty_states h) e g = absurd (cc)
 judged_holds f text before after a (many_cells t count h many) e g = absurd (cc)
 judged_holds f text before after a (violated t h few is) e g = absurd (cc)
 
-judged_fails : (f : Formula) (text : List ℕ) (before after : Option (List ℕ)) (a : Answer) → IsJudged f text a → statuses.Negative ≡ status_of a → Grows (text_of a) before after
+judged_fails : (f : Formula) (text : List ℕ) (before after : Option (List ℕ)) (a : Answer) → IsJudged f text a → statuses.Negative ≡ status_of a
+    → Grows (text_of a) before after
     → (t : Trace) × IsReading text (Ok t) × PrintsFails f t before after
 judged_fails f text before after a (violated t h few is) e g = (t, h, (is, g))
 judged_fails f text before after a (not_json h) e g = absurd (cc)
@@ -91,7 +94,8 @@ judged_fails f text before after a (empty_states h) e g = absurd (cc)
 judged_fails f text before after a (many_cells t count h many) e g = absurd (cc)
 judged_fails f text before after a (satisfied t h few is) e g = absurd (cc)
 
-traced : {words : List (List ℕ)} {rest before after : Option (List ℕ)} {s : Status} → Asks words TraceWord → (h : IsAnswered words rest before after s) → IsParted IsJudged h.given.bytes h.answer
+traced : {words : List (List ℕ)} {rest before after : Option (List ℕ)} {s : Status} → Asks words TraceWord → (h : IsAnswered words rest before after s)
+    → IsParted IsJudged h.given.bytes h.answer
 traced {words} asks h = command_given words h.given.bytes TraceWord h.answer asks h.given.lawful
 
 holds_from : {words : List (List ℕ)} {rest before after : Option (List ℕ)} → Asks words TraceWord → IsAnswered words rest before after statuses.Good
@@ -99,23 +103,47 @@ holds_from : {words : List (List ℕ)} {rest before after : Option (List ℕ)} �
 holds_from {words} {rest} {before} {after} asks h =
     let (part, second, f, cut, read, judged) = parted IsJudged h.given.bytes h.answer statuses.Good (traced asks h) refl h.own in
     let (t, reading, printed) = judged_holds f second before after h.answer judged h.own h.printed in
-    record { bytes = h.given.bytes; left = h.given.left; part = part; second = second; cut = cut; formula = f; accepted = read; trace = t; read = reading; claim = printed }
+    record {
+      bytes = h.given.bytes;
+      left = h.given.left;
+      part = part;
+      second = second;
+      cut = cut;
+      formula = f;
+      accepted = read;
+      trace = t;
+      read = reading;
+      claim = printed;
+    }
 
 fails_from : {words : List (List ℕ)} {rest before after : Option (List ℕ)} → Asks words TraceWord → IsAnswered words rest before after statuses.Negative
     → OfTrace rest (λ f t. PrintsFails f t before after)
 fails_from {words} {rest} {before} {after} asks h =
     let (part, second, f, cut, read, judged) = parted IsJudged h.given.bytes h.answer statuses.Negative (traced asks h) refl h.own in
     let (t, reading, printed) = judged_fails f second before after h.answer judged h.own h.printed in
-    record { bytes = h.given.bytes; left = h.given.left; part = part; second = second; cut = cut; formula = f; accepted = read; trace = t; read = reading; claim = printed }
+    record {
+      bytes = h.given.bytes;
+      left = h.given.left;
+      part = part;
+      second = second;
+      cut = cut;
+      formula = f;
+      accepted = read;
+      trace = t;
+      read = reading;
+      claim = printed;
+    }
 
-pub trace_broken : (IsQuiet : Type 0) (rest left before after : Option (List ℕ)) (status : Status) → IsBroken IsQuiet status → (IsTrue (has_read status) → IsTakenWhole rest left) → TracePromise rest left before after status
+pub trace_broken : (IsQuiet : Type 0) (rest left before after : Option (List ℕ)) (status : Status) → IsBroken IsQuiet status
+    → (IsTrue (has_read status) → IsTakenWhole rest left) → TracePromise rest left before after status
 trace_broken IsQuiet rest left before after status broken taken = record {
   when_holds = λ e. absurd (broken_not status statuses.Good broken.none refl e);
   when_fails = λ e. absurd (broken_not status statuses.Negative broken.none refl e);
   taken = taken;
 }
 
-pub trace_kept : (words : List (List ℕ)) (rest left before after : Option (List ℕ)) (status : Status) → Asks words TraceWord → IsAnswered words rest before after status → IsTakenWhole rest left → TracePromise rest left before after status
+pub trace_kept : (words : List (List ℕ)) (rest left before after : Option (List ℕ)) (status : Status) → Asks words TraceWord
+    → IsAnswered words rest before after status → IsTakenWhole rest left → TracePromise rest left before after status
 trace_kept words rest left before after status asks answer taken = record {
   when_holds = λ e. holds_from asks (subst (IsAnswered words rest before after) e answer);
   when_fails = λ e. fails_from asks (subst (IsAnswered words rest before after) e answer);

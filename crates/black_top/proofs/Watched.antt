@@ -1,5 +1,6 @@
 -- `monitor`: its answer is one, and what its answers mean.
-use Rattle.std.proofs.Common.{◌≡◌, ◌≢◌, ◌∙◌, ℕ, zero, suc, ◌<◌, Bool, true, false, List, [], ◌∷◌, length, slice_index_or, Option, Result, Ok, Err, IsTrue, refl, sym, ap, subst, arith, true≢false, if◌then◌else◌}
+use Rattle.std.proofs.Common.{◌≡◌, ◌≢◌, ◌∙◌, ℕ, zero, suc, ◌<◌, Bool, true, false, List, [], ◌∷◌, length, slice_index_or, Option, Result, Ok, Err, IsTrue, refl}
+use Rattle.std.proofs.Common.{sym, ap, subst, arith, true≢false, if◌then◌else◌}
 use Rattle.std.specs.List.{list_all}
 use Rattle.ltl_io.specs.Outside.{Grows}
 use Rattle.ltl_syntax.specs.Formula.{Formula}
@@ -30,7 +31,8 @@ shown_of (Err watch_refused.Future) = refused faults.LooksAhead
 shown_of (Err (watch_refused.State number)) = refused (faults.State number)
 shown_of (Err watch_refused.NoMemory) = refused faults.Usage
 
-by_watching : (f : Formula) (text : List ℕ) (a : Answer) → IsMonitored f text a → (r : Result (List Bool) WatchRefused) × IsWatched f text r × (r ≢ Err watch_refused.NoMemory) × (a ≡ shown_of r)
+by_watching : (f : Formula) (text : List ℕ) (a : Answer) → IsMonitored f text a
+    → (r : Result (List Bool) WatchRefused) × IsWatched f text r × (r ≢ Err watch_refused.NoMemory) × (a ≡ shown_of r)
 unfolding shown_of
 by_watching f text a (looks_ahead h) = (Err watch_refused.Future, h, (λ e. cc), refl)
 by_watching f text a (no_state number h) = (Err (watch_refused.State number), h, (λ e. cc), refl)
@@ -63,7 +65,8 @@ one_false [] e = absurd (true≢false e)
 one_false (false ∷ answers) e = (0, omega arith, refl)
 one_false (true ∷ answers) e = let w = one_false answers e in (suc w.0, omega arith, w.2)
 
-holds_at_each : (f : Formula) (states : List Names) (answers : List Bool) → AreAnswers f states answers → list_all (λ b. b) answers ≡ true → HoldsAtEach f states
+holds_at_each : (f : Formula) (states : List Names) (answers : List Bool) → AreAnswers f states answers
+    → list_all (λ b. b) answers ≡ true → HoldsAtEach f states
 holds_at_each f states answers are e n lt = (are.each n lt).0 (each_true answers e n (omega (arith, are.count)))
 
 fails_at_one : (f : Formula) (states : List Names) (answers : List Bool) → AreAnswers f states answers → list_all (λ b. b) answers ≡ false → FailsAtOne f states
@@ -72,14 +75,16 @@ fails_at_one f states answers are e =
     let low : w.0 < length states = omega (arith, w.1, are.count) in
     (w.0, low, λ h. true≢false (sym ((are.each w.0 low).1 h) ∙ w.2))
 
-monitored_each : (f : Formula) (text : List ℕ) (before after : Option (List ℕ)) (a : Answer) → IsMonitored f text a → statuses.Good ≡ status_of a → Grows (text_of a) before after → PrintsAnswers f text before after (HoldsAtEach f)
+monitored_each : (f : Formula) (text : List ℕ) (before after : Option (List ℕ)) (a : Answer) → IsMonitored f text a → statuses.Good ≡ status_of a
+    → Grows (text_of a) before after → PrintsAnswers f text before after (HoldsAtEach f)
 monitored_each f text before after a (looks_ahead h) e g = absurd (cc)
 monitored_each f text before after a (no_state number h) e g = absurd (cc)
 monitored_each f text before after a (answered answers h) e g =
     let all = good_when (list_all (λ b. b) answers) e in
     record { past = h.0; states = h.1.0; read = h.1.1; answers = answers; right = h.1.2; printed = g; claim = holds_at_each f h.1.0 answers h.1.2 all }
 
-monitored_one : (f : Formula) (text : List ℕ) (before after : Option (List ℕ)) (a : Answer) → IsMonitored f text a → statuses.Negative ≡ status_of a → Grows (text_of a) before after → PrintsAnswers f text before after (FailsAtOne f)
+monitored_one : (f : Formula) (text : List ℕ) (before after : Option (List ℕ)) (a : Answer) → IsMonitored f text a → statuses.Negative ≡ status_of a
+    → Grows (text_of a) before after → PrintsAnswers f text before after (FailsAtOne f)
 monitored_one f text before after a (looks_ahead h) e g = absurd (cc)
 monitored_one f text before after a (no_state number h) e g = absurd (cc)
 monitored_one f text before after a (answered answers h) e g =
@@ -88,29 +93,50 @@ monitored_one f text before after a (answered answers h) e g =
 
 -- ---- the promise
 
-monitored : {words : List (List ℕ)} {rest before after : Option (List ℕ)} {s : Status} → Asks words Monitor → (h : IsAnswered words rest before after s) → IsParted IsMonitored h.given.bytes h.answer
+monitored : {words : List (List ℕ)} {rest before after : Option (List ℕ)} {s : Status} → Asks words Monitor → (h : IsAnswered words rest before after s)
+    → IsParted IsMonitored h.given.bytes h.answer
 monitored {words} asks h = command_given words h.given.bytes Monitor h.answer asks h.given.lawful
 
 each_from : {words : List (List ℕ)} {rest before after : Option (List ℕ)} → Asks words Monitor → IsAnswered words rest before after statuses.Good
     → OfParts rest (λ f text. PrintsAnswers f text before after (HoldsAtEach f))
 each_from {words} {rest} {before} {after} asks h =
     let (part, second, f, cut, read, is) = parted IsMonitored h.given.bytes h.answer statuses.Good (monitored asks h) refl h.own in
-    record { bytes = h.given.bytes; left = h.given.left; part = part; second = second; cut = cut; formula = f; accepted = read; claim = monitored_each f second before after h.answer is h.own h.printed }
+    record {
+      bytes = h.given.bytes;
+      left = h.given.left;
+      part = part;
+      second = second;
+      cut = cut;
+      formula = f;
+      accepted = read;
+      claim = monitored_each f second before after h.answer is h.own h.printed;
+    }
 
 one_from : {words : List (List ℕ)} {rest before after : Option (List ℕ)} → Asks words Monitor → IsAnswered words rest before after statuses.Negative
     → OfParts rest (λ f text. PrintsAnswers f text before after (FailsAtOne f))
 one_from {words} {rest} {before} {after} asks h =
     let (part, second, f, cut, read, is) = parted IsMonitored h.given.bytes h.answer statuses.Negative (monitored asks h) refl h.own in
-    record { bytes = h.given.bytes; left = h.given.left; part = part; second = second; cut = cut; formula = f; accepted = read; claim = monitored_one f second before after h.answer is h.own h.printed }
+    record {
+      bytes = h.given.bytes;
+      left = h.given.left;
+      part = part;
+      second = second;
+      cut = cut;
+      formula = f;
+      accepted = read;
+      claim = monitored_one f second before after h.answer is h.own h.printed;
+    }
 
-pub monitor_broken : (IsQuiet : Type 0) (rest left before after : Option (List ℕ)) (status : Status) → IsBroken IsQuiet status → (IsTrue (has_read status) → IsTakenWhole rest left) → MonitorPromise rest left before after status
+pub monitor_broken : (IsQuiet : Type 0) (rest left before after : Option (List ℕ)) (status : Status) → IsBroken IsQuiet status
+    → (IsTrue (has_read status) → IsTakenWhole rest left) → MonitorPromise rest left before after status
 monitor_broken IsQuiet rest left before after status broken taken = record {
   when_each = λ e. absurd (broken_not status statuses.Good broken.none refl e);
   when_one_fails = λ e. absurd (broken_not status statuses.Negative broken.none refl e);
   taken = taken;
 }
 
-pub monitor_kept : (words : List (List ℕ)) (rest left before after : Option (List ℕ)) (status : Status) → Asks words Monitor → IsAnswered words rest before after status → IsTakenWhole rest left → MonitorPromise rest left before after status
+pub monitor_kept : (words : List (List ℕ)) (rest left before after : Option (List ℕ)) (status : Status) → Asks words Monitor
+    → IsAnswered words rest before after status → IsTakenWhole rest left → MonitorPromise rest left before after status
 monitor_kept words rest left before after status asks answer taken = record {
   when_each = λ e. each_from asks (subst (IsAnswered words rest before after) e answer);
   when_one_fails = λ e. one_from asks (subst (IsAnswered words rest before after) e answer);

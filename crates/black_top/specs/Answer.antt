@@ -12,7 +12,8 @@ use Rattle.report.specs.declared.fault.Fault.{Fault}
 use Rattle.report.specs.declared.summary.Summary.{Summary}
 use Rattle.report.specs.declared.summary.Shown.{Shown}
 use Rattle.report.specs.declared.summary.Shown.TheVariants as verdicts
-use Rattle.report.specs.Texts.{Proof, no_path_text, paths_hold_text, path_fails_text, sat_text, unsat_text, undecided_text, traced_text, checked_text, refused_text, answers_text, depasted_text, lifted_text}
+use Rattle.report.specs.Texts.{Proof, no_path_text, paths_hold_text, path_fails_text, sat_text, unsat_text, undecided_text, traced_text, checked_text}
+use Rattle.report.specs.Texts.{refused_text, answers_text, depasted_text, lifted_text}
 use Rattle.report.specs.Status.{fault_status}
 use Rattle.report.specs.Summary.{summary_text}
 use Rattle.report.specs.declared.status.Status.{Status}

@@ -22,7 +22,8 @@ max_batch = 16777216
 -- the answer of `batch` to the bytes: they are too many, or the answers to their formula lines
 pub data IsBatched (kind : Kind) (wanted : Option ℕ) (bytes : List ℕ) : Answer → Type 0 where
   too_many : max_batch < length bytes → IsBatched kind wanted bytes (refused faults.Batch)
-  answered : (answers : List LineAnswer) → length bytes ≤ max_batch → AreAnswers kind (number_of wanted) bytes answers → IsBatched kind wanted bytes (batched answers)
+  answered : (answers : List LineAnswer) → length bytes ≤ max_batch → AreAnswers kind (number_of wanted) bytes answers
+      → IsBatched kind wanted bytes (batched answers)
 
 -- exactly the text of the answers to the formula lines was printed, with their status
 pub record PrintsAnswers (kind : Kind) (wanted : Option ℕ) (bytes : List ℕ) (before after : Option (List ℕ)) (status : Status) : Type 0 where

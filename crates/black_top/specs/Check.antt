@@ -78,7 +78,8 @@ pub record CheckPromise (settings : List Setting) (IsQuiet : Type 0) (rest left 
   pub found : (bytes part second : List ℕ) (f : Formula) → rest ≡ Some bytes → IsCut bytes part second → IsAccepted part f → IsQuiet
       → (status ≡ statuses.NoMemory) ⊎ PrintsFound (kind_of settings) f second before after status
   -- a lawful certificate of an accepted formula is verified, or there was no memory
-  pub verdict : (bytes part second : List ℕ) (f : Formula) → rest ≡ Some bytes → IsCut bytes part second → IsAccepted part f → CertOk f (kind_of settings) second → IsQuiet
+  pub verdict : (bytes part second : List ℕ) (f : Formula) → rest ≡ Some bytes → IsCut bytes part second → IsAccepted part f
+      → CertOk f (kind_of settings) second → IsQuiet
       → (status ≡ statuses.NoMemory) ⊎ ((status ≡ statuses.Good) × Grows (checked_text verdicts.Verified) before after)
   -- nothing is left of the source
   pub taken : IsTrue (has_read status) → IsTakenWhole rest left

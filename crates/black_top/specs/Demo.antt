@@ -78,7 +78,8 @@ summary_of n verdict = record {
 
 -- the answer is the summary, with the tableau's verdict on the ring over infinite traces at the limit in force for 64
 pub data IsShown (n : ℕ) : Answer → Type 0 where
-  shown : (limit : ℕ) (verdict : Verdict) → IsInForce (ring n) kinds.Infinite 64 limit → IsVerdict (ring n) kinds.Infinite limit verdict → IsShown n (summary (summary_of n verdict))
+  shown : (limit : ℕ) (verdict : Verdict) → IsInForce (ring n) kinds.Infinite 64 limit → IsVerdict (ring n) kinds.Infinite limit verdict
+      → IsShown n (summary (summary_of n verdict))
 
 -- the summary was printed, with its status
 pub record PrintsSummary (n : ℕ) (before after : Option (List ℕ)) (status : Status) : Type 0 where

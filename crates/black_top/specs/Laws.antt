@@ -18,4 +18,5 @@ IsCovered bytes Depast = HasNoSeparator bytes
 
 -- words that ask for a covered command, or for none, have an answer to the bytes
 abbrev pub AnswerIsThere : Type 0
-AnswerIsThere = (words : List (List ℕ)) (bytes : List ℕ) → ((command : Command) → Asks words command → IsCovered bytes command) → (answer : Answer) × IsAnswer words bytes answer
+AnswerIsThere = (words : List (List ℕ)) (bytes : List ℕ) → ((command : Command) → Asks words command → IsCovered bytes command) → (answer : Answer)
+    × IsAnswer words bytes answer

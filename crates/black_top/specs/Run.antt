@@ -3,7 +3,8 @@ use Rattle.std.specs.Prelude.{◌≡◌, ℕ, List, Option}
 use Rattle.ltl_io.specs.Outside.{Grows, GrowsByFront}
 use Rattle.report.specs.declared.fault.Fault.TheVariants as faults
 use Rattle.report.specs.declared.status.Status.{Status}
-use Rattle.command_words.specs.Words.{Command, Solve, Check, Trace, Demo, Batch, System, Monitor, Depast, Asks, ReadsNothing, kind_of, depth_of, core_of, cert_of}
+use Rattle.command_words.specs.Words.{Command, Solve, Check, Trace, Demo, Batch, System, Monitor, Depast, Asks, ReadsNothing, kind_of, depth_of, core_of}
+use Rattle.command_words.specs.Words.{cert_of}
 use Rattle.program_input.specs.Taking.{AreLeft}
 use Rattle.black_top.specs.Answer.{Answer, refused, status_of, text_of}
 use Rattle.black_top.specs.Reading.{IsParted}

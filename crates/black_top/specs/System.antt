@@ -57,7 +57,8 @@ pub data IsFaulty (part : List ℕ) (place : ℕ) : Fault → Type 0 where
 pub data HasFault (bytes behind start step goal : List ℕ) (fault : Fault) : Type 0 where
   in_start : IsFaulty start 0 fault → HasFault bytes behind start step goal fault
   in_step : (f : Formula) → ReadsText start f → IsFaulty step (length bytes - length behind) fault → HasFault bytes behind start step goal fault
-  in_goal : (f g : Formula) → ReadsText start f → ReadsText step g → IsFaulty goal (length bytes - length goal) fault → HasFault bytes behind start step goal fault
+  in_goal : (f g : Formula) → ReadsText start f → ReadsText step g → IsFaulty goal (length bytes - length goal) fault
+      → HasFault bytes behind start step goal fault
 
 -- ---- the answer
 
@@ -71,11 +72,14 @@ ProvesWhole true whole k proof = (text : List ℕ) × (proof ≡ Some (record { 
 -- that reads back, and UNDECIDED where its verdict is so
 pub data IsDecided (start step goal : Formula) (limit : ℕ) (cert : Bool) : Answer → Type 0 where
   pathless : (k : ℕ) → Says (system_of start step) limit (Unsat k) → IsDecided start step goal limit cert (no_path k)
-  kept : (k : ℕ) (proof : Option Proof) → IsNotRefuted (system_of start step) limit → Says (whole_of start step goal) limit (Unsat k) → ProvesWhole cert (whole_of start step goal) k proof
+  kept : (k : ℕ) (proof : Option Proof) → IsNotRefuted (system_of start step) limit → Says (whole_of start step goal) limit (Unsat k)
+      → ProvesWhole cert (whole_of start step goal) k proof
       → IsDecided start step goal limit cert (paths_hold k proof)
-  broken : (k : ℕ) (t : Trace) → IsNotRefuted (system_of start step) limit → Says (whole_of start step goal) limit (Sat k) → IsTraceOfRun (whole_of start step goal) kinds.Infinite k t
+  broken : (k : ℕ) (t : Trace) → IsNotRefuted (system_of start step) limit → Says (whole_of start step goal) limit (Sat k)
+      → IsTraceOfRun (whole_of start step goal) kinds.Infinite k t
       → ReadsBack t → IsDecided start step goal limit cert (path_fails k t)
-  undecided_yet : (d : ℕ) → IsNotRefuted (system_of start step) limit → Says (whole_of start step goal) limit (Undecided d) → IsDecided start step goal limit cert (undecided d)
+  undecided_yet : (d : ℕ) → IsNotRefuted (system_of start step) limit → Says (whole_of start step goal) limit (Undecided d)
+      → IsDecided start step goal limit cert (undecided d)
 
 -- the answer to three formulas: the whole formula is too large, the start or else the step misses its form, the depth that was asked for has too
 -- many letters, or the answer at the limit in force of the whole formula
@@ -83,17 +87,22 @@ pub data IsSettled (wanted : Option ℕ) (cert : Bool) (start step goal : Formul
   too_large : 16384 < whole_size start step goal → IsSettled wanted cert start step goal (refused (faults.Nodes (whole_size start step goal)))
   no_start : whole_size start step goal ≤ 16384 → ¬ IsPropositional start → IsSettled wanted cert start step goal (refused faults.SystemStart)
   no_step : whole_size start step goal ≤ 16384 → IsPropositional start → ¬ IsStepForm step → IsSettled wanted cert start step goal (refused faults.SystemStep)
-  too_deep : (n limit : ℕ) → whole_size start step goal ≤ 16384 → IsSystem start step → wanted ≡ Some n → IsInForce (whole_of start step goal) kinds.Infinite n limit → limit < n
+  too_deep : (n limit : ℕ) → whole_size start step goal ≤ 16384 → IsSystem start step → wanted ≡ Some n
+      → IsInForce (whole_of start step goal) kinds.Infinite n limit → limit < n
       → IsSettled wanted cert start step goal (refused (faults.Letters limit))
-  decided : (limit : ℕ) (answer : Answer) → whole_size start step goal ≤ 16384 → IsSystem start step → IsInForce (whole_of start step goal) kinds.Infinite (number_of wanted) limit → IsReached wanted limit
+  decided : (limit : ℕ) (answer : Answer) → whole_size start step goal ≤ 16384 → IsSystem start step
+      → IsInForce (whole_of start step goal) kinds.Infinite (number_of wanted) limit → IsReached wanted limit
       → IsDecided start step goal limit cert answer → IsSettled wanted cert start step goal answer
 
 -- the answer of `system` to the bytes: too few separators, too many bytes, the first fault, or that to the three formulas
 pub data IsSystemAnswer (wanted : Option ℕ) (cert : Bool) (bytes : List ℕ) : Answer → Type 0 where
   unparted : HasFewSeparators bytes → IsSystemAnswer wanted cert bytes (refused faults.NoSeparator)
-  too_long : (start step goal : List ℕ) → AreParts bytes start step goal → 1048576 < part_bytes start step goal → IsSystemAnswer wanted cert bytes (refused faults.Text)
-  faulty : (start step goal : List ℕ) (fault : Fault) (parts : AreParts bytes start step goal) → part_bytes start step goal ≤ 1048576 → HasFault bytes parts.behind start step goal fault → IsSystemAnswer wanted cert bytes (refused fault)
-  settled : (start step goal : List ℕ) (f g h : Formula) (answer : Answer) → AreParts bytes start step goal → part_bytes start step goal ≤ 1048576 → ReadsText start f → ReadsText step g → ReadsText goal h
+  too_long : (start step goal : List ℕ) → AreParts bytes start step goal → 1048576 < part_bytes start step goal
+      → IsSystemAnswer wanted cert bytes (refused faults.Text)
+  faulty : (start step goal : List ℕ) (fault : Fault) (parts : AreParts bytes start step goal)
+      → part_bytes start step goal ≤ 1048576 → HasFault bytes parts.behind start step goal fault → IsSystemAnswer wanted cert bytes (refused fault)
+  settled : (start step goal : List ℕ) (f g h : Formula) (answer : Answer) → AreParts bytes start step goal
+      → part_bytes start step goal ≤ 1048576 → ReadsText start f → ReadsText step g → ReadsText goal h
       → IsSettled wanted cert f g h answer → IsSystemAnswer wanted cert bytes answer
 
 -- ---- what is promised
@@ -105,7 +114,8 @@ pub record PrintsHolds (cert : Bool) (start step goal : Formula) (before after :
   pub proof : Option Proof
   pub each : (t : Trace) → IsPath start step t → Satisfies t goal
   pub proves : ProvesWhole cert (whole_of start step goal) depth proof
-  pub verified : (shown : Proof) → proof ≡ Some shown → length shown.formula ≤ 1048576 → IsParted (IsChecked kinds.Infinite) (with_certificate shown.formula shown.certificate) (checked verdicts.Verified)
+  pub verified : (shown : Proof) → proof ≡ Some shown
+      → length shown.formula ≤ 1048576 → IsParted (IsChecked kinds.Infinite) (with_certificate shown.formula shown.certificate) (checked verdicts.Verified)
   pub shows : Grows (paths_hold_text depth proof) before after
 
 -- FAILS was printed with a path that does not satisfy the goal, and what was printed reads back as that path
@@ -171,7 +181,8 @@ pub record SystemPromise (settings : List Setting) (IsQuiet : Type 0) (rest left
   -- UNDECIDED is printed only where neither is known at the limit in force of the whole formula, and never where that limit is at least its bound
   pub when_undecided : status ≡ statuses.Undecided → OfSystem rest (λ f g h. PrintsUndecided (depth_of settings) f g h before after)
   -- a system and a goal whose letters are few enough get their answer, or there was no memory
-  pub verdict : (bytes : List ℕ) (f g h : Formula) → rest ≡ Some bytes → AreSystem bytes f g h → AreFewLetters kinds.Infinite (depth_of settings) (whole_of f g h) → IsQuiet
+  pub verdict : (bytes : List ℕ) (f g h : Formula) → rest ≡ Some bytes → AreSystem bytes f g h
+      → AreFewLetters kinds.Infinite (depth_of settings) (whole_of f g h) → IsQuiet
       → (status ≡ statuses.NoMemory) ⊎ PrintsAnswer (depth_of settings) (cert_of settings) f g h before after status
   -- nothing is left of the source
   pub taken : IsTrue (has_read status) → IsTakenWhole rest left

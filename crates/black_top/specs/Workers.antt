@@ -13,7 +13,8 @@ pub record AskAlike (one other : List Setting) : Type 0 where
 
 -- words that ask for the command with settings that say the same have the same answers
 abbrev pub AnswerAlike : (List Setting → Command) → Type 0
-AnswerAlike command = (words also : List (List ℕ)) (one other : List Setting) (bytes : List ℕ) (answer : Answer) → Asks words (command one) → Asks also (command other)
+AnswerAlike command =
+    (words also : List (List ℕ)) (one other : List Setting) (bytes : List ℕ) (answer : Answer) → Asks words (command one) → Asks also (command other)
     → AskAlike one other → IsAnswer words bytes answer → IsAnswer also bytes answer
 
 -- each command that is done by workers

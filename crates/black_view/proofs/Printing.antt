@@ -1,5 +1,6 @@
 -- What is printed of an input, from what the code has.
-use Rattle.std.proofs.Common.{◌≡◌, ◌≢◌, ℕ, ◌≤◌, ◌<◌, List, [], ◌++◌, length, take, drop, codes, Result, Ok, Err, None, Contains, ◌↔◌, IfOk, OnOk, sym, ap, subst, ◌∙◌}
+use Rattle.std.proofs.Common.{◌≡◌, ◌≢◌, ℕ, ◌≤◌, ◌<◌, List, [], ◌++◌, length, take, drop, codes, Result, Ok, Err, None, Contains, ◌↔◌, IfOk, OnOk, sym, ap}
+use Rattle.std.proofs.Common.{subst, ◌∙◌}
 use Rattle.std.proofs.lemmas.List.{append-nil}
 use Rattle.ltl_word.specs.declared.trace.Trace.{Trace}
 use Rattle.ltl_word.specs.declared.json.TraceFault.{TraceFault}
@@ -12,7 +13,8 @@ use Rattle.black_view.specs.declared.words.Request.{Request}
 use Rattle.black_view.specs.declared.status.Status.{Status}
 use Rattle.black_view.specs.declared.status.Status.TheVariants as statuses
 use Rattle.black_view.specs.Input.{HasNoTrace, IsTraceAt}
-use Rattle.black_view.specs.Output.{IsViewed, IsDrawn, IsAskedGrid, IsTooLarge, picture_of, fault_line, max_bytes, max_cells, AreChosen, AreLetters, drawn, too_large, too_long, without, refused, read}
+use Rattle.black_view.specs.Output.{IsViewed, IsDrawn, IsAskedGrid, IsTooLarge, picture_of, fault_line, max_bytes, max_cells, AreChosen, AreLetters, drawn}
+use Rattle.black_view.specs.Output.{too_large, too_long, without, refused, read}
 
 -- a relation on a status and a text, at equal ones
 moved : (R : Status → List ℕ → Type 0) (s s' : Status) (x x' : List ℕ) → s ≡ s' → x ≡ x' → R s' x' → R s x
@@ -32,9 +34,11 @@ long_as request bytes status printed long is = moved (IsViewed request bytes) st
 
 pub without_as : (request : Request) (bytes : List ℕ) (status : Status) (printed : List ℕ) → length bytes ≤ max_bytes → HasNoTrace bytes
     → (status ≡ statuses.NoTrace) × (printed ≡ bytes ++ []) → IsViewed request bytes status printed
-without_as request bytes status printed few none is = moved (IsViewed request bytes) status statuses.NoTrace printed bytes is.0 (is.1 ∙ append-nil bytes) (without few none)
+without_as request bytes status printed few none is =
+    moved (IsViewed request bytes) status statuses.NoTrace printed bytes is.0 (is.1 ∙ append-nil bytes) (without few none)
 
-pub refused_as : (request : Request) (bytes lines json : List ℕ) (at : ℕ) (fault : TraceFault) (r : Result Trace TraceFault) (status : Status) (printed : List ℕ)
+pub refused_as : (request : Request) (bytes lines json : List ℕ) (at : ℕ) (fault : TraceFault) (r : Result Trace TraceFault) (status : Status)
+    (printed : List ℕ)
     → length bytes ≤ max_bytes → IsTraceAt bytes at → fault ≢ faults.NoMemory → lines ≡ take at bytes → json ≡ drop at bytes → IsReading json r → r ≡ Err fault
     → (status ≡ statuses.Text) × (printed ≡ lines ++ fault_line fault) → IsViewed request bytes status printed
 refused_as request bytes lines json at fault r status printed few there known front back reading bad is =
@@ -45,7 +49,8 @@ pub read_as : (request : Request) (bytes lines json : List ℕ) (at : ℕ) (t : 
     → length bytes ≤ max_bytes → IsTraceAt bytes at → lines ≡ take at bytes → json ≡ drop at bytes → IsReading json r → r ≡ Ok t
     → IsDrawn request lines t status printed → IsViewed request bytes status printed
 read_as request bytes lines json at t r status printed few there front back reading good is =
-    read at t status printed few there (subst (λ x. IsReading x (Ok t)) back (subst (IsReading json) good reading)) (subst (λ xs. IsDrawn request xs t status printed) front is)
+    read at t status printed few there (subst (λ x. IsReading x (Ok t)) back (subst (IsReading json) good reading))
+    (subst (λ xs. IsDrawn request xs t status printed) front is)
 
 -- all letters are asked for where none are named
 pub all_letters : (request : Request) (t : Trace) (set names : Names) → request.only ≡ None → names ≡ set → IsAscending names

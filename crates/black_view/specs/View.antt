@@ -26,7 +26,8 @@ pub data IsAnswer (words : List (List ℕ)) (rest after : Option (List ℕ)) : S
   help : AskHelp words → after ≡ rest → IsAnswer words rest after statuses.Good help_text
   version : AskVersion words → after ≡ rest → IsAnswer words rest after statuses.Good version_text
   usage : AskNothing words → after ≡ rest → IsAnswer words rest after statuses.Usage usage_text
-  picture : (request : Request) (bytes : List ℕ) (status : Status) (printed : List ℕ) → wanted words ≡ Some (wanted_of request) → TakesWhole max_bytes bytes rest after
+  picture : (request : Request) (bytes : List ℕ) (status : Status) (printed : List ℕ) → wanted words ≡ Some (wanted_of request)
+      → TakesWhole max_bytes bytes rest after
       → IsViewed request bytes status printed → IsAnswer words rest after status printed
 
 -- an answer was given, and a told content grew by exactly its text

@@ -1,5 +1,6 @@
 -- How a search begins, begins anew, and ends.
-use Rattle.std.proofs.Common.{◌≡◌, ◌≢◌, ℕ, ◌<◌, ◌≤◌, ◌+◌, ◌*◌, ◌^◌, ◌⊎◌, inl, inr, [], ◌∷◌, List, All, AllPairs, Contains, Bool, false, true, take, length, get_or, None, refl, sym, ap, ◌∙◌, subst, arith, length-take-le}
+use Rattle.std.proofs.Common.{◌≡◌, ◌≢◌, ℕ, ◌<◌, ◌≤◌, ◌+◌, ◌*◌, ◌^◌, ◌⊎◌, inl, inr, [], ◌∷◌, List, All, AllPairs, Contains, Bool, false, true, take, length}
+use Rattle.std.proofs.Common.{get_or, None, refl, sym, ap, ◌∙◌, subst, arith, length-take-le}
 use Rattle.std.proofs.lemmas.Bool.{cases_lt, cases_eq}
 use Rattle.std.proofs.lemmas.List.{get_or-take, get_or_append_left, get_or_at, length_push}
 use Rattle.std.proofs.lemmas.List.Elements.{All-contains}
@@ -21,14 +22,16 @@ use Rattle.cdcl.specs.Choice.{IsAssumedTop, IsFreeTop}
 use Rattle.cdcl.specs.Solving.{IsAfter, IsRestarted, IsNegated, IsConsistent, IsLineOf, IsFound}
 use Rattle.cdcl.specs.declared.solve.Answer.{Answer}
 use Rattle.cdcl.specs.declared.solve.Answer.TheVariants.{Sat, Unsat}
-use Rattle.cdcl.proofs.Search.{EachDecision, IsGuided, IsAssumed, HasNoNear, IsSearch, each_take, each_forced, assumed_negated, after_none, after_same, after_trail, search_propagated, search_turned, places_of, fuel}
+use Rattle.cdcl.proofs.Search.{EachDecision, IsGuided, IsAssumed, HasNoNear, IsSearch, each_take, each_forced, assumed_negated, after_none, after_same}
+use Rattle.cdcl.proofs.Search.{after_trail, search_propagated, search_turned, places_of, fuel}
 
 -- what is forgotten, or heeded again, stays in the log
 pub after_all_lines : (old s new : StateValue) (all_lines : Bool) → IsAfter old s → new ≡ with_all_lines s all_lines → IsAfter old new
 after_all_lines old s new all_lines after is = after_same old s new after (ap (λ (x : StateValue). x.letters) is) (ap (λ (x : StateValue). x.log) is)
 
 -- at the start no decision stands but of assumptions, and each line is heeded
-pub search_start : (old new : StateValue) (assumptions : List Literal) → IsFront (with_all_lines old true) new → All (λ e. e.reason ≡ None → Contains assumptions e.literal) new.trail → IsSearch old new assumptions
+pub search_start : (old new : StateValue) (assumptions : List Literal) → IsFront (with_all_lines old true) new
+    → All (λ e. e.reason ≡ None → Contains assumptions e.literal) new.trail → IsSearch old new assumptions
 search_start old new assumptions front decided =
     let each : EachDecision (IsAssumed assumptions) new.trail = λ k below free. decided k blank_entry below free in
     record {
@@ -42,7 +45,8 @@ search_start old new assumptions front decided =
     }
 
 -- a way back keeps what holds of the search
-pub search_back : (old s new : StateValue) (assumptions : List Literal) (level : ℕ) → IsSearch old s assumptions → IsBack s new level → IsSearch old new assumptions
+pub search_back : (old s new : StateValue) (assumptions : List Literal) (level : ℕ) → IsSearch old s assumptions → IsBack s new level
+    → IsSearch old new assumptions
 search_back old s new assumptions level search back =
     let t : new.trail ≡ take (length new.trail) s.trail = ap (λ (x : StateValue). x.trail) back.front in
     record {
@@ -50,7 +54,8 @@ search_back old s new assumptions level search back =
       guided = subst (EachDecision (IsGuided assumptions)) (sym t) (each_take (IsGuided assumptions) (length new.trail) s.trail back.short search.guided);
       near = elim search.near [
         | inl quiet ↦ inl (record {
-          decided = subst (EachDecision (IsAssumed assumptions)) (sym t) (each_take (IsAssumed assumptions) (length new.trail) s.trail back.short quiet.decided);
+          decided =
+              subst (EachDecision (IsAssumed assumptions)) (sym t) (each_take (IsAssumed assumptions) (length new.trail) s.trail back.short quiet.decided);
           lines = ap (λ (x : StateValue). x.log.lines) back.front ∙ quiet.lines;
           all_lines = ap (λ (x : StateValue). x.all_lines) back.front ∙ quiet.all_lines;
         })
@@ -59,7 +64,8 @@ search_back old s new assumptions level search back =
     }
 
 -- where no clause is near, lines may be forgotten
-pub search_reduced : (old s new : StateValue) (assumptions : List Literal) → HasNoNear old.log assumptions → IsSearch old s assumptions → (new ≡ s) ⊎ (new ≡ with_all_lines s false) → IsSearch old new assumptions
+pub search_reduced : (old s new : StateValue) (assumptions : List Literal) → HasNoNear old.log assumptions → IsSearch old s assumptions
+    → (new ≡ s) ⊎ (new ≡ with_all_lines s false) → IsSearch old new assumptions
 search_reduced old s new assumptions none search cases = elim cases [
   | inl same ↦ subst (λ (x : StateValue). IsSearch old x assumptions) (sym same) search
   | inr light ↦ record {
@@ -87,7 +93,8 @@ restarted_letters old new restarted =
       | inr light ↦ ap (λ (x : StateValue). x.letters) light ∙ back
     ]
 
-pub falls_at_restart : (first s new : StateValue) (left before : ℕ) → s.letters ≡ first.letters → fuel s < fuel first → ((new ≡ s) × (left ≡ before)) ⊎ (IsRestarted s new × (before ≡ left + 1))
+pub falls_at_restart : (first s new : StateValue) (left before : ℕ) → s.letters ≡ first.letters → fuel s < fuel first
+    → ((new ≡ s) × (left ≡ before)) ⊎ (IsRestarted s new × (before ≡ left + 1))
     → measure left (places_of new) new.trail < measure before (places_of first) first.trail
 falls_at_restart first s new left before letters falls cases = elim cases [
   | inl same ↦
@@ -99,7 +106,8 @@ falls_at_restart first s new left before letters falls cases = elim cases [
   | inr anew ↦
       let places : places_of new ≡ places_of first = ap (λ n. n + 2) (restarted_letters s new anew.0 ∙ letters) in
       subst (λ n. measure left n new.trail < measure before (places_of first) first.trail) (sym places)
-      (subst (λ n. measure left (places_of first) new.trail < measure n (places_of first) first.trail) (sym anew.1) (restart_falls left (places_of first) first.trail new.trail))
+      (subst (λ n. measure left (places_of first) new.trail < measure n (places_of first) first.trail) (sym anew.1)
+      (restart_falls left (places_of first) first.trail new.trail))
 ]
 
 module _ (trail : List Entry) (apart : AllPairs (λ e f. e.literal.letter.0 ≢ f.literal.letter.0) trail) where
@@ -114,7 +122,8 @@ module _ (trail : List Entry) (apart : AllPairs (λ e f. e.literal.letter.0 ≢ 
   ]
 
   -- where all assumptions were true before a place, none of their letters stands there or behind
-  not_later : (assumptions : List Literal) (k p : ℕ) (l : Literal) → k ≤ p → p < length trail → All (Contains (literals_of (take k trail))) assumptions → Contains assumptions l → ¬ ((literal_at trail p).letter.0 ≡ l.letter.0)
+  not_later : (assumptions : List Literal) (k p : ℕ) (l : Literal) → k ≤ p → p < length trail → All (Contains (literals_of (take k trail))) assumptions
+      → Contains assumptions l → ¬ ((literal_at trail p).letter.0 ≡ l.letter.0)
   not_later assumptions k p l before low all there same =
       let at = true_place trail k l (omega (arith, before, low)) (All-contains (Contains (literals_of (take k trail))) assumptions l all there) in
       let equal = one_place at.0 p (omega (arith, at.1, before, low)) low (ap (λ (m : Literal). m.letter.0) at.2 ∙ sym same) in
@@ -122,7 +131,8 @@ module _ (trail : List Entry) (apart : AllPairs (λ e f. e.literal.letter.0 ≢ 
 
   module _ (assumptions : List Literal) (guided : EachDecision (IsGuided assumptions) trail) where
     -- where a place has an assumption's letter, the decisions up to it are assumptions
-    pub assumed_up : (p : ℕ) (l : Literal) → p < length trail → Contains assumptions l → (literal_at trail p).letter.0 ≡ l.letter.0 → (k : ℕ) → k ≤ p → (get_or trail k blank_entry).reason ≡ None → Contains assumptions (literal_at trail k)
+    pub assumed_up : (p : ℕ) (l : Literal) → p < length trail → Contains assumptions l → (literal_at trail p).letter.0 ≡ l.letter.0 → (k : ℕ)
+        → k ≤ p → (get_or trail k blank_entry).reason ≡ None → Contains assumptions (literal_at trail k)
     assumed_up p l low there same k before free = elim (guided k (omega (arith, before, low)) free) [
       | inl is ↦ is
       | inr all ↦ absurd (not_later assumptions k p l before low all there same)
@@ -147,13 +157,15 @@ module _ (trail : List Entry) (apart : AllPairs (λ e f. e.literal.letter.0 ≢ 
     ]
 
     -- the clause that explains a false assumption has only opposites of assumptions
-    pub refuted_assumed : (l : Literal) (p : ℕ) → Contains assumptions l → p < length trail → literal_at trail p ≡ opposite l → EachDecision (IsAssumed assumptions) (refuted_at trail p)
+    pub refuted_assumed : (l : Literal) (p : ℕ) → Contains assumptions l → p < length trail → literal_at trail p ≡ opposite l
+        → EachDecision (IsAssumed assumptions) (refuted_at trail p)
     refuted_assumed l p there low is k below free =
         let e : Entry = record { literal = opposite (literal_at trail p); level = p + 1; reason = None } in
         let front : length (take p trail) ≡ p = length-take-le p trail (omega (arith, low)) in
         elim (cases_lt k p) [
           | inl earlier ↦
-              let same : get_or (refuted_at trail p) k blank_entry ≡ get_or trail k blank_entry = get_or_append_left (take p trail) (e ∷ []) blank_entry k (omega (arith, earlier, front)) ∙ get_or-take p trail k blank_entry earlier in
+              let same : get_or (refuted_at trail p) k blank_entry ≡ get_or trail k blank_entry =
+              get_or_append_left (take p trail) (e ∷ []) blank_entry k (omega (arith, earlier, front)) ∙ get_or-take p trail k blank_entry earlier in
               subst (λ (f : Entry). Contains assumptions f.literal) (sym same)
               (assumed_up p l low there (ap (λ (m : Literal). m.letter.0) is) k (omega (arith, earlier)) (ap (λ (f : Entry). f.reason) (sym same) ∙ free))
           | inr high ↦
@@ -163,10 +175,13 @@ module _ (trail : List Entry) (apart : AllPairs (λ e f. e.literal.letter.0 ≢ 
               (subst (Contains assumptions) (sym (ap opposite is ∙ opposite_opposite l)) there)
         ]
 
-pub refuted_negated : (s : StateValue) (assumptions : List Literal) (l : Literal) (learnt : Learnt) → AllPairs (λ e f. e.literal.letter.0 ≢ f.literal.letter.0) s.trail → EachDecision (IsGuided assumptions) s.trail → Contains assumptions l → IsRefuted s l learnt
+pub refuted_negated : (s : StateValue) (assumptions : List Literal) (l : Literal) (learnt : Learnt)
+    → AllPairs (λ e f. e.literal.letter.0 ≢ f.literal.letter.0) s.trail → EachDecision (IsGuided assumptions) s.trail → Contains assumptions l
+    → IsRefuted s l learnt
     → IsNegated assumptions learnt.clause.items
 refuted_negated s assumptions l learnt apart guided there is =
-    assumed_negated s.log (refuted_at s.trail is.place) learnt assumptions is.explains is.decisions (refuted_assumed s.trail apart assumptions guided l is.place there is.within is.is)
+    assumed_negated s.log (refuted_at s.trail is.place) learnt assumptions is.explains is.decisions
+    (refuted_assumed s.trail apart assumptions guided l is.place there is.within is.is)
 
 -- where the last decision is no assumption, no clause is near
 pub none_near : (old s : StateValue) (assumptions : List Literal) → IsSearch old s assumptions → IsFreeTop s.trail assumptions → HasNoNear old.log assumptions
@@ -176,12 +191,14 @@ none_near old s assumptions search top = elim search.near [
 ]
 
 -- what came of a conflict where the last decision is no assumption
-module _ (old first s : StateValue) (assumptions : List Literal) (search : IsSearch old first assumptions) (grown : Propagated first s) (top : IsFreeTop s.trail assumptions) where
+module _ (old first s : StateValue) (assumptions : List Literal) (search : IsSearch old first assumptions) (grown : Propagated first s)
+    (top : IsFreeTop s.trail assumptions) where
   pub conflict_none : HasNoNear old.log assumptions
   conflict_none = none_near old s assumptions (search_propagated old first s assumptions search grown) top
 
   -- it was explained and learnt from, and then the search did or did not begin anew
-  pub conflict_restarted : (same learnt new : StateValue) (clause : List Literal) (hints : List Hint) (left before : ℕ) → same ≡ s → IsTurn (with_log same (with_line same.log clause hints)) learnt
+  pub conflict_restarted : (same learnt new : StateValue) (clause : List Literal) (hints : List Hint) (left before : ℕ)
+      → same ≡ s → IsTurn (with_log same (with_line same.log clause hints)) learnt
       → ((new ≡ learnt) × (left ≡ before)) ⊎ (IsRestarted learnt new × (before ≡ left + 1)) → IsSearch old new assumptions
   conflict_restarted same learnt new clause hints left before is turn cases =
       let derived = ap (λ (x : StateValue). with_log x (with_line x.log clause hints)) is in
@@ -190,7 +207,8 @@ module _ (old first s : StateValue) (assumptions : List Literal) (search : IsSea
 
 -- with one line more, the question added at most one where a clause is near
 pub near_one : (old s new : StateValue) (assumptions : List Literal) → IsSearch old s assumptions → length new.log.lines ≤ length s.log.lines + 1
-    → (clause : List Literal) (hints : List Hint) → IsNegated assumptions clause → IsHintedStep old.log.inputs old.log.lines greatest_u32 clause hints → length new.log.lines ≤ length old.log.lines + 1
+    → (clause : List Literal) (hints : List Hint) → IsNegated assumptions clause → IsHintedStep old.log.inputs old.log.lines greatest_u32 clause hints
+    → length new.log.lines ≤ length old.log.lines + 1
 near_one old s new assumptions search few clause hints negated step = elim search.near [
   | inl quiet ↦ omega (arith, few, ap length quiet.lines)
   | inr none ↦ absurd (none clause hints negated step)
@@ -200,7 +218,8 @@ only_of : (P : Literal → Type 0) (clause literals : List Literal) → All P cl
 only_of P clause literals each within = λ k d lt. All-contains P clause (get_or literals k d) each (within k d lt)
 
 -- the answer by a line
-pub line_found : (s : StateValue) (assumptions clause : List Literal) (answer : Answer) → IsNegated assumptions clause → IsLineOf s clause answer → IsFound s assumptions answer
+pub line_found : (s : StateValue) (assumptions clause : List Literal) (answer : Answer) → IsNegated assumptions clause → IsLineOf s clause answer
+    → IsFound s assumptions answer
 line_found s assumptions clause Sat negated is = absurd is
 line_found s assumptions clause (Unsat line) negated is =
     (is.0, is.1, only_of (λ l. Contains assumptions (opposite l)) clause (clause_at s.log.lines line) negated is.2)

@@ -1,7 +1,9 @@
 -- What holds from turn to turn of the search.
-use Rattle.std.proofs.Common.{◌≡◌, ◌≢◌, ℕ, zero, suc, ◌<◌, ◌≤◌, ◌+◌, ◌-◌, ◌⊎◌, inl, inr, ◌++◌, [], ◌∷◌, List, All, Any, Contains, take, drop, length, get_or, add-one, Bool, true, Some, None, refl, sym, ap, ◌∙◌, subst, arith, length-append, length-take}
+use Rattle.std.proofs.Common.{◌≡◌, ◌≢◌, ℕ, zero, suc, ◌<◌, ◌≤◌, ◌+◌, ◌-◌, ◌⊎◌, inl, inr, ◌++◌, [], ◌∷◌, List, All, Any, Contains, take, drop, length, get_or}
+use Rattle.std.proofs.Common.{add-one, Bool, true, Some, None, refl, sym, ap, ◌∙◌, subst, arith, length-append, length-take}
 use Rattle.std.proofs.lemmas.Bool.{cases_lt}
-use Rattle.std.proofs.lemmas.List.{append-nil, append_assoc, take-take, take-append-le, take_at, take-append-drop, drop_more, get_or-take, get_or_append_left, get_or_at, get_or-map, length-map, length_push}
+use Rattle.std.proofs.lemmas.List.{append-nil, append_assoc, take-take, take-append-le, take_at, take-append-drop, drop_more, get_or-take, get_or_append_left}
+use Rattle.std.proofs.lemmas.List.{get_or_at, get_or-map, length-map, length_push}
 use Rattle.std.proofs.lemmas.Option.{slice_get-get_or, slice_get_within, get_or_from_slice_get}
 use Rattle.std.proofs.lemmas.List.Elements.{All-nil, All-cons, All-head, All-tail, All-contains}
 use Rattle.cnf_base.specs.declared.literal.Literal.{Literal}
@@ -34,7 +36,8 @@ IsAssumed assumptions before l = Contains assumptions l
 
 -- no clause of opposites of assumptions is a hinted step over the log
 abbrev pub HasNoNear : LogValue → List Literal → Type 0
-HasNoNear log assumptions = (clause : List Literal) (hints : List Hint) → IsNegated assumptions clause → ¬ IsHintedStep log.inputs log.lines greatest_u32 clause hints
+HasNoNear log assumptions =
+    (clause : List Literal) (hints : List Hint) → IsNegated assumptions clause → ¬ IsHintedStep log.inputs log.lines greatest_u32 clause hints
 
 -- only assumptions were decided, and each line is an earlier one and is heeded
 pub record IsQuiet (old s : StateValue) (assumptions : List Literal) : Type 0 where
@@ -56,7 +59,8 @@ module _ (P : List Literal → Literal → Type 0) where
       (subst (λ t. P (literals_of t) (literal_at trail k)) (sym (take-take k n trail (omega arith)))
       (each k (omega arith) (ap (λ (e : Entry). e.reason) (sym same) ∙ free)))
 
-  pub each_push : (trail : List Entry) (e : Entry) → EachDecision P trail → (e.reason ≡ None → P (literals_of trail) e.literal) → EachDecision P (trail ++ e ∷ [])
+  pub each_push : (trail : List Entry) (e : Entry) → EachDecision P trail → (e.reason ≡ None → P (literals_of trail) e.literal)
+      → EachDecision P (trail ++ e ∷ [])
   each_push trail e each here k below free = elim (cases_lt k (length trail)) [
     | inl old ↦
         let same = get_or_append_left trail (e ∷ []) blank_entry k old in
@@ -75,7 +79,8 @@ module _ (P : List Literal → Literal → Type 0) where
   each_append trail [] each forced = subst (EachDecision P) (sym (append-nil trail)) each
   each_append trail (e ∷ more) each forced =
       subst (EachDecision P) (append_assoc trail (e ∷ []) more)
-      (each_append (trail ++ e ∷ []) more (each_push trail e each (λ free. absurd (All-head (λ f. f.reason ≢ None) e more forced free))) (All-tail (λ f. f.reason ≢ None) e more forced))
+      (each_append (trail ++ e ∷ []) more (each_push trail e each (λ free. absurd (All-head (λ f. f.reason ≢ None) e more forced free)))
+      (All-tail (λ f. f.reason ≢ None) e more forced))
 
   pub each_forced : (trail : List Entry) → All (λ e. e.reason ≢ None) trail → EachDecision P trail
   each_forced trail forced k below free = absurd (forced k blank_entry below free)
@@ -104,14 +109,16 @@ weight_grown n trail [] fits = subst (λ t. weight n t ≤ weight n trail) (sym 
 weight_grown n trail (e ∷ more) fits =
     let longer : length (trail ++ e ∷ more) ≡ length trail + length (e ∷ more) = length-append trail (e ∷ more) in
     let assoc = append_assoc trail (e ∷ []) more in
-    let rest = subst (λ t. weight n t ≤ weight n (trail ++ e ∷ [])) assoc (weight_grown n (trail ++ e ∷ []) more (subst (λ t. length t ≤ n) (sym assoc) fits)) in
+    let rest = subst (λ t. weight n t ≤ weight n (trail ++ e ∷ [])) assoc
+    (weight_grown n (trail ++ e ∷ []) more (subst (λ t. length t ≤ n) (sym assoc) fits)) in
     omega (arith, rest, weight_push n trail e (omega arith))
 
 pub weight_propagated : (old new : StateValue) → Propagated old new → length new.trail ≤ new.letters + 1 → fuel new ≤ fuel old
 weight_propagated old new grown bounded =
     let same : places_of new ≡ places_of old = ap (λ n. n + 2) grown.letters in
     let fits : length (old.trail ++ grown.more) ≤ places_of old = omega (arith, bounded, grown.letters, ap length grown.trail) in
-    subst (λ n. weight n new.trail ≤ fuel old) (sym same) (subst (λ t. weight (places_of old) t ≤ fuel old) (sym grown.trail) (weight_grown (places_of old) old.trail grown.more fits))
+    subst (λ n. weight n new.trail ≤ fuel old) (sym same)
+    (subst (λ t. weight (places_of old) t ≤ fuel old) (sym grown.trail) (weight_grown (places_of old) old.trail grown.more fits))
 
 pub weight_decided : (old new : StateValue) (l : Literal) → IsDecided old new l → length old.trail ≤ old.letters + 1 → fuel new < fuel old
 weight_decided old new l decided bounded =
@@ -124,7 +131,8 @@ all_heeded all_lines is (Clause n) = tt
 all_heeded all_lines is (Line n) = is
 
 -- a clause of opposites of true literals is no hinted step where the trail is settled and no line is forgotten
-settled_refutes_nothing : (s : StateValue) → IsSettled s → s.all_lines ≡ true → {falses : List Literal} {hints : List Hint} → Refutes s.log.inputs s.log.lines greatest_u32 falses hints → ¬ All (λ l. Contains (literals_of s.trail) (opposite l)) falses
+settled_refutes_nothing : (s : StateValue) → IsSettled s → s.all_lines ≡ true → {falses : List Literal} {hints : List Hint}
+    → Refutes s.log.inputs s.log.lines greatest_u32 falses hints → ¬ All (λ l. Contains (literals_of s.trail) (opposite l)) falses
 settled_refutes_nothing s settled all_lines {falses} (conflict {hint = hint} {clause = clause} names all_false) on_trail =
     (settled hint (all_heeded s.all_lines all_lines hint)).0 (record {
       clause = clause;
@@ -145,7 +153,8 @@ settled_refutes_nothing s settled all_lines {falses} (propagate {hint = hint} {c
     let here = settled hint (all_heeded s.all_lines all_lines hint) in
     let not_unset = here.1 u reason in
     not_unset (record {
-      not_true = λ there. settled_refutes_nothing s settled all_lines rest (All-cons (λ l. Contains T (opposite l)) (opposite u) falses (subst (Contains T) (sym (opposite_opposite u)) there) on_trail);
+      not_true = λ there. settled_refutes_nothing s settled all_lines rest
+          (All-cons (λ l. Contains T (opposite l)) (opposite u) falses (subst (Contains T) (sym (opposite_opposite u)) there) on_trail);
       not_false = λ there. here.0 (record {
         clause = clause;
         is = names.is;
@@ -153,16 +162,19 @@ settled_refutes_nothing s settled all_lines {falses} (propagate {hint = hint} {c
       });
     })
 
-pub no_near : (old s : StateValue) (assumptions : List Literal) → IsAfter old s → IsSettled s → s.all_lines ≡ true → All (Contains (literals_of s.trail)) assumptions → HasNoNear old.log assumptions
+pub no_near : (old s : StateValue) (assumptions : List Literal) → IsAfter old s → IsSettled s
+    → s.all_lines ≡ true → All (Contains (literals_of s.trail)) assumptions → HasNoNear old.log assumptions
 no_near old s assumptions after settled all_lines all_true clause hints negated step =
     let more = refutes_more old.log.inputs [] old.log.lines after.log.more greatest_u32 step.refutes in
     let here : Refutes s.log.inputs s.log.lines greatest_u32 clause hints =
     subst (λ i. Refutes i s.log.lines greatest_u32 clause hints) (append-nil old.log.inputs ∙ sym after.log.inputs)
     (subst (λ ls. Refutes (old.log.inputs ++ []) ls greatest_u32 clause hints) (sym after.log.lines) more) in
-    settled_refutes_nothing s settled all_lines here (λ k d below. All-contains (Contains (literals_of s.trail)) assumptions (opposite (get_or clause k d)) all_true (negated k d below))
+    settled_refutes_nothing s settled all_lines here
+    (λ k d below. All-contains (Contains (literals_of s.trail)) assumptions (opposite (get_or clause k d)) all_true (negated k d below))
 
 -- where each letter is set, a clause has a true literal or is false
-true_or_false : (true_ones clause : List Literal) → ((l : Literal) → Contains clause l → Contains true_ones l ⊎ Contains true_ones (opposite l)) → Any (Contains true_ones) clause ⊎ All (λ l. Contains true_ones (opposite l)) clause
+true_or_false : (true_ones clause : List Literal) → ((l : Literal) → Contains clause l → Contains true_ones l ⊎ Contains true_ones (opposite l))
+    → Any (Contains true_ones) clause ⊎ All (λ l. Contains true_ones (opposite l)) clause
 true_or_false true_ones [] set = inr (All-nil (λ l. Contains true_ones (opposite l)))
 true_or_false true_ones (l ∷ clause) set = elim (set l (0, omega arith, refl)) [
   | inl h ↦ inl (0, l, omega arith, refl, h)
@@ -173,13 +185,16 @@ true_or_false true_ones (l ∷ clause) set = elim (set l (0, omega arith, refl))
 ]
 
 -- a learnt clause of assumed decisions has only opposites of assumptions
-pub assumed_negated : (log : LogValue) (trail : List Entry) (learnt : Learnt) (assumptions : List Literal) → IsLearnt log trail learnt → All (IsDecision trail) learnt.places.items → EachDecision (IsAssumed assumptions) trail → IsNegated assumptions learnt.clause.items
+pub assumed_negated : (log : LogValue) (trail : List Entry) (learnt : Learnt) (assumptions : List Literal) → IsLearnt log trail learnt
+    → All (IsDecision trail) learnt.places.items → EachDecision (IsAssumed assumptions) trail → IsNegated assumptions learnt.clause.items
 assumed_negated log trail learnt assumptions is decisions each k d below =
     let f : ℕ → Literal = λ p. opposite (literal_at trail p) in
     let low : k < length learnt.places.items = omega (arith, below, ap length is.clause_is, length-map learnt.places.items f) in
-    let at : get_or learnt.clause.items k d ≡ f (get_or learnt.places.items k 0) = ap (λ c. get_or c k d) is.clause_is ∙ get_or-map f learnt.places.items k 0 d low in
+    let at : get_or learnt.clause.items k d ≡ f (get_or learnt.places.items k 0) =
+    ap (λ c. get_or c k d) is.clause_is ∙ get_or-map f learnt.places.items k 0 d low in
     let decision = decisions k 0 low in
-    subst (Contains assumptions) (sym (ap opposite at ∙ opposite_opposite (literal_at trail (get_or learnt.places.items k 0)))) (each (get_or learnt.places.items k 0) decision.within decision.free)
+    subst (Contains assumptions) (sym (ap opposite at ∙ opposite_opposite (literal_at trail (get_or learnt.places.items k 0))))
+    (each (get_or learnt.places.items k 0) decision.within decision.free)
 
 longer_none : (log : LogValue) → IsLonger log log
 longer_none log = record { inputs = refl; more = []; lines = sym (append-nil log.lines); reasons = []; hints = sym (append-nil log.hints) }
@@ -203,7 +218,8 @@ longer_line old mid clause hints longer = record {
   hints = ap (λ hs. hs ++ hints ∷ []) longer.hints ∙ append_assoc old.hints longer.reasons (hints ∷ []);
 }
 
-pub after_line : (old s new : StateValue) (clause : List Literal) (hints : List Hint) → IsAfter old s → new ≡ with_log s (with_line s.log clause hints) → IsAfter old new
+pub after_line : (old s new : StateValue) (clause : List Literal) (hints : List Hint) → IsAfter old s
+    → new ≡ with_log s (with_line s.log clause hints) → IsAfter old new
 after_line old s new clause hints after is =
     subst (IsAfter old) (sym is) (record { letters = after.letters; log = longer_line old.log s.log clause hints after.log })
 
@@ -223,7 +239,10 @@ after_both old s new first second = record {
 pub after_unturned : (old s new : StateValue) (learnt : Learnt) → IsAfter old s → IsUnturned s new learnt → IsAfter old new
 after_unturned old s new learnt after un = elim un.log [
   | inl same ↦ after_same old s new after un.letters same
-  | inr lined ↦ record { letters = un.letters ∙ after.letters; log = subst (IsLonger old.log) (sym lined) (longer_line old.log s.log learnt.clause.items learnt.hints.items after.log) }
+  | inr lined ↦ record {
+    letters = un.letters ∙ after.letters;
+    log = subst (IsLonger old.log) (sym lined) (longer_line old.log s.log learnt.clause.items learnt.hints.items after.log);
+  }
 ]
 
 pub search_propagated : (old s new : StateValue) (assumptions : List Literal) → IsSearch old s assumptions → Propagated s new → IsSearch old new assumptions
@@ -240,7 +259,8 @@ search_propagated old s new assumptions search grown = record {
   ];
 }
 
-pub search_turned : (old s mid new : StateValue) (clause : List Literal) (hints : List Hint) (assumptions : List Literal) → IsSearch old s assumptions → HasNoNear old.log assumptions
+pub search_turned : (old s mid new : StateValue) (clause : List Literal) (hints : List Hint) (assumptions : List Literal) → IsSearch old s assumptions
+    → HasNoNear old.log assumptions
     → mid ≡ with_log s (with_line s.log clause hints) → IsTurn mid new → IsSearch old new assumptions
 search_turned old s mid new clause hints assumptions search none derived turn =
     let same : mid.trail ≡ s.trail = ap (λ (t : StateValue). t.trail) derived in
@@ -249,11 +269,13 @@ search_turned old s mid new clause hints assumptions search none derived turn =
     let fits : turn.place ≤ length mid.trail = omega (arith, turn.decision.within) in
     record {
       after = after_trail old mid _ new (after_line old s mid clause hints search.after derived) turn.after;
-      guided = rw t (each_push (IsGuided assumptions) (take turn.place mid.trail) turn.entry (each_take (IsGuided assumptions) turn.place mid.trail fits guided) (λ free. absurd (turn.forced free)));
+      guided = rw t (each_push (IsGuided assumptions) (take turn.place mid.trail) turn.entry (each_take (IsGuided assumptions) turn.place mid.trail fits guided)
+          (λ free. absurd (turn.forced free)));
       near = inr none;
     }
 
-pub search_assumed : (old s new : StateValue) (l : Literal) (assumptions : List Literal) → IsSearch old s assumptions → Contains assumptions l → IsDecided s new l → IsSearch old new assumptions
+pub search_assumed : (old s new : StateValue) (l : Literal) (assumptions : List Literal) → IsSearch old s assumptions → Contains assumptions l
+    → IsDecided s new l → IsSearch old new assumptions
 search_assumed old s new l assumptions search there decided =
     let e : Entry = record { literal = l; level = decided.level; reason = None } in
     let t : new.trail ≡ s.trail ++ e ∷ [] = ap (λ (x : StateValue). x.trail) decided.after in
@@ -270,7 +292,8 @@ search_assumed old s new l assumptions search there decided =
       ];
     }
 
-pub search_free : (old s new : StateValue) (l : Literal) (assumptions : List Literal) → IsSearch old s assumptions → IsSettled s → All (Contains (literals_of s.trail)) assumptions → IsDecided s new l → IsSearch old new assumptions
+pub search_free : (old s new : StateValue) (l : Literal) (assumptions : List Literal) → IsSearch old s assumptions → IsSettled s
+    → All (Contains (literals_of s.trail)) assumptions → IsDecided s new l → IsSearch old new assumptions
 search_free old s new l assumptions search settled all_true decided =
     let e : Entry = record { literal = l; level = decided.level; reason = None } in
     let t : new.trail ≡ s.trail ++ e ∷ [] = ap (λ (x : StateValue). x.trail) decided.after in
@@ -284,11 +307,15 @@ search_free old s new l assumptions search settled all_true decided =
     }
 
 -- the last line by its number
-pub last_line : (s mid : StateValue) (clause : List Literal) (hints : List Hint) (line : ℕ) → mid ≡ with_log s (with_line s.log clause hints) → line ≡ length mid.log.lines → numbered mid.log.lines line ≡ Some clause
+pub last_line : (s mid : StateValue) (clause : List Literal) (hints : List Hint) (line : ℕ) → mid ≡ with_log s (with_line s.log clause hints)
+    → line ≡ length mid.log.lines → numbered mid.log.lines line ≡ Some clause
 last_line s mid clause hints line derived is =
     let lines : mid.log.lines ≡ s.log.lines ++ clause ∷ [] = ap (λ (x : StateValue). x.log.lines) derived in
     let number : line ≡ suc (length s.log.lines) = is ∙ ap length lines ∙ length_push s.log.lines clause ∙ add-one (length s.log.lines) in
-    rw (number, lines) (slice_get-get_or (s.log.lines ++ clause ∷ []) (length s.log.lines) clause (omega (arith, length_push s.log.lines clause)) ∙ ap Some (get_or_at s.log.lines clause [] clause (length s.log.lines) refl))
+    rw (number, lines) (slice_get-get_or (s.log.lines ++ clause ∷ []) (length s.log.lines) clause (omega (
+      arith,
+      length_push s.log.lines clause,
+    )) ∙ ap Some (get_or_at s.log.lines clause [] clause (length s.log.lines) refl))
 
 -- where each letter of an input is set and no clause is false, each input has a true literal
 pub inputs_true : (s : StateValue) → IsSettled s → AreSet s → All (λ clause. Any (Contains (literals_of s.trail)) clause) s.log.inputs
@@ -299,14 +326,16 @@ inputs_true s settled set k d below =
       | inr none ↦ absurd ((settled (Clause (suc k)) tt).0 (record { clause = clause; is = slice_get-get_or s.log.inputs k d below; all_false = none }))
     ]
 
-pub clause_of_number : (lines : List (List Literal)) (n : ℕ) (clause : List Literal) → numbered lines n ≡ Some clause → (1 ≤ n) × (n ≤ length lines) × (clause_at lines n ≡ clause)
+pub clause_of_number : (lines : List (List Literal)) (n : ℕ) (clause : List Literal) → numbered lines n ≡ Some clause
+    → (1 ≤ n) × (n ≤ length lines) × (clause_at lines n ≡ clause)
 clause_of_number lines zero clause is = cc
 clause_of_number lines (suc n) clause is =
     let back : suc n - 1 ≡ n = omega arith in
     (omega arith, omega (arith, slice_get_within lines n clause is), ap (λ k. get_or lines k []) back ∙ get_or_from_slice_get lines n clause [] is)
 
 -- the measure falls from the turn's beginning to its end
-pub turn_falls : (s t mid new : StateValue) (clause : List Literal) (hints : List Hint) → Propagated s t → length t.trail ≤ t.letters + 1 → mid ≡ with_log t (with_line t.log clause hints) → IsTurn mid new → fuel new < fuel s
+pub turn_falls : (s t mid new : StateValue) (clause : List Literal) (hints : List Hint) → Propagated s t
+    → length t.trail ≤ t.letters + 1 → mid ≡ with_log t (with_line t.log clause hints) → IsTurn mid new → fuel new < fuel s
 turn_falls s t mid new clause hints grown short derived turn =
     let fits : length mid.trail ≤ mid.letters + 1 = subst (λ (x : StateValue). length x.trail ≤ x.letters + 1) (sym derived) short in
     let same : fuel mid ≡ fuel t = ap fuel derived in

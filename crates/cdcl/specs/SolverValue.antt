@@ -21,4 +21,5 @@ value_of s letter = slice_index_or s.model letter false
 -- the values make inputs and assumptions true; or no assignment does, and the line has only negations of assumptions
 abbrev pub IsAnswer : SolverValue → List Literal → Answer → Type 0
 IsAnswer s assumptions Sat = (length s.model ≡ s.letters + 1) × Satisfies (value_of s) s.log.inputs × AreTrue (value_of s) assumptions
-IsAnswer s assumptions (Unsat line) = (1 ≤ line) × (line ≤ length s.log.lines) × IsNegated assumptions (clause_at s.log.lines line) × (¬ IsSatisfiable s.log.inputs assumptions)
+IsAnswer s assumptions (Unsat line) =
+    (1 ≤ line) × (line ≤ length s.log.lines) × IsNegated assumptions (clause_at s.log.lines line) × (¬ IsSatisfiable s.log.inputs assumptions)

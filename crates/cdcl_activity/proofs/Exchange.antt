@@ -4,7 +4,8 @@ use Rattle.std.proofs.lemmas.Bool.{cases_eq}
 use Rattle.std.proofs.lemmas.List.{get_or-set_same, get_or-set_other, length-set}
 use Rattle.cdcl_activity.specs.Order.{IsOrder, OrderValue, IsWaiting}
 
-module _ (letters places : List ℕ) (count one two a b : ℕ) (order : IsOrder letters places count) (low : one < length letters) (high : two < length letters) (a_is : a ≡ get_or letters one 0) (b_is : b ≡ get_or letters two 0) where
+module _ (letters places : List ℕ) (count one two a b : ℕ) (order : IsOrder letters places count) (low : one < length letters) (high : two < length letters)
+    (a_is : a ≡ get_or letters one 0) (b_is : b ≡ get_or letters two 0) where
   a_low : a < length places
   a_low = subst (λ n. n < length places) (sym a_is) (order.known one low)
 
@@ -105,7 +106,8 @@ module _ (letters places : List ℕ) (count one two a b : ℕ) (order : IsOrder 
           | inl e ↦ rw (e, letter_second) place_first
           | inr no_two ↦ elim (cases_eq p one) [
             | inl e ↦ rw (e, letter_first) place_second
-            | inr no_one ↦ rw (letter_other p no_one no_two) (place_other (get_or letters p 0) (other_a p here no_one) (other_b p here no_two) ∙ order.back p here)
+            | inr no_one ↦
+                rw (letter_other p no_one no_two) (place_other (get_or letters p 0) (other_a p here no_one) (other_b p here no_two) ∙ order.back p here)
           ]
         ];
   }
@@ -123,7 +125,8 @@ module _ (old new : OrderValue) (order : IsOrder old.letters old.places old.coun
 
   -- where a letter stands that stood at neither place
   elsewhere : (x : ℕ) → x < length old.places → get_or old.places x 0 ≢ one → get_or old.places x 0 ≢ two → get_or new.places x 0 ≡ get_or old.places x 0
-  elsewhere x inside no_one no_two = others x (λ e. no_one (ap (λ n. get_or old.places n 0) e ∙ order.back one low)) (λ e. no_two (ap (λ n. get_or old.places n 0) e ∙ order.back two high))
+  elsewhere x inside no_one no_two =
+      others x (λ e. no_one (ap (λ n. get_or old.places n 0) e ∙ order.back one low)) (λ e. no_two (ap (λ n. get_or old.places n 0) e ∙ order.back two high))
 
   at_one : (x : ℕ) → x < length old.places → get_or old.places x 0 ≡ one → get_or new.places x 0 ≡ two
   at_one x inside e = subst (λ n. get_or new.places n 0 ≡ two) (ap (λ p. get_or old.letters p 0) (sym e) ∙ order.stands x inside) first
@@ -160,7 +163,8 @@ module _ (old new : OrderValue) (order : IsOrder old.letters old.places old.coun
   )
 
   -- the letter at a place behind those that wait comes to the first such place, and waits
-  pub inserted : (letter : ℕ) → letter < length old.places → get_or old.places letter 0 ≡ one → two ≡ old.count → old.count ≤ one → new.count ≡ old.count + 1 → (x : ℕ) → IsWaiting new x ↔ ((x ≡ letter) ⊎ IsWaiting old x)
+  pub inserted : (letter : ℕ) → letter < length old.places → get_or old.places letter 0 ≡ one → two ≡ old.count → old.count ≤ one → new.count ≡ old.count + 1
+      → (x : ℕ) → IsWaiting new x ↔ ((x ≡ letter) ⊎ IsWaiting old x)
   inserted letter inside stands two_is above count x = (
     λ h.
         let here = narrow x h.known in
@@ -184,13 +188,15 @@ module _ (old new : OrderValue) (order : IsOrder old.letters old.places old.coun
       }
       | inr old_h ↦ record {
         known = wide x old_h.known;
-        first = omega (arith, elsewhere x old_h.known (λ e. omega (arith, e, old_h.first, above)) (λ e. omega (arith, e, old_h.first, two_is)), old_h.first, count);
+        first =
+            omega (arith, elsewhere x old_h.known (λ e. omega (arith, e, old_h.first, above)) (λ e. omega (arith, e, old_h.first, two_is)), old_h.first, count);
       }
     ],
   )
 
   -- the letter at the first place comes to the last one that waited, and waits no longer
-  pub taken : (letter : ℕ) → letter ≡ get_or old.letters one 0 → one ≡ 0 → old.count ≡ two + 1 → new.count ≡ two → (x : ℕ) → IsWaiting new x ↔ (IsWaiting old x × (x ≢ letter))
+  pub taken : (letter : ℕ) → letter ≡ get_or old.letters one 0 → one ≡ 0 → old.count ≡ two + 1 → new.count ≡ two → (x : ℕ)
+      → IsWaiting new x ↔ (IsWaiting old x × (x ≢ letter))
   taken letter letter_is one_is count less x = (
     λ h.
         let here = narrow x h.known in

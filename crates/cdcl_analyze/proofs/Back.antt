@@ -1,5 +1,6 @@
 -- Consequences that are taken back: the outcomes of their letters are numbers that no analysis has.
-use Rattle.std.proofs.Common.{◌≡◌, ◌≢◌, ℕ, ◌<◌, ◌≤◌, ◌+◌, ◌-◌, ◌⊎◌, inl, inr, List, true, false, Some, None, take, set, length, get_or, refl, sym, ap, ◌∙◌, subst, arith, length-set, length-take-le, take-take}
+use Rattle.std.proofs.Common.{◌≡◌, ◌≢◌, ℕ, ◌<◌, ◌≤◌, ◌+◌, ◌-◌, ◌⊎◌, inl, inr, List, true, false, Some, None, take, set, length, get_or, refl, sym, ap, ◌∙◌}
+use Rattle.std.proofs.Common.{subst, arith, length-set, length-take-le, take-take}
 use Rattle.std.proofs.lemmas.Bool.{cases_lt, cases_eq, lt-ltb, le-ltb}
 use Rattle.std.proofs.lemmas.List.{take_all, get_or-take, get_or_default, get_or-set_same, get_or-set_other}
 use Rattle.cdcl_analyze.specs.declared.marks.Consequence.{Consequence}
@@ -10,8 +11,10 @@ use Rattle.cdcl_analyze.proofs.Outcomes.{true_not_false, none_not_some}
 pub record IsBack (old : List ℕ) (consequences : List Consequence) (n : ℕ) (new : List ℕ) : Type 0 where
   pub size : length new ≡ length old
   pub few : n ≤ length consequences
-  pub others : (x : ℕ) → (get_or new x 0 ≡ get_or old x 0) ⊎ ((j : ℕ) × (n ≤ j) × (j < length consequences) × ((get_or consequences j no_consequence).letter ≡ x))
-  pub back : (j : ℕ) → n ≤ j → j < length consequences → (get_or consequences j no_consequence).letter < length new → get_or new (get_or consequences j no_consequence).letter 0 ≡ 0
+  pub others : (x : ℕ)
+      → (get_or new x 0 ≡ get_or old x 0) ⊎ ((j : ℕ) × (n ≤ j) × (j < length consequences) × ((get_or consequences j no_consequence).letter ≡ x))
+  pub back : (j : ℕ) → n ≤ j → j < length consequences → (get_or consequences j no_consequence).letter < length new
+      → get_or new (get_or consequences j no_consequence).letter 0 ≡ 0
 
 module _ (old : List ℕ) (consequences : List Consequence) (n : ℕ) (new : List ℕ) (here : IsBack old consequences (n + 1) new) where
   -- one more whose letter has an outcome
@@ -76,9 +79,11 @@ back_others old new count back same x = elim (back.others x) [
 ]
 
 -- and these letters are not said to follow
-pub back_unknown : (old new : MarksValue) (count : ℕ) → IsBack old.outcomes old.consequences count new.outcomes → (x : ℕ) → IsFrom old count x → outcome_of new x ≢ Some true
+pub back_unknown : (old new : MarksValue) (count : ℕ) → IsBack old.outcomes old.consequences count new.outcomes → (x : ℕ) → IsFrom old count x
+    → outcome_of new x ≢ Some true
 back_unknown old new count back x (j, high, inside, is) e = elim (cases_lt x (length new.outcomes)) [
-  | inl low ↦ zero_unknown new.stamp (sym (outcome_inside new x low (subst (λ n. get_or new.outcomes n 0 ≡ 0) is (back.back j high inside (subst (λ n. n < length new.outcomes) (sym is) low)))) ∙ e)
+  | inl low ↦ zero_unknown new.stamp (sym (outcome_inside new x low
+      (subst (λ n. get_or new.outcomes n 0 ≡ 0) is (back.back j high inside (subst (λ n. n < length new.outcomes) (sym is) low)))) ∙ e)
   | inr out ↦ none_not_some (outcome_outside new x (omega (arith, out))) e
 ]
   where
@@ -89,14 +94,16 @@ back_unknown old new count back x (j, high, inside, is) e = elim (cases_lt x (le
     outcome_outside m y out = rw (le-ltb y (length m.outcomes) out) refl
 
 -- the first of the consequences are kept
-pub kept_first : (old new : List Consequence) (count : ℕ) → new ≡ take (length new) old → length new ≤ count → (count ≤ length new) ⊎ (new ≡ old) → new ≡ take count old
+pub kept_first : (old new : List Consequence) (count : ℕ) → new ≡ take (length new) old → length new ≤ count → (count ≤ length new) ⊎ (new ≡ old)
+    → new ≡ take count old
 kept_first old new count is few low = elim low [
   | inl high ↦ let same : length new ≡ count = omega arith in is ∙ ap (λ n. take n old) same
   | inr all ↦ all ∙ sym (take_all count old (subst (λ l. length l ≤ count) all few))
 ]
 
 -- the last of what is left, seen in the list at the start
-module _ (start now shorter : List Consequence) (is : now ≡ take (length now) start) (some : 0 < length now) (few : length now ≤ length start) (shorter_is : shorter ≡ take (length now - 1) now) where
+module _ (start now shorter : List Consequence) (is : now ≡ take (length now) start) (some : 0 < length now) (few : length now ≤ length start)
+    (shorter_is : shorter ≡ take (length now - 1) now) where
   pub shorter_length : length shorter ≡ length now - 1
   shorter_length = ap length shorter_is ∙ length-take-le (length now - 1) now (omega arith)
 
@@ -106,10 +113,14 @@ module _ (start now shorter : List Consequence) (is : now ≡ take (length now) 
   pub last_letter : (last : Consequence) → last ≡ get_or now (length now - 1) last → last.letter ≡ (get_or start (length shorter) no_consequence).letter
   last_letter last last_is = rw shorter_length
       (ap (λ (c : Consequence). c.letter) (last_is ∙ get_or_default now (length now - 1) last no_consequence (omega (arith, some))
-      ∙ ap (λ (l : List Consequence). get_or l (length now - 1) no_consequence) is ∙ get_or-take (length now) start (length now - 1) no_consequence (omega (arith, some))))
+      ∙ ap (λ (l : List Consequence). get_or l (length now - 1) no_consequence) is ∙ get_or-take (length now) start (length now - 1) no_consequence (omega (
+        arith,
+        some,
+      ))))
 
   pub shorter_first : shorter ≡ take (length shorter) start
-  shorter_first = rw shorter_length (shorter_is ∙ ap (λ (l : List Consequence). take (length now - 1) l) is ∙ take-take (length now - 1) (length now) start (omega arith))
+  shorter_first =
+      rw shorter_length (shorter_is ∙ ap (λ (l : List Consequence). take (length now - 1) l) is ∙ take-take (length now - 1) (length now) start (omega arith))
 
 -- those from one index on are those from another
 pub from_later : (m : MarksValue) (n count : ℕ) → (count ≤ n) ⊎ (length m.consequences ≤ n) → (x : ℕ) → IsFrom m n x → IsFrom m count x

@@ -1,5 +1,6 @@
 -- What waits as words come and go, and as a bit is set or goes.
-use Rattle.std.proofs.Common.{◌≡◌, ◌≢◌, ℕ, ◌<◌, ◌≤◌, ◌+◌, ◌-◌, ◌*◌, ◌/◌, ◌%◌, ◌^◌, ◌⊎◌, inl, inr, List, [], ◌∷◌, ◌++◌, take, set, length, get_or, sym, ap, ◌∙◌, subst, arith}
+use Rattle.std.proofs.Common.{◌≡◌, ◌≢◌, ℕ, ◌<◌, ◌≤◌, ◌+◌, ◌-◌, ◌*◌, ◌/◌, ◌%◌, ◌^◌, ◌⊎◌, inl, inr, List, [], ◌∷◌, ◌++◌, take, set, length, get_or, sym, ap, ◌∙◌}
+use Rattle.std.proofs.Common.{subst, arith}
 use Rattle.std.specs.Int.{bit_at}
 use Rattle.std.specs.List.{sum_by}
 use Rattle.std.proofs.lemmas.Bool.{cases_eq, cases_lt}
@@ -37,18 +38,23 @@ joined words place word low here others p (inl is) =
     rw is (subst (λ w. bit_at w (place % 64) ≡ 1) (sym (get_or-set_same words (place / 64) word 0 low)) here)
 joined words place word low here others p (inr was) = elim (cases_eq (p / 64) (place / 64)) [
   | inr other ↦ subst (λ w. bit_at w (p % 64) ≡ 1) (sym (get_or-set_other words (place / 64) (p / 64) word 0 other)) was
-  | inl same ↦ subst (λ w. bit_at w (p % 64) ≡ 1) (sym (ap (λ k. get_or (set words (place / 64) word) k 0) same ∙ get_or-set_same words (place / 64) word 0 low))
+  | inl same ↦
+      subst (λ w. bit_at w (p % 64) ≡ 1) (sym (ap (λ k. get_or (set words (place / 64) word) k 0) same ∙ get_or-set_same words (place / 64) word 0 low))
       (elim (cases_eq (p % 64) (place % 64)) [
         | inl bit ↦ rw bit here
         | inr apart ↦ others (p % 64) apart ∙ ap (λ k. bit_at (get_or words k 0) (p % 64)) (sym same) ∙ was
       ])
 ]
 
-module _ (words : List ℕ) (last bit word : ℕ) (long : length words ≡ last + 1) (small : bit < 64) (is_word : word ≡ get_or words last 0) (low : 2 ^ bit ≤ word) (high : word < 2 ^ (bit + 1)) where
+module _ (words : List ℕ) (last bit word : ℕ) (long : length words ≡ last + 1) (small : bit < 64) (is_word : word ≡ get_or words last 0) (low : 2 ^ bit ≤ word)
+    (high : word < 2 ^ (bit + 1)) where
   -- the highest bit of the last word goes
   pub left : (p : ℕ) → IsWaiting words p → (p ≡ last * 64 + bit) ⊎ ((p < last * 64 + bit) × IsWaiting (set words last (word - 2 ^ bit)) p)
   left p is = elim (cases_eq (p / 64) last) [
-    | inr other ↦ inr (omega (arith, has_word words p is, long, other), subst (λ w. bit_at w (p % 64) ≡ 1) (sym (get_or-set_other words last (p / 64) (word - 2 ^ bit) 0 other)) is)
+    | inr other ↦ inr (
+      omega (arith, has_word words p is, long, other),
+      subst (λ w. bit_at w (p % 64) ≡ 1) (sym (get_or-set_other words last (p / 64) (word - 2 ^ bit) 0 other)) is,
+    )
     | inl same ↦
         let here : bit_at word (p % 64) ≡ 1 = ap (λ w. bit_at w (p % 64)) (is_word ∙ ap (λ k. get_or words k 0) (sym same)) ∙ is in
         elim (cases_eq (p % 64) bit) [
@@ -73,7 +79,8 @@ module _ (words : List ℕ) (last bit word : ℕ) (long : length words ≡ last 
 
 pub dropped_less : (words : List ℕ) (last : ℕ) → length words ≡ last + 1 → sum_by (λ x. x + 1) (take last words) < sum_by (λ x. x + 1) words
 dropped_less words last long =
-    let all : words ≡ take last words ++ get_or words last 0 ∷ [] = sym (take_all (last + 1) words (omega (arith, long))) ∙ take_more words last 0 (omega (arith, long)) in
+    let all : words ≡ take last words ++ get_or words last 0 ∷ [] =
+    sym (take_all (last + 1) words (omega (arith, long))) ∙ take_more words last 0 (omega (arith, long)) in
     let sum = ap (sum_by (λ x. x + 1)) all ∙ sum_by-append (λ x. x + 1) (take last words) (get_or words last 0 ∷ []) in
     let one = sum_by-append (λ x. x + 1) [] (get_or words last 0 ∷ []) in
     omega (arith, sum, one)

@@ -1,5 +1,6 @@
 -- How what an analysis found out of letters grows, and nothing of it is lost.
-use Rattle.std.proofs.Common.{◌≡◌, ◌≢◌, ℕ, ◌+◌, ◌<◌, ◌≤◌, ◌⊎◌, inl, inr, List, [], ◌∷◌, Bool, true, false, Option, Some, None, All, Contains, length, get_or, take, refl, sym, ap, ◌∙◌, subst, arith}
+use Rattle.std.proofs.Common.{◌≡◌, ◌≢◌, ℕ, ◌+◌, ◌<◌, ◌≤◌, ◌⊎◌, inl, inr, List, [], ◌∷◌, Bool, true, false, Option, Some, None, All, Contains, length, get_or}
+use Rattle.std.proofs.Common.{take, refl, sym, ap, ◌∙◌, subst, arith}
 use Rattle.std.proofs.lemmas.Bool.{cases_lt, cases_eq}
 use Rattle.std.proofs.lemmas.List.{set_past, take-take, take_all, get_or_at, length_push, get_or-take, take-append-le}
 use Rattle.std.proofs.lemmas.List.Elements.{All-weaker, All-more}
@@ -12,17 +13,22 @@ use Rattle.cdcl_trail.specs.declared.assigned.Entry.{Entry}
 use Rattle.cdcl_trail.proofs.Standing.{reason_at as entry_reason, true_place}
 use Rattle.cdcl_analyze.specs.Analysis.{AreWaiting}
 use Rattle.cdcl_analyze.specs.Waiting.{IsWaiting}
-use Rattle.cdcl_analyze.specs.Marks.{MarksValue, IsMarked, outcome_of, with_outcomes, with_consequences, FoundSame, no_consequence, letter_at, reason_at, IsFrom}
+use Rattle.cdcl_analyze.specs.Marks.{MarksValue, IsMarked, outcome_of, with_outcomes, with_consequences, FoundSame, no_consequence, letter_at, reason_at}
+use Rattle.cdcl_analyze.specs.Marks.{IsFrom}
 use Rattle.cdcl_analyze.specs.Consequences.{StandsBelow, IsKept, IsGiven, IsGivenBy, HasReason, FollowsBy, AreConsequences, Grows}
 use Rattle.cdcl_analyze.specs.declared.marks.Consequence.{Consequence}
-use Rattle.cdcl_analyze.proofs.Outcomes.{some_same, true_not_false, none_not_some, denied, concluded, outcome_other, outcome_denied, outcome_concluded, outcome_same}
+use Rattle.cdcl_analyze.proofs.Outcomes.{some_same, true_not_false, none_not_some, denied, concluded, outcome_other, outcome_denied, outcome_concluded}
+use Rattle.cdcl_analyze.proofs.Outcomes.{outcome_same}
 use Rattle.cdcl_analyze.proofs.Places.{stands_before, same_place, place_below}
 
 -- one list of consequences begins with the other
-consequence_same : (old new : MarksValue) → take (length old.consequences) new.consequences ≡ old.consequences → (i : ℕ) → i < length old.consequences → get_or new.consequences i no_consequence ≡ get_or old.consequences i no_consequence
-consequence_same old new first i low = sym (get_or-take (length old.consequences) new.consequences i no_consequence low) ∙ ap (λ (cs : List Consequence). get_or cs i no_consequence) first
+consequence_same : (old new : MarksValue) → take (length old.consequences) new.consequences ≡ old.consequences → (i : ℕ) → i < length old.consequences
+    → get_or new.consequences i no_consequence ≡ get_or old.consequences i no_consequence
+consequence_same old new first i low =
+    sym (get_or-take (length old.consequences) new.consequences i no_consequence low) ∙ ap (λ (cs : List Consequence). get_or cs i no_consequence) first
 
-letter_same : (old new : MarksValue) → take (length old.consequences) new.consequences ≡ old.consequences → (i : ℕ) → i < length old.consequences → letter_at new i ≡ letter_at old i
+letter_same : (old new : MarksValue) → take (length old.consequences) new.consequences ≡ old.consequences → (i : ℕ) → i < length old.consequences
+    → letter_at new i ≡ letter_at old i
 letter_same old new first i low = ap (λ (c : Consequence). c.letter) (consequence_same old new first i low)
 
 pub marked_given : (trail : List Entry) (base : ℕ) (m : MarksValue) (x : ℕ) (b : Bool) → IsMarked m x → outcome_of m x ≡ Some b → IsGiven trail base m x
@@ -41,7 +47,8 @@ module _ (inputs lines : List (List Literal)) (trail : List Entry) (base : ℕ) 
   ]
 
   -- what follows by the first i does so still
-  each_same : (old new : MarksValue) → take (length old.consequences) new.consequences ≡ old.consequences → ((x : ℕ) → IsKept old x → IsKept new x) → ((x : ℕ) → IsMarked old x → IsMarked new x)
+  each_same : (old new : MarksValue) → take (length old.consequences) new.consequences ≡ old.consequences → ((x : ℕ) → IsKept old x → IsKept new x)
+      → ((x : ℕ) → IsMarked old x → IsMarked new x)
       → AreConsequences inputs lines trail base old
       → (i : ℕ) → i < length old.consequences → FollowsBy inputs lines trail base new i (letter_at new i) (reason_at new i)
   each_same old new first kept marked are i low =
@@ -50,7 +57,8 @@ module _ (inputs lines : List (List Literal)) (trail : List Entry) (base : ℕ) 
         why = was.why;
         clause = was.clause;
         is = was.is;
-        others = All-weaker (λ (l : Literal). (l.letter.0 ≡ letter_at old i) ⊎ IsGivenBy trail base old i l.letter.0) (λ (l : Literal). (l.letter.0 ≡ letter_at old i) ⊎ IsGivenBy trail base new i l.letter.0)
+        others = All-weaker (λ (l : Literal). (l.letter.0 ≡ letter_at old i) ⊎ IsGivenBy trail base old i l.letter.0)
+            (λ (l : Literal). (l.letter.0 ≡ letter_at old i) ⊎ IsGivenBy trail base new i l.letter.0)
             (λ l h. elim h [
               | inl same ↦ inl same
               | inr given ↦ inr (given_by old new i kept marked (λ j below. letter_same old new first j (omega (arith, below, low))) l.letter.0 given)
@@ -59,8 +67,10 @@ module _ (inputs lines : List (List Literal)) (trail : List Entry) (base : ℕ) 
       subst (λ (c : Consequence). FollowsBy inputs lines trail base new i c.letter c.reason) (sym (consequence_same old new first i low)) now
 
   -- the same consequences stand, each of what was kept and of what followed is known still, and no more follows
-  module _ (old new : MarksValue) (are : AreConsequences inputs lines trail base old) (stand : new.consequences ≡ old.consequences) (marked : (x : ℕ) → IsMarked old x → IsMarked new x) (kept : (x : ℕ) → IsKept old x → IsKept new x)
-      (follow : (x : ℕ) → outcome_of old x ≡ Some true → outcome_of new x ≡ Some true) (back : (x : ℕ) → outcome_of new x ≡ Some true → outcome_of old x ≡ Some true) where
+  module _ (old new : MarksValue) (are : AreConsequences inputs lines trail base old) (stand : new.consequences ≡ old.consequences)
+      (marked : (x : ℕ) → IsMarked old x → IsMarked new x) (kept : (x : ℕ) → IsKept old x → IsKept new x)
+      (follow : (x : ℕ) → outcome_of old x ≡ Some true → outcome_of new x ≡ Some true)
+      (back : (x : ℕ) → outcome_of new x ≡ Some true → outcome_of old x ≡ Some true) where
     stand_length : length new.consequences ≡ length old.consequences
     stand_length = ap (λ (cs : List Consequence). length cs) stand
 
@@ -78,7 +88,8 @@ module _ (inputs lines : List (List Literal)) (trail : List Entry) (base : ℕ) 
           all = λ x h. let there = are.all x (back x h) in (there.0, omega (arith, there.1, stand_length), same there.0 there.1 ∙ there.2);
         }
 
-    grows_stand : (end : ℕ) → ((x : ℕ) → IsMarked new x → IsMarked old x ⊎ StandsBelow trail base x) → ((x : ℕ) → (outcome_of new x ≡ outcome_of old x) ⊎ StandsBelow trail end x)
+    grows_stand : (end : ℕ) → ((x : ℕ) → IsMarked new x → IsMarked old x ⊎ StandsBelow trail base x)
+        → ((x : ℕ) → (outcome_of new x ≡ outcome_of old x) ⊎ StandsBelow trail end x)
         → ((e : ℕ) → AreWaiting trail e old → AreWaiting trail e new) → Grows inputs lines trail base end old new
     grows_stand end based fresh waiting = record {
       consequences = consequences_stand;
@@ -93,7 +104,8 @@ module _ (inputs lines : List (List Literal)) (trail : List Entry) (base : ℕ) 
     }
 
   -- more is marked, and nothing else is found
-  module _ (old new : MarksValue) (are : AreConsequences inputs lines trail base old) (found : FoundSame old new) (marked : (x : ℕ) → IsMarked old x → IsMarked new x) where
+  module _ (old new : MarksValue) (are : AreConsequences inputs lines trail base old) (found : FoundSame old new)
+      (marked : (x : ℕ) → IsMarked old x → IsMarked new x) where
     found_kept : (x : ℕ) → IsKept old x → IsKept new x
     found_kept x h = (marked x h.0, outcome_same old new found x ∙ h.1)
 
@@ -106,13 +118,16 @@ module _ (inputs lines : List (List Literal)) (trail : List Entry) (base : ℕ) 
     pub consequences_found : AreConsequences inputs lines trail base new
     consequences_found = consequences_stand old new are found.consequences marked found_kept found_follow found_back
 
-    pub grows_marked : (end : ℕ) → ((x : ℕ) → IsMarked new x → IsMarked old x ⊎ StandsBelow trail base x) → ((e : ℕ) → AreWaiting trail e old → AreWaiting trail e new) → Grows inputs lines trail base end old new
-    grows_marked end based waiting = grows_stand old new are found.consequences marked found_kept found_follow found_back end based (λ x. inl (outcome_same old new found x)) waiting
+    pub grows_marked : (end : ℕ) → ((x : ℕ) → IsMarked new x → IsMarked old x ⊎ StandsBelow trail base x)
+        → ((e : ℕ) → AreWaiting trail e old → AreWaiting trail e new) → Grows inputs lines trail base end old new
+    grows_marked end based waiting =
+        grows_stand old new are found.consequences marked found_kept found_follow found_back end based (λ x. inl (outcome_same old new found x)) waiting
 
   pub grows_itself : (end : ℕ) (m : MarksValue) → AreConsequences inputs lines trail base m → Grows inputs lines trail base end m m
   grows_itself end m are = grows_marked m m are (record { stamp = refl; outcomes = refl; consequences = refl }) (λ x h. h) end (λ x h. inl h) (λ e h. h)
 
-  pub grows_on : (end : ℕ) (a b c : MarksValue) → Grows inputs lines trail base end a b → Grows inputs lines trail base end b c → Grows inputs lines trail base end a c
+  pub grows_on : (end : ℕ) (a b c : MarksValue) → Grows inputs lines trail base end a b → Grows inputs lines trail base end b c
+      → Grows inputs lines trail base end a c
   grows_on end a b c ab bc = record {
     consequences = bc.consequences;
     marked = λ x h. bc.marked x (ab.marked x h);
@@ -124,7 +139,8 @@ module _ (inputs lines : List (List Literal)) (trail : List Entry) (base : ℕ) 
       | inr low ↦ inr low
     ];
     long = omega (arith, ab.long, bc.long);
-    first = sym (take-take (length a.consequences) (length b.consequences) c.consequences ab.long) ∙ ap (λ (cs : List Consequence). take (length a.consequences) cs) bc.first ∙ ab.first;
+    first = sym (take-take (length a.consequences) (length b.consequences) c.consequences ab.long)
+        ∙ ap (λ (cs : List Consequence). take (length a.consequences) cs) bc.first ∙ ab.first;
     waiting = λ e h. bc.waiting e (ab.waiting e h);
   }
 
@@ -167,7 +183,8 @@ module _ (inputs lines : List (List Literal)) (trail : List Entry) (base : ℕ) 
           | inl same ↦ sym same ∙ h
           | inr here ↦ absurd (true_not_false h here.1)
         ])
-        end (λ x h. inl h) (λ x. elim (denied_cases x) [ inl same ↦ inl same | inr here ↦ inr (subst (λ y. StandsBelow trail end y) (sym here.0) stands) ]) (λ e h. h)
+        end (λ x h. inl h)
+        (λ x. elim (denied_cases x) [ inl same ↦ inl same | inr here ↦ inr (subst (λ y. StandsBelow trail end y) (sym here.0) stands) ]) (λ e h. h)
 
     module _ (reason : Hint) (unknown : outcome_of m letter ≡ None) (low_letter : letter < length m.outcomes) where
       concluded_cases : (x : ℕ) → (outcome_of (concluded m letter reason) x ≡ outcome_of m x) ⊎ (x ≡ letter)
@@ -183,9 +200,12 @@ module _ (inputs lines : List (List Literal)) (trail : List Entry) (base : ℕ) 
           let n = length m.consequences in
           let last : Consequence = record { letter = letter; reason = reason } in
           let len : length (concluded m letter reason).consequences ≡ n + 1 = length_push m.consequences last in
-          let first : take n (concluded m letter reason).consequences ≡ m.consequences = take-append-le n m.consequences (last ∷ []) (omega arith) ∙ take_all n m.consequences (omega arith) in
-          let letter_is : letter_at (concluded m letter reason) n ≡ letter = ap (λ (c : Consequence). c.letter) (get_or_at m.consequences last [] no_consequence n refl) in
-          let reason_is : reason_at (concluded m letter reason) n ≡ reason = ap (λ (c : Consequence). c.reason) (get_or_at m.consequences last [] no_consequence n refl) in
+          let first : take n (concluded m letter reason).consequences ≡ m.consequences =
+          take-append-le n m.consequences (last ∷ []) (omega arith) ∙ take_all n m.consequences (omega arith) in
+          let letter_is : letter_at (concluded m letter reason) n ≡ letter =
+          ap (λ (c : Consequence). c.letter) (get_or_at m.consequences last [] no_consequence n refl) in
+          let reason_is : reason_at (concluded m letter reason) n ≡ reason =
+          ap (λ (c : Consequence). c.reason) (get_or_at m.consequences last [] no_consequence n refl) in
           let same = letter_same m (concluded m letter reason) first in
           let kept : (x : ℕ) → IsKept m x → IsKept (concluded m letter reason) x = λ x h. elim (concluded_cases x) [
             | inl still ↦ (h.0, still ∙ h.1)
@@ -199,7 +219,8 @@ module _ (inputs lines : List (List Literal)) (trail : List Entry) (base : ℕ) 
             why = why;
             clause = clause;
             is = is;
-            others = All-weaker (λ (l : Literal). (l.letter.0 ≡ letter) ⊎ IsGiven trail base m l.letter.0) (λ (l : Literal). (l.letter.0 ≡ letter) ⊎ IsGivenBy trail base (concluded m letter reason) n l.letter.0)
+            others = All-weaker (λ (l : Literal). (l.letter.0 ≡ letter) ⊎ IsGiven trail base m l.letter.0)
+                (λ (l : Literal). (l.letter.0 ≡ letter) ⊎ IsGivenBy trail base (concluded m letter reason) n l.letter.0)
                 (λ l h. elim h [
                   | inl itself ↦ inl itself
                   | inr g ↦ inr (elim g [
@@ -217,21 +238,24 @@ module _ (inputs lines : List (List Literal)) (trail : List Entry) (base : ℕ) 
                 | inl below ↦ each_same m (concluded m letter reason) first kept (λ x h. h) are i below
                 | inr above ↦
                     let i_is : n ≡ i = omega (arith, low, above, len) in
-                    subst (λ j. FollowsBy inputs lines trail base (concluded m letter reason) j (letter_at (concluded m letter reason) j) (reason_at (concluded m letter reason) j)) i_is
+                    subst (λ j. FollowsBy inputs lines trail base (concluded m letter reason) j (letter_at (concluded m letter reason) j)
+                    (reason_at (concluded m letter reason) j)) i_is
                     (rw (letter_is, reason_is) new)
               ];
               follow = λ i low. elim (cases_lt i n) [
                 | inl below ↦ follow (letter_at (concluded m letter reason) i) (ap (λ (x : ℕ). outcome_of m x) (same i below) ∙ are.follow i below)
                 | inr above ↦
                     let i_is : n ≡ i = omega (arith, low, above, len) in
-                    subst (λ j. outcome_of (concluded m letter reason) (letter_at (concluded m letter reason) j) ≡ Some true) i_is (ap (λ (x : ℕ). outcome_of (concluded m letter reason) x) letter_is ∙ outcome_concluded m letter reason low_letter)
+                    subst (λ j. outcome_of (concluded m letter reason) (letter_at (concluded m letter reason) j) ≡ Some true) i_is
+                    (ap (λ (x : ℕ). outcome_of (concluded m letter reason) x) letter_is ∙ outcome_concluded m letter reason low_letter)
               ];
               apart = λ i j below low e. elim (cases_lt j n) [
                 | inl inside ↦ are.apart i j below inside (sym (same i (omega (arith, below, inside))) ∙ e ∙ same j inside)
                 | inr above ↦
                     let j_is : j ≡ n = omega (arith, low, above, len) in
                     let i_low : i < n = omega (arith, below, j_is) in
-                    let letter_of : letter_at m i ≡ letter = sym (same i i_low) ∙ e ∙ ap (λ (k : ℕ). letter_at (concluded m letter reason) k) j_is ∙ letter_is in
+                    let letter_of : letter_at m i ≡ letter =
+                    sym (same i i_low) ∙ e ∙ ap (λ (k : ℕ). letter_at (concluded m letter reason) k) j_is ∙ letter_is in
                     none_not_some unknown (ap (λ (x : ℕ). outcome_of m x) (sym letter_of) ∙ are.follow i i_low)
               ];
               all = λ x h. elim (concluded_cases x) [
@@ -305,7 +329,8 @@ module _ (inputs lines : List (List Literal)) (trail : List Entry) (base : ℕ) 
           | inr from ↦ absurd (unknown x from h)
         ])
         end (λ x h. grows.based x (marked_same x h)) taken_fresh
-        (λ e h j low inside is. subst (λ (w : List ℕ). IsWaiting w j) (sym (ap (λ (m : MarksValue). m.waiting) rest)) (grows.waiting e h j low inside (marked_same _ is)))
+        (λ e h j low inside is. subst (λ (w : List ℕ). IsWaiting w j) (sym (ap (λ (m : MarksValue). m.waiting) rest))
+        (grows.waiting e h j low inside (marked_same _ is)))
 
   given_on : (end : ℕ) (old new : MarksValue) → Grows inputs lines trail base end old new → (x : ℕ) → IsGiven trail base old x → IsGiven trail base new x
   given_on end old new grows x given = elim given [
@@ -316,13 +341,16 @@ module _ (inputs lines : List (List Literal)) (trail : List Entry) (base : ℕ) 
     ]
   ]
 
-  module _ (values : List (Option Bool)) (letter : ℕ) (reason : Hint) (are_values : AreValues values trail) (is_trail : IsTrail inputs lines trail) (why : HasReason trail base letter reason) where
+  module _ (values : List (Option Bool)) (letter : ℕ) (reason : Hint) (are_values : AreValues values trail) (is_trail : IsTrail inputs lines trail)
+      (why : HasReason trail base letter reason) where
     -- the reason's other literals stand before the letter
-    pub other_stands : (clause : List Literal) → named inputs lines reason ≡ Some clause → (i : ℕ) (d : Literal) → i < length clause → (get_or clause i d).letter.0 ≢ letter
+    pub other_stands : (clause : List Literal) → named inputs lines reason ≡ Some clause → (i : ℕ) (d : Literal) → i < length clause
+        → (get_or clause i d).letter.0 ≢ letter
         → (place : ℕ) → place < length trail → (literal_at trail place).letter.0 ≡ letter → StandsBelow trail place (get_or clause i d).letter.0
     other_stands clause is i d low differ place inside place_is =
         let entry = entry_reason inputs lines trail why.place reason is_trail why.inside why.reason_is in
-        let others = subst (All (λ l. (l ≡ literal_at trail why.place) ⊎ Contains (literals_of (take why.place trail)) (opposite l))) (some_same entry.is is) entry.others in
+        let others = subst (All (λ l. (l ≡ literal_at trail why.place) ⊎ Contains (literals_of (take why.place trail)) (opposite l)))
+        (some_same entry.is is) entry.others in
         let same : why.place ≡ place = same_place values trail are_values why.place place why.inside inside (why.is ∙ sym place_is) in
         subst (λ (k : ℕ). StandsBelow trail k (get_or clause i d).letter.0) same (elim (others i d low) [
           | inl itself ↦ absurd (differ (ap (λ (l : Literal). l.letter.0) itself ∙ why.is))
@@ -334,13 +362,15 @@ module _ (inputs lines : List (List Literal)) (trail : List Entry) (base : ℕ) 
     pub reason_named : (clause : List Literal) × (named inputs lines reason ≡ Some clause)
     reason_named = let entry = entry_reason inputs lines trail why.place reason is_trail why.inside why.reason_is in (entry.clause, entry.is)
 
-    pub given_more : (end : ℕ) (old new : MarksValue) (clause : List Literal) (i : ℕ) (d : Literal) → Grows inputs lines trail base end old new → i < length clause
+    pub given_more : (end : ℕ) (old new : MarksValue) (clause : List Literal) (i : ℕ) (d : Literal) → Grows inputs lines trail base end old new
+        → i < length clause
         → All (λ l. (l.letter.0 ≡ letter) ⊎ IsGiven trail base old l.letter.0) (take i clause)
         → ((get_or clause i d).letter.0 ≡ letter) ⊎ IsGiven trail base new (get_or clause i d).letter.0
         → All (λ l. (l.letter.0 ≡ letter) ⊎ IsGiven trail base new l.letter.0) (take (i + 1) clause)
     given_more end old new clause i d grows low before here =
         All-more (λ (l : Literal). (l.letter.0 ≡ letter) ⊎ IsGiven trail base new l.letter.0) clause i d low
-        (All-weaker (λ (l : Literal). (l.letter.0 ≡ letter) ⊎ IsGiven trail base old l.letter.0) (λ (l : Literal). (l.letter.0 ≡ letter) ⊎ IsGiven trail base new l.letter.0)
+        (All-weaker (λ (l : Literal). (l.letter.0 ≡ letter) ⊎ IsGiven trail base old l.letter.0)
+        (λ (l : Literal). (l.letter.0 ≡ letter) ⊎ IsGiven trail base new l.letter.0)
         (λ l h. elim h [ inl itself ↦ inl itself | inr given ↦ inr (given_on end old new grows l.letter.0 given) ]) (take i clause) before) here
 
     -- no letter stands below its own place
@@ -357,9 +387,11 @@ module _ (inputs lines : List (List Literal)) (trail : List Entry) (base : ℕ) 
         let below = place_below values trail are_values why.place end letter why.inside why.is stands in
         let named_is = reason_named in
         rw m3_is (grows_on end m0 m1 (concluded m1 letter reason) (grows_below why.place end m0 m1 (omega (arith, below)) grows)
-        (grows_concluded m1 letter end grows.consequences stands reason (still_unknown m0 m1 grows unknown) low named_is.0 why named_is.1 (given named_is.0 named_is.1)))
+        (grows_concluded m1 letter end grows.consequences stands reason (still_unknown m0 m1 grows unknown) low named_is.0 why named_is.1
+        (given named_is.0 named_is.1)))
 
-    pub not_derived : (m0 m1 m2 m3 : MarksValue) (count : ℕ) → AreConsequences inputs lines trail base m0 → Grows inputs lines trail base why.place m0 m1 → outcome_of m0 letter ≡ None
+    pub not_derived : (m0 m1 m2 m3 : MarksValue) (count : ℕ) → AreConsequences inputs lines trail base m0 → Grows inputs lines trail base why.place m0 m1
+        → outcome_of m0 letter ≡ None
         → count ≡ length m0.consequences
         → m2 ≡ with_consequences (with_outcomes m1 m2.outcomes) (take count m1.consequences)
         → ((x : ℕ) → (outcome_of m2 x ≡ outcome_of m1 x) ⊎ IsFrom m1 count x)

@@ -1,8 +1,10 @@
 -- A clause without what follows from the rest is explained too: the reasons by which that follows are further hints.
-use Rattle.std.proofs.Common.{◌≡◌, ℕ, zero, suc, ◌<◌, ◌≤◌, ◌+◌, ◌-◌, ◌^◌, ◌⊎◌, inl, inr, List, [], ◌∷◌, ◌++◌, Bool, true, false, Option, Some, map, take, reverse, All, AllPairs, Contains, length, get_or, refl, sym, ap, ◌∙◌, subst, arith}
+use Rattle.std.proofs.Common.{◌≡◌, ℕ, zero, suc, ◌<◌, ◌≤◌, ◌+◌, ◌-◌, ◌^◌, ◌⊎◌, inl, inr, List, [], ◌∷◌, ◌++◌, Bool, true, false, Option, Some, map, take}
+use Rattle.std.proofs.Common.{reverse, All, AllPairs, Contains, length, get_or, refl, sym, ap, ◌∙◌, subst, arith}
 use Rattle.std.specs.List.{AllPairs}
 use Rattle.std.proofs.lemmas.Bool.{cases_lt, cases_eq}
-use Rattle.std.proofs.lemmas.List.{map-append, reverse-append, reverse-reverse, get_or-map, length-map, length-append, get_or_append_left, get_or-append_right, get_or_at, length_push, append_assoc, append-nil}
+use Rattle.std.proofs.lemmas.List.{map-append, reverse-append, reverse-reverse, get_or-map, length-map, length-append, get_or_append_left, get_or-append_right}
+use Rattle.std.proofs.lemmas.List.{get_or_at, length_push, append_assoc, append-nil}
 use Rattle.std.proofs.lemmas.List.Elements.{All-append, All-contains, Contains-append_left, Contains-append_right, Contains-append_cases, Contains-get_or}
 use Rattle.cnf_base.specs.declared.literal.Literal.{Literal}
 use Rattle.cnf_base.specs.declared.literal.Hint.{Hint}
@@ -31,7 +33,8 @@ Contains_mapped : {X Y : Type 0} (f : X → Y) (xs : List X) (x : X) → Contain
 Contains_mapped f xs x (k, below, is) = (k, omega (arith, below, length-map xs f), get_or-map f xs k x (f x) below ∙ ap f is)
 
 -- places that fall, and then lower ones that fall
-pub falling_append : (xs ys : List ℕ) (from : ℕ) → AllPairs (λ p q. q < p) xs → AllPairs (λ p q. q < p) ys → All (λ p. from ≤ p) xs → All (λ p. p < from) ys → AllPairs (λ p q. q < p) (xs ++ ys)
+pub falling_append : (xs ys : List ℕ) (from : ℕ) → AllPairs (λ p q. q < p) xs → AllPairs (λ p q. q < p) ys → All (λ p. from ≤ p) xs → All (λ p. p < from) ys
+    → AllPairs (λ p q. q < p) (xs ++ ys)
 falling_append xs ys from of_xs of_ys high low i j d earlier below = elim (cases_lt j (length xs)) [
   | inl j_left ↦ rw (get_or_append_left xs ys d i (omega arith), get_or_append_left xs ys d j j_left) (of_xs i j d earlier j_left)
   | inr j_right ↦
@@ -62,7 +65,8 @@ record Reached (trail : List Entry) (m : MarksValue) (falses more : List Literal
   only : (l : Literal) → Contains more l → Contains falses l ⊎ HasCome trail m i l
 
 module _ (trail : List Entry) (values : List (Option Bool)) (are : AreValues values trail) where
-  reached_next : (m : MarksValue) (falses more : List Literal) (i p : ℕ) → p < length trail → (literal_at trail p).letter.0 ≡ letter_at m i → Reached trail m falses more i
+  reached_next : (m : MarksValue) (falses more : List Literal) (i p : ℕ) → p < length trail → (literal_at trail p).letter.0 ≡ letter_at m i
+      → Reached trail m falses more i
       → Reached trail m falses (opposite (literal_at trail p) ∷ more) (i + 1)
   reached_next m falses more i p inside is reached =
       let u = opposite (literal_at trail p) in
@@ -83,25 +87,31 @@ module _ (trail : List Entry) (values : List (Option Bool)) (are : AreValues val
         ];
       }
 
-module _ (inputs lines : List (List Literal)) (trail : List Entry) (values : List (Option Bool)) (letters base from : ℕ) (old new : MarksValue) (clause : List Literal) (hints : List Hint) (places : List ℕ) (more : List Literal) (next : List ℕ)
-    (is_trail : IsTrail inputs lines trail) (are : AreValues values trail) (known_inputs : AreBelow letters inputs) (known_lines : AreBelow letters lines) (few : letters ≤ 2 ^ 32) (fits : base ≤ from)
-    (walk : IsWalk inputs lines trail from (IsMarked old) clause hints places) (rest : IsRest inputs lines trail base from base old new clause places more next) where
+module _ (inputs lines : List (List Literal)) (trail : List Entry) (values : List (Option Bool)) (letters base from : ℕ) (old new : MarksValue)
+    (clause : List Literal) (hints : List Hint) (places : List ℕ) (more : List Literal) (next : List ℕ)
+    (is_trail : IsTrail inputs lines trail) (are : AreValues values trail) (known_inputs : AreBelow letters inputs) (known_lines : AreBelow letters lines)
+    (few : letters ≤ 2 ^ 32) (fits : base ≤ from)
+    (walk : IsWalk inputs lines trail from (IsMarked old) clause hints places)
+    (rest : IsRest inputs lines trail base from base old new clause places more next) where
   abbrev letter_of : ℕ → ℕ
   letter_of p = (literal_at trail p).letter.0
 
   clause_more : (l : Literal) → Contains clause l → Contains more l
-  clause_more l there = subst (λ c. Contains c l) (sym rest.clause_is) (Contains-append_left clause (map (λ p. opposite (literal_at trail p)) rest.added) l there)
+  clause_more l there =
+      subst (λ c. Contains c l) (sym rest.clause_is) (Contains-append_left clause (map (λ p. opposite (literal_at trail p)) rest.added) l there)
 
   added_more : (q : ℕ) → Contains rest.added q → Contains more (opposite (literal_at trail q))
   added_more q there =
       subst (λ c. Contains c (opposite (literal_at trail q))) (sym rest.clause_is)
-      (Contains-append_right clause (map (λ p. opposite (literal_at trail p)) rest.added) (opposite (literal_at trail q)) (Contains_mapped (λ p. opposite (literal_at trail p)) rest.added q there))
+      (Contains-append_right clause (map (λ p. opposite (literal_at trail p)) rest.added) (opposite (literal_at trail q))
+      (Contains_mapped (λ p. opposite (literal_at trail p)) rest.added q there))
 
   more_cases : (l : Literal) → Contains more l → Contains clause l ⊎ ((q : ℕ) × Contains rest.added q × (l ≡ opposite (literal_at trail q)))
-  more_cases l there = elim (Contains-append_cases clause (map (λ p. opposite (literal_at trail p)) rest.added) l (subst (λ c. Contains c l) rest.clause_is there)) [
-    | inl c ↦ inl c
-    | inr a ↦ inr (Contains_map (λ p. opposite (literal_at trail p)) 0 rest.added l a)
-  ]
+  more_cases l there =
+      elim (Contains-append_cases clause (map (λ p. opposite (literal_at trail p)) rest.added) l (subst (λ c. Contains c l) rest.clause_is there)) [
+        | inl c ↦ inl c
+        | inr a ↦ inr (Contains_map (λ p. opposite (literal_at trail p)) 0 rest.added l a)
+      ]
 
   clause_place : (l : Literal) → Contains clause l → (q : ℕ) × (from ≤ q) × (q < length trail) × (l ≡ opposite (literal_at trail q))
   clause_place l there =
@@ -123,7 +133,8 @@ module _ (inputs lines : List (List Literal)) (trail : List Entry) (values : Lis
     more_false l there = All-contains (Contains falses) more l covers.clause_in there
 
     -- what is marked and does not follow is false
-    marked_false : (q : ℕ) → q < from → IsMarked new (letter_of q) → (outcome_of new (letter_of q) ≡ Some true → Contains falses (opposite (literal_at trail q))) → Contains falses (opposite (literal_at trail q))
+    marked_false : (q : ℕ) → q < from → IsMarked new (letter_of q)
+        → (outcome_of new (letter_of q) ≡ Some true → Contains falses (opposite (literal_at trail q))) → Contains falses (opposite (literal_at trail q))
     marked_false q low marked follows = elim (cases_lt q base) [
       | inl under ↦ covers.marked_in q under marked
       | inr over ↦ elim (rest.settled q over low marked) [
@@ -158,7 +169,8 @@ module _ (inputs lines : List (List Literal)) (trail : List Entry) (values : Lis
                 true_not_false (ap (outcome_of new) letter ∙ rest.consequences.follow i low) (added_is q new_one).2
           ]
           | inr b ↦
-              apart_from_p b.0 (omega (arith, b.1, this.why.high, this.why.inside)) (λ e. omega (arith, e, b.1, this.why.high)) (sym (ap (λ (n : Literal). n.letter.0) b.2) ∙ same)
+              apart_from_p b.0 (omega (arith, b.1, this.why.high, this.why.inside)) (λ e. omega (arith, e, b.1, this.why.high))
+              (sym (ap (λ (n : Literal). n.letter.0) b.2) ∙ same)
         ]
         | inr c ↦
             rest.consequences.apart c.index i c.low low (sym c.letter_is ∙ sym (ap (λ (n : Literal). n.letter.0) c.is) ∙ same)
@@ -176,7 +188,8 @@ module _ (inputs lines : List (List Literal)) (trail : List Entry) (values : Lis
                 (λ e. absurd (true_not_false (sym (ap (outcome_of new) letter) ∙ e) kept.1)))
             | inr (inl among) ↦ reached.done among.0 q among.1 q_in (letter ∙ sym among.2)
             | inr (inr basic) ↦
-                reached.first _ (covers.marked_in q (place_below values trail are q base l.letter.0 q_in letter basic.1) (subst (IsMarked new) (sym letter) basic.0))
+                reached.first _
+                (covers.marked_in q (place_below values trail are q base l.letter.0 q_in letter basic.1) (subst (IsMarked new) (sym letter) basic.0))
           ])
 
       reason : IsReason inputs lines (literals_of (take p trail)) (literal_at trail p) (reason_at new i)
@@ -196,7 +209,8 @@ module _ (inputs lines : List (List Literal)) (trail : List Entry) (values : Lis
                   let same : this.clause ≡ reason.clause = some_same this.is reason.is in
                   inl (elim (subst (All (λ m. (m.letter.0 ≡ letter_at new i) ⊎ IsGivenBy trail base new i m.letter.0)) same this.others k d below) [
                     | inl own ↦
-                        absurd (apart_from_p at.0 (omega (arith, at.1, this.why.inside)) (λ e. omega (arith, e, at.1)) (ap (λ (n : Literal). n.letter.0) at.2 ∙ own))
+                        absurd
+                        (apart_from_p at.0 (omega (arith, at.1, this.why.inside)) (λ e. omega (arith, e, at.1)) (ap (λ (n : Literal). n.letter.0) at.2 ∙ own))
                     | inr given ↦ given_false l given at.0 at.1 at.2
                   ])
             ];
@@ -206,7 +220,10 @@ module _ (inputs lines : List (List Literal)) (trail : List Entry) (values : Lis
           → Refutes inputs lines greatest_u32 now (reason_at new i ∷ after)
       step after go =
           let known = named_has (All (IsBelow letters)) inputs lines (reason_at new i) reason.clause known_inputs known_lines reason.is in
-          propagate {clause = reason.clause} {u = literal_at trail p} (record { is = reason.is; within = λ _ _. within_u32 letters reason.clause few known }) unit
+          propagate {clause = reason.clause} {u = literal_at trail p} (record {
+            is = reason.is;
+            within = λ _ _. within_u32 letters reason.clause few known;
+          }) unit
           (go (opposite (literal_at trail p) ∷ now) (reached_next trail values are new falses now i p this.why.inside this.why.is reached))
 
     -- once all that follows is false, the walk goes on
@@ -240,7 +257,8 @@ module _ (inputs lines : List (List Literal)) (trail : List Entry) (values : Lis
     steps (s ∷ left) gone is now reached =
         let i = length gone in
         let low : i < count = omega (arith, ap length is, length-append gone (s ∷ left)) in
-        let here : get_or new.consequences i no_consequence ≡ s = subst (λ cs. get_or cs i no_consequence ≡ s) is (get_or_at gone s left no_consequence i refl) in
+        let here : get_or new.consequences i no_consequence ≡ s =
+        subst (λ cs. get_or cs i no_consequence ≡ s) is (get_or_at gone s left no_consequence i refl) in
         let split : (gone ++ s ∷ []) ++ left ≡ new.consequences = append_assoc gone (s ∷ []) left ∙ is in
         let longer : i + 1 ≡ length (gone ++ s ∷ []) = sym (length_push gone s) in
         subst (λ (c : Consequence). Refutes inputs lines greatest_u32 now (c.reason ∷ (map (λ (e : Consequence). e.reason) left ++ reverse hints))) here
@@ -248,26 +266,30 @@ module _ (inputs lines : List (List Literal)) (trail : List Entry) (values : Lis
         (λ now_more r. steps left (gone ++ s ∷ []) split now_more (subst (Reached trail new falses now_more) longer r)))
 
     explained : Refutes inputs lines greatest_u32 falses (map (λ c. c.reason) new.consequences ++ reverse hints)
-    explained = steps new.consequences [] refl falses (record { first = λ l h. h; done = λ j q low q_in same. absurd (omega (arith, low)); only = λ l h. inl h })
+    explained =
+        steps new.consequences [] refl falses (record { first = λ l h. h; done = λ j q low q_in same. absurd (omega (arith, low)); only = λ l h. inl h })
 
   -- the walk goes on at the base, with the reasons of what follows behind the hints
   walk_rest : IsWalk inputs lines trail base (IsMarked new) more (hints ++ reverse (map (λ c. c.reason) new.consequences)) next
   walk_rest = record {
     explains = λ falses covers.
         let reasons = map (λ (c : Consequence). c.reason) new.consequences in
-        let turned : reverse (hints ++ reverse reasons) ≡ reasons ++ reverse hints = reverse-append hints (reverse reasons) ∙ ap (λ rs. rs ++ reverse hints) (reverse-reverse reasons) in
+        let turned : reverse (hints ++ reverse reasons) ≡ reasons ++ reverse hints =
+        reverse-append hints (reverse reasons) ∙ ap (λ rs. rs ++ reverse hints) (reverse-reverse reasons) in
         subst (Refutes inputs lines greatest_u32 falses) (sym turned) (explained falses covers);
     clause_is =
         rest.clause_is ∙ ap (λ c. c ++ map (λ p. opposite (literal_at trail p)) rest.added) walk.clause_is
         ∙ sym (map-append (λ p. opposite (literal_at trail p)) places rest.added) ∙ ap (map (λ p. opposite (literal_at trail p))) (sym rest.places_is);
     inside = rw rest.places_is (All-append (IsInside trail) places rest.added walk.inside (λ k d below. omega (arith, (rest.inside k d below).1, walk.within)));
-    above = rw rest.places_is (All-append (λ p. base ≤ p) places rest.added (λ k d below. omega (arith, walk.above k d below, fits)) (λ k d below. (rest.inside k d below).0));
+    above = rw rest.places_is
+        (All-append (λ p. base ≤ p) places rest.added (λ k d below. omega (arith, walk.above k d below, fits)) (λ k d below. (rest.inside k d below).0));
     falling = rw rest.places_is (falling_append places rest.added from walk.falling rest.falling walk.above (λ k d below. (rest.inside k d below).1));
     within = omega (arith, walk.within, fits);
   }
 
   -- the same of lists that are equal to these
-  pub walk_cited : (clause_now : List Literal) (hints_kept hints_now : List Hint) (places_now : List ℕ) (consequences : List Consequence) → clause_now ≡ more → places_now ≡ next → hints_kept ≡ hints → consequences ≡ new.consequences
+  pub walk_cited : (clause_now : List Literal) (hints_kept hints_now : List Hint) (places_now : List ℕ) (consequences : List Consequence)
+      → clause_now ≡ more → places_now ≡ next → hints_kept ≡ hints → consequences ≡ new.consequences
       → hints_now ≡ hints_kept ++ reverse (map (λ c. c.reason) consequences) → IsWalk inputs lines trail base (IsMarked new) clause_now hints_now places_now
   walk_cited clause_now hints_kept hints_now places_now consequences clause_same places_same hints_same consequences_same cited =
       rw (clause_same, places_same, cited, hints_same, consequences_same) walk_rest

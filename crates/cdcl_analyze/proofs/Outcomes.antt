@@ -19,13 +19,15 @@ abbrev pub denied : MarksValue → ℕ → MarksValue
 denied m letter = with_outcomes m (slice_set m.outcomes letter m.stamp)
 
 abbrev pub concluded : MarksValue → ℕ → Hint → MarksValue
-concluded m letter reason = with_consequences (with_outcomes m (slice_set m.outcomes letter (m.stamp + 1))) (m.consequences ++ record { letter = letter; reason = reason } ∷ [])
+concluded m letter reason =
+    with_consequences (with_outcomes m (slice_set m.outcomes letter (m.stamp + 1))) (m.consequences ++ record { letter = letter; reason = reason } ∷ [])
 
 -- a number that was written in place of a letter's changes what is known of that letter alone
 pub outcome_other : (m : MarksValue) (letter n x : ℕ) → x ≢ letter → outcome_of (with_outcomes m (slice_set m.outcomes letter n)) x ≡ outcome_of m x
 outcome_other m letter n x differ = rw (length-set m.outcomes letter n, get_or-set_other m.outcomes letter x n 0 differ) refl
 
-outcome_set : (m : MarksValue) (letter n : ℕ) → letter < length m.outcomes → outcome_of (with_outcomes m (slice_set m.outcomes letter n)) letter ≡ outcome_from m.stamp n
+outcome_set : (m : MarksValue) (letter n : ℕ) → letter < length m.outcomes
+    → outcome_of (with_outcomes m (slice_set m.outcomes letter n)) letter ≡ outcome_from m.stamp n
 outcome_set m letter n low = rw (length-set m.outcomes letter n, get_or-set_same m.outcomes letter n 0 low, lt-ltb letter (length m.outcomes) low) refl
 
 pub outcome_denied : (m : MarksValue) (letter : ℕ) → letter < length m.outcomes → outcome_of (denied m letter) letter ≡ Some false

@@ -9,7 +9,8 @@ use Rattle.cdcl_trail.proofs.Standing.{places_apart}
 use Rattle.cdcl_analyze.specs.Consequences.{StandsBelow, HasReason}
 
 -- a letter that stands there is known
-pub stands_known : (values : List (Option Bool)) (trail : List Entry) (letter : ℕ) → AreValues values trail → StandsBelow trail (length trail) letter → letter < length values
+pub stands_known : (values : List (Option Bool)) (trail : List Entry) (letter : ℕ) → AreValues values trail → StandsBelow trail (length trail) letter
+    → letter < length values
 stands_known values trail letter are (p, low, is) = subst (λ x. x < length values) is (are.known p blank_entry low)
 
 -- what stands below an end stands below each later one
@@ -17,21 +18,24 @@ pub stands_before : (trail : List Entry) (end more letter : ℕ) → end ≤ mor
 stands_before trail end more letter fits (p, low, is) = (p, omega (arith, low, fits), is)
 
 -- it stands at one place alone
-pub same_place : (values : List (Option Bool)) (trail : List Entry) → AreValues values trail → (i j : ℕ) → i < length trail → j < length trail → (literal_at trail i).letter.0 ≡ (literal_at trail j).letter.0 → i ≡ j
+pub same_place : (values : List (Option Bool)) (trail : List Entry) → AreValues values trail → (i j : ℕ) → i < length trail → j < length trail
+    → (literal_at trail i).letter.0 ≡ (literal_at trail j).letter.0 → i ≡ j
 same_place values trail are i j ilow jlow same = elim (cases_eq i j) [
   | inl is ↦ is
   | inr differ ↦ absurd (places_apart values trail are i j ilow jlow differ same)
 ]
 
 -- a letter that stands below an end has its place there
-pub place_below : (values : List (Option Bool)) (trail : List Entry) → AreValues values trail → (place end letter : ℕ) → place < length trail → (literal_at trail place).letter.0 ≡ letter → StandsBelow trail end letter → place < end
+pub place_below : (values : List (Option Bool)) (trail : List Entry) → AreValues values trail → (place end letter : ℕ) → place < length trail
+    → (literal_at trail place).letter.0 ≡ letter → StandsBelow trail end letter → place < end
 place_below values trail are place end letter inside is (p, low, p_is) = elim (cases_lt p (length trail)) [
   | inl p_inside ↦ let same = same_place values trail are place p inside p_inside (is ∙ sym p_is) in omega (arith, same, low)
   | inr high ↦ omega (arith, high, low, inside)
 ]
 
 -- the entry at its place tells its reason
-pub reason_here : (trail : List Entry) (base letter place : ℕ) (e : Entry) (hint : Hint) → ((k : ℕ) → k < length trail → (literal_at trail k).letter.0 ≡ letter → place ≡ k)
+pub reason_here : (trail : List Entry) (base letter place : ℕ) (e : Entry) (hint : Hint)
+    → ((k : ℕ) → k < length trail → (literal_at trail k).letter.0 ≡ letter → place ≡ k)
     → StandsBelow trail (length trail) letter → base ≤ place → e ≡ get_or trail place e → e.reason ≡ Some hint → HasReason trail base letter hint
 reason_here trail base letter place e hint place_is (p, low, is) high entry reason =
     let same = place_is p low is in

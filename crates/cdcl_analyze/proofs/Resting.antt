@@ -1,5 +1,6 @@
 -- The steps of the walk that keeps in a clause what does not follow from the rest of it.
-use Rattle.std.proofs.Common.{◌≡◌, ℕ, ◌<◌, ◌≤◌, ◌+◌, ◌⊎◌, ◌↔◌, inl, inr, List, [], ◌∷◌, ◌++◌, Bool, true, false, Option, Some, None, map, Contains, length, get_or, refl, sym, ap, ◌∙◌, subst, arith}
+use Rattle.std.proofs.Common.{◌≡◌, ℕ, ◌<◌, ◌≤◌, ◌+◌, ◌⊎◌, ◌↔◌, inl, inr, List, [], ◌∷◌, ◌++◌, Bool, true, false, Option, Some, None, map, Contains, length}
+use Rattle.std.proofs.Common.{get_or, refl, sym, ap, ◌∙◌, subst, arith}
 use Rattle.std.proofs.lemmas.Bool.{cases_lt, cases_eq}
 use Rattle.std.proofs.lemmas.List.{map-append, append_assoc, append-nil, get_or_default}
 use Rattle.std.proofs.lemmas.List.Elements.{All-nil, All-push, All-weaker, Contains-append_left, Contains-push}
@@ -17,7 +18,8 @@ use Rattle.cdcl_analyze.proofs.Growth.{consequences_found, grows_denied}
 use Rattle.cdcl_analyze.proofs.Minimal.{falling_append}
 use Rattle.cdcl_analyze.proofs.Steps.{still_waiting}
 
-module _ (inputs lines : List (List Literal)) (trail : List Entry) (values : List (Option Bool)) (base from : ℕ) (old : MarksValue) (clause : List Literal) (places : List ℕ) (are : AreValues values trail) (inside : from ≤ length trail) where
+module _ (inputs lines : List (List Literal)) (trail : List Entry) (values : List (Option Bool)) (base from : ℕ) (old : MarksValue) (clause : List Literal)
+    (places : List ℕ) (are : AreValues values trail) (inside : from ≤ length trail) where
   abbrev letter_of : ℕ → ℕ
   letter_of p = (literal_at trail p).letter.0
 
@@ -47,8 +49,10 @@ module _ (inputs lines : List (List Literal)) (trail : List Entry) (values : Lis
 
   module _ (more : List Literal) (next : List ℕ) where
     -- what was found is the same, and no more is marked from the base on; from k up to the end nothing is marked
-    rest_same : (end k : ℕ) (m n : MarksValue) → base ≤ k → k ≤ end → FoundSame m n → ((x : ℕ) → IsMarked m x → IsMarked n x) → ((x : ℕ) → IsMarked n x → IsMarked m x ⊎ StandsBelow trail base x)
-        → ((j : ℕ) → k ≤ j → j < end → ¬ IsMarked m (letter_of j)) → IsRest inputs lines trail base from end old m clause places more next → IsRest inputs lines trail base from k old n clause places more next
+    rest_same : (end k : ℕ) (m n : MarksValue) → base ≤ k → k ≤ end → FoundSame m n → ((x : ℕ) → IsMarked m x → IsMarked n x)
+        → ((x : ℕ) → IsMarked n x → IsMarked m x ⊎ StandsBelow trail base x)
+        → ((j : ℕ) → k ≤ j → j < end → ¬ IsMarked m (letter_of j)) → IsRest inputs lines trail base from end old m clause places more next
+        → IsRest inputs lines trail base from k old n clause places more next
     rest_same end k m n high fits found marked based free rest =
         let same = outcome_same m n found in
         record {
@@ -58,7 +62,8 @@ module _ (inputs lines : List (List Literal)) (trail : List Entry) (values : Lis
           added = rest.added;
           places_is = rest.places_is;
           clause_is = rest.clause_is;
-          inside = All-weaker (λ p. (end ≤ p) × (p < from) × (outcome_of m (letter_of p) ≡ Some false)) (λ p. (k ≤ p) × (p < from) × (outcome_of n (letter_of p) ≡ Some false))
+          inside = All-weaker (λ p. (end ≤ p) × (p < from) × (outcome_of m (letter_of p) ≡ Some false))
+              (λ p. (k ≤ p) × (p < from) × (outcome_of n (letter_of p) ≡ Some false))
               (λ p h. (omega (arith, h.0, fits), h.1, same (letter_of p) ∙ h.2)) rest.added rest.inside;
           falling = rest.falling;
           settled = λ j from_k low is. elim (based (letter_of j) is) [
@@ -70,9 +75,11 @@ module _ (inputs lines : List (List Literal)) (trail : List Entry) (values : Lis
           ];
         }
 
-    module _ (place : ℕ) (m : MarksValue) (low : place < from) (high : base ≤ place) (rest : IsRest inputs lines trail base from (place + 1) old m clause places more next) where
+    module _ (place : ℕ) (m : MarksValue) (low : place < from) (high : base ≤ place)
+        (rest : IsRest inputs lines trail base from (place + 1) old m clause places more next) where
       -- more is found out of letters up to the place
-      rest_settled : (n : MarksValue) → Grows inputs lines trail base (place + 1) m n → IsRest inputs lines trail base from (place + 1) old n clause places more next
+      rest_settled : (n : MarksValue) → Grows inputs lines trail base (place + 1) m n
+          → IsRest inputs lines trail base from (place + 1) old n clause places more next
       rest_settled n grows = record {
         consequences = grows.consequences;
         marked = λ x h. grows.marked x (rest.marked x h);
@@ -83,7 +90,8 @@ module _ (inputs lines : List (List Literal)) (trail : List Entry) (values : Lis
         added = rest.added;
         places_is = rest.places_is;
         clause_is = rest.clause_is;
-        inside = All-weaker (λ p. (place + 1 ≤ p) × (p < from) × (outcome_of m (letter_of p) ≡ Some false)) (λ p. (place + 1 ≤ p) × (p < from) × (outcome_of n (letter_of p) ≡ Some false))
+        inside = All-weaker (λ p. (place + 1 ≤ p) × (p < from) × (outcome_of m (letter_of p) ≡ Some false))
+            (λ p. (place + 1 ≤ p) × (p < from) × (outcome_of n (letter_of p) ≡ Some false))
             (λ p h. (
               h.0,
               h.1,
@@ -108,7 +116,8 @@ module _ (inputs lines : List (List Literal)) (trail : List Entry) (values : Lis
         added = rest.added;
         places_is = rest.places_is;
         clause_is = rest.clause_is;
-        inside = All-weaker (λ p. (place + 1 ≤ p) × (p < from) × (outcome_of m (letter_of p) ≡ Some false)) (λ p. (place ≤ p) × (p < from) × (outcome_of m (letter_of p) ≡ Some false))
+        inside = All-weaker (λ p. (place + 1 ≤ p) × (p < from) × (outcome_of m (letter_of p) ≡ Some false))
+            (λ p. (place ≤ p) × (p < from) × (outcome_of m (letter_of p) ≡ Some false))
             (λ p h. (omega (arith, h.0), h.1, h.2)) rest.added rest.inside;
         falling = rest.falling;
         settled = λ j from_here under is. elim (cases_eq j place) [
@@ -118,23 +127,27 @@ module _ (inputs lines : List (List Literal)) (trail : List Entry) (values : Lis
       }
 
       -- what stands at the place does not follow, and is kept
-      rest_kept : (n : MarksValue) (grown : List Literal) (longer : List ℕ) → length values ≤ length m.outcomes → ¬ (outcome_of m (letter_of place) ≡ Some true) → n ≡ denied m (letter_of place)
+      rest_kept : (n : MarksValue) (grown : List Literal) (longer : List ℕ) → length values ≤ length m.outcomes → ¬ (outcome_of m (letter_of place) ≡ Some true)
+          → n ≡ denied m (letter_of place)
           → grown ≡ more ++ opposite_of place ∷ [] → longer ≡ next ++ place ∷ [] → IsRest inputs lines trail base from place old n clause places grown longer
       rest_kept n grown longer many not_follows n_is grown_is longer_is =
           let letter = letter_of place in
           let d = denied m letter in
           let now = rest_settled d (grows_denied inputs lines trail base m letter (place + 1) rest.consequences (place, omega arith, refl) not_follows) in
-          let out : outcome_of d letter ≡ Some false = outcome_denied m letter (omega (arith, are.known place blank_entry (omega (arith, low, inside)), many)) in
+          let out : outcome_of d letter ≡ Some false =
+          outcome_denied m letter (omega (arith, are.known place blank_entry (omega (arith, low, inside)), many)) in
           subst (λ v. IsRest inputs lines trail base from place old v clause places grown longer) (sym n_is) (record {
             consequences = now.consequences;
             marked = now.marked;
             under = now.under;
             added = now.added ++ place ∷ [];
             places_is = longer_is ∙ ap (λ ps. ps ++ place ∷ []) now.places_is ∙ append_assoc places now.added (place ∷ []);
-            clause_is = grown_is ∙ ap (λ c. c ++ opposite_of place ∷ []) now.clause_is ∙ append_assoc clause (map (λ p. opposite (literal_at trail p)) now.added) (opposite_of place ∷ [])
+            clause_is = grown_is ∙ ap (λ c. c ++ opposite_of place ∷ []) now.clause_is
+                ∙ append_assoc clause (map (λ p. opposite (literal_at trail p)) now.added) (opposite_of place ∷ [])
                 ∙ ap (λ c. clause ++ c) (sym (map-append (λ p. opposite (literal_at trail p)) now.added (place ∷ [])));
             inside = All-push (λ p. (place ≤ p) × (p < from) × (outcome_of d (letter_of p) ≡ Some false)) now.added place
-                (All-weaker (λ p. (place + 1 ≤ p) × (p < from) × (outcome_of d (letter_of p) ≡ Some false)) (λ p. (place ≤ p) × (p < from) × (outcome_of d (letter_of p) ≡ Some false))
+                (All-weaker (λ p. (place + 1 ≤ p) × (p < from) × (outcome_of d (letter_of p) ≡ Some false))
+                (λ p. (place ≤ p) × (p < from) × (outcome_of d (letter_of p) ≡ Some false))
                 (λ p h. (omega (arith, h.0), h.1, h.2)) now.added now.inside)
                 (omega arith, low, out);
             falling = falling_append now.added (place ∷ []) (place + 1) now.falling (λ i j e earlier under. absurd (omega (arith, earlier, under)))
@@ -149,7 +162,8 @@ module _ (inputs lines : List (List Literal)) (trail : List Entry) (values : Lis
           })
 
     -- the next place that waits is taken out
-    module _ (end : ℕ) (m popped : MarksValue) (fits : end ≤ from) (waits : AreWaiting trail end m) (same : (x : ℕ) → IsMarked popped x ↔ IsMarked m x) (found : FoundSame m popped)
+    module _ (end : ℕ) (m popped : MarksValue) (fits : end ≤ from) (waits : AreWaiting trail end m) (same : (x : ℕ) → IsMarked popped x ↔ IsMarked m x)
+        (found : FoundSame m popped)
         (rest : IsRest inputs lines trail base from end old m clause places more next) where
       -- nothing waits
       pub rest_ended : base ≤ end → ((p : ℕ) → p < end → ¬ IsWaiting m.waiting p) → IsRest inputs lines trail base from base old popped clause places more next
@@ -175,8 +189,10 @@ module _ (inputs lines : List (List Literal)) (trail : List Entry) (values : Lis
             passed j from_k (inr h) = omega (arith, h.0, from_k, below)
 
         -- it stands below the base, and its letter is marked again
-        module _ (n : MarksValue) (below : place < base) (high : base ≤ end) (only : (x : ℕ) → IsMarked n x → (x ≡ e.literal.letter.0) ⊎ IsMarked popped x) where
-          pub rest_marked : FoundSame popped n → ((x : ℕ) → IsMarked popped x → IsMarked n x) → IsRest inputs lines trail base from base old n clause places more next
+        module _ (n : MarksValue) (below : place < base) (high : base ≤ end)
+            (only : (x : ℕ) → IsMarked n x → (x ≡ e.literal.letter.0) ⊎ IsMarked popped x) where
+          pub rest_marked : FoundSame popped n → ((x : ℕ) → IsMarked popped x → IsMarked n x)
+              → IsRest inputs lines trail base from base old n clause places more next
           rest_marked again marked =
               rest_same base base popped n (omega arith) (omega arith) again marked
               (λ x h. elim (only x h) [ inl q ↦ inr (place, below, letter_is ∙ sym q) | inr was ↦ inl was ])
@@ -193,7 +209,8 @@ module _ (inputs lines : List (List Literal)) (trail : List Entry) (values : Lis
           ]
 
         -- it stands from the base on, and its letter was asked
-        module _ (n : MarksValue) (high : base ≤ place) (grows : (k : ℕ) → StandsBelow trail k e.literal.letter.0 → Grows inputs lines trail base k popped n) where
+        module _ (n : MarksValue) (high : base ≤ place)
+            (grows : (k : ℕ) → StandsBelow trail k e.literal.letter.0 → Grows inputs lines trail base k popped n) where
           under : place < from
           under = omega (arith, is_next.low, fits)
 
@@ -206,13 +223,17 @@ module _ (inputs lines : List (List Literal)) (trail : List Entry) (values : Lis
           waiting_still : AreWaiting trail place n
           waiting_still = grown.waiting place (still_waiting trail end place m popped waits same is_next (omega (arith, fits, inside)))
 
-          pub asked_follows : outcome_of n e.literal.letter.0 ≡ Some true → IsRest inputs lines trail base from place old n clause places more next × AreWaiting trail place n
+          pub asked_follows : outcome_of n e.literal.letter.0 ≡ Some true
+              → IsRest inputs lines trail base from place old n clause places more next × AreWaiting trail place n
           asked_follows follows = (rest_follows place n under high asked (ap (outcome_of n) letter_is ∙ follows), waiting_still)
 
-          pub asked_kept : (kept : MarksValue) (more_now : List Literal) (next_now : List ℕ) → length values ≤ length n.outcomes → ¬ (outcome_of n e.literal.letter.0 ≡ Some true) → kept ≡ denied n e.literal.letter.0
-              → more_now ≡ more ++ opposite e.literal ∷ [] → next_now ≡ next ++ place ∷ [] → IsRest inputs lines trail base from place old kept clause places more_now next_now × AreWaiting trail place kept
+          pub asked_kept : (kept : MarksValue) (more_now : List Literal) (next_now : List ℕ) → length values ≤ length n.outcomes
+              → ¬ (outcome_of n e.literal.letter.0 ≡ Some true) → kept ≡ denied n e.literal.letter.0
+              → more_now ≡ more ++ opposite e.literal ∷ [] → next_now ≡ next ++ place ∷ [] → IsRest inputs lines trail base from place old kept clause places
+              more_now next_now × AreWaiting trail place kept
           asked_kept kept more_now next_now many not_follows kept_is more_is next_is = (
-            rest_kept place n under high asked kept more_now next_now many (λ follows. not_follows (ap (outcome_of n) (sym letter_is) ∙ follows)) (kept_is ∙ ap (denied n) (sym letter_is))
+            rest_kept place n under high asked kept more_now next_now many (λ follows. not_follows (ap (outcome_of n) (sym letter_is) ∙ follows))
+                (kept_is ∙ ap (denied n) (sym letter_is))
                 (more_is ∙ ap (λ (f : Entry). more ++ opposite f.literal ∷ []) entry_is) next_is,
             subst (AreWaiting trail place) (sym kept_is) waiting_still,
           )

@@ -21,8 +21,10 @@ pub clause_has : (P : Literal → Type 0) (clause read : List Literal) → HaveS
 clause_has P clause read same all = λ i d below. All-contains P read _ all (same.there i d below)
 
 -- the clause that the buffer notes under the name of a hint is read in place of the one that the hint names
-pub noted_read : (inputs lines : List (List Literal)) (arena : ArenaValue) (hint : Hint) (name : ℕ) (read : List Literal) → IsStored inputs lines arena.clauses (map hint_of arena.names) → hint_of name ≡ hint
-    → (c : ℕ) × (c < length arena.clauses) × (get_or arena.names c 0 ≡ name) × (read ≡ clause_of arena.clauses c) → (clause : List Literal) × (named inputs lines hint ≡ Some clause) × HaveSame clause read
+pub noted_read : (inputs lines : List (List Literal)) (arena : ArenaValue) (hint : Hint) (name : ℕ) (read : List Literal)
+    → IsStored inputs lines arena.clauses (map hint_of arena.names) → hint_of name ≡ hint
+    → (c : ℕ) × (c < length arena.clauses) × (get_or arena.names c 0 ≡ name) × (read ≡ clause_of arena.clauses c)
+    → (clause : List Literal) × (named inputs lines hint ≡ Some clause) × HaveSame clause read
 noted_read inputs lines arena hint name read stored name_is (c, below, there, read_is) =
     let from = stored.from_log c below in
     let low : c < length arena.names = omega (arith, below, stored.paired, length-map arena.names hint_of) in
@@ -30,7 +32,8 @@ noted_read inputs lines arena hint name read stored name_is (c, below, there, re
     (from.0, subst (λ h. named inputs lines h ≡ Some from.0) hint_is from.1, subst (HaveSame from.0) (sym read_is) from.2)
 
 -- the other letters that are read stand before the letter that is forced
-pub read_stands : (inputs lines : List (List Literal)) (trail : List Entry) (base : ℕ) (values : List (Option Bool)) (letter : ℕ) (reason : Hint) → AreValues values trail → IsTrail inputs lines trail
+pub read_stands : (inputs lines : List (List Literal)) (trail : List Entry) (base : ℕ) (values : List (Option Bool)) (letter : ℕ) (reason : Hint)
+    → AreValues values trail → IsTrail inputs lines trail
     → HasReason trail base letter reason → (read : List Literal) → ((clause : List Literal) → named inputs lines reason ≡ Some clause → HaveSame clause read)
     → (i other : ℕ) (d : Literal) → i < length read → other ≡ (get_or read i d).letter.0 → other ≢ letter
     → (place : ℕ) → place < length trail → (literal_at trail place).letter.0 ≡ letter → StandsBelow trail place other

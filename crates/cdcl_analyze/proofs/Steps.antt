@@ -30,48 +30,64 @@ found_again one two three first second = record {
 
 -- where nothing is known of letters, nothing is known once more places were gone over
 pub found_unasked : (old new : MarksValue) → FoundSame old new → IsUnasked old → IsUnasked new
-found_unasked old new found none = record { unasked = λ x. outcome_same old new found x ∙ none.unasked x; none_follows = found.consequences ∙ none.none_follows }
+found_unasked old new found none =
+    record { unasked = λ x. outcome_same old new found x ∙ none.unasked x; none_follows = found.consequences ∙ none.none_follows }
 
 -- a trail is like itself
 pub like_itself : (graph : GraphValue) → IsGraph graph → (from : ℕ) → from ≤ length graph.trail → IsLike graph graph.trail from
-like_itself graph sound from fits = record { same = λ k low. refl; long = fits; is_trail = sound.is_trail; values = graph.values; told = sound.told; few = sound.few }
+like_itself graph sound from fits =
+    record { same = λ k low. refl; long = fits; is_trail = sound.is_trail; values = graph.values; told = sound.told; few = sound.few }
 
 -- what waits below the next place waits on
-pub still_waiting : (trail : List Entry) (end place : ℕ) (old new : MarksValue) → AreWaiting trail end old → ((x : ℕ) → IsMarked new x ↔ IsMarked old x) → IsNext old.waiting new.waiting end place → end ≤ length trail → AreWaiting trail place new
-still_waiting trail end place old new waits same next fits j low inside is = elim (next.before j (omega (arith, low, next.low)) (waits j (omega (arith, low, next.low)) inside ((same _).0 is))) [
-  | inl same_place ↦ absurd (omega (arith, same_place, low))
-  | inr rest ↦ rest.1
-]
+pub still_waiting : (trail : List Entry) (end place : ℕ) (old new : MarksValue) → AreWaiting trail end old → ((x : ℕ) → IsMarked new x ↔ IsMarked old x)
+    → IsNext old.waiting new.waiting end place → end ≤ length trail → AreWaiting trail place new
+still_waiting trail end place old new waits same next fits j low inside is =
+    elim (next.before j (omega (arith, low, next.low)) (waits j (omega (arith, low, next.low)) inside ((same _).0 is))) [
+      | inl same_place ↦ absurd (omega (arith, same_place, low))
+      | inr rest ↦ rest.1
+    ]
 
 -- a letter that is marked anew waits at its place
-pub waiting_marked : (trail : List Entry) (letter place end : ℕ) (old new : MarksValue) → ((k : ℕ) → k < length trail → (literal_at trail k).letter.0 ≡ letter → place ≡ k)
-    → ((x : ℕ) → IsMarked new x → (x ≡ letter) ⊎ IsMarked old x) → ((p : ℕ) → (p ≡ place) ⊎ IsWaiting old.waiting p → IsWaiting new.waiting p) → AreWaiting trail end old → AreWaiting trail end new
+pub waiting_marked : (trail : List Entry) (letter place end : ℕ) (old new : MarksValue)
+    → ((k : ℕ) → k < length trail → (literal_at trail k).letter.0 ≡ letter → place ≡ k)
+    → ((x : ℕ) → IsMarked new x → (x ≡ letter) ⊎ IsMarked old x) → ((p : ℕ) → (p ≡ place) ⊎ IsWaiting old.waiting p → IsWaiting new.waiting p)
+    → AreWaiting trail end old → AreWaiting trail end new
 waiting_marked trail letter place end old new place_is only more waits j low inside is = elim (only (literal_at trail j).letter.0 is) [
   | inl same ↦ more j (inl (sym (place_is j inside same)))
   | inr was ↦ more j (inr (waits j low inside was))
 ]
 
 -- the walk over a trail that is like the graph's
-module _ (graph : GraphValue) (t : List Entry) (from end : ℕ) (old new : MarksValue) (like : IsLike graph t from) (fits : end ≤ from) (inside : from ≤ length graph.trail) (waits : AreWaiting graph.trail end old) where
+module _ (graph : GraphValue) (t : List Entry) (from end : ℕ) (old new : MarksValue) (like : IsLike graph t from) (fits : end ≤ from)
+    (inside : from ≤ length graph.trail) (waits : AreWaiting graph.trail end old) where
   marked_waits : (j : ℕ) → j < end → IsMarked old (literal_at t j).letter.0 → IsWaiting old.waiting j
-  marked_waits j low is = waits j low (omega (arith, low, fits, inside)) (subst (λ (e : Entry). IsMarked old e.literal.letter.0) (like.same j (omega (arith, low, fits))) is)
+  marked_waits j low is =
+      waits j low (omega (arith, low, fits, inside)) (subst (λ (e : Entry). IsMarked old e.literal.letter.0) (like.same j (omega (arith, low, fits))) is)
 
   -- where nothing waits the walk is at its end
   pub like_ended : ((p : ℕ) → p < end → ¬ IsWaiting old.waiting p) → (clause : List Literal) (hints : List Hint) (places : List ℕ)
-      → IsWalk graph.log.inputs graph.log.lines t end (IsMarked old) clause hints places → IsWalk graph.log.inputs graph.log.lines t 0 (IsMarked new) clause hints places
+      → IsWalk graph.log.inputs graph.log.lines t end (IsMarked old) clause hints places
+      → IsWalk graph.log.inputs graph.log.lines t 0 (IsMarked new) clause hints places
   like_ended none clause hints places walk =
-      walk_pass graph.log.inputs graph.log.lines t end 0 (IsMarked old) (IsMarked new) clause hints places (omega arith) (λ j low is. absurd (none j low (marked_waits j low is))) walk
+      walk_pass graph.log.inputs graph.log.lines t end 0 (IsMarked old) (IsMarked new) clause hints places (omega arith)
+      (λ j low is. absurd (none j low (marked_waits j low is))) walk
 
   -- a place that waits is the next to be gone over
-  module _ (place : ℕ) (e : Entry) (same : (x : ℕ) → IsMarked new x ↔ IsMarked old x) (next : IsNext old.waiting new.waiting end place) (is : e ≡ get_or graph.trail place e) where
+  module _ (place : ℕ) (e : Entry) (same : (x : ℕ) → IsMarked new x ↔ IsMarked old x) (next : IsNext old.waiting new.waiting end place)
+      (is : e ≡ get_or graph.trail place e) where
     entry_is : get_or t place blank_entry ≡ e
-    entry_is = like.same place (omega (arith, next.low, fits)) ∙ sym (is ∙ get_or_default graph.trail place e blank_entry (omega (arith, next.low, fits, inside)))
+    entry_is =
+        like.same place (omega (arith, next.low, fits)) ∙ sym (is ∙ get_or_default graph.trail place e blank_entry (omega (arith, next.low, fits, inside)))
 
     pub like_decided : (places more : List ℕ) → e.reason ≡ None → more ≡ places ++ place ∷ [] → All (IsDecision t) places → All (IsDecision t) more
     like_decided places more free more_is decided =
-        rw more_is (All-push (IsDecision t) places place decided (record { within = omega (arith, next.low, fits, like.long); free = ap (λ (f : Entry). f.reason) entry_is ∙ free }))
+        rw more_is (All-push (IsDecision t) places place decided (record {
+          within = omega (arith, next.low, fits, like.long);
+          free = ap (λ (f : Entry). f.reason) entry_is ∙ free;
+        }))
 
-    module _ (clause : List Literal) (hints : List Hint) (places : List ℕ) (walk : IsWalk graph.log.inputs graph.log.lines t end (IsMarked old) clause hints places) where
+    module _ (clause : List Literal) (hints : List Hint) (places : List ℕ)
+        (walk : IsWalk graph.log.inputs graph.log.lines t end (IsMarked old) clause hints places) where
       here : IsWalk graph.log.inputs graph.log.lines t (place + 1) (IsMarked new) clause hints places
       here =
           walk_pass graph.log.inputs graph.log.lines t end (place + 1) (IsMarked old) (IsMarked new) clause hints places (omega (arith, next.low))
@@ -82,13 +98,15 @@ module _ (graph : GraphValue) (t : List Entry) (from end : ℕ) (old new : Marks
           below j (inr rest) = omega (arith, rest.0)
 
       -- what stands there is kept or resolved away
-      pub like_keep : (l : Literal) (c : List Literal) (hs : List Hint) (ps : List ℕ) → l ≡ opposite e.literal → c ≡ clause ++ l ∷ [] → hs ≡ hints → ps ≡ places ++ place ∷ []
+      pub like_keep : (l : Literal) (c : List Literal) (hs : List Hint) (ps : List ℕ) → l ≡ opposite e.literal
+          → c ≡ clause ++ l ∷ [] → hs ≡ hints → ps ≡ places ++ place ∷ []
           → IsWalk graph.log.inputs graph.log.lines t place (IsMarked new) c hs ps
       like_keep l c hs ps l_is c_is hs_is ps_is =
           let kept : l ≡ opposite (literal_at t place) = l_is ∙ ap (λ (f : Entry). opposite f.literal) (sym entry_is) in
           rw (c_is, hs_is, ps_is, kept) (walk_keep _ _ _ place _ _ _ _ here)
 
-      pub like_resolve : IsGraph graph → (more : ℕ → Type 0) (hint : Hint) (read : List Literal) (c : List Literal) (hs : List Hint) (ps : List ℕ) → e.reason ≡ Some hint
+      pub like_resolve : IsGraph graph → (more : ℕ → Type 0) (hint : Hint) (read : List Literal) (c : List Literal) (hs : List Hint) (ps : List ℕ)
+          → e.reason ≡ Some hint
           → ((named_clause : List Literal) → named graph.log.inputs graph.log.lines hint ≡ Some named_clause → HaveSame named_clause read)
           → ((x : ℕ) → IsMarked new x → more x) → All (λ l. more l.letter.0) read
           → c ≡ clause → hs ≡ hints ++ hint ∷ [] → ps ≡ places → IsWalk graph.log.inputs graph.log.lines t place more c hs ps
@@ -98,4 +116,5 @@ module _ (graph : GraphValue) (t : List Entry) (from end : ℕ) (old new : Marks
           let reason = reason_at graph.log.inputs graph.log.lines t place hint like.is_trail in_t (ap (λ (f : Entry). f.reason) entry_is ∙ forced) in
           let known = named_has (All (IsBelow letters)) graph.log.inputs graph.log.lines hint reason.clause sound.known_inputs sound.known_lines reason.is in
           rw (c_is, hs_is, ps_is)
-          (walk_resolve _ _ _ place _ _ _ _ here letters like.values more hint reason like.told known sound.few kept (clause_has (λ l. more l.letter.0) reason.clause read (reads reason.clause reason.is) all))
+          (walk_resolve _ _ _ place _ _ _ _ here letters like.values more hint reason like.told known sound.few kept
+          (clause_has (λ l. more l.letter.0) reason.clause read (reads reason.clause reason.is) all))

@@ -1,9 +1,11 @@
 -- The walk down the trail that explains a conflict by any of its literals.
-use Rattle.std.proofs.Common.{◌≡◌, ℕ, suc, ◌<◌, ◌≤◌, ◌+◌, ◌^◌, ◌⊎◌, inl, inr, List, [], ◌∷◌, ◌++◌, Bool, true, false, not, Option, Some, map, take, reverse, All, Contains, length, get_or, refl, sym, ap, ◌∙◌, subst, arith}
+use Rattle.std.proofs.Common.{◌≡◌, ℕ, suc, ◌<◌, ◌≤◌, ◌+◌, ◌^◌, ◌⊎◌, inl, inr, List, [], ◌∷◌, ◌++◌, Bool, true, false, not, Option, Some, map, take, reverse}
+use Rattle.std.proofs.Common.{All, Contains, length, get_or, refl, sym, ap, ◌∙◌, subst, arith}
 use mathlib.Core.Bool.{false≢true}
 use Rattle.std.proofs.lemmas.Bool.{cases_lt, cases_eq}
 use Rattle.std.proofs.lemmas.List.{map-append, reverse-append, get_or-map, length-map, get_or_append_left, get_or_at, length_push, take_all}
-use Rattle.std.proofs.lemmas.List.Elements.{All-nil, All-cons, All-push, All-weaker, All-contains, Contains-push, Contains-push_cases, Contains-get_or, All-contains_itself}
+use Rattle.std.proofs.lemmas.List.Elements.{All-nil, All-cons, All-push, All-weaker, All-contains, Contains-push, Contains-push_cases, Contains-get_or}
+use Rattle.std.proofs.lemmas.List.Elements.{All-contains_itself}
 use Rattle.cnf_base.specs.declared.literal.Literal.{Literal}
 use Rattle.cnf_base.specs.declared.literal.Hint.{Hint}
 use Rattle.cnf_base.specs.Literal.{opposite}
@@ -32,7 +34,8 @@ Contains_map f d xs y (k, below, is) =
 abbrev pub StandBelow : List Entry → ℕ → ℕ → (ℕ → Type 0) → (ℕ → Type 0) → Type 0
 StandBelow trail n k marked more = (j : ℕ) → j < n → marked (literal_at trail j).letter.0 → (j < k) × more (literal_at trail j).letter.0
 
-covers_pass : (trail : List Entry) (n k : ℕ) (marked more : ℕ → Type 0) (clause falses : List Literal) → k ≤ n → StandBelow trail n k marked more → Covers trail k more clause falses → Covers trail n marked clause falses
+covers_pass : (trail : List Entry) (n k : ℕ) (marked more : ℕ → Type 0) (clause falses : List Literal) → k ≤ n → StandBelow trail n k marked more
+    → Covers trail k more clause falses → Covers trail n marked clause falses
 covers_pass trail n k marked more clause falses fits below covers = record {
   marked_in = λ j low is. let here = below j low is in covers.marked_in j here.0 here.1;
   clause_in = covers.clause_in;
@@ -41,7 +44,8 @@ covers_pass trail n k marked more clause falses fits below covers = record {
 }
 
 module _ (trail : List Entry) (k : ℕ) (marked : ℕ → Type 0) (clause : List Literal) where
-  pub covers_keep : (falses : List Literal) → Covers trail k marked (clause ++ opposite (literal_at trail k) ∷ []) falses → Covers trail (k + 1) marked clause falses
+  pub covers_keep : (falses : List Literal) → Covers trail k marked (clause ++ opposite (literal_at trail k) ∷ []) falses
+      → Covers trail (k + 1) marked clause falses
   covers_keep falses covers =
       let u = opposite (literal_at trail k) in
       record {
@@ -107,7 +111,8 @@ walk_start inputs lines trail letters marked hint clause is known few all_false 
 }
 
 -- what is not marked is passed over
-pub walk_pass : (inputs lines : List (List Literal)) (trail : List Entry) (n k : ℕ) (marked more : ℕ → Type 0) (clause : List Literal) (hints : List Hint) (places : List ℕ) → k ≤ n → StandBelow trail n k marked more
+pub walk_pass : (inputs lines : List (List Literal)) (trail : List Entry) (n k : ℕ) (marked more : ℕ → Type 0) (clause : List Literal) (hints : List Hint)
+    (places : List ℕ) → k ≤ n → StandBelow trail n k marked more
     → IsWalk inputs lines trail n marked clause hints places → IsWalk inputs lines trail k more clause hints places
 walk_pass inputs lines trail n k marked more clause hints places fits below walk = record {
   explains = λ falses covers. walk.explains falses (covers_pass trail n k marked more clause falses fits below covers);
@@ -118,7 +123,8 @@ walk_pass inputs lines trail n k marked more clause hints places fits below walk
   within = omega (arith, walk.within, fits);
 }
 
-module _ (inputs lines : List (List Literal)) (trail : List Entry) (k : ℕ) (marked : ℕ → Type 0) (clause : List Literal) (hints : List Hint) (places : List ℕ) (walk : IsWalk inputs lines trail (k + 1) marked clause hints places) where
+module _ (inputs lines : List (List Literal)) (trail : List Entry) (k : ℕ) (marked : ℕ → Type 0) (clause : List Literal) (hints : List Hint) (places : List ℕ)
+    (walk : IsWalk inputs lines trail (k + 1) marked clause hints places) where
   pub walk_keep : IsWalk inputs lines trail k marked (clause ++ opposite (literal_at trail k) ∷ []) hints (places ++ k ∷ [])
   walk_keep = record {
     explains = λ falses covers. walk.explains falses (covers_keep trail k marked clause falses covers);
@@ -134,7 +140,8 @@ module _ (inputs lines : List (List Literal)) (trail : List Entry) (k : ℕ) (ma
     within = omega (arith, walk.within);
   }
 
-  pub walk_resolve : (letters : ℕ) (values : List (Option Bool)) (more : ℕ → Type 0) (hint : Hint) (reason : IsReason inputs lines (literals_of (take k trail)) (literal_at trail k) hint)
+  pub walk_resolve : (letters : ℕ) (values : List (Option Bool)) (more : ℕ → Type 0) (hint : Hint)
+      (reason : IsReason inputs lines (literals_of (take k trail)) (literal_at trail k) hint)
       → AreValues values trail → All (IsBelow letters) reason.clause → letters ≤ 2 ^ 32
       → ((x : ℕ) → marked x → more x) → All (λ l. more l.letter.0) reason.clause
       → IsWalk inputs lines trail k more clause (hints ++ hint ∷ []) places
@@ -173,8 +180,10 @@ module _ (inputs lines : List (List Literal)) (trail : List Entry) (k : ℕ) (ma
       }
 
 -- at the foot of the trail the clause with its hints is a hinted step
-pub walk_end : (values : List (Option Bool)) (inputs lines : List (List Literal)) (trail : List Entry) (marked : ℕ → Type 0) (clause : List Literal) (hints : List Hint) (places : List ℕ)
-    → AreValues values trail → length values ≤ 2 ^ 32 → AreFromOne trail → IsWalk inputs lines trail 0 marked clause hints places → IsHintedStep inputs lines greatest_u32 clause (reverse hints)
+pub walk_end : (values : List (Option Bool)) (inputs lines : List (List Literal)) (trail : List Entry) (marked : ℕ → Type 0) (clause : List Literal)
+    (hints : List Hint) (places : List ℕ)
+    → AreValues values trail → length values ≤ 2 ^ 32 → AreFromOne trail → IsWalk inputs lines trail 0 marked clause hints places
+    → IsHintedStep inputs lines greatest_u32 clause (reverse hints)
 walk_end values inputs lines trail marked clause hints places are few from_one walk =
     let from_place : (m : Literal) → Contains clause m → (p : ℕ) × (p < length trail) × (m ≡ opposite (literal_at trail p)) =
     λ m c.

@@ -1,5 +1,6 @@
 -- The walk down the trail that explains a conflict.
-use Rattle.std.specs.Prelude.{◌≡◌, ℕ, ◌+◌, ◌^◌, ◌<◌, ◌≤◌, ◌⊎◌, Bool, List, [], ◌∷◌, ◌++◌, Option, None, map, take, reverse, length, All, AllPairs, Contains, slice_index_or}
+use Rattle.std.specs.Prelude.{◌≡◌, ℕ, ◌+◌, ◌^◌, ◌<◌, ◌≤◌, ◌⊎◌, Bool, List, [], ◌∷◌, ◌++◌, Option, None, map, take, reverse, length, All, AllPairs, Contains}
+use Rattle.std.specs.Prelude.{slice_index_or}
 use Rattle.cnf_base.specs.declared.literal.Literal.{Literal}
 use Rattle.cnf_base.specs.declared.literal.Hint.{Hint}
 use Rattle.cnf_base.specs.Literal.{opposite}
@@ -37,7 +38,8 @@ pub record Covers (trail : List Entry) (k : ℕ) (marked : ℕ → Type 0) (clau
   pub only : All (λ m. Contains clause m ⊎ IsUnder trail k m) falses
 
 -- the part of the trail from k on is explained
-pub record IsWalk (inputs lines : List (List Literal)) (trail : List Entry) (k : ℕ) (marked : ℕ → Type 0) (clause : List Literal) (hints : List Hint) (places : List ℕ) : Type 0 where
+pub record IsWalk (inputs lines : List (List Literal)) (trail : List Entry) (k : ℕ) (marked : ℕ → Type 0) (clause : List Literal) (hints : List Hint)
+    (places : List ℕ) : Type 0 where
   pub explains : (falses : List Literal) → Covers trail k marked clause falses → Refutes inputs lines greatest_u32 falses (reverse hints)
   pub clause_is : clause ≡ map (λ p. opposite (literal_at trail p)) places
   pub inside : All (IsInside trail) places

@@ -75,7 +75,8 @@ pub record CanAsk (graph : GraphValue) (base : ℕ) (m : MarksValue) : Type 0 wh
   pub consequences : AreConsequences graph.log.inputs graph.log.lines graph.trail base m
 
 -- of the marked places from `end` up to `from` the clause got those that do not follow, the last first; what follows stands below `from`
-pub record IsRest (inputs lines : List (List Literal)) (trail : List Entry) (base from end : ℕ) (old new : MarksValue) (clause : List Literal) (places : List ℕ) (more : List Literal) (next : List ℕ) : Type 0 where
+pub record IsRest (inputs lines : List (List Literal)) (trail : List Entry) (base from end : ℕ) (old new : MarksValue) (clause : List Literal) (places : List ℕ)
+    (more : List Literal) (next : List ℕ) : Type 0 where
   pub consequences : AreConsequences inputs lines trail base new
   pub marked : (x : ℕ) → IsMarked old x → IsMarked new x
   pub under : (x : ℕ) → outcome_of new x ≡ Some true → StandsBelow trail from x
@@ -84,4 +85,5 @@ pub record IsRest (inputs lines : List (List Literal)) (trail : List Entry) (bas
   pub clause_is : more ≡ clause ++ map (λ p. opposite (literal_at trail p)) added
   pub inside : All (λ p. (end ≤ p) × (p < from) × (outcome_of new (literal_at trail p).letter.0 ≡ Some false)) added
   pub falling : AllPairs (λ p q. q < p) added
-  pub settled : (j : ℕ) → end ≤ j → j < from → IsMarked new (literal_at trail j).letter.0 → (outcome_of new (literal_at trail j).letter.0 ≡ Some true) ⊎ Contains added j
+  pub settled : (j : ℕ) → end ≤ j → j < from → IsMarked new (literal_at trail j).letter.0
+      → (outcome_of new (literal_at trail j).letter.0 ≡ Some true) ⊎ Contains added j

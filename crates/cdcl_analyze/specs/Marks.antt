@@ -37,10 +37,12 @@ pub record IsUnasked (m : MarksValue) : Type 0 where
   pub none_follows : m.consequences ≡ []
 
 abbrev pub with_outcomes : MarksValue → List ℕ → MarksValue
-with_outcomes m outcomes = record { stamps = m.stamps; stamp = m.stamp; waiting = m.waiting; outcomes = outcomes; consequences = m.consequences; levels = m.levels }
+with_outcomes m outcomes =
+    record { stamps = m.stamps; stamp = m.stamp; waiting = m.waiting; outcomes = outcomes; consequences = m.consequences; levels = m.levels }
 
 abbrev pub with_consequences : MarksValue → List Consequence → MarksValue
-with_consequences m consequences = record { stamps = m.stamps; stamp = m.stamp; waiting = m.waiting; outcomes = m.outcomes; consequences = consequences; levels = m.levels }
+with_consequences m consequences =
+    record { stamps = m.stamps; stamp = m.stamp; waiting = m.waiting; outcomes = m.outcomes; consequences = consequences; levels = m.levels }
 
 abbrev pub with_levels : MarksValue → ℕ → MarksValue
 with_levels m levels = record { stamps = m.stamps; stamp = m.stamp; waiting = m.waiting; outcomes = m.outcomes; consequences = m.consequences; levels = levels }

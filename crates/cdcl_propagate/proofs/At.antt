@@ -1,5 +1,6 @@
 -- A visit stands at one clause.
-use Rattle.std.proofs.Common.{◌≡◌, ◌≢◌, ℕ, ◌<◌, ◌≤◌, ◌+◌, ◌*◌, ◌-◌, ◌⊎◌, inl, inr, List, [], ◌∷◌, ◌++◌, Option, Some, None, IfSome, take, map, set, All, Contains, length, get_or, refl, sym, ap, ap₂, ◌∙◌, subst, arith, length-set, get_or-set_same, length-take-le}
+use Rattle.std.proofs.Common.{◌≡◌, ◌≢◌, ℕ, ◌<◌, ◌≤◌, ◌+◌, ◌*◌, ◌-◌, ◌⊎◌, inl, inr, List, [], ◌∷◌, ◌++◌, Option, Some, None, IfSome, take, map, set, All}
+use Rattle.std.proofs.Common.{Contains, length, get_or, refl, sym, ap, ap₂, ◌∙◌, subst, arith, length-set, get_or-set_same, length-take-le}
 use Rattle.std.specs.List.{remove, swap}
 use Rattle.std.proofs.lemmas.Bool.{cases_lt, cases_eq}
 use Rattle.std.proofs.lemmas.List.{map-append, length-map, get_or-map, get_or_default, get_or_append_left, get_or-take}
@@ -20,14 +21,16 @@ use Rattle.cdcl_propagate.specs.Visit.{HasTrue, names_of, IsVisiting, IsFaced, I
 use Rattle.cdcl_propagate.proofs.Guard.{visit_kept, visit_turned, visit_moved, visit_grown}
 
 -- the literal is the second already
-pub faced_same : (w : WatchValue) (c : ℕ) (l : Literal) → IsWatch (clause_of w.clauses c) l → code l ≡ code (get_or (clause_of w.clauses c) 1 blank) → IsFaced w w c l
+pub faced_same : (w : WatchValue) (c : ℕ) (l : Literal) → IsWatch (clause_of w.clauses c) l
+    → code l ≡ code (get_or (clause_of w.clauses c) 1 blank) → IsFaced w w c l
 faced_same w c l watch is = record {
   long = watch.1.long;
   second = code_same l (get_or (clause_of w.clauses c) 1 blank) is ∙ get_or_default (clause_of w.clauses c) 1 blank l (omega (arith, watch.1.long));
   same = inl refl;
 }
 
-pub faced_turned : (w v : WatchValue) (c : ℕ) (l : Literal) → c < length w.clauses → IsWatch (clause_of w.clauses c) l → code l ≢ code (get_or (clause_of w.clauses c) 1 blank)
+pub faced_turned : (w v : WatchValue) (c : ℕ) (l : Literal) → c < length w.clauses → IsWatch (clause_of w.clauses c) l
+    → code l ≢ code (get_or (clause_of w.clauses c) 1 blank)
     → v.clauses ≡ set w.clauses c (swap (clause_of w.clauses c) 0 1) → v.lists ≡ w.lists → v.names ≡ w.names → IsFaced w v c l
 faced_turned w v c l known watch differ clauses_is lists_is names_are =
     let r = clause_of w.clauses c in
@@ -53,7 +56,8 @@ faced_lists w v c l faced = elim faced.same [
 ]
 
 -- the clause that is faced by its place in a list
-module _ (w v : WatchValue) (c : ℕ) (l : Literal) (i : ℕ) (c_is : c ≡ get_or (list_of w.lists l) i 0) (faced : IsFaced w v (get_or (list_of w.lists l) i 0) l) where
+module _ (w v : WatchValue) (c : ℕ) (l : Literal) (i : ℕ) (c_is : c ≡ get_or (list_of w.lists l) i 0)
+    (faced : IsFaced w v (get_or (list_of w.lists l) i 0) l) where
   pub faced_at : IsFaced w v c l
   faced_at = subst (λ n. IsFaced w v n l) (sym c_is) faced
 
@@ -69,7 +73,8 @@ list_length_same t k w v is = ap (λ ls. length (list_of ls (false_at t k))) is
 
 pub list_length_grown : (a t : List Entry) (e : Entry) (k : ℕ) (w : WatchValue) → k < length a → t ≡ a ++ e ∷ [] → list_length t w k ≡ list_length a w k
 list_length_grown a t e k w low trail_is =
-    ap (λ l. length (list_of w.lists l)) (ap (λ t. false_at t k) trail_is ∙ ap (λ (f : Entry). opposite f.literal) (get_or_append_left a (e ∷ []) blank_entry k low))
+    ap (λ l. length (list_of w.lists l))
+    (ap (λ t. false_at t k) trail_is ∙ ap (λ (f : Entry). opposite f.literal) (get_or_append_left a (e ∷ []) blank_entry k low))
 
 -- the list was visited up to i, and the clause at i has the false literal second
 pub record IsAt (inputs lines : List (List Literal)) (k i : ℕ) (a : AssignedValue) (w : WatchValue) (c : ℕ) : Type 0 where
@@ -82,7 +87,8 @@ pub record IsAt (inputs lines : List (List Literal)) (k i : ℕ) (a : AssignedVa
   pub second : false_at a.trail k ≡ get_or (clause_of w.clauses c) 1 blank
 
 -- nothing is said of a list that is not begun
-pub visit_all : (inputs lines : List (List Literal)) (k i : ℕ) (a : AssignedValue) (w : WatchValue) → IsVisiting inputs lines k i a w → IsVisiting inputs lines k 0 a w
+pub visit_all : (inputs lines : List (List Literal)) (k i : ℕ) (a : AssignedValue) (w : WatchValue) → IsVisiting inputs lines k i a w
+    → IsVisiting inputs lines k 0 a w
 visit_all inputs lines k i a w v = record {
   is_trail = v.is_trail;
   stored = v.stored;
@@ -92,10 +98,13 @@ visit_all inputs lines k i a w v = record {
   done = λ j from below. absurd (omega (arith, from));
 }
 
-pub at_faced : (inputs lines : List (List Literal)) (k i : ℕ) (a : AssignedValue) (w v : WatchValue) (c : ℕ) (l : Literal) → l ≡ false_at a.trail k → IsWatching v.clauses v.lists
-    → i < length (list_of w.lists (false_at a.trail k)) → get_or (list_of w.lists (false_at a.trail k)) i 0 ≡ c → c < length w.clauses → IsFaced w v c l → IsVisiting inputs lines k i a w → IsAt inputs lines k i a v c
+pub at_faced : (inputs lines : List (List Literal)) (k i : ℕ) (a : AssignedValue) (w v : WatchValue) (c : ℕ) (l : Literal) → l ≡ false_at a.trail k
+    → IsWatching v.clauses v.lists
+    → i < length (list_of w.lists (false_at a.trail k)) → get_or (list_of w.lists (false_at a.trail k)) i 0 ≡ c → c < length w.clauses → IsFaced w v c l
+    → IsVisiting inputs lines k i a w → IsAt inputs lines k i a v c
 at_faced inputs lines k i a w v c l l_is new_watching low at known faced visiting =
-    let second : false_at a.trail k ≡ get_or (clause_of v.clauses c) 1 blank = sym l_is ∙ faced.second ∙ get_or_default (clause_of v.clauses c) 1 l blank (omega (arith, faced.long)) in
+    let second : false_at a.trail k ≡ get_or (clause_of v.clauses c) 1 blank =
+    sym l_is ∙ faced.second ∙ get_or_default (clause_of v.clauses c) 1 l blank (omega (arith, faced.long)) in
     elim faced.same [
       | inl same ↦ record {
         visiting = subst (IsVisiting inputs lines k i a) (sym same) visiting;
@@ -125,13 +134,16 @@ module _ (inputs lines : List (List Literal)) (k i : ℕ) (a : AssignedValue) (w
   pub at_true : Contains (literals_of a.trail) (get_or (clause_of w.clauses c) 0 blank) → IsVisiting inputs lines k (i + 1) a w
   at_true there =
       let r = clause_of w.clauses c in
-      visit_kept inputs lines k i a w (subst (λ n. HasTrue (literals_of a.trail) (clause_of w.clauses n)) (sym at.at) (get_or r 0 blank, Contains-get_or r 0 blank (omega (arith, at.long)), there)) at.visiting
+      visit_kept inputs lines k i a w (subst (λ n. HasTrue (literals_of a.trail) (clause_of w.clauses n)) (sym at.at)
+      (get_or r 0 blank, Contains-get_or r 0 blank (omega (arith, at.long)), there)) at.visiting
 
   pub at_second_false : Contains (literals_of a.trail) (opposite (false_at a.trail k))
-  at_second_false = subst (Contains (literals_of a.trail)) (sym (opposite_opposite (literal_at a.trail k))) (entry_there a.trail k blank_entry at.visiting.within)
+  at_second_false =
+      subst (Contains (literals_of a.trail)) (sym (opposite_opposite (literal_at a.trail k))) (entry_there a.trail k blank_entry at.visiting.within)
 
   -- where all but the first are false, each literal of the log's clause is the first or false
-  at_others : AreFalseFrom a.trail (clause_of w.clauses c) 2 (length (clause_of w.clauses c)) → (l : Literal) → Contains (clause_of w.clauses c) l → (l ≡ get_or (clause_of w.clauses c) 0 blank) ⊎ Contains (literals_of a.trail) (opposite l)
+  at_others : AreFalseFrom a.trail (clause_of w.clauses c) 2 (length (clause_of w.clauses c)) → (l : Literal) → Contains (clause_of w.clauses c) l
+      → (l ≡ get_or (clause_of w.clauses c) 0 blank) ⊎ Contains (literals_of a.trail) (opposite l)
   at_others rest l (p, low, is) =
       let r = clause_of w.clauses c in
       let l_is : get_or r p blank ≡ l = get_or_default r p blank l low ∙ is in
@@ -146,7 +158,8 @@ module _ (inputs lines : List (List Literal)) (k i : ℕ) (a : AssignedValue) (w
         ]
       ]
 
-  pub at_reason : AreFalseFrom a.trail (clause_of w.clauses c) 2 (length (clause_of w.clauses c)) → IsReason inputs lines (literals_of a.trail) (get_or (clause_of w.clauses c) 0 blank) (get_or (names_of w) c blank_hint)
+  pub at_reason : AreFalseFrom a.trail (clause_of w.clauses c) 2 (length (clause_of w.clauses c))
+      → IsReason inputs lines (literals_of a.trail) (get_or (clause_of w.clauses c) 0 blank) (get_or (names_of w) c blank_hint)
   at_reason rest =
       let r = clause_of w.clauses c in
       let stored = at.visiting.stored.from_log c at.known in
@@ -157,7 +170,9 @@ module _ (inputs lines : List (List Literal)) (k i : ℕ) (a : AssignedValue) (w
         others = λ p d below. at_others rest (get_or stored.0 p d) (stored.2.there p d below);
       }
 
-  pub at_conflict : AreFalseFrom a.trail (clause_of w.clauses c) 2 (length (clause_of w.clauses c)) → Contains (literals_of a.trail) (opposite (get_or (clause_of w.clauses c) 0 blank)) → IsConflict inputs lines (literals_of a.trail) (get_or (names_of w) c blank_hint)
+  pub at_conflict : AreFalseFrom a.trail (clause_of w.clauses c) 2 (length (clause_of w.clauses c))
+      → Contains (literals_of a.trail) (opposite (get_or (clause_of w.clauses c) 0 blank))
+      → IsConflict inputs lines (literals_of a.trail) (get_or (names_of w) c blank_hint)
   at_conflict rest first_false =
       let r = clause_of w.clauses c in
       let stored = at.visiting.stored.from_log c at.known in
@@ -170,8 +185,10 @@ module _ (inputs lines : List (List Literal)) (k i : ℕ) (a : AssignedValue) (w
         ];
       }
 
-  pub at_moved : (v : WatchValue) (j : ℕ) → IsReplacement a.trail (clause_of w.clauses c) j → (m : Literal) → m ≡ get_or (clause_of w.clauses c) j blank → (f : Literal) → f ≡ false_at a.trail k
-      → v.clauses ≡ set w.clauses c (swap (clause_of w.clauses c) 1 j) → v.lists ≡ set (set w.lists (code m) (list_of w.lists m ++ c ∷ [])) (code f) (remove (list_of w.lists f) i) → v.names ≡ w.names
+  pub at_moved : (v : WatchValue) (j : ℕ) → IsReplacement a.trail (clause_of w.clauses c) j → (m : Literal) → m ≡ get_or (clause_of w.clauses c) j blank
+      → (f : Literal) → f ≡ false_at a.trail k
+      → v.clauses ≡ set w.clauses c (swap (clause_of w.clauses c) 1 j)
+      → v.lists ≡ set (set w.lists (code m) (list_of w.lists m ++ c ∷ [])) (code f) (remove (list_of w.lists f) i) → v.names ≡ w.names
       → IsVisiting inputs lines k i a v × (list_length a.trail v k + 1 ≡ list_length a.trail w k)
   at_moved v j found m m_is f f_is clauses_is lists_is names_are =
       visit_moved inputs lines k i a w v c j m at.watching at.low at.known found.behind found.within at.second m_is
@@ -188,7 +205,8 @@ module _ (inputs lines : List (List Literal)) (k i : ℕ) (a : AssignedValue) (w
       at_bit l = omega arith
 
 -- the last level is the greatest, and stands on the trail
-pub last_level : (inputs lines : List (List Literal)) (trail : List Entry) → IsTrail inputs lines trail → 0 < length trail → (u : Literal) (hint : Hint) → IsReason inputs lines (literals_of trail) u hint
+pub last_level : (inputs lines : List (List Literal)) (trail : List Entry) → IsTrail inputs lines trail → 0 < length trail → (u : Literal) (hint : Hint)
+    → IsReason inputs lines (literals_of trail) u hint
     → StandsAt inputs lines trail (record { literal = u; level = (get_or trail (length trail - 1) blank_entry).level; reason = Some hint })
 last_level inputs lines trail is_trail some u hint reason =
     let n = length trail - 1 in
@@ -216,27 +234,32 @@ last_level inputs lines trail is_trail some u hint reason =
         let here = is_trail (length trail - 1) blank_entry (omega arith) in
         let e = get_or trail (length trail - 1) blank_entry in
         let before = take (length trail - 1) trail in
-        let told = subst (λ o. IfSome o (λ h. IsReason inputs lines (literals_of before) e.literal h × (e.level ≤ length before) × ((e.level ≡ 0) ⊎ HasLevel before e.level))) is here.reason in
+        let told = subst (λ o. IfSome o
+        (λ h. IsReason inputs lines (literals_of before) e.literal h × (e.level ≤ length before) × ((e.level ≡ 0) ⊎ HasLevel before e.level))) is here.reason in
         omega (arith, told.1, length-take-le (length trail - 1) trail (omega arith))
 
 module _ (inputs lines : List (List Literal)) (k i : ℕ) (a : AssignedValue) (w : WatchValue) (e : Entry) (l : Literal) (x : ℕ) where
   pub false_is : e ≡ get_or a.trail k e → l ≡ opposite e.literal → k < length a.trail → l ≡ false_at a.trail k
   false_is e_is l_is within = l_is ∙ ap (λ (f : Entry). opposite f.literal) (e_is ∙ get_or_default a.trail k e blank_entry within)
 
-  pub watch_from : e ≡ get_or a.trail k e → l ≡ opposite e.literal → x ≡ get_or (list_of w.lists l) i 0 → IsWatching w.clauses w.lists → i < length (list_of w.lists (false_at a.trail k)) → k < length a.trail
+  pub watch_from : e ≡ get_or a.trail k e → l ≡ opposite e.literal → x ≡ get_or (list_of w.lists l) i 0 → IsWatching w.clauses w.lists
+      → i < length (list_of w.lists (false_at a.trail k)) → k < length a.trail
       → (x < length w.clauses) × IsWatch (clause_of w.clauses x) l
   watch_from e_is l_is x_is watching low within =
       let f_is = false_is e_is l_is within in
       let low_l : i < length (list_of w.lists l) = subst (λ m. i < length (list_of w.lists m)) (sym f_is) low in
       watching.only x l (subst (Contains (list_of w.lists l)) (sym x_is) (Contains-get_or (list_of w.lists l) i 0 low_l))
 
-  pub at_from : (v : WatchValue) → e ≡ get_or a.trail k e → l ≡ opposite e.literal → x ≡ get_or (list_of w.lists l) i 0 → IsWatching w.clauses w.lists → IsWatching v.clauses v.lists
+  pub at_from : (v : WatchValue) → e ≡ get_or a.trail k e → l ≡ opposite e.literal → x ≡ get_or (list_of w.lists l) i 0 → IsWatching w.clauses w.lists
+      → IsWatching v.clauses v.lists
       → i < length (list_of w.lists (false_at a.trail k)) → IsVisiting inputs lines k i a w → IsFaced w v x l → IsAt inputs lines k i a v x
   at_from v e_is l_is x_is watching new_watching low visiting faced =
       let f_is = false_is e_is l_is visiting.within in
-      at_faced inputs lines k i a w v x l f_is new_watching low (sym (x_is ∙ ap (λ m. get_or (list_of w.lists m) i 0) f_is)) (watch_from e_is l_is x_is watching low visiting.within).0 faced visiting
+      at_faced inputs lines k i a w v x l f_is new_watching low (sym (x_is ∙ ap (λ m. get_or (list_of w.lists m) i 0) f_is))
+      (watch_from e_is l_is x_is watching low visiting.within).0 faced visiting
 
-pub visit_same : (inputs lines : List (List Literal)) (k i : ℕ) (a n : AssignedValue) (w : WatchValue) → n.trail ≡ a.trail → length n.values ≡ length a.values → IsVisiting inputs lines k i a w → IsVisiting inputs lines k i n w
+pub visit_same : (inputs lines : List (List Literal)) (k i : ℕ) (a n : AssignedValue) (w : WatchValue) → n.trail ≡ a.trail → length n.values ≡ length a.values
+    → IsVisiting inputs lines k i a w → IsVisiting inputs lines k i n w
 visit_same inputs lines k i a n w trail_is values_is v =
     let P : List Entry → ℕ → Type 0 = λ t m. IsVisiting inputs lines k i (record { values = n.values; trail = t }) w in
     let here : IsVisiting inputs lines k i (record { values = n.values; trail = a.trail }) w = record {
@@ -255,21 +278,27 @@ same_watch v w one two three =
     ∙ ap (λ z. let u : WatchValue = record { clauses = w.clauses; lists = w.lists; names = z } in u) three
 
 -- the hint that is read from the name of a clause
-pub named_at : (names : List ℕ) (clauses : List (List Literal)) (n name : ℕ) (hint : Hint) → length (map hint_of names) ≡ length clauses → n < length clauses → hint ≡ hint_of name → name ≡ get_or names n 0
+pub named_at : (names : List ℕ) (clauses : List (List Literal)) (n name : ℕ) (hint : Hint) → length (map hint_of names) ≡ length clauses → n < length clauses
+    → hint ≡ hint_of name → name ≡ get_or names n 0
     → hint ≡ get_or (map hint_of names) n blank_hint
-named_at names clauses n name hint paired low is name_is = is ∙ ap hint_of name_is ∙ sym (get_or-map hint_of names n 0 blank_hint (omega (arith, paired, low, length-map names hint_of)))
+named_at names clauses n name hint paired low is name_is =
+    is ∙ ap hint_of name_is ∙ sym (get_or-map hint_of names n 0 blank_hint (omega (arith, paired, low, length-map names hint_of)))
 
 -- the first literal was put on the trail
-pub at_assigned : (inputs lines : List (List Literal)) (k i : ℕ) (a : AssignedValue) (w : WatchValue) (c : ℕ) → IsAt inputs lines k i a w c → (e : Entry) (n : AssignedValue) → StandsAt inputs lines a.trail e
-    → e.literal ≡ get_or (clause_of w.clauses c) 0 blank → n.trail ≡ a.trail ++ e ∷ [] → length n.values ≡ length a.values → IsVisiting inputs lines k (i + 1) n w
+pub at_assigned : (inputs lines : List (List Literal)) (k i : ℕ) (a : AssignedValue) (w : WatchValue) (c : ℕ) → IsAt inputs lines k i a w c
+    → (e : Entry) (n : AssignedValue) → StandsAt inputs lines a.trail e
+    → e.literal ≡ get_or (clause_of w.clauses c) 0 blank → n.trail ≡ a.trail ++ e ∷ [] → length n.values ≡ length a.values
+    → IsVisiting inputs lines k (i + 1) n w
 at_assigned inputs lines k i a w c at e n stands e_is trail_is values_is =
     let after = visit_grown inputs lines k i a w e n stands trail_is values_is at.visiting in
     let b = get_or (clause_of w.clauses c) 0 blank in
     let same : false_at n.trail k ≡ false_at a.trail k =
     ap (λ t. false_at t k) trail_is ∙ ap (λ (f : Entry). opposite f.literal) (get_or_append_left a.trail (e ∷ []) blank_entry k at.visiting.within) in
     let pushed : literals_of n.trail ≡ literals_of a.trail ++ e.literal ∷ [] = ap literals_of trail_is ∙ map-append (λ f. f.literal) a.trail (e ∷ []) in
-    let b_true : Contains (literals_of n.trail) b = subst (λ t. Contains t b) (sym pushed) (subst (Contains (literals_of a.trail ++ e.literal ∷ [])) e_is (Contains-push (literals_of a.trail) e.literal)) in
+    let b_true : Contains (literals_of n.trail) b =
+    subst (λ t. Contains t b) (sym pushed) (subst (Contains (literals_of a.trail ++ e.literal ∷ [])) e_is (Contains-push (literals_of a.trail) e.literal)) in
     let told : HasTrue (literals_of n.trail) (clause_of w.clauses c) = (b, Contains-get_or (clause_of w.clauses c) 0 blank (omega (arith, at.long)), b_true) in
     visit_kept inputs lines k i n w
-    (subst (λ f. HasTrue (literals_of n.trail) (watcher_at w f i)) (sym same) (subst (λ m. HasTrue (literals_of n.trail) (clause_of w.clauses m)) (sym at.at) told))
+    (subst (λ f. HasTrue (literals_of n.trail) (watcher_at w f i)) (sym same)
+    (subst (λ m. HasTrue (literals_of n.trail) (clause_of w.clauses m)) (sym at.at) told))
     after

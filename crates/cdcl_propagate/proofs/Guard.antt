@@ -1,5 +1,6 @@
 -- What a visit keeps.
-use Rattle.std.proofs.Common.{◌≡◌, ◌≢◌, ℕ, ◌<◌, ◌≤◌, ◌+◌, ◌*◌, ◌⊎◌, inl, inr, List, [], ◌∷◌, ◌++◌, map, set, Contains, length, get_or, refl, sym, ap, ◌∙◌, subst, arith, length-set, get_or-set_same, get_or-set_other}
+use Rattle.std.proofs.Common.{◌≡◌, ◌≢◌, ℕ, ◌<◌, ◌≤◌, ◌+◌, ◌*◌, ◌⊎◌, inl, inr, List, [], ◌∷◌, ◌++◌, map, set, Contains, length, get_or, refl, sym, ap, ◌∙◌}
+use Rattle.std.proofs.Common.{subst, arith, length-set, get_or-set_same, get_or-set_other}
 use Rattle.std.specs.List.{remove, swap}
 use Rattle.std.proofs.lemmas.Bool.{cases_lt, cases_eq}
 use Rattle.std.proofs.lemmas.List.{map-append, get_or_append_left, length_push}
@@ -28,11 +29,13 @@ watch_turned r a (b, h) =
 same_swapped : (clause r : List Literal) (i j : ℕ) → i < length r → j < length r → HaveSame clause r → HaveSame clause (swap r i j)
 same_swapped clause r i j i_low j_low same = record {
   there = All-weaker (Contains r) (Contains (swap r i j)) (λ l h. contains_swapped r i j l i_low j_low h) clause same.there;
-  back = λ k d below. All-contains (Contains clause) r (get_or (swap r i j) k d) same.back (contains_unswapped r i j (get_or (swap r i j) k d) i_low j_low (Contains-get_or (swap r i j) k d below));
+  back = λ k d below. All-contains (Contains clause) r (get_or (swap r i j) k d) same.back
+      (contains_unswapped r i j (get_or (swap r i j) k d) i_low j_low (Contains-get_or (swap r i j) k d below));
 }
 
 -- the clauses after one is turned or moved are still those of the log
-pub stored_swapped : (inputs lines clauses : List (List Literal)) (names : List Hint) (c i j : ℕ) → c < length clauses → i < length (clause_of clauses c) → j < length (clause_of clauses c) → IsStored inputs lines clauses names
+pub stored_swapped : (inputs lines clauses : List (List Literal)) (names : List Hint) (c i j : ℕ) → c < length clauses → i < length (clause_of clauses c)
+    → j < length (clause_of clauses c) → IsStored inputs lines clauses names
     → IsStored inputs lines (set clauses c (swap (clause_of clauses c) i j)) names
 stored_swapped inputs lines clauses names c i j known i_low j_low stored =
     let s = swap (clause_of clauses c) i j in
@@ -44,7 +47,8 @@ stored_swapped inputs lines clauses names c i j known i_low j_low stored =
             old.0,
             old.1,
             elim (cases_eq k c) [
-              | inl same ↦ subst (λ n. HaveSame old.0 (clause_of (set clauses c s) n)) (sym same) (subst (HaveSame old.0) (sym (get_or-set_same clauses c s [] known))
+              | inl same ↦
+                  subst (λ n. HaveSame old.0 (clause_of (set clauses c s) n)) (sym same) (subst (HaveSame old.0) (sym (get_or-set_same clauses c s [] known))
                   (same_swapped old.0 (clause_of clauses c) i j i_low j_low (subst (λ n. HaveSame old.0 (clause_of clauses n)) same old.2)))
               | inr other ↦ subst (HaveSame old.0) (sym (get_or-set_other clauses c k s [] other)) old.2
             ],
@@ -52,14 +56,16 @@ stored_swapped inputs lines clauses names c i j known i_low j_low stored =
     }
 
 -- what a clause watches after one is replaced
-pub watch_set : (clauses : List (List Literal)) (c : ℕ) (s : List Literal) (k : ℕ) (a : Literal) → c < length clauses → IsWatch (clause_of (set clauses c s) k) a → ((k ≡ c) × IsWatch s a) ⊎ ((k ≢ c) × IsWatch (clause_of clauses k) a)
+pub watch_set : (clauses : List (List Literal)) (c : ℕ) (s : List Literal) (k : ℕ) (a : Literal) → c < length clauses
+    → IsWatch (clause_of (set clauses c s) k) a → ((k ≡ c) × IsWatch s a) ⊎ ((k ≢ c) × IsWatch (clause_of clauses k) a)
 watch_set clauses c s k a known h = elim (cases_eq k c) [
   | inl same ↦ inl (same, subst (λ r. IsWatch r a) (get_or-set_same clauses c s [] known) (subst (λ n. IsWatch (clause_of (set clauses c s) n) a) same h))
   | inr other ↦ inr (other, subst (λ r. IsWatch r a) (get_or-set_other clauses c k s [] other) h)
 ]
 
 -- the clauses have the literals that they had after one is turned or moved
-pub literal_set : (clauses : List (List Literal)) (c i j k : ℕ) (l : Literal) → c < length clauses → i < length (clause_of clauses c) → j < length (clause_of clauses c) → Contains (clause_of clauses k) l
+pub literal_set : (clauses : List (List Literal)) (c i j k : ℕ) (l : Literal) → c < length clauses → i < length (clause_of clauses c)
+    → j < length (clause_of clauses c) → Contains (clause_of clauses k) l
     → Contains (clause_of (set clauses c (swap (clause_of clauses c) i j)) k) l
 literal_set clauses c i j k l known i_low j_low there =
     let r = clause_of clauses c in
@@ -67,12 +73,14 @@ literal_set clauses c i j k l known i_low j_low there =
     elim (cases_eq k c) [
       | inl same ↦
           let in_r : Contains r l = subst (λ n. Contains (clause_of clauses n) l) same there in
-          subst (λ n. Contains (clause_of (set clauses c s) n) l) (sym same) (subst (λ x. Contains x l) (sym (get_or-set_same clauses c s [] known)) (contains_swapped r i j l i_low j_low in_r))
+          subst (λ n. Contains (clause_of (set clauses c s) n) l) (sym same)
+          (subst (λ x. Contains x l) (sym (get_or-set_same clauses c s [] known)) (contains_swapped r i j l i_low j_low in_r))
       | inr other ↦ subst (λ x. Contains x l) (sym (get_or-set_other clauses c k s [] other)) there
     ]
 
 -- and so the true ones
-pub true_set : (clauses now : List (List Literal)) (true_ones : List Literal) (c i j k : ℕ) → c < length clauses → i < length (clause_of clauses c) → j < length (clause_of clauses c) → now ≡ set clauses c (swap (clause_of clauses c) i j)
+pub true_set : (clauses now : List (List Literal)) (true_ones : List Literal) (c i j k : ℕ) → c < length clauses → i < length (clause_of clauses c)
+    → j < length (clause_of clauses c) → now ≡ set clauses c (swap (clause_of clauses c) i j)
     → HasTrue true_ones (clause_of clauses k) → HasTrue true_ones (clause_of now k)
 true_set clauses now true_ones c i j k known i_low j_low is told =
     (told.0, subst (λ cs. Contains (clause_of cs k) told.0) (sym is) (literal_set clauses c i j k told.0 known i_low j_low told.1), told.2)
@@ -93,7 +101,8 @@ module _ (inputs lines : List (List Literal)) (k i : ℕ) (a : AssignedValue) (w
   }
 
   -- the clauses from i on are done
-  pub visit_skipped : (m : ℕ) (l : Literal) → l ≡ false_at a.trail k → ((j : ℕ) → i ≤ j → j < m → HasTrue (literals_of a.trail) (watcher_at w l j)) → IsVisiting inputs lines k i a w → IsVisiting inputs lines k m a w
+  pub visit_skipped : (m : ℕ) (l : Literal) → l ≡ false_at a.trail k → ((j : ℕ) → i ≤ j → j < m → HasTrue (literals_of a.trail) (watcher_at w l j))
+      → IsVisiting inputs lines k i a w → IsVisiting inputs lines k m a w
   visit_skipped m l l_is told visiting = record {
     is_trail = visiting.is_trail;
     stored = visiting.stored;
@@ -107,7 +116,8 @@ module _ (inputs lines : List (List Literal)) (k i : ℕ) (a : AssignedValue) (w
   }
 
   -- the first two of a clause change places
-  pub visit_turned : (c : ℕ) (v : WatchValue) → c < length w.clauses → 2 ≤ length (clause_of w.clauses c) → v.clauses ≡ set w.clauses c (swap (clause_of w.clauses c) 0 1) → v.lists ≡ w.lists → v.names ≡ w.names
+  pub visit_turned : (c : ℕ) (v : WatchValue) → c < length w.clauses → 2 ≤ length (clause_of w.clauses c)
+      → v.clauses ≡ set w.clauses c (swap (clause_of w.clauses c) 0 1) → v.lists ≡ w.lists → v.names ≡ w.names
       → IsVisiting inputs lines k i a w → IsVisiting inputs lines k i a v
   visit_turned c v known long clauses_is lists_is names_are visiting =
       let r = clause_of w.clauses c in
@@ -118,22 +128,27 @@ module _ (inputs lines : List (List Literal)) (k i : ℕ) (a : AssignedValue) (w
         | inl here ↦ subst (λ m. IsWatch (clause_of w.clauses m) x) (sym here.0) (watch_turned r x here.1)
         | inr other ↦ other.1
       ] in
-      let still : (n : ℕ) → HasTrue T (clause_of w.clauses n) → HasTrue T (clause_of v.clauses n) = λ n. true_set w.clauses v.clauses T c 0 1 n known (omega arith) (omega arith) clauses_is in
+      let still : (n : ℕ) → HasTrue T (clause_of w.clauses n) → HasTrue T (clause_of v.clauses n) =
+      λ n. true_set w.clauses v.clauses T c 0 1 n known (omega arith) (omega arith) clauses_is in
       let len : length v.clauses ≡ length w.clauses = ap length clauses_is ∙ length-set w.clauses c (swap r 0 1) in
       record {
         is_trail = visiting.is_trail;
-        stored = subst (λ ns. IsStored inputs lines v.clauses (map hint_of ns)) (sym names_are) (subst (λ cs. IsStored inputs lines cs (names_of w)) (sym clauses_is) (stored_swapped inputs lines w.clauses (names_of w) c 0 1 known (omega arith) (omega arith) visiting.stored));
+        stored = subst (λ ns. IsStored inputs lines v.clauses (map hint_of ns)) (sym names_are) (subst (λ cs. IsStored inputs lines cs (names_of w))
+            (sym clauses_is) (stored_swapped inputs lines w.clauses (names_of w) c 0 1 known (omega arith) (omega arith) visiting.stored));
         guarded = λ n p x low watch below at. still n (visiting.guarded n p x (omega arith) (back n x watch) below at);
         within = visiting.within;
         sized = ap length lists_is ∙ visiting.sized;
-        done = subst (λ ls. (j : ℕ) → j < i → j < length (list_of ls f) → HasTrue T (clause_of v.clauses (get_or (list_of ls f) j 0))) (sym lists_is) (λ j from below. still (get_or (list_of w.lists f) j 0) (visiting.done j from below));
+        done = subst (λ ls. (j : ℕ) → j < i → j < length (list_of ls f) → HasTrue T (clause_of v.clauses (get_or (list_of ls f) j 0))) (sym lists_is)
+            (λ j from below. still (get_or (list_of w.lists f) j 0) (visiting.done j from below));
       }
 
   -- the clause at i watches another literal that is not false, and the list is shorter by it
-  pub visit_moved : (v : WatchValue) (c j : ℕ) (m : Literal) → IsWatching w.clauses w.lists → i < length (list_of w.lists (false_at a.trail k)) → c < length w.clauses → 2 ≤ j → j < length (clause_of w.clauses c)
+  pub visit_moved : (v : WatchValue) (c j : ℕ) (m : Literal) → IsWatching w.clauses w.lists → i < length (list_of w.lists (false_at a.trail k))
+      → c < length w.clauses → 2 ≤ j → j < length (clause_of w.clauses c)
       → false_at a.trail k ≡ get_or (clause_of w.clauses c) 1 blank → m ≡ get_or (clause_of w.clauses c) j blank → ¬ Contains (literals_of a.trail) (opposite m)
       → v.clauses ≡ set w.clauses c (swap (clause_of w.clauses c) 1 j)
-      → v.lists ≡ set (set w.lists (code m) (list_of w.lists m ++ c ∷ [])) (code (false_at a.trail k)) (remove (list_of w.lists (false_at a.trail k)) i) → v.names ≡ w.names
+      → v.lists ≡ set (set w.lists (code m) (list_of w.lists m ++ c ∷ [])) (code (false_at a.trail k)) (remove (list_of w.lists (false_at a.trail k)) i)
+      → v.names ≡ w.names
       → IsVisiting inputs lines k i a w → IsVisiting inputs lines k i a v × (list_length a.trail v k + 1 ≡ list_length a.trail w k)
   visit_moved v c j m watching low known high j_low second_is m_is not_false clauses_is lists_is names_are visiting =
       let T = literals_of a.trail in
@@ -147,20 +162,24 @@ module _ (inputs lines : List (List Literal)) (k i : ℕ) (a : AssignedValue) (w
       let s1 : get_or s 1 blank ≡ m = S.0 ∙ sym m_is in
       let len : length v.clauses ≡ length w.clauses = ap length clauses_is ∙ length-set w.clauses c s in
       let r_watch : IsWatch r x0 = (f, are_first r x0 f blank (omega arith) (inl (refl, second_is))) in
-      let still : (n : ℕ) → HasTrue T (clause_of w.clauses n) → HasTrue T (clause_of v.clauses n) = λ n. true_set w.clauses v.clauses T c 1 j n known (omega arith) j_low clauses_is in
+      let still : (n : ℕ) → HasTrue T (clause_of w.clauses n) → HasTrue T (clause_of v.clauses n) =
+      λ n. true_set w.clauses v.clauses T c 1 j n known (omega arith) j_low clauses_is in
       let code_f : code f < length w.lists = subst (λ l. code l < length w.lists) (sym second_is) (watching.fits c known 1 blank (omega arith)) in
       let grown = list_of w.lists m ++ c ∷ [] in
       let half = set w.lists (code m) grown in
-      let new_list : list_of v.lists f ≡ remove ls i = ap (λ x. list_of x f) lists_is ∙ list_same half f (remove ls i) (omega (arith, length-set w.lists (code m) grown)) in (
+      let new_list : list_of v.lists f ≡ remove ls i =
+      ap (λ x. list_of x f) lists_is ∙ list_same half f (remove ls i) (omega (arith, length-set w.lists (code m) grown)) in (
         record {
           is_trail = visiting.is_trail;
-          stored = subst (λ ns. IsStored inputs lines v.clauses (map hint_of ns)) (sym names_are) (subst (λ cs. IsStored inputs lines cs (names_of w)) (sym clauses_is) (stored_swapped inputs lines w.clauses (names_of w) c 1 j known (omega arith) (omega arith) visiting.stored));
+          stored = subst (λ ns. IsStored inputs lines v.clauses (map hint_of ns)) (sym names_are) (subst (λ cs. IsStored inputs lines cs (names_of w))
+              (sym clauses_is) (stored_swapped inputs lines w.clauses (names_of w) c 1 j known (omega arith) (omega arith) visiting.stored));
           guarded = λ n p x n_low watch below is_false. elim (watch_set w.clauses c s n x known (subst (λ cs. IsWatch (clause_of cs n) x) clauses_is watch)) [
             | inr other ↦ still n (visiting.guarded n p x (omega arith) other.1 below is_false)
             | inl here ↦
                 let there : Contains T (opposite x) = subst (Contains T) is_false (entry_there a.trail p blank_entry (omega (arith, visiting.within))) in
                 elim (first_two s x here.1.0 blank here.1.1) [
-                  | inl e ↦ subst (λ q. HasTrue T (clause_of v.clauses q)) (sym here.0) (still c (visiting.guarded c p x0 known r_watch below (is_false ∙ ap opposite (e.0 ∙ s0))))
+                  | inl e ↦ subst (λ q. HasTrue T (clause_of v.clauses q)) (sym here.0)
+                      (still c (visiting.guarded c p x0 known r_watch below (is_false ∙ ap opposite (e.0 ∙ s0))))
                   | inr e ↦ absurd (not_false (subst (λ l. Contains T (opposite l)) (e.0 ∙ s1) there))
                 ]
           ];
@@ -176,11 +195,13 @@ module _ (inputs lines : List (List Literal)) (k i : ℕ) (a : AssignedValue) (w
       )
 
   -- one entry more
-  pub visit_grown : (e : Entry) (n : AssignedValue) → StandsAt inputs lines a.trail e → n.trail ≡ a.trail ++ e ∷ [] → length n.values ≡ length a.values → IsVisiting inputs lines k i a w → IsVisiting inputs lines k i n w
+  pub visit_grown : (e : Entry) (n : AssignedValue) → StandsAt inputs lines a.trail e → n.trail ≡ a.trail ++ e ∷ [] → length n.values ≡ length a.values
+      → IsVisiting inputs lines k i a w → IsVisiting inputs lines k i n w
   visit_grown e n stands trail_is values_is visiting =
       let pushed : literals_of (a.trail ++ e ∷ []) ≡ literals_of a.trail ++ e.literal ∷ [] = map-append (λ f. f.literal) a.trail (e ∷ []) in
       let more : (l : Literal) → Contains (literals_of a.trail) l → Contains (literals_of n.trail) l = λ l h.
-      subst (λ t. Contains (literals_of t) l) (sym trail_is) (subst (λ t. Contains t l) (sym pushed) (Contains-append_left (literals_of a.trail) (e.literal ∷ []) l h)) in
+      subst (λ t. Contains (literals_of t) l) (sym trail_is)
+      (subst (λ t. Contains t l) (sym pushed) (Contains-append_left (literals_of a.trail) (e.literal ∷ []) l h)) in
       let still : (r : List Literal) → HasTrue (literals_of a.trail) r → HasTrue (literals_of n.trail) r = λ r told. (told.0, told.1, more told.0 told.2) in
       let same_at : (p : ℕ) → p < length a.trail → literal_at n.trail p ≡ literal_at a.trail p = λ p p_low.
       ap (λ (t : List Entry). literal_at t p) trail_is ∙ ap (λ (f : Entry). f.literal) (get_or_append_left a.trail (e ∷ []) blank_entry p p_low) in
@@ -189,8 +210,10 @@ module _ (inputs lines : List (List Literal)) (k i : ℕ) (a : AssignedValue) (w
       record {
         is_trail = subst (IsTrail inputs lines) (sym trail_is) (trail_push inputs lines a.trail e visiting.is_trail stands);
         stored = visiting.stored;
-        guarded = λ c p x known watch below is_false. still (clause_of w.clauses c) (visiting.guarded c p x known watch below (sym (same_at p (omega (arith, visiting.within))) ∙ is_false));
+        guarded = λ c p x known watch below is_false. still (clause_of w.clauses c)
+            (visiting.guarded c p x known watch below (sym (same_at p (omega (arith, visiting.within))) ∙ is_false));
         within = omega (arith, visiting.within);
         sized = visiting.sized ∙ ap (λ m. 2 * m) (sym values_is);
-        done = subst (λ f. (j : ℕ) → j < i → j < length (list_of w.lists f) → HasTrue (literals_of n.trail) (watcher_at w f j)) (sym f_same) (λ j from below. still (watcher_at w (false_at a.trail k) j) (visiting.done j from below));
+        done = subst (λ f. (j : ℕ) → j < i → j < length (list_of w.lists f) → HasTrue (literals_of n.trail) (watcher_at w f j)) (sym f_same)
+            (λ j from below. still (watcher_at w (false_at a.trail k) j) (visiting.done j from below));
       }

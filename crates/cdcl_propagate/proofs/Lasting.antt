@@ -18,7 +18,8 @@ guarded_lasting clauses trail n lasting c k a known watch below is_false =
     (literal_at trail at.0, at.2, entry_there trail at.0 blank_entry at.1)
 
 -- a place whose level is the last one is lasting once its list was visited
-pub lasting_more : (inputs lines clauses : List (List Literal)) (trail : List Entry) (n : ℕ) → IsTrail inputs lines trail → n < length trail → ((k : ℕ) → k < length trail → level_at trail k ≤ level_at trail n)
+pub lasting_more : (inputs lines clauses : List (List Literal)) (trail : List Entry) (n : ℕ) → IsTrail inputs lines trail → n < length trail
+    → ((k : ℕ) → k < length trail → level_at trail k ≤ level_at trail n)
     → IsGuarded clauses trail (n + 1) → IsLasting clauses trail n → IsLasting clauses trail (n + 1)
 lasting_more inputs lines clauses trail n is_trail within top guarded lasting c k a known watch below is_false = elim (cases_lt k n) [
   | inl old ↦ lasting c k a known watch old is_false

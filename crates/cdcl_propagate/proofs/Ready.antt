@@ -1,5 +1,6 @@
 -- From one place of the trail to the next.
-use Rattle.std.proofs.Common.{◌≡◌, ◌≢◌, ℕ, ◌<◌, ◌≤◌, ◌+◌, ◌*◌, inl, inr, List, [], ◌++◌, Option, MatchOption, Bool, true, false, None, length, get_or, refl, sym, ap, ◌∙◌, subst, arith, length-append}
+use Rattle.std.proofs.Common.{◌≡◌, ◌≢◌, ℕ, ◌<◌, ◌≤◌, ◌+◌, ◌*◌, inl, inr, List, [], ◌++◌, Option, MatchOption, Bool, true, false, None, length, get_or, refl}
+use Rattle.std.proofs.Common.{sym, ap, ◌∙◌, subst, arith, length-append}
 use Rattle.std.proofs.lemmas.Bool.{cases_lt}
 use Rattle.std.proofs.lemmas.List.{append-nil, append_assoc, get_or_default, get_or_append_left}
 use Rattle.std.proofs.lemmas.List.Elements.{All-nil, All-append}
@@ -44,7 +45,8 @@ module _ (inputs lines : List (List Literal)) (k : ℕ) (a : AssignedValue) (w :
   still_ready i v = record { is_trail = v.is_trail; stored = v.stored; guarded = v.guarded; within = omega (arith, v.within); sized = v.sized }
 
   -- the whole list was visited
-  pub end_visit : (i : ℕ) → length (list_of w.lists (false_at a.trail k)) ≤ i → IsWatching w.clauses w.lists → IsVisiting inputs lines k i a w → IsReady inputs lines (k + 1) a w
+  pub end_visit : (i : ℕ) → length (list_of w.lists (false_at a.trail k)) ≤ i → IsWatching w.clauses w.lists → IsVisiting inputs lines k i a w
+      → IsReady inputs lines (k + 1) a w
   end_visit i all watching v = record {
     is_trail = v.is_trail;
     stored = v.stored;
@@ -71,7 +73,8 @@ code_known l n low = go l.negated refl
     go false is = rw is (omega arith)
 
 -- the literal that is false from a place on has its list
-pub list_known : (values : List (Option Bool)) (trail : List Entry) (k : ℕ) (lists : List (List ℕ)) → AreValues values trail → k < length trail → length lists ≡ 2 * length values → code (false_at trail k) < length lists
+pub list_known : (values : List (Option Bool)) (trail : List Entry) (k : ℕ) (lists : List (List ℕ)) → AreValues values trail → k < length trail
+    → length lists ≡ 2 * length values → code (false_at trail k) < length lists
 list_known values trail k lists are low sized = omega (arith, code_known (false_at trail k) (length values) (are.known k blank_entry low), sized)
 
 pub none_case : {X A : Type 0} (P : X → Type 0) (o : Option X) → o ≡ None → MatchOption o A P → A

@@ -13,9 +13,11 @@ use Rattle.cdcl_watches.proofs.Moves.{are_first}
 use Rattle.cdcl_propagate.specs.Visit.{HaveSame, IsGuarded}
 use Rattle.cdcl_trail.proofs.Standing.{not_both, place_of}
 
-module _ (values : List (Option Bool)) (trail : List Entry) (are : AreValues values trail) (clauses : List (List Literal)) (guarded : IsGuarded clauses trail (length trail)) where
+module _ (values : List (Option Bool)) (trail : List Entry) (are : AreValues values trail) (clauses : List (List Literal))
+    (guarded : IsGuarded clauses trail (length trail)) where
   -- where a watched literal is false, and each literal but u, u is true
-  lone_by : (c : ℕ) (u a : Literal) → c < length clauses → IsWatch (clause_of clauses c) a → Contains (literals_of trail) (opposite a) → ((l : Literal) → Contains (clause_of clauses c) l → (l ≡ u) ⊎ Contains (literals_of trail) (opposite l)) → Contains (literals_of trail) u
+  lone_by : (c : ℕ) (u a : Literal) → c < length clauses → IsWatch (clause_of clauses c) a → Contains (literals_of trail) (opposite a)
+      → ((l : Literal) → Contains (clause_of clauses c) l → (l ≡ u) ⊎ Contains (literals_of trail) (opposite l)) → Contains (literals_of trail) u
   lone_by c u a known watch a_false others =
       let place = place_of trail (opposite a) a_false in
       let told = guarded c place.0 a known watch place.1 place.2 in
@@ -25,7 +27,8 @@ module _ (values : List (Option Bool)) (trail : List Entry) (are : AreValues val
       ]
 
   -- where each literal but u is false, u is true
-  lone_true : (c : ℕ) (u : Literal) → c < length clauses → AreApart (clause_of clauses c) → 2 ≤ length (clause_of clauses c) → ((l : Literal) → Contains (clause_of clauses c) l → (l ≡ u) ⊎ Contains (literals_of trail) (opposite l)) → Contains (literals_of trail) u
+  lone_true : (c : ℕ) (u : Literal) → c < length clauses → AreApart (clause_of clauses c) → 2 ≤ length (clause_of clauses c)
+      → ((l : Literal) → Contains (clause_of clauses c) l → (l ≡ u) ⊎ Contains (literals_of trail) (opposite l)) → Contains (literals_of trail) u
   lone_true c u known apart long others =
       let r = clause_of clauses c in
       let a = get_or r 0 blank in
@@ -41,19 +44,23 @@ module _ (values : List (Option Bool)) (trail : List Entry) (are : AreValues val
       ]
 
   -- a clause that is watched is no conflict, and has no literal left to assign
-  pub settled_watched : (log : LogValue) (hint : Hint) → ((c : ℕ) → c < length clauses → AreApart (clause_of clauses c)) → ((c : ℕ) → c < length clauses → 2 ≤ length (clause_of clauses c))
+  pub settled_watched : (log : LogValue) (hint : Hint) → ((c : ℕ) → c < length clauses → AreApart (clause_of clauses c))
+      → ((c : ℕ) → c < length clauses → 2 ≤ length (clause_of clauses c))
       → ((clause : List Literal) → named log.inputs log.lines hint ≡ Some clause → (c : ℕ) × (c < length clauses) × HaveSame clause (clause_of clauses c))
-      → (¬ IsConflict log.inputs log.lines (literals_of trail) hint) × ((u : Literal) → IsReason log.inputs log.lines (literals_of trail) u hint → ¬ IsUnset (literals_of trail) u)
+      → (¬ IsConflict log.inputs log.lines (literals_of trail) hint)
+      × ((u : Literal) → IsReason log.inputs log.lines (literals_of trail) u hint → ¬ IsUnset (literals_of trail) u)
   settled_watched log hint apart long stored =
       let T = literals_of trail in
-      let one : (clause : List Literal) (u : Literal) → named log.inputs log.lines hint ≡ Some clause → ((l : Literal) → Contains clause l → (l ≡ u) ⊎ Contains T (opposite l)) → Contains T u =
+      let one : (clause : List Literal) (u : Literal) → named log.inputs log.lines hint ≡ Some clause
+      → ((l : Literal) → Contains clause l → (l ≡ u) ⊎ Contains T (opposite l)) → Contains T u =
       λ clause u is others.
       let at = stored clause is in
       let r = clause_of clauses at.0 in
       let back : (l : Literal) → Contains r l → Contains clause l = λ l h. All-contains (Contains clause) r l at.2.back h in
       lone_true at.0 u at.1 (apart at.0 at.1) (long at.0 at.1) (λ l h. others l (back l h)) in (
         (λ conflict.
-            let all_false : (l : Literal) → Contains conflict.clause l → Contains T (opposite l) = λ l h. All-contains (λ m. Contains T (opposite m)) conflict.clause l conflict.all_false h in
+            let all_false : (l : Literal) → Contains conflict.clause l → Contains T (opposite l) =
+            λ l h. All-contains (λ m. Contains T (opposite m)) conflict.clause l conflict.all_false h in
             let at = stored conflict.clause conflict.is in
             let r = clause_of clauses at.0 in
             let u = get_or r 0 blank in

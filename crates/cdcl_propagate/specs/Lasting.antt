@@ -12,4 +12,5 @@ IsTrueBy trail level clause = (j : ℕ) × (j < length trail) × Contains clause
 
 -- where a clause watches a literal that is false from a place below `lasting` on, it has one that is true on no higher level
 abbrev pub IsLasting : List (List Literal) → List Entry → ℕ → Type 0
-IsLasting clauses trail lasting = (c k : ℕ) (a : Literal) → c < length clauses → IsWatch (clause_of clauses c) a → k < lasting → literal_at trail k ≡ opposite a → IsTrueBy trail (place_level trail k) (clause_of clauses c)
+IsLasting clauses trail lasting = (c k : ℕ) (a : Literal) → c < length clauses → IsWatch (clause_of clauses c) a → k < lasting → literal_at trail k ≡ opposite a
+    → IsTrueBy trail (place_level trail k) (clause_of clauses c)

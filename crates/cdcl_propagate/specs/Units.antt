@@ -11,8 +11,10 @@ IsOne clause = (l m : Literal) → Contains clause l → Contains clause m → l
 
 -- each short clause is one of the log's, and has one literal alone, or none
 abbrev pub AreShort : List (List Literal) → List (List Literal) → List Hint → Type 0
-AreShort inputs lines units = (u : ℕ) → u < length units → (clause : List Literal) × (named inputs lines (slice_index_or units u blank_hint) ≡ Some clause) × IsOne clause
+AreShort inputs lines units =
+    (u : ℕ) → u < length units → (clause : List Literal) × (named inputs lines (slice_index_or units u blank_hint) ≡ Some clause) × IsOne clause
 
 -- the first short clauses have a true literal
 abbrev pub AreFirm : List (List Literal) → List (List Literal) → List Hint → ℕ → List Literal → Type 0
-AreFirm inputs lines units units_done true_ones = (u : ℕ) (clause : List Literal) → u < units_done → named inputs lines (slice_index_or units u blank_hint) ≡ Some clause → HasTrue true_ones clause
+AreFirm inputs lines units units_done true_ones =
+    (u : ℕ) (clause : List Literal) → u < units_done → named inputs lines (slice_index_or units u blank_hint) ≡ Some clause → HasTrue true_ones clause

@@ -31,7 +31,8 @@ names_of w = map hint_of w.names
 -- each clause that is watched is one of the log's, in another order
 pub record IsStored (inputs lines clauses : List (List Literal)) (names : List Hint) : Type 0 where
   pub paired : length names ≡ length clauses
-  pub from_log : (c : ℕ) → c < length clauses → (clause : List Literal) × (named inputs lines (slice_index_or names c blank_hint) ≡ Some clause) × HaveSame clause (clause_of clauses c)
+  pub from_log : (c : ℕ) → c < length clauses
+      → (clause : List Literal) × (named inputs lines (slice_index_or names c blank_hint) ≡ Some clause) × HaveSame clause (clause_of clauses c)
 
 -- the clause has a literal among the true ones
 abbrev pub HasTrue : List Literal → List Literal → Type 0
@@ -39,7 +40,8 @@ HasTrue true_ones clause = (l : Literal) × Contains clause l × Contains true_o
 
 -- where a clause watches a literal that is false from a place below `propagated` on, it has a true one
 abbrev pub IsGuarded : List (List Literal) → List Entry → ℕ → Type 0
-IsGuarded clauses trail propagated = (c k : ℕ) (a : Literal) → c < length clauses → IsWatch (clause_of clauses c) a → k < propagated → literal_at trail k ≡ opposite a → HasTrue (literals_of trail) (clause_of clauses c)
+IsGuarded clauses trail propagated = (c k : ℕ) (a : Literal) → c < length clauses → IsWatch (clause_of clauses c) a
+    → k < propagated → literal_at trail k ≡ opposite a → HasTrue (literals_of trail) (clause_of clauses c)
 
 -- the literal that the entry at a place makes false
 abbrev pub false_at : List Entry → ℕ → Literal
@@ -67,7 +69,8 @@ abbrev pub watched_by : ArenaValue → List (List ℕ) → WatchValue
 watched_by arena lists = record { clauses = arena.clauses; lists = lists; names = arena.names }
 
 -- the walk went on by one watcher of the list, whose length is still count, and all those that it kept are done
-pub record IsPassed (inputs lines : List (List Literal)) (k before count : ℕ) (a : AssignedValue) (arena : ArenaValue) (lists : List (List Watcher)) (list kept next : ℕ) : Type 0 where
+pub record IsPassed (inputs lines : List (List Literal)) (k before count : ℕ) (a : AssignedValue) (arena : ArenaValue) (lists : List (List Watcher))
+    (list kept next : ℕ) : Type 0 where
   pub visiting : IsVisiting inputs lines k kept a (walked arena lists list kept next)
   pub on : next ≡ before + 1
   pub same : length (slice_index_or lists list []) ≡ count

@@ -1,5 +1,6 @@
 -- A clause more in the log, and among those that are watched or short.
-use Rattle.std.proofs.Common.{◌≡◌, ℕ, zero, suc, ◌<◌, ◌≤◌, ◌+◌, ◌*◌, ◌⊎◌, inl, inr, Bool, List, [], ◌∷◌, ◌++◌, Option, Some, None, IfSome, take, All, length, get_or, refl, sym, ap, ◌∙◌, subst, arith, length-set}
+use Rattle.std.proofs.Common.{◌≡◌, ℕ, zero, suc, ◌<◌, ◌≤◌, ◌+◌, ◌*◌, ◌⊎◌, inl, inr, Bool, List, [], ◌∷◌, ◌++◌, Option, Some, None, IfSome, take, All, length}
+use Rattle.std.proofs.Common.{get_or, refl, sym, ap, ◌∙◌, subst, arith, length-set}
 use Rattle.std.proofs.lemmas.Bool.{cases_lt}
 use Rattle.std.proofs.lemmas.List.{map-append, get_or_append_left, get_or_at, length_push}
 use Rattle.std.proofs.lemmas.List.Elements.{All-contains, All-push}
@@ -49,9 +50,11 @@ numbered_kept : (xs : List (List Literal)) (x : List Literal) (n : ℕ) (c : Lis
 numbered_kept xs x zero c is = cc
 numbered_kept xs x (suc n) c is =
     let low = slice_get_within xs n c is in
-    slice_get-get_or (xs ++ x ∷ []) n [] (omega (arith, low, length_push xs x)) ∙ ap Some (get_or_append_left xs (x ∷ []) [] n low ∙ get_or_from_slice_get xs n c [] is)
+    slice_get-get_or (xs ++ x ∷ []) n [] (omega (arith, low, length_push xs x))
+    ∙ ap Some (get_or_append_left xs (x ∷ []) [] n low ∙ get_or_from_slice_get xs n c [] is)
 
-numbered_only : (xs : List (List Literal)) (x : List Literal) (n : ℕ) (c : List Literal) → numbered (xs ++ x ∷ []) n ≡ Some c → (numbered xs n ≡ Some c) ⊎ (n ≡ length xs + 1)
+numbered_only : (xs : List (List Literal)) (x : List Literal) (n : ℕ) (c : List Literal) → numbered (xs ++ x ∷ []) n ≡ Some c
+    → (numbered xs n ≡ Some c) ⊎ (n ≡ length xs + 1)
 numbered_only xs x zero c is = cc
 numbered_only xs x (suc n) c is = elim (cases_lt n (length xs)) [
   | inl low ↦ inl (slice_get-get_or xs n [] low ∙ ap Some (sym (get_or_append_left xs (x ∷ []) [] n low) ∙ get_or_from_slice_get (xs ++ x ∷ []) n c [] is))
@@ -75,7 +78,8 @@ input_more log clause n is = record { kept = kept; only = only; here = numbered_
     only (Clause m) c h = elim (numbered_only log.inputs clause m c h) [ inl old ↦ inl old | inr e ↦ inr (ap Clause (e ∙ sym is)) ]
     only (Line m) c h = inl h
 
-pub line_more : (log : LogValue) (clause : List Literal) (hints : List Hint) (n : ℕ) → n ≡ length log.lines + 1 → IsMore log (with_line log clause hints) (Line n) clause
+pub line_more : (log : LogValue) (clause : List Literal) (hints : List Hint) (n : ℕ)
+    → n ≡ length log.lines + 1 → IsMore log (with_line log clause hints) (Line n) clause
 line_more log clause hints n is = record { kept = kept; only = only; here = numbered_last log.lines clause n is }
   where
     kept : (h : Hint) (c : List Literal) → named log.inputs log.lines h ≡ Some c → named log.inputs (log.lines ++ clause ∷ []) h ≡ Some c
@@ -93,15 +97,18 @@ module _ (old new : LogValue) (hint : Hint) (clause : List Literal) (more : IsMo
   stands_more : (before : List Entry) (e : Entry) → StandsAt old.inputs old.lines before e → StandsAt new.inputs new.lines before e
   stands_more before e stands = record { reason = go e.reason stands.reason; decision = stands.decision; rising = stands.rising }
     where
-      go : (o : Option Hint) → IfSome o (λ h. IsReason old.inputs old.lines (literals_of before) e.literal h × (e.level ≤ length before) × ((e.level ≡ 0) ⊎ HasLevel before e.level))
-          → IfSome o (λ h. IsReason new.inputs new.lines (literals_of before) e.literal h × (e.level ≤ length before) × ((e.level ≡ 0) ⊎ HasLevel before e.level))
+      go : (o : Option Hint) → IfSome o
+          (λ h. IsReason old.inputs old.lines (literals_of before) e.literal h × (e.level ≤ length before) × ((e.level ≡ 0) ⊎ HasLevel before e.level))
+          → IfSome o
+          (λ h. IsReason new.inputs new.lines (literals_of before) e.literal h × (e.level ≤ length before) × ((e.level ≡ 0) ⊎ HasLevel before e.level))
       go None told = tt
       go (Some h) told = (reason_more (literals_of before) e.literal h told.0, told.1, told.2)
 
   pub trail_more : (trail : List Entry) → IsTrail old.inputs old.lines trail → IsTrail new.inputs new.lines trail
   trail_more trail is_trail k d below = stands_more (take k trail) (get_or trail k d) (is_trail k d below)
 
-  pub stored_more : (clauses : List (List Literal)) (names : List Hint) (r : List Literal) → HaveSame clause r → IsStored old.inputs old.lines clauses names → IsStored new.inputs new.lines (clauses ++ r ∷ []) (names ++ hint ∷ [])
+  pub stored_more : (clauses : List (List Literal)) (names : List Hint) (r : List Literal) → HaveSame clause r → IsStored old.inputs old.lines clauses names
+      → IsStored new.inputs new.lines (clauses ++ r ∷ []) (names ++ hint ∷ [])
   stored_more clauses names r same stored = record {
     paired = omega (arith, stored.paired, length_push clauses r, length_push names hint);
     from_log = λ c known. elim (cases_lt c (length clauses)) [
@@ -121,7 +128,8 @@ module _ (old new : LogValue) (hint : Hint) (clause : List Literal) (more : IsMo
     ];
   }
 
-  pub long_more : (clauses : List (List Literal)) (names : List Hint) (r : List Literal) → HaveSame clause r → 2 ≤ length r → AreApart r → IsStored old.inputs old.lines clauses names → AreLong old.inputs old.lines names → AreLong new.inputs new.lines (names ++ hint ∷ [])
+  pub long_more : (clauses : List (List Literal)) (names : List Hint) (r : List Literal) → HaveSame clause r → 2 ≤ length r → AreApart r
+      → IsStored old.inputs old.lines clauses names → AreLong old.inputs old.lines names → AreLong new.inputs new.lines (names ++ hint ∷ [])
   long_more clauses names r same long apart stored old_long c other known is one = elim (cases_lt c (length names)) [
     | inl low ↦
         let from = stored.from_log c (omega (arith, low, stored.paired)) in
@@ -137,21 +145,25 @@ module _ (old new : LogValue) (hint : Hint) (clause : List Literal) (more : IsMo
   short_more : (units : List Hint) → AreShort old.inputs old.lines units → AreShort new.inputs new.lines units
   short_more units short u low = let told = short u low in (told.0, more.kept (get_or units u blank_hint) told.0 told.1, told.2)
 
-  firm_kept : (units : List Hint) (units_done : ℕ) (true_ones : List Literal) → units_done ≤ length units → AreShort old.inputs old.lines units → AreFirm old.inputs old.lines units units_done true_ones → AreFirm new.inputs new.lines units units_done true_ones
+  firm_kept : (units : List Hint) (units_done : ℕ) (true_ones : List Literal) → units_done ≤ length units → AreShort old.inputs old.lines units
+      → AreFirm old.inputs old.lines units units_done true_ones → AreFirm new.inputs new.lines units units_done true_ones
   firm_kept units units_done true_ones fits short firm u other below is =
       let told = short u (omega arith) in
       let same : told.0 ≡ other = some_same (more.kept (get_or units u blank_hint) told.0 told.1) is in
       subst (HasTrue true_ones) same (firm u told.0 below told.1)
 
 -- a literal that became false below the place is none of the first two
-pub not_false_first : (trail : List Entry) (r : List Literal) (place k : ℕ) (x : Literal) → IsUnwatched trail r place → k < place → IsWatch r x → ¬ (literal_at trail k ≡ opposite x)
+pub not_false_first : (trail : List Entry) (r : List Literal) (place k : ℕ) (x : Literal) → IsUnwatched trail r place → k < place → IsWatch r x
+    → ¬ (literal_at trail k ≡ opposite x)
 not_false_first trail r place k x free low watch is = elim (first_two r x watch.0 blank watch.1) [
   | inl e ↦ (free k low).0 (is ∙ ap opposite e.0)
   | inr e ↦ (free k low).1 (is ∙ ap opposite e.0)
 ]
 
 module _ (clauses : List (List Literal)) (r : List Literal) (trail : List Entry) where
-  pub guarded_added : (propagated : ℕ) → IsGuarded clauses trail propagated → ((k : ℕ) (x : Literal) → IsWatch r x → k < propagated → literal_at trail k ≡ opposite x → HasTrue (literals_of trail) r) → IsGuarded (clauses ++ r ∷ []) trail propagated
+  pub guarded_added : (propagated : ℕ) → IsGuarded clauses trail propagated
+      → ((k : ℕ) (x : Literal) → IsWatch r x → k < propagated → literal_at trail k ≡ opposite x → HasTrue (literals_of trail) r)
+      → IsGuarded (clauses ++ r ∷ []) trail propagated
   guarded_added propagated guarded here c k x known watch below is_false = elim (cases_lt c (length clauses)) [
     | inl low ↦
         let same : clause_of (clauses ++ r ∷ []) c ≡ clause_of clauses c = get_or_append_left clauses (r ∷ []) [] c low in
@@ -161,7 +173,9 @@ module _ (clauses : List (List Literal)) (r : List Literal) (trail : List Entry)
         subst (HasTrue (literals_of trail)) (sym same) (here k x (subst (λ s. IsWatch s x) same watch) below is_false)
   ]
 
-  pub lasting_added : (lasting : ℕ) → IsLasting clauses trail lasting → ((k : ℕ) (x : Literal) → IsWatch r x → k < lasting → literal_at trail k ≡ opposite x → IsTrueBy trail (place_level trail k) r) → IsLasting (clauses ++ r ∷ []) trail lasting
+  pub lasting_added : (lasting : ℕ) → IsLasting clauses trail lasting
+      → ((k : ℕ) (x : Literal) → IsWatch r x → k < lasting → literal_at trail k ≡ opposite x → IsTrueBy trail (place_level trail k) r)
+      → IsLasting (clauses ++ r ∷ []) trail lasting
   lasting_added lasting is_lasting here c k x known watch below is_false = elim (cases_lt c (length clauses)) [
     | inl low ↦
         let same : clause_of (clauses ++ r ∷ []) c ≡ clause_of clauses c = get_or_append_left clauses (r ∷ []) [] c low in
@@ -179,30 +193,37 @@ lists_added w r name =
     let n = length w.clauses in
     length-set (with_watch w.lists a n) (code b) (list_of (with_watch w.lists a n) b ++ n ∷ []) ∙ length-set w.lists (code a) (list_of w.lists a ++ n ∷ [])
 
-module _ (letters : ℕ) (a : AssignedValue) (w : WatchValue) (units : List Hint) (log next : LogValue) (propagated lasting units_done units_trail marked : ℕ) (all_lines : Bool) (hint : Hint) (clause : List Literal)
-    (state : IsState letters a w units log propagated lasting units_done units_trail marked all_lines) (more : IsMore log next hint clause) (known_inputs : AreKnown letters next.inputs) (known_lines : AreKnown letters next.lines) where
+module _ (letters : ℕ) (a : AssignedValue) (w : WatchValue) (units : List Hint) (log next : LogValue) (propagated lasting units_done units_trail marked : ℕ)
+    (all_lines : Bool) (hint : Hint) (clause : List Literal)
+    (state : IsState letters a w units log propagated lasting units_done units_trail marked all_lines) (more : IsMore log next hint clause)
+    (known_inputs : AreKnown letters next.inputs) (known_lines : AreKnown letters next.lines) where
   -- a clause of at least two literals more
-  pub state_long : (v : WatchValue) (r : List Literal) (h s : ℕ) → IsNamed w v r hint → HaveSame clause r → 2 ≤ length r → AreApart r → IsRewound a.trail r propagated lasting h s → IsState letters a v units next h s units_done units_trail marked all_lines
+  pub state_long : (v : WatchValue) (r : List Literal) (h s : ℕ) → IsNamed w v r hint → HaveSame clause r → 2 ≤ length r → AreApart r
+      → IsRewound a.trail r propagated lasting h s → IsState letters a v units next h s units_done units_trail marked all_lines
   state_long v r h s is_named same long apart rewound =
       let u = with_clause w r is_named.name in
       let names_are : names_of u ≡ names_of w ++ hint ∷ [] = map-append hint_of w.names (is_named.name ∷ []) ∙ ap (λ x. names_of w ++ x ∷ []) is_named.says in
       subst (λ x. IsState letters a x units next h s units_done units_trail marked all_lines) (sym is_named.is) (record {
         ready = record {
           is_trail = trail_more log next hint clause more a.trail state.ready.is_trail;
-          stored = subst (IsStored next.inputs next.lines u.clauses) (sym names_are) (stored_more log next hint clause more w.clauses (names_of w) r same state.ready.stored);
-          guarded = guarded_added w.clauses r a.trail h (λ c k x known watch below is. state.ready.guarded c k x known watch (omega (arith, below, rewound.propagated_falls)) is)
+          stored = subst (IsStored next.inputs next.lines u.clauses) (sym names_are)
+              (stored_more log next hint clause more w.clauses (names_of w) r same state.ready.stored);
+          guarded = guarded_added w.clauses r a.trail h
+              (λ c k x known watch below is. state.ready.guarded c k x known watch (omega (arith, below, rewound.propagated_falls)) is)
               (λ k x watch below is. absurd (not_false_first a.trail r h k x rewound.free below watch is));
           within = omega (arith, rewound.propagated_falls, state.ready.within);
           sized = lists_added w r is_named.name ∙ state.ready.sized;
         };
         low = rewound.low;
-        is_lasting = lasting_added w.clauses r a.trail s (λ c k x known watch below is. state.is_lasting c k x known watch (omega (arith, below, rewound.lasting_falls)) is)
+        is_lasting = lasting_added w.clauses r a.trail s
+            (λ c k x known watch below is. state.is_lasting c k x known watch (omega (arith, below, rewound.lasting_falls)) is)
             (λ k x watch below is. absurd (not_false_first a.trail r h k x rewound.free (omega (arith, below, rewound.low)) watch is));
         all = subst (λ ns. AreAll all_lines next.inputs next.lines ns units) (sym names_are) (λ x c heeded is. elim (more.only x c is) [
           | inl old ↦ elim (state.all x c heeded old) [ inl at ↦ inl (listed_more (names_of w) hint x at) | inr at ↦ inr at ]
           | inr e ↦ inl (listed_last (names_of w) hint x e)
         ]);
-        long = subst (AreLong next.inputs next.lines) (sym names_are) (long_more log next hint clause more w.clauses (names_of w) r same long apart state.ready.stored state.long);
+        long = subst (AreLong next.inputs next.lines) (sym names_are)
+            (long_more log next hint clause more w.clauses (names_of w) r same long apart state.ready.stored state.long);
         short = short_more log next hint clause more units state.short;
         ones = λ x c is one. elim (more.only x c is) [
           | inl old ↦ state.ones x c old one
@@ -246,8 +267,11 @@ module _ (letters : ℕ) (a : AssignedValue) (w : WatchValue) (units : List Hint
         λ is_one. state.long c from.0 known from.1 (subst IsOne (sym same) is_one);
     short = λ u low. elim (cases_lt u (length units)) [
       | inl old ↦
-          let told = state.short u old in
-          (told.0, ap (named next.inputs next.lines) (get_or_append_left units (hint ∷ []) blank_hint u old) ∙ more.kept (get_or units u blank_hint) told.0 told.1, told.2)
+          let told = state.short u old in (
+            told.0,
+            ap (named next.inputs next.lines) (get_or_append_left units (hint ∷ []) blank_hint u old) ∙ more.kept (get_or units u blank_hint) told.0 told.1,
+            told.2,
+          )
       | inr high ↦
           let last : length units ≡ u = omega (arith, low, length_push units hint) in
           (clause, ap (named next.inputs next.lines) (get_or_at units hint [] blank_hint u last) ∙ more.here, one)
@@ -270,15 +294,18 @@ module _ (letters : ℕ) (a : AssignedValue) (w : WatchValue) (units : List Hint
   }
 
 -- the literals of a known clause have values' places
-pub stored_below : (letters : ℕ) (a : AssignedValue) (clause r : List Literal) → ((x : ℕ) → 1 ≤ x → x ≤ letters → x < length a.values) → All (IsKnown letters) clause → HaveSame clause r → All (λ l. l.letter.0 < length a.values) r
+pub stored_below : (letters : ℕ) (a : AssignedValue) (clause r : List Literal) → ((x : ℕ) → 1 ≤ x → x ≤ letters → x < length a.values)
+    → All (IsKnown letters) clause → HaveSame clause r → All (λ l. l.letter.0 < length a.values) r
 stored_below letters a clause r room known same k d below =
     let told = All-contains (IsKnown letters) clause (get_or r k d) known (same.back k d below) in
     room (get_or r k d).letter.0 told.from_one told.within
 
-pub stored_fits : (letters : ℕ) (a : AssignedValue) (lists : List (List ℕ)) (clause r : List Literal) → ((x : ℕ) → 1 ≤ x → x ≤ letters → x < length a.values) → length lists ≡ 2 * length a.values → All (IsKnown letters) clause → HaveSame clause r
+pub stored_fits : (letters : ℕ) (a : AssignedValue) (lists : List (List ℕ)) (clause r : List Literal) → ((x : ℕ) → 1 ≤ x → x ≤ letters → x < length a.values)
+    → length lists ≡ 2 * length a.values → All (IsKnown letters) clause → HaveSame clause r
     → All (λ l. code l < length lists) r
 stored_fits letters a lists clause r room sized known same k d below =
     omega (arith, sized, code_known (get_or r k d) (length a.values) (stored_below letters a clause r room known same k d below))
 
-pub known_more : (letters : ℕ) (clauses : List (List Literal)) (clause : List Literal) → AreKnown letters clauses → All (IsKnown letters) clause → AreKnown letters (clauses ++ clause ∷ [])
+pub known_more : (letters : ℕ) (clauses : List (List Literal)) (clause : List Literal) → AreKnown letters clauses → All (IsKnown letters) clause
+    → AreKnown letters (clauses ++ clause ∷ [])
 known_more letters clauses clause known here = All-push (All (IsKnown letters)) clauses clause known here

@@ -1,5 +1,6 @@
 -- What a way back keeps of a trail and of the watch rule.
-use Rattle.std.proofs.Common.{◌≡◌, ℕ, ◌<◌, ◌≤◌, ◌⊎◌, inl, inr, List, Option, Some, None, take, length, get_or, refl, sym, ap, ◌∙◌, subst, arith, IfSome, Contains}
+use Rattle.std.proofs.Common.{◌≡◌, ℕ, ◌<◌, ◌≤◌, ◌⊎◌, inl, inr, List, Option, Some, None, take, length, get_or, refl, sym, ap, ◌∙◌, subst, arith, IfSome}
+use Rattle.std.proofs.Common.{Contains}
 use Rattle.std.proofs.lemmas.Bool.{cases_lt, cases_eq}
 use Rattle.std.proofs.lemmas.List.{get_or-map, length-map, get_or-take}
 use Rattle.cnf_base.specs.declared.literal.Literal.{Literal}
@@ -27,7 +28,8 @@ module _ (old new : StateValue) (b : ℕ) (is_trail : IsTrail old.log.inputs old
         let high = back.high blank_entry shorter in
         elim (cases_eq (length new.trail) p) [
           | inl same ↦ absurd (omega (arith, high, low, ap (level_at old.trail) same))
-          | inr differ ↦ absurd (omega (arith, high, low, levels_rise old.log.inputs old.log.lines old.trail is_trail (length new.trail) p (omega (arith, differ)) within))
+          | inr differ ↦
+              absurd (omega (arith, high, low, levels_rise old.log.inputs old.log.lines old.trail is_trail (length new.trail) p (omega (arith, differ)) within))
         ]
   ]
 
@@ -44,13 +46,15 @@ module _ (old new : StateValue) (b : ℕ) (is_trail : IsTrail old.log.inputs old
       let e = get_or old.trail n blank_entry in
       let above = back.high blank_entry shorter in
       let here = (is_trail n blank_entry shorter).reason in
-      let told = subst (λ o. IfSome o (λ h. IsReason old.log.inputs old.log.lines (literals_of (take n old.trail)) e.literal h × (e.level ≤ length (take n old.trail)) × ((e.level ≡ 0) ⊎ HasLevel (take n old.trail) e.level))) is here in
+      let told = subst (λ o. IfSome o (λ h. IsReason old.log.inputs old.log.lines (literals_of (take n old.trail)) e.literal h
+      × (e.level ≤ length (take n old.trail)) × ((e.level ≡ 0) ⊎ HasLevel (take n old.trail) e.level))) is here in
       elim told.2 [
         | inl none ↦ omega (arith, above, none)
         | inr has ↦
             let there = subst (λ t. HasLevel t e.level) (sym front_trail) has in
             let below : there.0 < length new.trail = omega (arith, there.1, length-map new.trail (λ (f : Entry). f.level)) in
-            let level_is : (get_or new.trail there.0 blank_entry).level ≡ e.level = sym (get_or-map (λ (f : Entry). f.level) new.trail there.0 blank_entry e.level below) ∙ there.2 in
+            let level_is : (get_or new.trail there.0 blank_entry).level ≡ e.level =
+            sym (get_or-map (λ (f : Entry). f.level) new.trail there.0 blank_entry e.level below) ∙ there.2 in
             omega (arith, above, level_is, back.low there.0 blank_entry below)
       ]
 
@@ -64,12 +68,22 @@ module _ (old new : StateValue) (b : ℕ) (is_trail : IsTrail old.log.inputs old
       none_or (Some hint) h = absurd (h hint refl)
 
 -- back to a level, what is left of the lasting places is lasting
-pub lasting_back : (clauses : List (List Literal)) (old new : StateValue) (b n m : ℕ) → IsTrail old.log.inputs old.log.lines old.trail → IsBack old new b → IsLasting clauses old.trail n → m ≤ n → m ≤ length new.trail → IsLasting clauses new.trail m
+pub lasting_back : (clauses : List (List Literal)) (old new : StateValue) (b n m : ℕ) → IsTrail old.log.inputs old.log.lines old.trail → IsBack old new b
+    → IsLasting clauses old.trail n → m ≤ n → m ≤ length new.trail → IsLasting clauses new.trail m
 lasting_back clauses old new b n m is_trail back lasting le within c k a known watch below is_false =
     let k_low : k < length new.trail = omega arith in
     let k_same = kept_at old new b is_trail back k k_low in
     let at = lasting c k a known watch (omega arith) (ap (λ (e : Entry). e.literal) (sym k_same) ∙ is_false) in
     let k_level : level_at old.trail k ≤ b = subst (λ (e : Entry). e.level ≤ b) k_same (back.low k blank_entry k_low) in
     let kept = low_kept old new b is_trail back at.0 at.1 (omega (arith, at.3)) in
-    let same = kept_at old new b is_trail back at.0 kept in
-    (at.0, kept, subst (Contains (clause_of clauses c)) (ap (λ (e : Entry). e.literal) (sym same)) at.2, omega (arith, ap (λ (e : Entry). e.level) same, ap (λ (e : Entry). e.level) k_same, at.3))
+    let same = kept_at old new b is_trail back at.0 kept in (
+      at.0,
+      kept,
+      subst (Contains (clause_of clauses c)) (ap (λ (e : Entry). e.literal) (sym same)) at.2,
+      omega (
+        arith,
+        ap (λ (e : Entry). e.level) same,
+        ap (λ (e : Entry). e.level) k_same,
+        at.3,
+      ),
+    )

@@ -1,5 +1,6 @@
 -- The watched clauses that come over as they are.
-use Rattle.std.proofs.Common.{◌≡◌, ℕ, suc, ◌<◌, ◌≤◌, ◌⊎◌, inl, inr, false, List, [], ◌∷◌, ◌++◌, Option, Some, None, MatchOption, IfSome, All, Contains, map, length, replicate, get_or, sym, ap, ◌∙◌, subst, arith}
+use Rattle.std.proofs.Common.{◌≡◌, ℕ, suc, ◌<◌, ◌≤◌, ◌⊎◌, inl, inr, false, List, [], ◌∷◌, ◌++◌, Option, Some, None, MatchOption, IfSome, All, Contains, map}
+use Rattle.std.proofs.Common.{length, replicate, get_or, sym, ap, ◌∙◌, subst, arith}
 use Rattle.std.proofs.Math.ListN.{get_or-map}
 use Rattle.std.proofs.lemmas.Bool.{cases_lt}
 use Rattle.std.proofs.lemmas.List.{map-append, length-map, length-replicate, get_or_append_left, get_or_at, get_or_default, length_push}
@@ -25,7 +26,8 @@ pub name_at : (names : List ℕ) (c : ℕ) → get_or (map hint_of names) c blan
 name_at names c = get_or-map hint_of names c 0
 
 -- the clause of a head may come where all may
-pub come_at : (lists : ℕ) (old : ArenaValue) (head : ℕ) → Contains old.heads head → length old.heads ≡ length old.clauses → All (MayCome lists) old.clauses → MayCome lists (clause_of old.clauses (number_of old.heads head))
+pub come_at : (lists : ℕ) (old : ArenaValue) (head : ℕ) → Contains old.heads head → length old.heads ≡ length old.clauses → All (MayCome lists) old.clauses
+    → MayCome lists (clause_of old.clauses (number_of old.heads head))
 come_at lists old head there paired come = let low = number_low old.heads head there in come (number_of old.heads head) [] (omega (arith, low.0, paired))
 
 -- no clause yet
@@ -36,7 +38,8 @@ copied_none clauses names w no_clauses no_names = record {
   inputs = λ n at. absurd (omega (arith, at.1));
 }
 
-module _ (clauses : List (List Literal)) (names : List ℕ) (c name : ℕ) (w : WatchValue) (copied : IsCopied clauses names c w) (name_is : name ≡ get_or names c 0) where
+module _ (clauses : List (List Literal)) (names : List ℕ) (c name : ℕ) (w : WatchValue) (copied : IsCopied clauses names c w)
+    (name_is : name ≡ get_or names c 0) where
   here : hint_of name ≡ get_or (map hint_of names) c blank_hint
   here = ap hint_of name_is ∙ sym (name_at names c)
 
@@ -90,18 +93,21 @@ count_at heads None = length heads
 count_at heads (Some head) = number_of heads head
 
 -- the head at a place, if there is one
-pub count_head : (heads : List ℕ) (c : ℕ) (next : Option ℕ) → AreApart heads → MatchOption next (c ≡ length heads) (λ head. (c < length heads) × (head ≡ get_or heads c 0)) → IfSome next (Contains heads) × (count_at heads next ≡ c)
+pub count_head : (heads : List ℕ) (c : ℕ) (next : Option ℕ) → AreApart heads
+    → MatchOption next (c ≡ length heads) (λ head. (c < length heads) × (head ≡ get_or heads c 0)) → IfSome next (Contains heads) × (count_at heads next ≡ c)
 count_head heads c None apart is = (tt, sym is)
 count_head heads c (Some head) apart is =
     let at = number_at heads c apart is.0 in
     (subst (Contains heads) (sym is.1) at.0, ap (number_of heads) is.1 ∙ at.1)
 
-pub first_head : (heads : List ℕ) (next : Option ℕ) → MatchOption next (heads ≡ []) (λ head. (0 < length heads) × (head ≡ get_or heads 0 0)) → MatchOption next (0 ≡ length heads) (λ head. (0 < length heads) × (head ≡ get_or heads 0 0))
+pub first_head : (heads : List ℕ) (next : Option ℕ) → MatchOption next (heads ≡ []) (λ head. (0 < length heads) × (head ≡ get_or heads 0 0))
+    → MatchOption next (0 ≡ length heads) (λ head. (0 < length heads) × (head ≡ get_or heads 0 0))
 first_head heads None is = sym (ap length is)
 first_head heads (Some head) is = is
 
 -- what was copied of the log's clauses is the log's
-pub gathered_copied : (log : LogValue) (old v : WatchValue) → IsStored log.inputs log.lines old.clauses (names_of old) → AreLong log.inputs log.lines (names_of old)
+pub gathered_copied : (log : LogValue) (old v : WatchValue) → IsStored log.inputs log.lines old.clauses (names_of old)
+    → AreLong log.inputs log.lines (names_of old)
     → IsCopied old.clauses old.names (length old.clauses) v → IsGathered (IsCarried false (names_of old)) log v
 gathered_copied log old v stored long copied = record {
   stored = record {
@@ -121,12 +127,14 @@ gathered_copied log old v stored long copied = record {
     same_name : (c : ℕ) (known : c < length v.clauses) → get_or (names_of v) c blank_hint ≡ get_or (names_of old) (copied.from_old c known).0 blank_hint
     same_name c known = let from = copied.from_old c known in name_at v.names c ∙ ap hint_of from.3 ∙ sym (name_at old.names from.0)
 
-    held : (hint : Hint) (clause : List Literal) → IsCarried false (names_of old) hint → named log.inputs log.lines hint ≡ Some clause → IsListed (names_of v) hint ⊎ IsOne clause
+    held : (hint : Hint) (clause : List Literal) → IsCarried false (names_of old) hint → named log.inputs log.lines hint ≡ Some clause
+        → IsListed (names_of v) hint ⊎ IsOne clause
     held (Clause n) clause met is = inl (copied.inputs n (met.0, omega (arith, met.1, stored.paired), met.2))
     held (Line n) clause met is = absurd (false≢true met)
 
 -- a clause that is watched may come
-pub may_come : (lists : ℕ) (old : WatchValue) → IsWatching old.clauses old.lists → length old.lists ≡ lists → All (λ clause. 2 ≤ length clause) old.clauses → All (MayCome lists) old.clauses
+pub may_come : (lists : ℕ) (old : WatchValue) → IsWatching old.clauses old.lists → length old.lists ≡ lists → All (λ clause. 2 ≤ length clause) old.clauses
+    → All (MayCome lists) old.clauses
 may_come lists old watching size long c d known =
     let same : get_or old.clauses c d ≡ clause_of old.clauses c = get_or_default old.clauses c d [] known in
     subst (MayCome lists) (sym same) (record {
@@ -136,7 +144,8 @@ may_come lists old watching size long c d known =
     })
 
 -- no clause that is watched is short
-pub all_long : (log : LogValue) (old : WatchValue) → IsStored log.inputs log.lines old.clauses (names_of old) → AreLong log.inputs log.lines (names_of old) → All (λ clause. 2 ≤ length clause) old.clauses
+pub all_long : (log : LogValue) (old : WatchValue) → IsStored log.inputs log.lines old.clauses (names_of old) → AreLong log.inputs log.lines (names_of old)
+    → All (λ clause. 2 ≤ length clause) old.clauses
 all_long log old stored long c d known =
     let same : get_or old.clauses c d ≡ clause_of old.clauses c = get_or_default old.clauses c d [] known in
     subst (λ clause. 2 ≤ length clause) (sym same) (long_clause log.inputs log.lines old.clauses (names_of old) stored long c known)

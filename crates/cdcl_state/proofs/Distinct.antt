@@ -13,14 +13,17 @@ module _ (clause old new : List Literal) (i : ℕ) (low : i < length clause) (ke
   pub distinct_there : Contains new (get_or clause i blank) → All (Contains old) (take i clause) → All (Contains new) (take (i + 1) clause)
   distinct_there here there =
       subst (All (Contains new)) (sym (take_more clause i blank low))
-      (All-push (Contains new) (take i clause) (get_or clause i blank) (All-weaker (Contains old) (Contains new) (λ l h. All-contains (Contains new) old l kept h) (take i clause) there) here)
+      (All-push (Contains new) (take i clause) (get_or clause i blank)
+      (All-weaker (Contains old) (Contains new) (λ l h. All-contains (Contains new) old l kept h) (take i clause) there) here)
 
   pub distinct_back : All (λ l. Contains old l ⊎ (l ≡ get_or clause i blank)) new → All (Contains clause) old → All (Contains clause) new
   distinct_back only back =
       All-weaker (λ l. Contains old l ⊎ (l ≡ get_or clause i blank)) (Contains clause)
-      (λ l h. elim h [ inl o ↦ All-contains (Contains clause) old l back o | inr e ↦ subst (Contains clause) (sym e) (Contains-get_or clause i blank low) ]) new only
+      (λ l h. elim h [ inl o ↦ All-contains (Contains clause) old l back o | inr e ↦ subst (Contains clause) (sym e) (Contains-get_or clause i blank low) ])
+      new only
 
-pub distinct_whole : (clause out : List Literal) (i : ℕ) → length clause ≤ i → All (Contains out) (take i clause) → All (Contains clause) out → HaveSame clause out
+pub distinct_whole : (clause out : List Literal) (i : ℕ) → length clause ≤ i → All (Contains out) (take i clause) → All (Contains clause) out
+    → HaveSame clause out
 distinct_whole clause out i all there back = record { there = subst (All (Contains out)) (take_all i clause all) there; back = back }
 
 -- fewer than two literals are one, or none

@@ -1,5 +1,6 @@
 -- The clauses of a log that are gathered anew or come from the log, and the state that watches them.
-use Rattle.std.proofs.Common.{◌≡◌, ℕ, zero, suc, ◌<◌, ◌≤◌, ◌+◌, ◌*◌, ◌-◌, ◌⊎◌, inl, inr, Bool, true, false, List, [], ◌∷◌, ◌++◌, Some, All, length, map, get_or, refl, sym, ap, ◌∙◌, subst, arith}
+use Rattle.std.proofs.Common.{◌≡◌, ℕ, zero, suc, ◌<◌, ◌≤◌, ◌+◌, ◌*◌, ◌-◌, ◌⊎◌, inl, inr, Bool, true, false, List, [], ◌∷◌, ◌++◌, Some, All, length, map, get_or}
+use Rattle.std.proofs.Common.{refl, sym, ap, ◌∙◌, subst, arith}
 use Rattle.std.proofs.lemmas.Bool.{cases_lt}
 use Rattle.std.proofs.Math.ListN.{get_or-map, get_or-eq_default}
 use Rattle.std.proofs.lemmas.List.{map-append, length-map}
@@ -30,7 +31,8 @@ put_same old new clause r hint same put = record { stored = put.stored; same = s
 pub put_few : (w : WatchValue) (clause : List Literal) (hint : Hint) → AreApart clause → length clause < 2 → IsPut w w clause hint
 put_few w clause hint apart few = record { stored = clause; same = same_itself clause; apart = apart; is = inl (few, refl) }
 
-pub put_long : (old new : WatchValue) (clause : List Literal) (hint : Hint) → AreApart clause → 2 ≤ length clause → IsNamed old new clause hint → IsPut old new clause hint
+pub put_long : (old new : WatchValue) (clause : List Literal) (hint : Hint) → AreApart clause → 2 ≤ length clause → IsNamed old new clause hint
+    → IsPut old new clause hint
 put_long old new clause hint apart long named = record { stored = clause; same = same_itself clause; apart = apart; is = inr (long, named) }
 
 -- the lists stay as many
@@ -52,11 +54,14 @@ numbered_within clauses zero clause is = cc
 numbered_within clauses (suc n) clause is = let low = slice_get_within clauses n clause is in (omega arith, omega (arith, low))
 
 -- fewer were met
-pub gathered_fewer : (log : LogValue) (w : WatchValue) (met fewer : Hint → Type 0) → IsGathered met log w → ((h : Hint) (c : List Literal) → fewer h → named log.inputs log.lines h ≡ Some c → met h) → IsGathered fewer log w
-gathered_fewer log w met fewer gathered were = record { stored = gathered.stored; long = gathered.long; held = λ h c here is. gathered.held h c (were h c here is) is }
+pub gathered_fewer : (log : LogValue) (w : WatchValue) (met fewer : Hint → Type 0) → IsGathered met log w
+    → ((h : Hint) (c : List Literal) → fewer h → named log.inputs log.lines h ≡ Some c → met h) → IsGathered fewer log w
+gathered_fewer log w met fewer gathered were =
+    record { stored = gathered.stored; long = gathered.long; held = λ h c here is. gathered.held h c (were h c here is) is }
 
 -- one more was met, and put among the watched ones
-pub gathered_put : (log : LogValue) (old new : WatchValue) (met more : Hint → Type 0) (hint : Hint) (clause : List Literal) → IsGathered met log old → IsPut old new clause hint → named log.inputs log.lines hint ≡ Some clause
+pub gathered_put : (log : LogValue) (old new : WatchValue) (met more : Hint → Type 0) (hint : Hint) (clause : List Literal) → IsGathered met log old
+    → IsPut old new clause hint → named log.inputs log.lines hint ≡ Some clause
     → ((h : Hint) → more h → met h ⊎ (h ≡ hint)) → IsGathered more log new
 gathered_put log old new met more hint clause gathered put here met_one = elim put.is [
   | inl few ↦ subst (λ x. IsGathered more log x) (sym few.1) (record {
@@ -76,8 +81,10 @@ gathered_put log old new met more hint clause gathered put here met_one = elim p
       let itself : IsMore log log hint clause = record { kept = λ h c is. is; only = λ h c is. inl is; here = here } in
       let names_are : names_of v ≡ names_of old ++ hint ∷ [] = map-append hint_of old.names (long.1.name ∷ []) ∙ ap (λ x. names_of old ++ x ∷ []) long.1.says in
       subst (λ x. IsGathered more log x) (sym long.1.is) (record {
-        stored = subst (IsStored log.inputs log.lines v.clauses) (sym names_are) (stored_more log log hint clause itself old.clauses (names_of old) r put.same gathered.stored);
-        long = subst (AreLong log.inputs log.lines) (sym names_are) (long_more log log hint clause itself old.clauses (names_of old) r put.same long.0 put.apart gathered.stored gathered.long);
+        stored = subst (IsStored log.inputs log.lines v.clauses) (sym names_are)
+            (stored_more log log hint clause itself old.clauses (names_of old) r put.same gathered.stored);
+        long = subst (AreLong log.inputs log.lines) (sym names_are)
+            (long_more log log hint clause itself old.clauses (names_of old) r put.same long.0 put.apart gathered.stored gathered.long);
         held = subst (λ ns. (h : Hint) (c : List Literal) → more h → named log.inputs log.lines h ≡ Some c → IsListed ns h ⊎ IsOne c) (sym names_are)
             (λ h c met is. elim (met_one h met) [
               | inl was ↦ elim (gathered.held h c was is) [ inl at ↦ inl (listed_more (names_of old) hint h at) | inr one ↦ inr one ]
@@ -98,7 +105,8 @@ met_line names there j (Line n) met = elim met [
 ]
 
 -- a line that is marked
-pub met_marked : (names : List Hint) (there : List Bool) (j : ℕ) (h : Hint) → get_or there (j + 1) false ≡ true → IsMet names there (j + 1) h → IsMet names there j h
+pub met_marked : (names : List Hint) (there : List Bool) (j : ℕ) (h : Hint) → get_or there (j + 1) false ≡ true → IsMet names there (j + 1) h
+    → IsMet names there j h
 met_marked names there j h marked met = elim (met_line names there j h met) [
   | inl was ↦ was
   | inr e ↦ subst (IsMet names there j) (sym e) (inl marked)
@@ -112,24 +120,31 @@ met_begun names there j (Line n) met = elim met [
   | inr none ↦ inr (omega (arith, none))
 ]
 
-pub gathered_begun : (names : List Hint) (there : List Bool) (j : ℕ) (log : LogValue) (w : WatchValue) → IsGathered (IsMet names there j) log w → IsGathered (IsMet names there 0) log w
-gathered_begun names there j log w gathered = gathered_fewer log w (IsMet names there j) (IsMet names there 0) gathered (λ h c met is. met_begun names there j h met)
+pub gathered_begun : (names : List Hint) (there : List Bool) (j : ℕ) (log : LogValue) (w : WatchValue) → IsGathered (IsMet names there j) log w
+    → IsGathered (IsMet names there 0) log w
+gathered_begun names there j log w gathered =
+    gathered_fewer log w (IsMet names there j) (IsMet names there 0) gathered (λ h c met is. met_begun names there j h met)
 
 -- where lines are left out, the inputs
 carried_inputs : (names : List Hint) (there : List Bool) (h : Hint) → IsCarried false names h → IsMet names there 0 h
 carried_inputs names there (Clause n) carried = carried
 carried_inputs names there (Line n) carried = absurd (false≢true carried)
 
-pub gathered_inputs : (names : List Hint) (there : List Bool) (log : LogValue) (w : WatchValue) → IsGathered (IsMet names there 0) log w → IsGathered (IsCarried false names) log w
-gathered_inputs names there log w gathered = gathered_fewer log w (IsMet names there 0) (IsCarried false names) gathered (λ h c carried is. carried_inputs names there h carried)
+pub gathered_inputs : (names : List Hint) (there : List Bool) (log : LogValue) (w : WatchValue) → IsGathered (IsMet names there 0) log w
+    → IsGathered (IsCarried false names) log w
+gathered_inputs names there log w gathered =
+    gathered_fewer log w (IsMet names there 0) (IsCarried false names) gathered (λ h c carried is. carried_inputs names there h carried)
 
 -- where every line was met
-carried_all : (log : LogValue) (names : List Hint) (there : List Bool) (h : Hint) (clause : List Literal) → IsCarried true names h → named log.inputs log.lines h ≡ Some clause → IsMet names there (length log.lines) h
+carried_all : (log : LogValue) (names : List Hint) (there : List Bool) (h : Hint) (clause : List Literal) → IsCarried true names h
+    → named log.inputs log.lines h ≡ Some clause → IsMet names there (length log.lines) h
 carried_all log names there (Clause n) clause carried is = carried
 carried_all log names there (Line n) clause carried is = inr (numbered_within log.lines n clause is).1
 
-pub gathered_all : (names : List Hint) (there : List Bool) (log : LogValue) (w : WatchValue) → IsGathered (IsMet names there (length log.lines)) log w → IsGathered (IsCarried true names) log w
-gathered_all names there log w gathered = gathered_fewer log w (IsMet names there (length log.lines)) (IsCarried true names) gathered (λ h c carried is. carried_all log names there h c carried is)
+pub gathered_all : (names : List Hint) (there : List Bool) (log : LogValue) (w : WatchValue) → IsGathered (IsMet names there (length log.lines)) log w
+    → IsGathered (IsCarried true names) log w
+gathered_all names there log w gathered =
+    gathered_fewer log w (IsMet names there (length log.lines)) (IsCarried true names) gathered (λ h c carried is. carried_all log names there h c carried is)
 
 -- no line is marked yet
 pub there_none : (names : List Hint) (there : List Bool) → All (λ mark. mark ≡ false) there → AreThere names there
@@ -147,10 +162,12 @@ there_more names there marks c name are low name_is only n is = elim (only n is)
 ]
 
 -- what is watched before a line comes from the log
-pub gathered_there : (log : LogValue) (w : WatchValue) (there : List Bool) → IsStored log.inputs log.lines w.clauses (names_of w) → AreLong log.inputs log.lines (names_of w) → AreThere (names_of w) there → IsGathered (IsMet (names_of w) there 0) log w
+pub gathered_there : (log : LogValue) (w : WatchValue) (there : List Bool) → IsStored log.inputs log.lines w.clauses (names_of w)
+    → AreLong log.inputs log.lines (names_of w) → AreThere (names_of w) there → IsGathered (IsMet (names_of w) there 0) log w
 gathered_there log w there stored long are = record { stored = stored; long = long; held = held }
   where
-    held : (hint : Hint) (clause : List Literal) → IsMet (names_of w) there 0 hint → named log.inputs log.lines hint ≡ Some clause → IsListed (names_of w) hint ⊎ IsOne clause
+    held : (hint : Hint) (clause : List Literal) → IsMet (names_of w) there 0 hint → named log.inputs log.lines hint ≡ Some clause
+        → IsListed (names_of w) hint ⊎ IsOne clause
     held (Clause n) clause met is = inl met
     held (Line n) clause met is = elim met [
       | inl marked ↦ inl (are n marked)
@@ -158,21 +175,25 @@ gathered_there log w there stored long are = record { stored = stored; long = lo
     ]
 
 -- the inputs among what is watched
-pub gathered_itself : (log : LogValue) (w : WatchValue) → IsStored log.inputs log.lines w.clauses (names_of w) → AreLong log.inputs log.lines (names_of w) → IsGathered (IsCarried false (names_of w)) log w
+pub gathered_itself : (log : LogValue) (w : WatchValue) → IsStored log.inputs log.lines w.clauses (names_of w) → AreLong log.inputs log.lines (names_of w)
+    → IsGathered (IsCarried false (names_of w)) log w
 gathered_itself log w stored long = record { stored = stored; long = long; held = held }
   where
-    held : (hint : Hint) (clause : List Literal) → IsCarried false (names_of w) hint → named log.inputs log.lines hint ≡ Some clause → IsListed (names_of w) hint ⊎ IsOne clause
+    held : (hint : Hint) (clause : List Literal) → IsCarried false (names_of w) hint → named log.inputs log.lines hint ≡ Some clause
+        → IsListed (names_of w) hint ⊎ IsOne clause
     held (Clause n) clause carried is = inl carried
     held (Line n) clause carried is = absurd (false≢true carried)
 
 -- a clause's literals have room where all clauses' have
-pub room_at : (marked lists m n i : ℕ) (clauses : List (List Literal)) (clause : List Literal) → All (All (HasRoom marked lists)) clauses → m ≡ marked → n ≡ lists → i < length clauses → clause ≡ clause_at clauses (i + 1) → All (HasRoom m n) clause
+pub room_at : (marked lists m n i : ℕ) (clauses : List (List Literal)) (clause : List Literal) → All (All (HasRoom marked lists)) clauses
+    → m ≡ marked → n ≡ lists → i < length clauses → clause ≡ clause_at clauses (i + 1) → All (HasRoom m n) clause
 room_at marked lists m n i clauses clause room same_marked same_lists low is =
     let at : i + 1 - 1 ≡ i = omega arith in
     rw (is, same_marked, same_lists, at) (room i [] low)
 
 -- known letters have room
-pub room_known : (letters count marked : ℕ) (clauses : List (List Literal)) → ((x : ℕ) → 1 ≤ x → x ≤ letters → x < count) → count ≤ marked → AreKnown letters clauses → All (All (HasRoom marked (2 * count))) clauses
+pub room_known : (letters count marked : ℕ) (clauses : List (List Literal)) → ((x : ℕ) → 1 ≤ x → x ≤ letters → x < count)
+    → count ≤ marked → AreKnown letters clauses → All (All (HasRoom marked (2 * count))) clauses
 room_known letters count marked clauses room size known i d below j e low =
     let l = get_or (get_or clauses i d) j e in
     let is = known i d below j e low in
@@ -180,14 +201,18 @@ room_known letters count marked clauses room size known i d below j e low =
     record { mark = omega (arith, within, size); list = code_known l count within }
 
 -- a clause that is heeded came over, or is a short one
-carried_heeded : (all_lines every : Bool) (log : LogValue) (names units : List Hint) (h : Hint) (clause : List Literal) → AreAll all_lines log.inputs log.lines names units → IsHeeded every h → named log.inputs log.lines h ≡ Some clause
+carried_heeded : (all_lines every : Bool) (log : LogValue) (names units : List Hint) (h : Hint) (clause : List Literal)
+    → AreAll all_lines log.inputs log.lines names units → IsHeeded every h → named log.inputs log.lines h ≡ Some clause
     → IsCarried every names h ⊎ IsListed units h
 carried_heeded all_lines every log names units (Clause n) clause all heeded is = all (Clause n) clause tt is
 carried_heeded all_lines every log names units (Line n) clause all heeded is = inl heeded
 
 -- the state that watches what was gathered, with all lists to visit
-pub state_gathered : (letters : ℕ) (a : AssignedValue) (w v : WatchValue) (units : List Hint) (log : LogValue) (propagated lasting units_done units_trail marked : ℕ) (all_lines : Bool) (size : ℕ) (every : Bool) → IsState letters a w units log propagated lasting units_done units_trail marked all_lines
-    → IsGathered (IsCarried every (names_of w)) log v → length v.lists ≡ 2 * length a.values → size ≡ marked → IsState letters a v units log 0 0 units_done units_trail size every
+pub state_gathered : (letters : ℕ) (a : AssignedValue)
+    (w v : WatchValue) (units : List Hint) (log : LogValue) (propagated lasting units_done units_trail marked : ℕ) (all_lines : Bool) (size : ℕ) (every : Bool)
+    → IsState letters a w units log propagated lasting units_done units_trail marked all_lines
+    → IsGathered (IsCarried every (names_of w)) log v → length v.lists ≡ 2 * length a.values
+    → size ≡ marked → IsState letters a v units log 0 0 units_done units_trail size every
 state_gathered letters a w v units log propagated lasting units_done units_trail marked all_lines size every state gathered lists same = record {
   ready = record {
     is_trail = state.ready.is_trail;

@@ -1,5 +1,6 @@
 -- Where a learnt clause of any literals forces its first.
-use Rattle.std.proofs.Common.{◌≡◌, ℕ, ◌<◌, ◌≤◌, inl, inr, List, Bool, Option, Some, map, All, AllPairs, Contains, length, get_or, refl, sym, ap, ◌∙◌, subst, arith}
+use Rattle.std.proofs.Common.{◌≡◌, ℕ, ◌<◌, ◌≤◌, inl, inr, List, Bool, Option, Some, map, All, AllPairs, Contains, length, get_or, refl, sym, ap, ◌∙◌, subst}
+use Rattle.std.proofs.Common.{arith}
 use Rattle.std.proofs.lemmas.Bool.{cases_lt}
 use Rattle.std.proofs.lemmas.List.{get_or-map, length-map, get_or_default}
 use Rattle.cnf_base.specs.declared.literal.Literal.{Literal}
@@ -19,7 +20,8 @@ use Rattle.cdcl_state.specs.Turns.{IsTarget}
 
 pub jump_stands : (values : List (Option Bool)) (old new : StateValue) (b line : ℕ) (clause : List Literal) (places : List ℕ) (u : Literal)
     → AreValues values old.trail → IsTrail old.log.inputs old.log.lines old.trail → IsBack old new b → IsTarget old.trail places b
-    → clause ≡ map (λ p. opposite (literal_at old.trail p)) places → All (IsInside old.trail) places → AllPairs (λ p q. q < p) places → 0 < length places → b < level_at old.trail (get_or places 0 0)
+    → clause ≡ map (λ p. opposite (literal_at old.trail p)) places → All (IsInside old.trail) places → AllPairs (λ p q. q < p) places → 0 < length places
+    → b < level_at old.trail (get_or places 0 0)
     → named old.log.inputs old.log.lines (Line line) ≡ Some clause → u ≡ get_or clause 0 u
     → MayStand new (record { literal = u; level = b; reason = Some (Line line) }) × IsDecision old.trail (length new.trail)
 jump_stands values old new b line clause places u are is_trail back target clause_is decisions falling some target_below is_line u_is =
@@ -60,7 +62,8 @@ jump_stands values old new b line clause places u are is_trail back target claus
             let kept = low_kept old new b is_trail back p di (omega (arith, li, target.second more)) in
             let is_l : get_or clause i d ≡ opposite (literal_at old.trail p) =
             ap (λ c. get_or c i d) clause_is ∙ get_or-map (λ q. opposite (literal_at old.trail q)) places i 0 d below_places in
-            let there = subst (λ (e : Entry). Contains (literals_of new.trail) e.literal) (kept_at old new b is_trail back p kept) (entry_there new.trail p blank_entry kept) in
+            let there = subst (λ (e : Entry). Contains (literals_of new.trail) e.literal) (kept_at old new b is_trail back p kept)
+            (entry_there new.trail p blank_entry kept) in
             inr (subst (Contains (literals_of new.trail)) (sym (ap opposite is_l ∙ opposite_opposite (literal_at old.trail p))) there)
       ];
     } in
@@ -79,7 +82,8 @@ jump_stands values old new b line clause places u are is_trail back target claus
                 | inl more ↦ (
                   of_new,
                   level_bound inputs lines old.trail is_trail (get_or places 1 0) (length new.trail) (second more).0 back.short b (second more).1,
-                  inr (subst (HasLevel new.trail) (ap (λ (e : Entry). e.level) (kept_at old new b is_trail back (get_or places 1 0) (second more).0) ∙ (second more).1) (level_there new.trail (get_or places 1 0) blank_entry (second more).0)),
+                  inr (subst (HasLevel new.trail) (ap (λ (e : Entry). e.level) (kept_at old new b is_trail back (get_or places 1 0) (second more).0)
+                      ∙ (second more).1) (level_there new.trail (get_or places 1 0) blank_entry (second more).0)),
                 )
                 | inr lone ↦ (of_new, omega (arith, target.lone lone), inl (target.lone lone))
               ];

@@ -1,5 +1,6 @@
 -- The letters of the trail and of what is learnt are known.
-use Rattle.std.proofs.Common.{◌≡◌, ℕ, ◌<◌, ◌≤◌, ◌+◌, List, Option, Some, None, All, length, get_or, refl, sym, ap, ◌∙◌, subst, arith, Bool, take, length-take-le}
+use Rattle.std.proofs.Common.{◌≡◌, ℕ, ◌<◌, ◌≤◌, ◌+◌, List, Option, Some, None, All, length, get_or, refl, sym, ap, ◌∙◌, subst, arith, Bool, take}
+use Rattle.std.proofs.Common.{length-take-le}
 use Rattle.std.proofs.lemmas.List.{get_or_default, get_or-map, length-map, get_or-take}
 use Rattle.std.proofs.lemmas.List.Elements.{All-contains, All-push}
 use Rattle.cnf_base.specs.declared.literal.Literal.{Literal}
@@ -20,7 +21,8 @@ use Rattle.cdcl_trail.proofs.Standing.{reason_at}
 pub opposite_known : (letters : ℕ) (l : Literal) → IsKnown letters l → IsKnown letters (opposite l)
 opposite_known letters l known = record { from_one = known.from_one; within = known.within }
 
-pub trail_known : (letters : ℕ) (inputs lines : List (List Literal)) (trail : List Entry) → IsTrail inputs lines trail → AreKnown letters inputs → AreKnown letters lines → AreKnownDecisions letters trail → All (λ e. IsKnown letters e.literal) trail
+pub trail_known : (letters : ℕ) (inputs lines : List (List Literal)) (trail : List Entry) → IsTrail inputs lines trail → AreKnown letters inputs
+    → AreKnown letters lines → AreKnownDecisions letters trail → All (λ e. IsKnown letters e.literal) trail
 trail_known letters inputs lines trail is_trail known_inputs known_lines decided k d below =
     subst (λ (e : Entry). IsKnown letters e.literal) (get_or_default trail k blank_entry d below) (go (get_or trail k blank_entry).reason refl)
   where
@@ -28,24 +30,29 @@ trail_known letters inputs lines trail is_trail known_inputs known_lines decided
     go None free = decided k blank_entry below free
     go (Some hint) forced =
         let reason = reason_at inputs lines trail k hint is_trail below forced in
-        All-contains (IsKnown letters) reason.clause (literal_at trail k) (named_has (All (IsKnown letters)) inputs lines hint reason.clause known_inputs known_lines reason.is) reason.there
+        All-contains (IsKnown letters) reason.clause (literal_at trail k)
+        (named_has (All (IsKnown letters)) inputs lines hint reason.clause known_inputs known_lines reason.is) reason.there
 
 pub known_from_one : (letters : ℕ) (trail : List Entry) → All (λ e. IsKnown letters e.literal) trail → AreFromOne trail
 known_from_one letters trail known k d below = (known k d below).from_one
 
-pub learnt_known : (letters : ℕ) (log : LogValue) (trail : List Entry) (learnt : Learnt) → IsLearnt log trail learnt → All (λ e. IsKnown letters e.literal) trail → All (IsKnown letters) learnt.clause.items
+pub learnt_known : (letters : ℕ) (log : LogValue) (trail : List Entry) (learnt : Learnt) → IsLearnt log trail learnt
+    → All (λ e. IsKnown letters e.literal) trail → All (IsKnown letters) learnt.clause.items
 learnt_known letters log trail learnt is known i d below =
     let f : ℕ → Literal = λ p. opposite (literal_at trail p) in
     let low : i < length learnt.places.items = omega (arith, below, ap length is.clause_is, length-map learnt.places.items f) in
-    let at : get_or learnt.clause.items i d ≡ f (get_or learnt.places.items i 0) = ap (λ c. get_or c i d) is.clause_is ∙ get_or-map f learnt.places.items i 0 d low in
+    let at : get_or learnt.clause.items i d ≡ f (get_or learnt.places.items i 0) =
+    ap (λ c. get_or c i d) is.clause_is ∙ get_or-map f learnt.places.items i 0 d low in
     let p = get_or learnt.places.items i 0 in
     subst (IsKnown letters) (sym at) (opposite_known letters (literal_at trail p) (known p blank_entry (is.inside i 0 low)))
 
-pub trail_short : (letters : ℕ) (values : List (Option Bool)) (trail : List Entry) → AreValues values trail → All (λ e. IsKnown letters e.literal) trail → length trail ≤ letters + 1
+pub trail_short : (letters : ℕ) (values : List (Option Bool)) (trail : List Entry) → AreValues values trail → All (λ e. IsKnown letters e.literal) trail
+    → length trail ≤ letters + 1
 trail_short letters values trail are known = bounded_by values trail (letters + 1) are (λ k d below. omega (arith, (known k d below).within))
 
 -- the letters of a trail on which a literal was refuted are known
-pub refuted_known : (letters : ℕ) (trail : List Entry) (p : ℕ) → p < length trail → All (λ e. IsKnown letters e.literal) trail → All (λ e. IsKnown letters e.literal) (refuted_at trail p)
+pub refuted_known : (letters : ℕ) (trail : List Entry) (p : ℕ) → p < length trail → All (λ e. IsKnown letters e.literal) trail
+    → All (λ e. IsKnown letters e.literal) (refuted_at trail p)
 refuted_known letters trail p low known =
     All-push (λ e. IsKnown letters e.literal) (take p trail) (record { literal = opposite (literal_at trail p); level = p + 1; reason = None })
     (λ k d below.

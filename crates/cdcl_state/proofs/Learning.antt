@@ -1,5 +1,6 @@
 -- A learnt clause is attached where it forces its first literal.
-use Rattle.std.proofs.Common.{◌≡◌, ℕ, ◌<◌, ◌≤◌, ◌+◌, inl, inr, List, [], ◌∷◌, ◌++◌, Bool, Option, map, All, AllPairs, Contains, length, get_or, refl, sym, ap, ◌∙◌, subst, arith}
+use Rattle.std.proofs.Common.{◌≡◌, ℕ, ◌<◌, ◌≤◌, ◌+◌, inl, inr, List, [], ◌∷◌, ◌++◌, Bool, Option, map, All, AllPairs, Contains, length, get_or, refl, sym, ap}
+use Rattle.std.proofs.Common.{◌∙◌, subst, arith}
 use Rattle.std.proofs.lemmas.Bool.{cases_lt, cases_eq}
 use Rattle.std.proofs.lemmas.List.{get_or_append_left, get_or_at, length_push, get_or-map, length-map}
 use Rattle.std.proofs.lemmas.List.Elements.{Contains-get_or}
@@ -32,19 +33,32 @@ target_below trail places b asserting target = elim (cases_lt 1 (length places))
 ]
 
 -- a clause of decisions is asserting
-pub decisions_asserting : (inputs lines : List (List Literal)) (trail : List Entry) (places : List ℕ) → IsTrail inputs lines trail → All (IsDecision trail) places → AllPairs (λ p q. q < p) places → 0 < length places → IsAsserting trail places
+pub decisions_asserting : (inputs lines : List (List Literal)) (trail : List Entry) (places : List ℕ) → IsTrail inputs lines trail
+    → All (IsDecision trail) places → AllPairs (λ p q. q < p) places → 0 < length places → IsAsserting trail places
 decisions_asserting inputs lines trail places is_trail decisions falling some = record {
   some = some;
   lone = λ few. omega (arith, decision_level inputs lines trail is_trail (get_or places 0 0) (decisions 0 0 some));
   second = λ more.
-      omega (arith, decision_level inputs lines trail is_trail (get_or places 0 0) (decisions 0 0 some), decision_level inputs lines trail is_trail (get_or places 1 0) (decisions 1 0 more), falling 0 1 0 (omega arith) more);
+      omega (
+        arith,
+        decision_level inputs lines trail is_trail (get_or places 0 0) (decisions 0 0 some),
+        decision_level inputs lines trail is_trail (get_or places 1 0) (decisions 1 0 more),
+        falling 0 1 0 (omega arith) more,
+      );
 }
 
 -- the same parts with `propagated` and `lasting` put elsewhere
-pub state_raise : (letters : ℕ) (a : AssignedValue) (w : WatchValue) (units : List Hint) (log : LogValue) (propagated lasting units_done units_trail marked : ℕ) (all_lines : Bool) (m : ℕ) → IsState letters a w units log propagated lasting units_done units_trail marked all_lines
+pub state_raise : (letters : ℕ) (a : AssignedValue) (w : WatchValue) (units : List Hint) (log : LogValue) (propagated lasting units_done units_trail marked : ℕ)
+    (all_lines : Bool) (m : ℕ) → IsState letters a w units log propagated lasting units_done units_trail marked all_lines
     → m ≤ length a.trail → IsLasting w.clauses a.trail m → IsState letters a w units log m m units_done units_trail marked all_lines
 state_raise letters a w units log propagated lasting units_done units_trail marked all_lines m state fits is_lasting = record {
-  ready = record { is_trail = state.ready.is_trail; stored = state.ready.stored; guarded = guarded_lasting w.clauses a.trail m is_lasting; within = fits; sized = state.ready.sized };
+  ready = record {
+    is_trail = state.ready.is_trail;
+    stored = state.ready.stored;
+    guarded = guarded_lasting w.clauses a.trail m is_lasting;
+    within = fits;
+    sized = state.ready.sized;
+  };
   low = omega arith;
   is_lasting = is_lasting;
   all = state.all;
@@ -69,8 +83,10 @@ pub record IsSecond (trail : List Entry) (l : Literal) (level : ℕ) : Type 0 wh
   pub is : literal_at trail place ≡ opposite l
   pub same : level_at trail place ≡ level
 
-pub second_kept : (old new : StateValue) (b : ℕ) (clause : List Literal) (places : List ℕ) → IsTrail old.log.inputs old.log.lines old.trail → IsBack old new b → IsTarget old.trail places b
-    → clause ≡ map (λ p. opposite (literal_at old.trail p)) places → All (IsInside old.trail) places → 2 ≤ length clause → IsSecond new.trail (get_or clause 1 blank) b
+pub second_kept : (old new : StateValue) (b : ℕ) (clause : List Literal) (places : List ℕ) → IsTrail old.log.inputs old.log.lines old.trail → IsBack old new b
+    → IsTarget old.trail places b
+    → clause ≡ map (λ p. opposite (literal_at old.trail p)) places → All (IsInside old.trail) places → 2 ≤ length clause
+    → IsSecond new.trail (get_or clause 1 blank) b
 second_kept old new b clause places is_trail back target clause_is inside long =
     let f : ℕ → Literal = λ p. opposite (literal_at old.trail p) in
     let more : 1 < length places = omega (arith, long, ap length clause_is, length-map places f) in
@@ -87,7 +103,8 @@ second_kept old new b clause places is_trail back target clause_is inside long =
     }
 
 -- behind the trail stands the first literal, on the level of the second: the rule holds of the new clause
-pub learnt_lasting : (values : List (Option Bool)) (clauses : List (List Literal)) (r : List Literal) (trail : List Entry) (e : Entry) (m : ℕ) → AreValues values (trail ++ e ∷ []) → m ≤ length trail → IsLasting clauses trail m
+pub learnt_lasting : (values : List (Option Bool)) (clauses : List (List Literal)) (r : List Literal) (trail : List Entry) (e : Entry) (m : ℕ)
+    → AreValues values (trail ++ e ∷ []) → m ≤ length trail → IsLasting clauses trail m
     → 0 < length r → e.literal ≡ get_or r 0 blank → IsSecond trail (get_or r 1 blank) e.level → IsLasting (clauses ++ r ∷ []) (trail ++ e ∷ []) m
 learnt_lasting values clauses r trail e m are fits lasting some first second =
     let t = trail ++ e ∷ [] in

@@ -16,7 +16,8 @@ pub listed_none : (letters : List ℕ) → AreListed [] letters
 listed_none letters x is = absurd (false≢true (sym (get_or_past [] x false (omega arith)) ∙ is))
 
 -- no flag more is set
-pub listed_longer : (old new : List Bool) (letters : List ℕ) → ((x : ℕ) → get_or new x false ≡ true → get_or old x false ≡ true) → AreListed old letters → AreListed new letters
+pub listed_longer : (old new : List Bool) (letters : List ℕ) → ((x : ℕ) → get_or new x false ≡ true → get_or old x false ≡ true) → AreListed old letters
+    → AreListed new letters
 listed_longer old new letters kept listed x is = listed x (kept x is)
 
 -- a flag that is not set came behind the others
@@ -41,11 +42,13 @@ pub of_more : (old new : List ℕ) (clauses : List (List Literal)) → All (Cont
 of_more old new clauses kept are k d below i e low = All-contains (Contains new) old (get_or (get_or clauses k d) i e).letter.0 kept (are k d below i e low)
 
 -- an input whose letters are named came behind the others
-pub of_push : (old new : List ℕ) (clauses : List (List Literal)) (clause : List Literal) → All (Contains new) old → AreOf new clause → All (AreOf old) clauses → All (AreOf new) (clauses ++ clause ∷ [])
+pub of_push : (old new : List ℕ) (clauses : List (List Literal)) (clause : List Literal) → All (Contains new) old → AreOf new clause → All (AreOf old) clauses
+    → All (AreOf new) (clauses ++ clause ∷ [])
 of_push old new clauses clause kept there are = All-push (AreOf new) clauses clause (of_more old new clauses kept are) there
 
 -- the last input was taken back
-pub of_fewer : (letters : List ℕ) (clauses all : List (List Literal)) (clause : List Literal) → all ≡ clauses ++ clause ∷ [] → All (AreOf letters) all → All (AreOf letters) clauses
+pub of_fewer : (letters : List ℕ) (clauses all : List (List Literal)) (clause : List Literal) → all ≡ clauses ++ clause ∷ [] → All (AreOf letters) all
+    → All (AreOf letters) clauses
 of_fewer letters clauses all clause is are k d below =
     let e : get_or all k d ≡ get_or clauses k d = ap (λ xs. get_or xs k d) is ∙ get_or_append_left clauses (clause ∷ []) d k below in
     subst (AreOf letters) e (are k d (omega (arith, below, ap length is, length_push clauses clause)))
@@ -57,7 +60,8 @@ pub kept_both : (one two three : List ℕ) → All (Contains two) one → All (C
 kept_both one two three first second k d below = All-contains (Contains three) two (get_or one k d) second (first k d below)
 
 -- one letter more of a clause is named
-pub of_next : (old new : List ℕ) (clause : List Literal) (k : ℕ) (d : Literal) → k < length clause → All (Contains new) old → Contains new (get_or clause k d).letter.0 → AreOf old (take k clause) → AreOf new (take (k + 1) clause)
+pub of_next : (old new : List ℕ) (clause : List Literal) (k : ℕ) (d : Literal) → k < length clause → All (Contains new) old
+    → Contains new (get_or clause k d).letter.0 → AreOf old (take k clause) → AreOf new (take (k + 1) clause)
 of_next old new clause k d below kept there are =
     All-more (λ l. Contains new l.letter.0) clause k d below
     (λ i e low. All-contains (Contains new) old (get_or (take k clause) i e).letter.0 kept (are i e low)) there

@@ -8,12 +8,22 @@ use Rattle.cdcl_trail.specs.declared.assigned.Entry.{Entry}
 use Rattle.cdcl_state.specs.Turns.{IsReleased}
 
 -- the letter of one entry more
-pub released_more : (trail : List Entry) (from k : ℕ) (first old new : ChoicesValue) (e : Entry) (x : ℕ) → from ≤ k → e ≡ get_or trail k blank_entry → length old.order.places ≡ length first.order.places
-    → (IsWaiting old.order x ↔ (IsReleased trail from k first x ⊎ IsWaiting first.order x)) → (IsWaiting new.order x ↔ (IsOffered old x e.literal.letter.0 ⊎ IsWaiting old.order x))
+pub released_more : (trail : List Entry) (from k : ℕ) (first old new : ChoicesValue) (e : Entry) (x : ℕ) → from ≤ k → e ≡ get_or trail k blank_entry
+    → length old.order.places ≡ length first.order.places
+    → (IsWaiting old.order x ↔ (IsReleased trail from k first x ⊎ IsWaiting first.order x))
+    → (IsWaiting new.order x ↔ (IsOffered old x e.literal.letter.0 ⊎ IsWaiting old.order x))
     → IsWaiting new.order x ↔ (IsReleased trail from (k + 1) first x ⊎ IsWaiting first.order x)
 released_more trail from k first old new e x on e_is same before step = (
   (λ h. elim (step.0 h) [
-    | inl offered ↦ inl (record { place = k; on = on; below = omega arith; offered = record { is = offered.is ∙ letter_is; known = omega (arith, offered.known, same, letter_is) } })
+    | inl offered ↦ inl (record {
+      place = k;
+      on = on;
+      below = omega arith;
+      offered = record {
+        is = offered.is ∙ letter_is;
+        known = omega (arith, offered.known, same, letter_is);
+      };
+    })
     | inr waits ↦ elim (before.0 waits) [
       | inl r ↦ inl (record { place = r.place; on = r.on; below = omega (arith, r.below); offered = r.offered })
       | inr first_waits ↦ inr first_waits
@@ -35,7 +45,8 @@ released_more trail from k first old new e x on e_is same before step = (
 
 -- where all places were gone over, or there were none
 pub released_all : (trail : List Entry) (from to len : ℕ) (first new : ChoicesValue) (x : ℕ) → len ≤ to → (from ≡ to) ⊎ (to ≤ len)
-    → (IsWaiting new.order x ↔ (IsReleased trail from to first x ⊎ IsWaiting first.order x)) → IsWaiting new.order x ↔ (IsReleased trail from len first x ⊎ IsWaiting first.order x)
+    → (IsWaiting new.order x ↔ (IsReleased trail from to first x ⊎ IsWaiting first.order x))
+    → IsWaiting new.order x ↔ (IsReleased trail from len first x ⊎ IsWaiting first.order x)
 released_all trail from to len first new x long at all = (
   (λ h. elim (all.0 h) [
     | inl r ↦ inl (record { place = r.place; on = r.on; below = within r at; offered = r.offered })

@@ -15,14 +15,18 @@ module _ (kept : List Literal) (trail : List Entry) (place : ℕ) (before : AreK
   kept_whole all k d below =
       subst (λ (e : Entry). e.reason ≡ None → Contains kept e.literal) (get_or_default trail k blank_entry d below) (before k (omega (arith, below, all)))
 
-  pub kept_front : (inputs lines : List (List Literal)) (new : List Entry) → IsTrail inputs lines trail → IsDecision trail place → new ≡ take (length new) trail → length new ≤ length trail → All (λ e. e.level ≤ place) new
+  pub kept_front : (inputs lines : List (List Literal)) (new : List Entry) → IsTrail inputs lines trail → IsDecision trail place → new ≡ take (length new) trail
+      → length new ≤ length trail → All (λ e. e.level ≤ place) new
       → All (λ e. e.reason ≡ None → Contains kept e.literal) new
   kept_front inputs lines new is_trail decision front short low k d below =
-      let at : (j : ℕ) (e : Entry) → j < length new → get_or new j e ≡ get_or trail j blank_entry = λ j e lt. ap (λ t. get_or t j e) front ∙ get_or-take (length new) trail j e lt ∙ get_or_default trail j e blank_entry (omega (arith, lt, short)) in
+      let at : (j : ℕ) (e : Entry) → j < length new → get_or new j e ≡ get_or trail j blank_entry =
+      λ j e lt. ap (λ t. get_or t j e) front ∙ get_or-take (length new) trail j e lt ∙ get_or_default trail j e blank_entry (omega (arith, lt, short)) in
       let stands = is_trail place blank_entry decision.within in
-      let level : (get_or trail place blank_entry).level ≡ place + 1 = stands.decision decision.free ∙ ap (λ n. n + 1) (length-take-le place trail (omega (arith, decision.within))) in
+      let level : (get_or trail place blank_entry).level ≡ place + 1 =
+      stands.decision decision.free ∙ ap (λ n. n + 1) (length-take-le place trail (omega (arith, decision.within))) in
       let ends : length new ≤ place = elim (cases_lt place (length new)) [
-        | inl inside ↦ let lower : (get_or trail place blank_entry).level ≤ place = subst (λ (e : Entry). e.level ≤ place) (at place blank_entry inside) (low place blank_entry inside) in absurd (omega (arith, lower, level))
+        | inl inside ↦ let lower : (get_or trail place blank_entry).level ≤ place =
+            subst (λ (e : Entry). e.level ≤ place) (at place blank_entry inside) (low place blank_entry inside) in absurd (omega (arith, lower, level))
         | inr outside ↦ outside
       ] in
       subst (λ (e : Entry). e.reason ≡ None → Contains kept e.literal) (sym (at k d below)) (before k (omega (arith, below, ends)))

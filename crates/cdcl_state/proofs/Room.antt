@@ -1,5 +1,6 @@
 -- Room for more letters keeps what holds of a state; the values of all letters.
-use Rattle.std.proofs.Common.{◌≡◌, ◌↔◌, ◌⊎◌, ℕ, ◌<◌, ◌≤◌, ◌+◌, ◌*◌, ◌^◌, inl, inr, take, replicate, List, [], ◌∷◌, ◌++◌, Bool, true, Contains, length, get_or, sym, ap, ◌∙◌, subst, arith}
+use Rattle.std.proofs.Common.{◌≡◌, ◌↔◌, ◌⊎◌, ℕ, ◌<◌, ◌≤◌, ◌+◌, ◌*◌, ◌^◌, inl, inr, take, replicate, List, [], ◌∷◌, ◌++◌, Bool, true, Contains, length, get_or}
+use Rattle.std.proofs.Common.{sym, ap, ◌∙◌, subst, arith}
 use mathlib.Core.Bool.{false, false≢true}
 use Rattle.std.proofs.lemmas.Bool.{cases_lt}
 use Rattle.std.proofs.lemmas.List.{get_or_past, get_or-replicate, length-replicate, take_more, map-append}
@@ -15,8 +16,11 @@ use Rattle.cdcl_trail.specs.Assigned.{AssignedValue}
 use Rattle.cdcl_state.specs.State.{IsState}
 use Rattle.cdcl_trail.specs.declared.assigned.Entry.{Entry}
 
-pub state_widened : (letters : ℕ) (a b : AssignedValue) (w v : WatchValue) (units : List Hint) (log : LogValue) (propagated lasting units_done units_trail marked : ℕ) (all_lines : Bool) (wide : ℕ) → IsState letters a w units log propagated lasting units_done units_trail marked all_lines
-    → b.trail ≡ a.trail → v.clauses ≡ w.clauses → v.names ≡ w.names → length v.lists ≡ 2 * length b.values → length a.values ≤ length b.values → length b.values ≤ 2 ^ 32 → length b.values ≤ wide
+pub state_widened : (letters : ℕ) (a b : AssignedValue)
+    (w v : WatchValue) (units : List Hint) (log : LogValue) (propagated lasting units_done units_trail marked : ℕ) (all_lines : Bool) (wide : ℕ)
+    → IsState letters a w units log propagated lasting units_done units_trail marked all_lines
+    → b.trail ≡ a.trail → v.clauses ≡ w.clauses → v.names ≡ w.names → length v.lists ≡ 2 * length b.values → length a.values ≤ length b.values
+    → length b.values ≤ 2 ^ 32 → length b.values ≤ wide
     → IsState letters b v units log propagated lasting units_done units_trail wide all_lines
 state_widened letters a b w v units log propagated lasting units_done units_trail marked all_lines wide state trail clauses names sized more few marks =
     rw (trail, clauses, names) (record {
@@ -51,7 +55,9 @@ clauses_wider : (letters count : ℕ) → letters ≤ count → (clauses : List 
 clauses_wider letters count more clauses known i d below j e low = known_wider letters count more (get_or (get_or clauses i d) j e) (known i d below j e low)
 
 -- more letters are known
-pub state_lettered : (letters count : ℕ) (a : AssignedValue) (w : WatchValue) (units : List Hint) (log : LogValue) (propagated lasting units_done units_trail marked : ℕ) (all_lines : Bool) → IsState letters a w units log propagated lasting units_done units_trail marked all_lines → letters ≤ count → count < length a.values
+pub state_lettered : (letters count : ℕ) (a : AssignedValue) (w : WatchValue) (units : List Hint) (log : LogValue)
+    (propagated lasting units_done units_trail marked : ℕ) (all_lines : Bool)
+    → IsState letters a w units log propagated lasting units_done units_trail marked all_lines → letters ≤ count → count < length a.values
     → IsState count a w units log propagated lasting units_done units_trail marked all_lines
 state_lettered letters count a w units log propagated lasting units_done units_trail marked all_lines state more room = record {
   ready = state.ready;
@@ -80,7 +86,8 @@ pub model_more : (trail : List Entry) (old new : List Bool) (k n : ℕ) → k < 
 model_more trail old new k n below set told x low =
     let front = literals_of (take k trail) in
     let last = literal_at trail k in
-    let e : literals_of (take (k + 1) trail) ≡ front ++ last ∷ [] = ap literals_of (take_more trail k blank_entry below) ∙ map-append (λ (e : Entry). e.literal) (take k trail) (get_or trail k blank_entry ∷ []) in
+    let e : literals_of (take (k + 1) trail) ≡ front ++ last ∷ [] =
+    ap literals_of (take_more trail k blank_entry below) ∙ map-append (λ (e : Entry). e.literal) (take k trail) (get_or trail k blank_entry ∷ []) in
     subst (λ ls. (get_or new x false ≡ true) ↔ Contains ls (positive x)) (sym e) (
       (λ is. elim ((set x low).0 is) [
         | inl before ↦ Contains-append_left front (last ∷ []) (positive x) ((told x low).0 before)

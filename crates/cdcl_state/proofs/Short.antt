@@ -1,5 +1,6 @@
 -- A learnt clause of one literal forces it on level 0; one of decisions forces its first literal, or is empty.
-use Rattle.std.proofs.Common.{◌≡◌, ◌≢◌, ℕ, ◌<◌, ◌⊎◌, inl, inr, List, [], ◌∷◌, ◌++◌, Bool, Option, Some, None, take, map, All, length, get_or, refl, sym, ap, ◌∙◌, subst, arith}
+use Rattle.std.proofs.Common.{◌≡◌, ◌≢◌, ℕ, ◌<◌, ◌⊎◌, inl, inr, List, [], ◌∷◌, ◌++◌, Bool, Option, Some, None, take, map, All, length, get_or, refl, sym, ap}
+use Rattle.std.proofs.Common.{◌∙◌, subst, arith}
 use Rattle.std.proofs.lemmas.Bool.{cases_lt}
 use Rattle.std.proofs.lemmas.List.{length-map, length_push, nil_from_length}
 use Rattle.cnf_base.specs.declared.literal.Literal.{Literal}
@@ -20,7 +21,8 @@ use Rattle.cdcl_state.proofs.Learning.{decisions_asserting}
 abbrev pub forced_by : Literal → ℕ → Entry
 forced_by u line = record { literal = u; level = 0; reason = Some (Line line) }
 
-pub learnt_asserting : (log : LogValue) (trail : List Entry) (learnt : Learnt) → IsTrail log.inputs log.lines trail → IsLearnt log trail learnt → All (IsDecision trail) learnt.places.items
+pub learnt_asserting : (log : LogValue) (trail : List Entry) (learnt : Learnt) → IsTrail log.inputs log.lines trail → IsLearnt log trail learnt
+    → All (IsDecision trail) learnt.places.items
     → (learnt.clause.items ≡ []) ⊎ IsAsserting trail learnt.places.items
 learnt_asserting log trail learnt is_trail is decisions = elim (cases_lt 0 (length learnt.places.items)) [
   | inl some ↦ inr (decisions_asserting log.inputs log.lines trail learnt.places.items is_trail decisions is.falling some)
@@ -31,21 +33,26 @@ learnt_asserting log trail learnt is_trail is decisions = elim (cases_lt 0 (leng
 abbrev pub lined : StateValue → Learnt → StateValue
 lined old learnt = with_log old (with_line old.log learnt.clause.items learnt.hints.items)
 
-pub short_stands : (values : List (Option Bool)) (old mid back : StateValue) (line : ℕ) (learnt : Learnt) (u : Literal) → AreValues values old.trail → IsTrail old.log.inputs old.log.lines old.trail → IsLearnt old.log old.trail learnt
-    → IsAsserting old.trail learnt.places.items → length learnt.clause.items < 2 → mid ≡ lined old learnt → line ≡ length mid.log.lines → IsBack mid back 0 → u ≡ get_or learnt.clause.items 0 u
+pub short_stands : (values : List (Option Bool)) (old mid back : StateValue) (line : ℕ) (learnt : Learnt) (u : Literal) → AreValues values old.trail
+    → IsTrail old.log.inputs old.log.lines old.trail → IsLearnt old.log old.trail learnt
+    → IsAsserting old.trail learnt.places.items → length learnt.clause.items < 2 → mid ≡ lined old learnt → line ≡ length mid.log.lines → IsBack mid back 0
+    → u ≡ get_or learnt.clause.items 0 u
     → MayStand back (forced_by u line) × IsDecision mid.trail (length back.trail)
 short_stands values old mid back line learnt u are is_trail is asserting short mid_is =
-    subst (λ (m : StateValue). line ≡ length m.log.lines → IsBack m back 0 → u ≡ get_or learnt.clause.items 0 u → MayStand back (forced_by u line) × IsDecision m.trail (length back.trail)) (sym mid_is)
+    subst (λ (m : StateValue). line ≡ length m.log.lines → IsBack m back 0 → u ≡ get_or learnt.clause.items 0 u → MayStand back (forced_by u line)
+    × IsDecision m.trail (length back.trail)) (sym mid_is)
     (λ (count : line ≡ length (old.log.lines ++ learnt.clause.items ∷ [])) (went : IsBack (lined old learnt) back 0) (first : u ≡ get_or learnt.clause.items 0 u).
     let places = learnt.places.items in
     let clause = learnt.clause.items in
     let few : length places < 2 = omega (arith, short, ap length is.clause_is, length-map places (λ p. opposite (literal_at old.trail p))) in
     let more = line_more old.log clause learnt.hints.items line (omega (arith, count, length_push old.log.lines clause)) in
-    jump_stands values (lined old learnt) back 0 line clause places u are (trail_more old.log (lined old learnt).log (Line line) clause more old.trail is_trail) went
+    jump_stands values (lined old learnt) back 0 line clause places u are
+    (trail_more old.log (lined old learnt).log (Line line) clause more old.trail is_trail) went
     (record { lone = λ _. refl; second = λ two. absurd (omega (arith, few, two)) })
     is.clause_is is.inside is.falling asserting.some (asserting.lone (omega (arith, few))) more.here first)
 
-pub short_turned : (mid back new : StateValue) (e : Entry) → IsBack mid back 0 → IsDecision mid.trail (length back.trail) → e.reason ≢ None → new ≡ with_trail back (back.trail ++ e ∷ []) → IsTurn mid new
+pub short_turned : (mid back new : StateValue) (e : Entry) → IsBack mid back 0 → IsDecision mid.trail (length back.trail)
+    → e.reason ≢ None → new ≡ with_trail back (back.trail ++ e ∷ []) → IsTurn mid new
 short_turned mid back new e went decision forced is = record {
   place = length back.trail;
   entry = e;
@@ -56,6 +63,7 @@ short_turned mid back new e went decision forced is = record {
 
 pub short_unturned : (old mid back new : StateValue) (learnt : Learnt) → mid ≡ lined old learnt → IsBack mid back 0 → new ≡ back → IsUnturned old new learnt
 short_unturned old mid back new learnt mid_is went is =
-    let back_is : back ≡ with_trail (lined old learnt) (take (length back.trail) mid.trail) = went.front ∙ ap (λ (s : StateValue). with_trail s (take (length back.trail) mid.trail)) mid_is in
+    let back_is : back ≡ with_trail (lined old learnt) (take (length back.trail) mid.trail) =
+    went.front ∙ ap (λ (s : StateValue). with_trail s (take (length back.trail) mid.trail)) mid_is in
     let new_is = is ∙ back_is in
     record { letters = ap (λ (s : StateValue). s.letters) new_is; log = inr (ap (λ (s : StateValue). s.log) new_is) }

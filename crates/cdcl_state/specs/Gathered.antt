@@ -36,7 +36,8 @@ pub record MayCome (lists : ℕ) (clause : List Literal) : Type 0 where
 -- each watched clause is one of the old ones, as it stands there and by its name; among them are the inputs of the first `count` old ones
 pub record IsCopied (clauses : List (List Literal)) (names : List ℕ) (count : ℕ) (w : WatchValue) : Type 0 where
   pub paired : length w.names ≡ length w.clauses
-  pub from_old : (c : ℕ) → c < length w.clauses → (d : ℕ) × (d < length clauses) × (clause_of w.clauses c ≡ clause_of clauses d) × (slice_index_or w.names c 0 ≡ slice_index_or names d 0)
+  pub from_old : (c : ℕ) → c < length w.clauses
+      → (d : ℕ) × (d < length clauses) × (clause_of w.clauses c ≡ clause_of clauses d) × (slice_index_or w.names c 0 ≡ slice_index_or names d 0)
   pub inputs : (n : ℕ) → IsListedBelow (map hint_of names) count (Clause n) → IsListed (names_of w) (Clause n)
 
 -- each line that is marked stands among the names

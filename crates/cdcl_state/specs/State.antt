@@ -26,11 +26,13 @@ IsListed names hint = (c : ℕ) × (c < length names) × (slice_index_or names c
 
 -- each clause of the log that is always heeded is a watched one or a short one
 abbrev pub AreAll : Bool → List (List Literal) → List (List Literal) → List Hint → List Hint → Type 0
-AreAll all_lines inputs lines names units = (hint : Hint) (clause : List Literal) → IsHeeded all_lines hint → named inputs lines hint ≡ Some clause → IsListed names hint ⊎ IsListed units hint
+AreAll all_lines inputs lines names units =
+    (hint : Hint) (clause : List Literal) → IsHeeded all_lines hint → named inputs lines hint ≡ Some clause → IsListed names hint ⊎ IsListed units hint
 
 -- no watched clause has one literal alone, or none
 abbrev pub AreLong : List (List Literal) → List (List Literal) → List Hint → Type 0
-AreLong inputs lines names = (c : ℕ) (clause : List Literal) → c < length names → named inputs lines (slice_index_or names c blank_hint) ≡ Some clause → ¬ IsOne clause
+AreLong inputs lines names =
+    (c : ℕ) (clause : List Literal) → c < length names → named inputs lines (slice_index_or names c blank_hint) ≡ Some clause → ¬ IsOne clause
 
 -- each clause of one literal or none is a short one
 abbrev pub AreOnes : List (List Literal) → List (List Literal) → List Hint → Type 0
@@ -42,7 +44,8 @@ AreKnownDecisions letters trail = All (λ e. e.reason ≡ None → IsKnown lette
 
 -- no entry below the place makes one of the first two literals false
 abbrev pub IsUnwatched : List Entry → List Literal → ℕ → Type 0
-IsUnwatched trail clause place = (k : ℕ) → k < place → (literal_at trail k ≢ opposite (slice_index_or clause 0 blank)) × (literal_at trail k ≢ opposite (slice_index_or clause 1 blank))
+IsUnwatched trail clause place =
+    (k : ℕ) → k < place → (literal_at trail k ≢ opposite (slice_index_or clause 0 blank)) × (literal_at trail k ≢ opposite (slice_index_or clause 1 blank))
 
 -- no letter stands in the clause twice, and neither of its first two literals is false
 pub record IsWatchable (trail : List Entry) (clause : List Literal) : Type 0 where
@@ -63,7 +66,8 @@ pub record IsRewound (trail : List Entry) (clause : List Literal) (old_propagate
   pub low : lasting ≤ propagated
   pub free : IsUnwatched trail clause propagated
 
-pub record IsState (letters : ℕ) (a : AssignedValue) (w : WatchValue) (units : List Hint) (log : LogValue) (propagated lasting units_done units_trail marked : ℕ) (all_lines : Bool) : Type 0 where
+pub record IsState (letters : ℕ) (a : AssignedValue) (w : WatchValue) (units : List Hint) (log : LogValue)
+    (propagated lasting units_done units_trail marked : ℕ) (all_lines : Bool) : Type 0 where
   pub ready : IsReady log.inputs log.lines propagated a w
   pub low : lasting ≤ propagated
   pub is_lasting : IsLasting w.clauses a.trail lasting

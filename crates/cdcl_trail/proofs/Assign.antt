@@ -1,7 +1,9 @@
 -- What an entry put on the trail, or taken off it, leaves of the state.
-use Rattle.std.proofs.Common.{◌≡◌, ◌≢◌, ℕ, ◌<◌, ◌⊎◌, inl, inr, List, [], ◌∷◌, ◌++◌, Bool, true, false, not, Option, Some, None, map, take, Contains, length, get_or, set, refl, sym, ap, ap₂, ◌∙◌, subst, arith, length-set, get_or-set_same, get_or-set_other, ◌≤◌, length-take-le}
+use Rattle.std.proofs.Common.{◌≡◌, ◌≢◌, ℕ, ◌<◌, ◌⊎◌, inl, inr, List, [], ◌∷◌, ◌++◌, Bool, true, false, not, Option, Some, None, map, take, Contains, length}
+use Rattle.std.proofs.Common.{get_or, set, refl, sym, ap, ap₂, ◌∙◌, subst, arith, length-set, get_or-set_same, get_or-set_other, ◌≤◌, length-take-le}
 use Rattle.std.proofs.lemmas.Bool.{cases_lt, cases_eq}
-use Rattle.std.proofs.lemmas.List.{map-append, take-append-le, take_at, get_or_append_left, get_or_at, length_push, length-map, get_or-map, take-take, get_or-take}
+use Rattle.std.proofs.lemmas.List.{map-append, take-append-le, take_at, get_or_append_left, get_or_at, length_push, length-map, get_or-map, take-take}
+use Rattle.std.proofs.lemmas.List.{get_or-take}
 use Rattle.std.proofs.lemmas.List.Elements.{All-push, Contains-push, Contains-push_cases, Contains-append_left, Contains-get_or}
 use Rattle.cnf_base.specs.declared.literal.Literal.{Literal}
 use Rattle.cnf_base.specs.Literal.{opposite}
@@ -44,7 +46,8 @@ level_there trail k d below =
 some_bool : {a b : Bool} → Some (not a) ≡ Some (not b) → a ≡ b
 some_bool {a} {b} e = let f : not a ≡ not b = cc in sym (not_not a) ∙ ap not f ∙ not_not b
 
-module _ (values : List (Option Bool)) (trail : List Entry) (e : Entry) (are : AreValues values trail) (unset : IsUnset (literals_of trail) e.literal) (known : e.literal.letter.0 < length values) where
+module _ (values : List (Option Bool)) (trail : List Entry) (e : Entry) (are : AreValues values trail) (unset : IsUnset (literals_of trail) e.literal)
+    (known : e.literal.letter.0 < length values) where
   pub values_push : AreValues (set values e.literal.letter.0 (Some (not e.literal.negated))) (trail ++ e ∷ [])
   values_push =
       let x = e.literal.letter.0 in
@@ -59,11 +62,13 @@ module _ (values : List (Option Bool)) (trail : List Entry) (e : Entry) (are : A
             (get_or-set_same values x v None known);
         on_trail = λ l is. elim (cases_eq l.letter.0 x) [
           | inl same ↦
-              let got : Some (not e.literal.negated) ≡ Some (not l.negated) = sym (get_or-set_same values x v None known) ∙ ap (λ y. value_at (set values x v) y) (sym same) ∙ is in
+              let got : Some (not e.literal.negated) ≡ Some (not l.negated) =
+              sym (get_or-set_same values x v None known) ∙ ap (λ y. value_at (set values x v) y) (sym same) ∙ is in
               let is_it : l ≡ e.literal = ap₂ (λ y n. let m : Literal = record { letter = record { 0 = y }; negated = n } in m) same (sym (some_bool got)) in
               rw (pushed, is_it) (Contains-push (literals_of trail) e.literal)
           | inr other ↦
-              rw pushed (Contains-append_left (literals_of trail) (e.literal ∷ []) l (are.on_trail l (sym (get_or-set_other values x l.letter.0 v None other) ∙ is)))
+              rw pushed
+              (Contains-append_left (literals_of trail) (e.literal ∷ []) l (are.on_trail l (sym (get_or-set_other values x l.letter.0 v None other) ∙ is)))
         ];
         apart = λ i j d earlier below. elim (cases_lt j (length trail)) [
           | inl old ↦ rw (get_or_append_left trail (e ∷ []) d i (omega arith), get_or_append_left trail (e ∷ []) d j old) (are.apart i j d earlier old)
@@ -75,7 +80,8 @@ module _ (values : List (Option Bool)) (trail : List Entry) (e : Entry) (are : A
         known = rw (length-set values x v) (All-push (λ f. f.literal.letter.0 < length values) trail e are.known known);
       }
 
-pub trail_push : (inputs lines : List (List Literal)) (trail : List Entry) (e : Entry) → IsTrail inputs lines trail → StandsAt inputs lines trail e → IsTrail inputs lines (trail ++ e ∷ [])
+pub trail_push : (inputs lines : List (List Literal)) (trail : List Entry) (e : Entry) → IsTrail inputs lines trail → StandsAt inputs lines trail e
+    → IsTrail inputs lines (trail ++ e ∷ [])
 trail_push inputs lines trail e is_trail stands k d below = elim (cases_lt k (length trail)) [
   | inl old ↦ rw (take-append-le k trail (e ∷ []) (omega arith), get_or_append_left trail (e ∷ []) d k old) (is_trail k d old)
   | inr high ↦
@@ -93,12 +99,15 @@ module _ (values : List (Option Bool)) (ys : List Entry) (e : Entry) (are : AreV
         true_on = λ k d below.
             let ne : (get_or ys k d).literal.letter.0 ≢ x =
             subst (λ (f : Entry). f.literal.letter.0 ≢ x) (get_or_append_left ys (e ∷ []) d k below)
-            (subst (λ (f : Entry). (get_or (ys ++ e ∷ []) k d).literal.letter.0 ≢ f.literal.letter.0) (get_or_at ys e [] d (length ys) refl) (are.apart k (length ys) d below (omega arith))) in
+            (subst (λ (f : Entry). (get_or (ys ++ e ∷ []) k d).literal.letter.0 ≢ f.literal.letter.0) (get_or_at ys e [] d (length ys) refl)
+            (are.apart k (length ys) d below (omega arith))) in
             get_or-set_other values x _ None None ne
-            ∙ subst (λ (f : Entry). value_at values f.literal.letter.0 ≡ Some (not f.literal.negated)) (get_or_append_left ys (e ∷ []) d k below) (are.true_on k d (omega arith));
+            ∙ subst (λ (f : Entry). value_at values f.literal.letter.0 ≡ Some (not f.literal.negated)) (get_or_append_left ys (e ∷ []) d k below)
+            (are.true_on k d (omega arith));
         on_trail = λ l is. elim (cases_eq l.letter.0 x) [
           | inl same ↦
-              let known : x < length values = subst (λ (f : Entry). f.literal.letter.0 < length values) (get_or_at ys e [] e (length ys) refl) (are.known (length ys) e (omega arith)) in
+              let known : x < length values =
+              subst (λ (f : Entry). f.literal.letter.0 < length values) (get_or_at ys e [] e (length ys) refl) (are.known (length ys) e (omega arith)) in
               let gone = sym (get_or-set_same values x None None known) ∙ ap (λ y. value_at (set values x None) y) (sym same) ∙ is in
               cc
           | inr other ↦
@@ -118,7 +127,8 @@ trail_pop inputs lines ys e is_trail k d below =
     subst (λ before. StandsAt inputs lines before (get_or ys k d)) (take-append-le k ys (e ∷ []) (omega arith))
     (subst (λ f. StandsAt inputs lines (take k (ys ++ e ∷ [])) f) (get_or_append_left ys (e ∷ []) d k below) (is_trail k d (omega (arith, length_push ys e))))
 
-pub trail_take : (inputs lines : List (List Literal)) (trail : List Entry) (n : ℕ) → n ≤ length trail → IsTrail inputs lines trail → IsTrail inputs lines (take n trail)
+pub trail_take : (inputs lines : List (List Literal)) (trail : List Entry) (n : ℕ) → n ≤ length trail → IsTrail inputs lines trail
+    → IsTrail inputs lines (take n trail)
 trail_take inputs lines trail n fits is_trail k d below =
     let low : k < n = omega (arith, below, length-take-le n trail fits) in
     subst (λ t. StandsAt inputs lines t (get_or (take n trail) k d)) (sym (take-take k n trail (omega arith)))

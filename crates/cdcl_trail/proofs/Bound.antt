@@ -12,7 +12,8 @@ use Rattle.cdcl_trail.proofs.Assign.{values_push}
 use Rattle.cdcl_trail.specs.declared.assigned.Entry.{Entry}
 
 -- a trail whose letters are below n
-pub bounded_by : (values : List (Option Bool)) (trail : List Entry) (n : ℕ) → AreValues values trail → All (λ e. e.literal.letter.0 < n) trail → length trail ≤ n
+pub bounded_by : (values : List (Option Bool)) (trail : List Entry) (n : ℕ) → AreValues values trail → All (λ e. e.literal.letter.0 < n) trail
+    → length trail ≤ n
 bounded_by values trail n are below_n =
     let f : Entry → ℕ = λ e. e.literal.letter.0 in
     let xs = map f trail in
@@ -21,7 +22,10 @@ bounded_by values trail n are below_n =
     let ne = are.apart i j blank_entry earlier (omega arith) in
     let ei = get_or-map f trail i blank_entry d (omega arith) in
     let ej = get_or-map f trail j blank_entry d (omega arith) in
-    rw (ei, ej) (elim (eqb_tells (f (get_or trail i blank_entry)) (f (get_or trail j blank_entry))) [ inl equal ↦ absurd (ne equal.1) | inr apart ↦ apart.0 ])) in
+    rw (
+      ei,
+      ej,
+    ) (elim (eqb_tells (f (get_or trail i blank_entry)) (f (get_or trail j blank_entry))) [ inl equal ↦ absurd (ne equal.1) | inr apart ↦ apart.0 ])) in
     rw (← same) (length-le_from_distinct_below xs n distinct (λ q is.
     let found = some_element (eqb q) xs is in
     rw (eqb-true q found.0 found.2) (All-contains (λ x. x < n) xs found.0 (All-map (λ x. x < n) f trail below_n) found.1)))
@@ -30,7 +34,8 @@ pub trail_bounded : (values : List (Option Bool)) (trail : List Entry) → AreVa
 trail_bounded values trail are = bounded_by values trail (length values) are are.known
 
 -- where a letter has no value the trail is shorter
-pub room_left : (values : List (Option Bool)) (trail : List Entry) (e : Entry) → AreValues values trail → IsUnset (literals_of trail) e.literal → e.literal.letter.0 < length values → length trail < length values
+pub room_left : (values : List (Option Bool)) (trail : List Entry) (e : Entry) → AreValues values trail → IsUnset (literals_of trail) e.literal
+    → e.literal.letter.0 < length values → length trail < length values
 room_left values trail e are unset known =
     let x = e.literal.letter.0 in
     let v : Option Bool = Some (not e.literal.negated) in

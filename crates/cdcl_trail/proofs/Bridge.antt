@@ -1,5 +1,6 @@
 -- What the values of the letters say of the trail, and the trail of them.
-use Rattle.std.proofs.Common.{◌≡◌, MatchOption, ℕ, zero, suc, ◌⊎◌, inl, inr, List, [], Bool, true, false, not, Option, Some, None, All, Contains, refl, sym, ap, ◌∙◌, subst}
+use Rattle.std.proofs.Common.{◌≡◌, MatchOption, ℕ, zero, suc, ◌⊎◌, inl, inr, List, [], Bool, true, false, not, Option, Some, None, All, Contains, refl, sym, ap}
+use Rattle.std.proofs.Common.{◌∙◌, subst}
 use Rattle.std.proofs.lemmas.Option.{get_or_from_slice_get, slice_get_within}
 use Rattle.std.proofs.lemmas.List.Elements.{All-map, All-contains}
 use Rattle.cnf_base.specs.declared.literal.Literal.{Literal}
@@ -15,11 +16,13 @@ use Rattle.cdcl_trail.specs.Trail.{HasValue, literals_of, IsUnset, AreValues}
 use Rattle.cdcl_trail.specs.declared.assigned.Entry.{Entry}
 
 -- what holds of each clause holds of the one of a number
-numbered_has : (P : List Literal → Type 0) (clauses : List (List Literal)) (n : ℕ) (clause : List Literal) → All P clauses → numbered clauses n ≡ Some clause → P clause
+numbered_has : (P : List Literal → Type 0) (clauses : List (List Literal)) (n : ℕ) (clause : List Literal) → All P clauses
+    → numbered clauses n ≡ Some clause → P clause
 numbered_has P clauses zero clause holds is = cc
 numbered_has P clauses (suc n) clause holds is = subst P (get_or_from_slice_get clauses n clause [] is) (holds n [] (slice_get_within clauses n clause is))
 
-pub named_has : (P : List Literal → Type 0) (inputs lines : List (List Literal)) (hint : Hint) (clause : List Literal) → All P inputs → All P lines → named inputs lines hint ≡ Some clause → P clause
+pub named_has : (P : List Literal → Type 0) (inputs lines : List (List Literal)) (hint : Hint) (clause : List Literal) → All P inputs → All P lines
+    → named inputs lines hint ≡ Some clause → P clause
 named_has P inputs lines (Clause n) clause of_inputs of_lines is = numbered_has P inputs n clause of_inputs is
 named_has P inputs lines (Line n) clause of_inputs of_lines is = numbered_has P lines n clause of_lines is
 
@@ -61,17 +64,21 @@ module _ (values : List (Option Bool)) (trail : List Entry) (are : AreValues val
   value_told l v is = go v is l.negated refl
     where
       go : (a : Bool) → value_at values l.letter.0 ≡ Some a → (n : Bool) → l.negated ≡ n → HasValue (literals_of trail) l (not (beq a n))
-      go true is true neg = record { when_true = λ e. absurd (false≢true e); when_false = λ e. false_on values trail are l (record { is = is ∙ ap Some (sym neg) }) }
-      go false is false neg = record { when_true = λ e. absurd (false≢true e); when_false = λ e. false_on values trail are l (record { is = is ∙ ap Some (sym neg) }) }
+      go true is true neg =
+          record { when_true = λ e. absurd (false≢true e); when_false = λ e. false_on values trail are l (record { is = is ∙ ap Some (sym neg) }) }
+      go false is false neg =
+          record { when_true = λ e. absurd (false≢true e); when_false = λ e. false_on values trail are l (record { is = is ∙ ap Some (sym neg) }) }
       go true is false neg = record { when_true = λ e. are.on_trail l (is ∙ ap (λ b. Some (not b)) (sym neg)); when_false = λ e. absurd (false≢true (sym e)) }
       go false is true neg = record { when_true = λ e. are.on_trail l (is ∙ ap (λ b. Some (not b)) (sym neg)); when_false = λ e. absurd (false≢true (sym e)) }
 
 -- a literal with a value is set, and so is its letter's other literal
-pub set_from_value : (true_ones : List Literal) (x m : Literal) (o : Option Bool) → MatchOption o (IsUnset true_ones x) (HasValue true_ones x) → is_none o ≡ false → (m ≡ x) ⊎ (m ≡ opposite x) → Contains true_ones m ⊎ Contains true_ones (opposite m)
+pub set_from_value : (true_ones : List Literal) (x m : Literal) (o : Option Bool) → MatchOption o (IsUnset true_ones x) (HasValue true_ones x)
+    → is_none o ≡ false → (m ≡ x) ⊎ (m ≡ opposite x) → Contains true_ones m ⊎ Contains true_ones (opposite m)
 set_from_value true_ones x m None h some same = absurd (false≢true (sym some))
 set_from_value true_ones x m (Some true) h some same =
     let there = h.when_true refl in
-    elim same [ inl e ↦ inl (subst (Contains true_ones) (sym e) there) | inr e ↦ inr (subst (Contains true_ones) (sym (ap opposite e ∙ opposite_opposite x)) there) ]
+    elim same
+    [ inl e ↦ inl (subst (Contains true_ones) (sym e) there) | inr e ↦ inr (subst (Contains true_ones) (sym (ap opposite e ∙ opposite_opposite x)) there) ]
 set_from_value true_ones x m (Some false) h some same =
     let there = h.when_false refl in
     elim same [ inl e ↦ inr (subst (Contains true_ones) (ap opposite (sym e)) there) | inr e ↦ inl (subst (Contains true_ones) (sym e) there) ]

@@ -1,5 +1,7 @@
 -- Values that are told by whether each literal is true.
-use Rattle.std.proofs.Common.{◌≡◌, ◌≢◌, ◌↔◌, ℕ, ◌+◌, ◌*◌, ◌/◌, ◌<◌, ◌≤◌, ◌-◌, zero, suc, Bool, true, false, not, List, [], ◌∷◌, ◌++◌, length, get_or, set, Option, Some, None, if◌then◌else◌, inl, inr, refl, sym, ap, ap₂, ◌∙◌, arith, length-set, length-append, get_or-set_same, get_or-set_other}
+use Rattle.std.proofs.Common.{◌≡◌, ◌≢◌, ◌↔◌, ℕ, ◌+◌, ◌*◌, ◌/◌, ◌<◌, ◌≤◌, ◌-◌, zero, suc, Bool, true, false, not, List, [], ◌∷◌, ◌++◌, length, get_or, set}
+use Rattle.std.proofs.Common.{Option, Some, None, if◌then◌else◌, inl, inr, refl, sym, ap, ap₂, ◌∙◌, arith, length-set, length-append, get_or-set_same}
+use Rattle.std.proofs.Common.{get_or-set_other}
 use Rattle.std.proofs.lemmas.Bool.{cases_lt, cases_eq}
 use Rattle.std.proofs.lemmas.List.{same_lists, length_push, get_or_append_left, get_or-append_right, get_or_at, get_or_default}
 use Rattle.std.proofs.lemmas.List.FromFn.{get_or-map-range_with_len, length-map-range_with_len}
@@ -29,11 +31,13 @@ other_place l = 2 * l.letter.0 + (if l.negated then 0 else 1)
 
 -- the two places of a letter, by one of its literals
 by_literal : (truths : List Bool) (l : Literal) → letter_value truths l.letter.0
-    ≡ (if l.negated then told (get_or truths (other_place l) false) (get_or truths (truth_place l) false) else told (get_or truths (truth_place l) false) (get_or truths (other_place l) false))
+    ≡ (if l.negated then told (get_or truths (other_place l) false) (get_or truths (truth_place l) false)
+    else told (get_or truths (truth_place l) false) (get_or truths (other_place l) false))
 by_literal truths l = go l.negated refl
   where
     go : (b : Bool) → l.negated ≡ b → letter_value truths l.letter.0
-        ≡ (if l.negated then told (get_or truths (other_place l) false) (get_or truths (truth_place l) false) else told (get_or truths (truth_place l) false) (get_or truths (other_place l) false))
+        ≡ (if l.negated then told (get_or truths (other_place l) false) (get_or truths (truth_place l) false)
+        else told (get_or truths (truth_place l) false) (get_or truths (other_place l) false))
     go true e = rw e (ap (λ k. told (get_or truths k false) (get_or truths (2 * l.letter.0 + 1) false)) (omega arith))
     go false e = rw e (ap (λ k. told (get_or truths k false) (get_or truths (2 * l.letter.0 + 1) false)) (omega arith))
 
@@ -81,7 +85,8 @@ module _ (truths : List Bool) (are : AreTruths truths) (l : Literal) (known : l.
       go false e = rw (e, zero_more) (are.once l.letter.0)
       go true e = rw (e, zero_more) (λ is. contra (get_or truths (2 * l.letter.0) false) refl is)
         where
-          contra : (b : Bool) → get_or truths (2 * l.letter.0) false ≡ b → get_or truths (2 * l.letter.0 + 1) false ≡ true → get_or truths (2 * l.letter.0) false ≡ false
+          contra : (b : Bool)
+              → get_or truths (2 * l.letter.0) false ≡ b → get_or truths (2 * l.letter.0 + 1) false ≡ true → get_or truths (2 * l.letter.0) false ≡ false
           contra false f is = f
           contra true f is = let g : get_or truths (2 * l.letter.0 + 1) false ≡ false = are.once l.letter.0 f in cc
 
@@ -92,8 +97,10 @@ module _ (truths : List Bool) (are : AreTruths truths) (l : Literal) (known : l.
       zero_more = omega arith
 
       go : (b : Bool) → l.negated ≡ b → (get_or truths (truth_place l) false ≡ true) ↔ (value_at (values_of truths) l.letter.0 ≡ Some (not l.negated))
-      go true e = rw (e, value_there truths l.letter.0 low) (told_is (get_or truths (2 * l.letter.0) false) (get_or truths (2 * l.letter.0 + 1) false) true (are.once l.letter.0))
-      go false e = rw (e, zero_more, value_there truths l.letter.0 low) (told_is (get_or truths (2 * l.letter.0) false) (get_or truths (2 * l.letter.0 + 1) false) false (are.once l.letter.0))
+      go true e = rw (e, value_there truths l.letter.0 low)
+          (told_is (get_or truths (2 * l.letter.0) false) (get_or truths (2 * l.letter.0 + 1) false) true (are.once l.letter.0))
+      go false e = rw (e, zero_more, value_there truths l.letter.0 low)
+          (told_is (get_or truths (2 * l.letter.0) false) (get_or truths (2 * l.letter.0 + 1) false) false (are.once l.letter.0))
 
   -- the other literal is not true where this one is, or the letter has no value
   pub other_of_true : value_at (values_of truths) l.letter.0 ≡ Some (not l.negated) → get_or truths (other_place l) false ≡ false
@@ -103,7 +110,8 @@ module _ (truths : List Bool) (are : AreTruths truths) (l : Literal) (known : l.
   other_of_unset is = go l.negated refl (sym (by_literal truths l) ∙ sym (value_there truths l.letter.0 low) ∙ is)
     where
       go : (b : Bool) → l.negated ≡ b
-          → (if l.negated then told (get_or truths (other_place l) false) (get_or truths (truth_place l) false) else told (get_or truths (truth_place l) false) (get_or truths (other_place l) false)) ≡ None
+          → (if l.negated then told (get_or truths (other_place l) false) (get_or truths (truth_place l) false)
+          else told (get_or truths (truth_place l) false) (get_or truths (other_place l) false)) ≡ None
           → get_or truths (other_place l) false ≡ false
       go true e = rw e (λ h. none_left (get_or truths (2 * l.letter.0 + 0) false) (get_or truths (2 * l.letter.0 + 1) false) h)
       go false e = rw e (λ h. none_right (get_or truths (2 * l.letter.0 + 0) false) (get_or truths (2 * l.letter.0 + 1) false) h)
@@ -131,7 +139,8 @@ module _ (truths : List Bool) (are : AreTruths truths) (l : Literal) (known : l.
     letter_here = by_literal changed l ∙ go l.negated refl x refl
       where
         go : (b : Bool) → l.negated ≡ b → (y : Bool) → x ≡ y
-            → (if l.negated then told (get_or changed (other_place l) false) (get_or changed (truth_place l) false) else told (get_or changed (truth_place l) false) (get_or changed (other_place l) false))
+            → (if l.negated then told (get_or changed (other_place l) false) (get_or changed (truth_place l) false)
+            else told (get_or changed (truth_place l) false) (get_or changed (other_place l) false))
             ≡ (if x then Some (not l.negated) else None)
         go b e y f = rw (at_place, at_other, e, f) (one b y)
           where
@@ -151,9 +160,11 @@ module _ (truths : List Bool) (are : AreTruths truths) (l : Literal) (known : l.
         let k_low : k < length changed / 2 = omega (arith, below, length_values changed) in
         let at : get_or (values_of changed) k d ≡ letter_value changed k = get_or_default (values_of changed) k d None below ∙ value_there changed k k_low in
         elim (cases_eq k l.letter.0) [
-          | inl same ↦ at ∙ ap (letter_value changed) same ∙ letter_here ∙ sym (ap (λ i. get_or (set (values_of truths) l.letter.0 v) i d) same ∙ get_or-set_same (values_of truths) l.letter.0 v d known)
+          | inl same ↦ at ∙ ap (letter_value changed) same
+              ∙ letter_here ∙ sym (ap (λ i. get_or (set (values_of truths) l.letter.0 v) i d) same ∙ get_or-set_same (values_of truths) l.letter.0 v d known)
           | inr apart ↦ at ∙ letter_elsewhere k apart ∙ sym (value_there truths k (omega (arith, k_low, half)))
-              ∙ get_or_default (values_of truths) k None d (omega (arith, k_low, half, length_values truths)) ∙ sym (get_or-set_other (values_of truths) l.letter.0 k v d apart)
+              ∙ get_or_default (values_of truths) k None d
+              (omega (arith, k_low, half, length_values truths)) ∙ sym (get_or-set_other (values_of truths) l.letter.0 k v d apart)
         ])
 
     pub truths_set : AreTruths changed
@@ -162,7 +173,8 @@ module _ (truths : List Bool) (are : AreTruths truths) (l : Literal) (known : l.
       once = λ k is. elim (cases_eq k l.letter.0) [
         | inl same ↦ here l.negated refl k same is
         | inr apart ↦ let p = place_near l in
-            elsewhere (2 * k + 1) (λ e. apart (omega (arith, e, p.0, p.1))) ∙ are.once k (sym (elsewhere (2 * k) (λ e. apart (omega (arith, e, p.0, p.1)))) ∙ is)
+            elsewhere (2 * k + 1) (λ e. apart (omega (arith, e, p.0, p.1)))
+            ∙ are.once k (sym (elsewhere (2 * k) (λ e. apart (omega (arith, e, p.0, p.1)))) ∙ is)
       ];
     }
       where
@@ -190,7 +202,8 @@ module _ (truths : List Bool) (are : AreTruths truths) where
       two (suc (suc j)) = refl
 
   letter_before : (k : ℕ) → k < length truths / 2 → letter_value widened k ≡ letter_value truths k
-  letter_before k below = ap₂ told (get_or_append_left truths (false ∷ false ∷ []) false (2 * k) (omega (arith, below, are.even))) (get_or_append_left truths (false ∷ false ∷ []) false (2 * k + 1) (omega (arith, below, are.even)))
+  letter_before k below = ap₂ told (get_or_append_left truths (false ∷ false ∷ []) false (2 * k) (omega (arith, below, are.even)))
+      (get_or_append_left truths (false ∷ false ∷ []) false (2 * k + 1) (omega (arith, below, are.even)))
 
   letter_at_end : (k : ℕ) → length truths / 2 ≤ k → letter_value widened k ≡ None
   letter_at_end k high = ap₂ told (at_end (2 * k) (omega (arith, high, are.even))) (at_end (2 * k + 1) (omega (arith, high, are.even)))
@@ -205,7 +218,8 @@ module _ (truths : List Bool) (are : AreTruths truths) where
       let at : get_or (values_of widened) k d ≡ letter_value widened k = get_or_default (values_of widened) k d None below ∙ value_there widened k k_low in
       elim (cases_lt k (length truths / 2)) [
         | inl early ↦ let in_values : k < length (values_of truths) = omega (arith, early, length_values truths) in
-            at ∙ letter_before k early ∙ sym (value_there truths k early) ∙ get_or_default (values_of truths) k None d in_values ∙ sym (get_or_append_left (values_of truths) (None ∷ []) d k in_values)
+            at ∙ letter_before k early ∙ sym (value_there truths k early) ∙ get_or_default (values_of truths) k None d in_values
+            ∙ sym (get_or_append_left (values_of truths) (None ∷ []) d k in_values)
         | inr high ↦ at ∙ letter_at_end k high ∙ sym (get_or_at (values_of truths) None [] d k (omega (arith, high, k_low, half, length_values truths)))
       ])
 
@@ -213,7 +227,8 @@ module _ (truths : List Bool) (are : AreTruths truths) where
   truths_push = record {
     even = omega (arith, longer, are.even);
     once = λ k is. elim (cases_lt k (length truths / 2)) [
-      | inl early ↦ get_or_append_left truths (false ∷ false ∷ []) false (2 * k + 1) (omega (arith, early, are.even)) ∙ are.once k (sym (get_or_append_left truths (false ∷ false ∷ []) false (2 * k) (omega (arith, early, are.even))) ∙ is)
+      | inl early ↦ get_or_append_left truths (false ∷ false ∷ []) false (2 * k + 1) (omega (arith, early, are.even))
+          ∙ are.once k (sym (get_or_append_left truths (false ∷ false ∷ []) false (2 * k) (omega (arith, early, are.even))) ∙ is)
       | inr high ↦ at_end (2 * k + 1) (omega (arith, high, are.even))
     ];
   }

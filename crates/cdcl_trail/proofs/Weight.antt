@@ -35,14 +35,16 @@ weight_push (suc n) [] e fits = omega (arith, pow-suc 3 n, power_pos n, choice_m
 weight_push (suc n) (f ∷ es) e fits = omega (arith, weight_push n es e (omega arith))
 
 -- a decision and all behind it give way to a forced entry
-pub weight_jump : (n : ℕ) (es rest : List Entry) (d e : Entry) (hint : Hint) → d.reason ≡ None → e.reason ≡ Some hint → length (es ++ d ∷ rest) ≤ n → weight n (es ++ e ∷ []) < weight n (es ++ d ∷ rest)
+pub weight_jump : (n : ℕ) (es rest : List Entry) (d e : Entry) (hint : Hint) → d.reason ≡ None → e.reason ≡ Some hint
+    → length (es ++ d ∷ rest) ≤ n → weight n (es ++ e ∷ []) < weight n (es ++ d ∷ rest)
 weight_jump zero [] rest d e hint is_d is_e fits = absurd (omega arith)
 weight_jump zero (f ∷ es) rest d e hint is_d is_e fits = absurd (omega arith)
 weight_jump (suc n) [] rest d e hint is_d is_e fits =
     rw (is_d, is_e) (omega (arith, weight_pos n rest (omega arith)))
 weight_jump (suc n) (f ∷ es) rest d e hint is_d is_e fits = omega (arith, weight_jump n es rest d e hint is_d is_e (omega arith))
 
-pub weight_swap : (n : ℕ) (es rest : List Entry) (d e : Entry) → d.reason ≡ None → e.reason ≢ None → length (es ++ d ∷ rest) ≤ n → weight n (es ++ e ∷ []) < weight n (es ++ d ∷ rest)
+pub weight_swap : (n : ℕ) (es rest : List Entry) (d e : Entry)
+    → d.reason ≡ None → e.reason ≢ None → length (es ++ d ∷ rest) ≤ n → weight n (es ++ e ∷ []) < weight n (es ++ d ∷ rest)
 weight_swap n es rest d e free forced fits = go e.reason refl
   where
     go : (o : Option Hint) → e.reason ≡ o → weight n (es ++ e ∷ []) < weight n (es ++ d ∷ rest)

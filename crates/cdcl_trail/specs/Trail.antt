@@ -1,5 +1,6 @@
 -- The trail: its literals, why each stands there, and what it has to do with values and clauses.
-use Rattle.std.specs.Prelude.{◌≡◌, ◌≢◌, ℕ, ◌+◌, ◌<◌, ◌≤◌, ◌⊎◌, Bool, true, false, not, List, map, length, take, All, AllPairs, Contains, Option, Some, None, IfSome, slice_index_or}
+use Rattle.std.specs.Prelude.{◌≡◌, ◌≢◌, ℕ, ◌+◌, ◌<◌, ◌≤◌, ◌⊎◌, Bool, true, false, not, List, map, length, take, All, AllPairs, Contains, Option, Some, None}
+use Rattle.std.specs.Prelude.{IfSome, slice_index_or}
 use Rattle.cnf_base.specs.declared.literal.Literal.{Literal}
 use Rattle.cnf_base.specs.declared.literal.Hint.{Hint}
 use Rattle.cnf_base.specs.Literal.{opposite}
@@ -35,7 +36,8 @@ HasLevel trail level = Contains (map (λ e. e.level) trail) level
 
 -- an entry stands at a place of the trail: it has a reason before it, or it is a decision with the level of its place
 pub record StandsAt (inputs lines : List (List Literal)) (before : List Entry) (e : Entry) : Type 0 where
-  pub reason : IfSome e.reason (λ hint. IsReason inputs lines (literals_of before) e.literal hint × (e.level ≤ length before) × ((e.level ≡ 0) ⊎ HasLevel before e.level))
+  pub reason : IfSome e.reason
+      (λ hint. IsReason inputs lines (literals_of before) e.literal hint × (e.level ≤ length before) × ((e.level ≡ 0) ⊎ HasLevel before e.level))
   pub decision : e.reason ≡ None → e.level ≡ length before + 1
   pub rising : All (λ f. f.level ≤ e.level) before
 

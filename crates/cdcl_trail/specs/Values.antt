@@ -1,5 +1,6 @@
 -- Literals and clauses under the values of some letters.
-use Rattle.std.specs.Prelude.{◌≡◌, ℕ, ◌+◌, ◌*◌, ◌/◌, Bool, true, false, not, if◌then◌else◌, List, map, length, Option, Some, None, slice_index_or, ◌<◌, ◌≤◌, All}
+use Rattle.std.specs.Prelude.{◌≡◌, ℕ, ◌+◌, ◌*◌, ◌/◌, Bool, true, false, not, if◌then◌else◌, List, map, length, Option, Some, None, slice_index_or, ◌<◌, ◌≤◌}
+use Rattle.std.specs.Prelude.{All}
 use Rattle.std.specs.List.{range_with_len}
 use Rattle.cnf_base.specs.declared.literal.Literal.{Literal}
 

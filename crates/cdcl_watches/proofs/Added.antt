@@ -1,5 +1,6 @@
 -- A clause is put behind the others, and what was put behind a list is taken off.
-use Rattle.std.proofs.Common.{◌≡◌, ◌≢◌, ℕ, zero, suc, ◌<◌, ◌≤◌, ◌+◌, ◌-◌, inl, inr, List, [], ◌∷◌, ◌++◌, take, set, All, Contains, length, get_or, refl, sym, ap, ◌∙◌, subst, arith, length-set, length-append, get_or-set_same}
+use Rattle.std.proofs.Common.{◌≡◌, ◌≢◌, ℕ, zero, suc, ◌<◌, ◌≤◌, ◌+◌, ◌-◌, inl, inr, List, [], ◌∷◌, ◌++◌, take, set, All, Contains, length, get_or, refl, sym}
+use Rattle.std.proofs.Common.{ap, ◌∙◌, subst, arith, length-set, length-append, get_or-set_same}
 use Rattle.std.proofs.lemmas.Bool.{cases_lt}
 use Rattle.std.proofs.lemmas.List.{take_at, length_push, set-set, set-get_or, get_or_append_left, get_or-append_right, get_or_past}
 use Rattle.cnf_base.specs.declared.literal.Literal.{Literal}
@@ -22,11 +23,14 @@ unpushed lists k x known =
     ∙ set-set lists k pushed (get_or lists k [])
     ∙ set-get_or lists k []
 
-pub unpushed_is : {X : Type 0} (lists before new : List (List X)) (k : ℕ) (x : X) → k < length lists → before ≡ set lists k (get_or lists k [] ++ x ∷ []) → new ≡ set before k (take (length (get_or before k []) - 1) (get_or before k [])) → new ≡ lists
-unpushed_is lists before new k x known pushed is = is ∙ ap (λ ls. set ls k (take (length (get_or ls k []) - 1) (get_or ls k []))) pushed ∙ unpushed lists k x known
+pub unpushed_is : {X : Type 0} (lists before new : List (List X)) (k : ℕ) (x : X) → k < length lists → before ≡ set lists k (get_or lists k [] ++ x ∷ [])
+    → new ≡ set before k (take (length (get_or before k []) - 1) (get_or before k [])) → new ≡ lists
+unpushed_is lists before new k x known pushed is =
+    is ∙ ap (λ ls. set ls k (take (length (get_or ls k []) - 1) (get_or ls k []))) pushed ∙ unpushed lists k x known
 
 -- the rule holds with the new clause
-pub added_watching : (clauses : List (List Literal)) (lists : List (List ℕ)) (r : List Literal) → IsWatching clauses lists → 2 ≤ length r → AreApart r → All (λ l. code l < length lists) r
+pub added_watching : (clauses : List (List Literal)) (lists : List (List ℕ)) (r : List Literal) → IsWatching clauses lists → 2 ≤ length r → AreApart r
+    → All (λ l. code l < length lists) r
     → IsWatching (clauses ++ r ∷ []) (with_watch (with_watch lists (get_or r 0 blank) (length clauses)) (get_or r 1 blank) (length clauses))
 added_watching clauses lists r watching long apart fits =
     let n = length clauses in
@@ -38,7 +42,8 @@ added_watching clauses lists r watching long apart fits =
     let other : list_of half b ≡ list_of lists b = list_other lists a b grown differ in
     let len = length-set lists (code a) grown in
     subst (IsWatching (clauses ++ r ∷ [])) (ap (λ xs. set half (code b) (xs ++ n ∷ [])) (sym other))
-    (add_watching clauses lists (set half (code b) (list_of lists b ++ n ∷ [])) r watching apart fits (length-set half (code b) (list_of lists b ++ n ∷ []) ∙ len)
+    (add_watching clauses lists (set half (code b) (list_of lists b ++ n ∷ [])) r watching apart fits
+    (length-set half (code b) (list_of lists b ++ n ∷ []) ∙ len)
     (grown_long lists r n a b long apart refl refl fits))
 
 -- what was pushed was popped

@@ -1,5 +1,6 @@
 -- A clause is put behind the others.
-use Rattle.std.proofs.Common.{◌≡◌, ◌≢◌, ℕ, ◌<◌, ◌≤◌, ◌+◌, ◌⊎◌, inl, inr, List, [], ◌∷◌, ◌++◌, set, All, Contains, length, get_or, refl, sym, ap, ◌∙◌, subst, arith, length-set}
+use Rattle.std.proofs.Common.{◌≡◌, ◌≢◌, ℕ, ◌<◌, ◌≤◌, ◌+◌, ◌⊎◌, inl, inr, List, [], ◌∷◌, ◌++◌, set, All, Contains, length, get_or, refl, sym, ap, ◌∙◌, subst}
+use Rattle.std.proofs.Common.{arith, length-set}
 use Rattle.std.proofs.lemmas.Bool.{cases_lt}
 use Rattle.std.proofs.lemmas.List.{get_or_append_left, get_or_at, length_push}
 use Rattle.std.proofs.lemmas.List.Elements.{Contains-get_or, Contains-push, Contains-push_cases, Contains-append_left}
@@ -12,7 +13,8 @@ use Rattle.cdcl_watches.specs.Watching.{blank}
 abbrev pub IsGrownList : List (List ℕ) → List (List ℕ) → List Literal → ℕ → Literal → Type 0
 IsGrownList lists new r n x = ((list_of new x ≡ list_of lists x) × (¬ IsWatch r x)) ⊎ ((list_of new x ≡ list_of lists x ++ n ∷ []) × IsWatch r x)
 
-pub add_watching : (clauses : List (List Literal)) (lists new : List (List ℕ)) (r : List Literal) → IsWatching clauses lists → AreApart r → All (λ l. code l < length lists) r → length new ≡ length lists
+pub add_watching : (clauses : List (List Literal)) (lists new : List (List ℕ)) (r : List Literal) → IsWatching clauses lists → AreApart r
+    → All (λ l. code l < length lists) r → length new ≡ length lists
     → ((x : Literal) → IsGrownList lists new r (length clauses) x) → IsWatching (clauses ++ r ∷ []) new
 add_watching clauses lists new r watching apart fits len grown =
     let n = length clauses in
@@ -66,14 +68,16 @@ add_watching clauses lists new r watching apart fits len grown =
       | inl old ↦ rw (get_or_append_left xs (y ∷ []) e p (omega arith), get_or_append_left xs (y ∷ []) e q old) (apart p q e earlier old)
       | inr end ↦
           let last : length xs ≡ q = omega (arith, length_push xs y) in
-          rw (get_or_append_left xs (y ∷ []) e p (omega arith), get_or_at xs y [] e q last) (λ same. absent (subst (Contains xs) same (Contains-get_or xs p e (omega arith))))
+          rw (get_or_append_left xs (y ∷ []) e p (omega arith), get_or_at xs y [] e q last)
+          (λ same. absent (subst (Contains xs) same (Contains-get_or xs p e (omega arith))))
     ]
 
 -- a clause of fewer than two literals watches nothing
 pub grown_short : (lists : List (List ℕ)) (r : List Literal) (n : ℕ) → length r < 2 → (x : Literal) → IsGrownList lists lists r n x
 grown_short lists r n few x = inl (refl, (λ w. omega (arith, w.1.long, few)))
 
-pub grown_long : (lists : List (List ℕ)) (r : List Literal) (n : ℕ) (a b : Literal) → 2 ≤ length r → AreApart r → a ≡ get_or r 0 blank → b ≡ get_or r 1 blank → All (λ l. code l < length lists) r
+pub grown_long : (lists : List (List ℕ)) (r : List Literal) (n : ℕ) (a b : Literal) → 2 ≤ length r → AreApart r → a ≡ get_or r 0 blank → b ≡ get_or r 1 blank
+    → All (λ l. code l < length lists) r
     → (x : Literal) → IsGrownList lists (set (set lists (code a) (list_of lists a ++ n ∷ [])) (code b) (list_of lists b ++ n ∷ [])) r n x
 grown_long lists r n a b long apart a_is b_is fits x =
     let half = set lists (code a) (list_of lists a ++ n ∷ []) in
@@ -83,9 +87,19 @@ grown_long lists r n a b long apart a_is b_is fits x =
     let code_b : code b < length lists = subst (λ l. code l < length lists) (sym b_is) (fits 1 blank (omega arith)) in
     let differ : a ≢ b = λ e. apart 0 1 blank (omega arith) (omega arith) (sym a_is ∙ e ∙ b_is) in
     elim (same_or_not x b) [
-      | inl is_b ↦ inr (ap (list_of new) is_b ∙ list_same half b (list_of lists b ++ n ∷ []) (omega arith) ∙ ap (λ y. list_of lists y ++ n ∷ []) (sym is_b), (a, are_first r x a blank long (inr (is_b ∙ b_is, a_is))))
+      | inl is_b ↦ inr (
+        ap (list_of new) is_b ∙ list_same half b (list_of lists b ++ n ∷ []) (omega arith) ∙ ap (λ y. list_of lists y ++ n ∷ []) (sym is_b),
+        (
+          a,
+          are_first r x a blank long (inr (is_b ∙ b_is, a_is)),
+        ),
+      )
       | inr not_b ↦ elim (same_or_not x a) [
-        | inl is_a ↦ inr (list_other half b x (list_of lists b ++ n ∷ []) not_b ∙ ap (list_of half) is_a ∙ list_same lists a (list_of lists a ++ n ∷ []) code_a ∙ ap (λ y. list_of lists y ++ n ∷ []) (sym is_a), (b, are_first r x b blank long (inl (is_a ∙ a_is, b_is))))
+        | inl is_a ↦ inr (
+          list_other half b x (list_of lists b ++ n ∷ []) not_b ∙ ap (list_of half) is_a ∙ list_same lists a (list_of lists a ++ n ∷ []) code_a
+              ∙ ap (λ y. list_of lists y ++ n ∷ []) (sym is_a),
+          (b, are_first r x b blank long (inl (is_a ∙ a_is, b_is))),
+        )
         | inr not_a ↦ inl (
           list_other half b x (list_of lists b ++ n ∷ []) not_b ∙ list_other lists a x (list_of lists a ++ n ∷ []) not_a,
           (λ w. elim (first_two r x w.0 blank w.1) [ inl e ↦ not_a (e.0 ∙ sym a_is) | inr e ↦ not_b (e.0 ∙ sym b_is) ]),

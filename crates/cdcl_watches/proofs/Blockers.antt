@@ -1,5 +1,6 @@
 -- Each watcher's blocker stays a literal of its clause.
-use Rattle.std.proofs.Common.{◌≡◌, ℕ, ◌<◌, inl, inr, List, [], ◌∷◌, ◌++◌, map, set, All, Contains, length, get_or, refl, sym, ap₂, subst, arith, get_or-set_same, get_or-set_other}
+use Rattle.std.proofs.Common.{◌≡◌, ℕ, ◌<◌, inl, inr, List, [], ◌∷◌, ◌++◌, map, set, All, Contains, length, get_or, refl, sym, ap₂, subst, arith}
+use Rattle.std.proofs.Common.{get_or-set_same, get_or-set_other}
 use Rattle.std.specs.List.{remove, swap}
 use Rattle.std.proofs.lemmas.Bool.{cases_lt, cases_eq}
 use Rattle.std.proofs.lemmas.List.{get_or_past, get_or_append_left}
@@ -25,13 +26,15 @@ maps_same {X} f g (xs ∷ xss) same =
     ap₂ ◌∷◌ (map_same f g xs (All-head P xs xss same)) (maps_same f g xss (All-tail P xs xss same))
 
 -- each watcher of a list
-pub blocking_list : (heads : List ℕ) (clauses : List (List Literal)) (lists : List (List Watcher)) (k : ℕ) → AreBlockers heads clauses lists → All (IsBlocking heads clauses) (get_or lists k [])
+pub blocking_list : (heads : List ℕ) (clauses : List (List Literal)) (lists : List (List Watcher)) (k : ℕ) → AreBlockers heads clauses lists
+    → All (IsBlocking heads clauses) (get_or lists k [])
 blocking_list heads clauses lists k are = elim (cases_lt k (length lists)) [
   | inl low ↦ are k [] low
   | inr high ↦ subst (All (IsBlocking heads clauses)) (sym (get_or_past lists k [] high)) (All-nil (IsBlocking heads clauses))
 ]
 
-pub blocking_at : (heads : List ℕ) (none : clause_number heads nobody ≡ 0) (clauses : List (List Literal)) (lists : List (List Watcher)) (k i : ℕ) → AreBlockers heads clauses lists → i < length (get_or (numbers heads lists) k [])
+pub blocking_at : (heads : List ℕ) (none : clause_number heads nobody ≡ 0) (clauses : List (List Literal)) (lists : List (List Watcher)) (k i : ℕ)
+    → AreBlockers heads clauses lists → i < length (get_or (numbers heads lists) k [])
     → Contains (clause_of clauses (get_or (get_or (numbers heads lists) k []) i 0)) (blocker_of (get_or (get_or lists k []) i nobody))
 blocking_at heads none clauses lists k i are low =
     subst (λ c. Contains (clause_of clauses c) (blocker_of (get_or (get_or lists k []) i nobody))) (sym (number_at heads none lists k i))
@@ -58,14 +61,16 @@ module _ (heads : List ℕ) (clauses : List (List Literal)) (lists : List (List 
       are
 
 -- each clause keeps its literals
-pub blockers_kept : (heads : List ℕ) (clauses new : List (List Literal)) (lists : List (List Watcher)) → ((c : ℕ) (l : Literal) → Contains (clause_of clauses c) l → Contains (clause_of new c) l) → AreBlockers heads clauses lists → AreBlockers heads new lists
+pub blockers_kept : (heads : List ℕ) (clauses new : List (List Literal)) (lists : List (List Watcher))
+    → ((c : ℕ) (l : Literal) → Contains (clause_of clauses c) l → Contains (clause_of new c) l) → AreBlockers heads clauses lists → AreBlockers heads new lists
 blockers_kept heads clauses new lists kept are k d low = λ i e below.
     let w = get_or (get_or lists k d) i e in
     let is = are k d low i e below in
     record { stands = is.stands; blocks = kept (clause_number heads w) (blocker_of w) is.blocks }
 
 -- two literals of a clause change places
-pub blockers_swapped : (heads : List ℕ) (clauses : List (List Literal)) (lists : List (List Watcher)) (c a b : ℕ) → c < length clauses → a < length (clause_of clauses c) → b < length (clause_of clauses c)
+pub blockers_swapped : (heads : List ℕ) (clauses : List (List Literal)) (lists : List (List Watcher)) (c a b : ℕ) → c < length clauses
+    → a < length (clause_of clauses c) → b < length (clause_of clauses c)
     → AreBlockers heads clauses lists → AreBlockers heads (set clauses c (swap (clause_of clauses c) a b)) lists
 blockers_swapped heads clauses lists c a b known a_low b_low are =
     let r = clause_of clauses c in
@@ -74,7 +79,8 @@ blockers_swapped heads clauses lists c a b known a_low b_low are =
     (λ n l there. elim (cases_eq n c) [
       | inl same ↦
           let in_r = subst (λ m. Contains (clause_of clauses m) l) same there in
-          subst (λ m. Contains (clause_of more m) l) (sym same) (subst (λ x. Contains x l) (sym (get_or-set_same clauses c (swap r a b) [] known)) (contains_swapped r a b l a_low b_low in_r))
+          subst (λ m. Contains (clause_of more m) l) (sym same)
+          (subst (λ x. Contains x l) (sym (get_or-set_same clauses c (swap r a b) [] known)) (contains_swapped r a b l a_low b_low in_r))
       | inr other ↦ subst (λ x. Contains x l) (sym (get_or-set_other clauses c n (swap r a b) [] other)) there
     ])
     are
@@ -87,7 +93,8 @@ known_clause clauses c l there = elim (cases_lt c (length clauses)) [
 ]
 
 -- a clause is put behind the others
-pub blockers_more : (heads : List ℕ) (clauses : List (List Literal)) (lists : List (List Watcher)) (r : List Literal) → AreBlockers heads clauses lists → AreBlockers heads (clauses ++ r ∷ []) lists
+pub blockers_more : (heads : List ℕ) (clauses : List (List Literal)) (lists : List (List Watcher)) (r : List Literal) → AreBlockers heads clauses lists
+    → AreBlockers heads (clauses ++ r ∷ []) lists
 blockers_more heads clauses lists r are =
     blockers_kept heads clauses (clauses ++ r ∷ []) lists
     (λ c l there. subst (λ x. Contains x l) (sym (get_or_append_left clauses (r ∷ []) [] c (known_clause clauses c l there))) there)
@@ -96,7 +103,8 @@ blockers_more heads clauses lists r are =
 -- a head behind the others changes no number
 module _ (heads ys : List ℕ) (clauses : List (List Literal)) (lists : List (List Watcher)) (are : AreBlockers heads clauses lists) where
   pub numbers_longer : numbers (heads ++ ys) lists ≡ numbers heads lists
-  numbers_longer = maps_same (clause_number (heads ++ ys)) (clause_number heads) lists (λ k d low i e below. number_more heads ys (get_or (get_or lists k d) i e).head (are k d low i e below).stands)
+  numbers_longer = maps_same (clause_number (heads ++ ys)) (clause_number heads) lists
+      (λ k d low i e below. number_more heads ys (get_or (get_or lists k d) i e).head (are k d low i e below).stands)
 
   pub blockers_longer : AreBlockers (heads ++ ys) clauses lists
   blockers_longer k d low i e below =

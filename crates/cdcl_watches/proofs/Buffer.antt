@@ -1,8 +1,10 @@
 -- Clauses in one buffer: one is read with its name, the next is found, one is put behind the others, taken off, and two literals of one change places.
-use Rattle.std.proofs.Common.{◌≡◌, ◌≢◌, ℕ, suc, ◌+◌, ◌-◌, ◌<◌, ◌≤◌, ◌^◌, ◌⊎◌, inl, inr, List, [], ◌∷◌, ◌++◌, map, take, drop, set, length, get_or, slice_range, All, Contains, refl, sym, ap, ap₂, ◌∙◌, subst, arith, length-set, length-append, length-drop, length-take-le, get_or-set_other}
+use Rattle.std.proofs.Common.{◌≡◌, ◌≢◌, ℕ, suc, ◌+◌, ◌-◌, ◌<◌, ◌≤◌, ◌^◌, ◌⊎◌, inl, inr, List, [], ◌∷◌, ◌++◌, map, take, drop, set, length, get_or, slice_range}
+use Rattle.std.proofs.Common.{All, Contains, refl, sym, ap, ap₂, ◌∙◌, subst, arith, length-set, length-append, length-drop, length-take-le, get_or-set_other}
 use Rattle.std.specs.List.{swap}
 use Rattle.std.proofs.lemmas.Bool.{cases_lt}
-use Rattle.std.proofs.lemmas.List.{same_lists, get_or-take, get_or-drop, get_or-map, get_or_default, get_or_append_left, get_or-append_right, get_or_at, get_or_past, length-map, length_push, map-append, map-set, take-map, drop-take, drop-drop}
+use Rattle.std.proofs.lemmas.List.{same_lists, get_or-take, get_or-drop, get_or-map, get_or_default, get_or_append_left, get_or-append_right, get_or_at}
+use Rattle.std.proofs.lemmas.List.{get_or_past, length-map, length_push, map-append, map-set, take-map, drop-take, drop-drop}
 use Rattle.std.proofs.lemmas.List.Edits.{swap_is}
 use Rattle.cnf_base.specs.declared.literal.Literal.{Literal}
 use Rattle.cnf_base.specs.RowPieces.{Place, row_pieces, IsPlace, AreFlat}
@@ -46,11 +48,13 @@ module _ (items heads : List ℕ) (are : AreHeads items heads) where
         let j_low : j < length heads = omega (arith, low, length-map heads (place_at items)) in
         let at_i = get_or-map (place_at items) heads i 0 d (omega arith) in
         let at_j = get_or-map (place_at items) heads j 0 d j_low in
-        subst (λ (p : Place). p.to ≤ (get_or (map (place_at items) heads) j d).from) (sym at_i) (subst (λ (p : Place). get_or heads i 0 + 2 + get_or items (get_or heads i 0) 0 ≤ p.from) (sym at_j) (are.ordered i j earlier j_low));
+        subst (λ (p : Place). p.to ≤ (get_or (map (place_at items) heads) j d).from) (sym at_i)
+        (subst (λ (p : Place). get_or heads i 0 + 2 + get_or items (get_or heads i 0) 0 ≤ p.from) (sym at_j) (are.ordered i j earlier j_low));
   }
 
   pub length_clauses : length (clauses_at items heads) ≡ length heads
-  length_clauses = length-map (row_pieces items (map (place_at items) heads)) decoded ∙ length-map (map (place_at items) heads) (λ s. slice_range items s.from s.to) ∙ length-map heads (place_at items)
+  length_clauses = length-map (row_pieces items (map (place_at items) heads)) decoded
+      ∙ length-map (map (place_at items) heads) (λ s. slice_range items s.from s.to) ∙ length-map heads (place_at items)
 
   pub heads_apart : AreApart heads
   heads_apart j k d earlier low same =
@@ -58,7 +62,8 @@ module _ (items heads : List ℕ) (are : AreHeads items heads) where
 
   -- a clause of the buffer, by its head
   module _ (c : ℕ) (known : c < length heads) where
-    pub row_at : get_or (row_pieces items (map (place_at items) heads)) c [] ≡ slice_range items (get_or heads c 0) (get_or heads c 0 + 2 + get_or items (get_or heads c 0) 0)
+    pub row_at : get_or (row_pieces items (map (place_at items) heads)) c [] ≡ slice_range items (get_or heads c 0)
+        (get_or heads c 0 + 2 + get_or items (get_or heads c 0) 0)
     row_at =
         let p = place_at items (get_or heads c 0) in
         get_or-map (λ (s : Place). slice_range items s.from s.to) (map (place_at items) heads) c p [] (omega (arith, length-map heads (place_at items)))
@@ -80,7 +85,8 @@ module _ (items heads : List ℕ) (are : AreHeads items heads) where
         let row = get_or (row_pieces items (map (place_at items) heads)) c [] in
         ap length clause_row ∙ length_turned (map literal_of (drop 2 row)) ∙ length-map (drop 2 row) literal_of ∙ length-drop 2 row ∙ omega (arith, row_length)
 
-    pub clause_range : turned (map literal_of (slice_range items (get_or heads c 0 + 2) (get_or heads c 0 + 2 + get_or items (get_or heads c 0) 0))) ≡ clause_of (clauses_at items heads) c
+    pub clause_range : turned (map literal_of (slice_range items (get_or heads c 0 + 2) (get_or heads c 0 + 2 + get_or items (get_or heads c 0) 0)))
+        ≡ clause_of (clauses_at items heads) c
     clause_range =
         let h = get_or heads c 0 in
         let n = get_or items h 0 in
@@ -121,7 +127,8 @@ module _ (items heads : List ℕ) (are : AreHeads items heads) (name : ℕ) (row
   pub length_more : length more ≡ length items + 2 + length row
   length_more = length-append items (length row ∷ name ∷ map code (turned row)) ∙ omega (arith, length_codes row)
 
-  places_more : map (place_at more) (heads ++ length items ∷ []) ≡ map (place_at items) heads ++ (let p : Place = record { from = length items; to = length items + (2 + length row) } in p) ∷ []
+  places_more : map (place_at more) (heads ++ length items ∷ []) ≡ map (place_at items) heads
+      ++ (let p : Place = record { from = length items; to = length items + (2 + length row) } in p) ∷ []
   places_more =
       map-append (place_at more) heads (length items ∷ [])
       ∙ ap₂ (λ (ps : List Place) (n : ℕ). ps ++ (let p : Place = record { from = length items; to = n } in p) ∷ [])
@@ -150,20 +157,40 @@ module _ (items heads : List ℕ) (are : AreHeads items heads) (name : ℕ) (row
   are_more short =
       let heads' = heads ++ length items ∷ [] in
       let longer = length_push heads (length items) in
-      let which : (c : ℕ) → c < length heads' → (c < length heads) ⊎ (c ≡ length heads) = λ c low. elim (cases_lt c (length heads)) [ inl lt ↦ inl lt | inr ge ↦ inr (omega arith) ] in
+      let which : (c : ℕ) → c < length heads' → (c < length heads) ⊎ (c ≡ length heads) =
+      λ c low. elim (cases_lt c (length heads)) [ inl lt ↦ inl lt | inr ge ↦ inr (omega arith) ] in
       let end_old : (c : ℕ) → c < length heads → get_or heads' c 0 + 2 + get_or more (get_or heads' c 0) 0 ≤ length items = λ c low.
-      omega (arith, head_kept c low, ap (λ h. get_or more h 0) (head_kept c low), item_kept (get_or heads c 0) (omega (arith, are.inside c low)), are.inside c low) in
+      omega
+      (arith, head_kept c low, ap (λ h. get_or more h 0) (head_kept c low), item_kept (get_or heads c 0) (omega (arith, are.inside c low)), are.inside c low) in
       record {
         found = found_more;
         whole = whole_more items (map code (turned row)) (length row) name are.whole (length_codes row);
         inside = λ c low. elim (which c low) [
           | inl lt ↦ omega (arith, end_old c lt, length_more)
-          | inr e ↦ omega (arith, ap (λ n. get_or heads' n 0) e, head_new, ap (λ n. get_or more (get_or heads' n 0) 0) e, ap (λ h. get_or more h 0) head_new, length_new, length_more)
+          | inr e ↦ omega (
+            arith,
+            ap (λ n. get_or heads' n 0) e,
+            head_new,
+            ap (λ n. get_or more (get_or heads' n 0) 0) e,
+            ap (λ h. get_or more h 0) head_new,
+            length_new,
+            length_more,
+          )
         ];
         ordered = λ c d earlier low. elim (which d low) [
           | inl lt ↦
               let c_low : c < length heads = omega (arith, earlier, lt) in
-              omega (arith, head_kept c c_low, ap (λ h. get_or more h 0) (head_kept c c_low), item_kept (get_or heads c 0) (omega (arith, are.inside c c_low)), head_kept d lt, are.ordered c d earlier lt)
+              omega (
+                arith,
+                head_kept c c_low,
+                ap (λ h. get_or more h 0) (head_kept c c_low),
+                item_kept (get_or heads c 0) (omega (
+                  arith,
+                  are.inside c c_low,
+                )),
+                head_kept d lt,
+                are.ordered c d earlier lt,
+              )
           | inr e ↦ omega (arith, end_old c (omega (arith, earlier, e)), ap (λ n. get_or heads' n 0) e, head_new)
         ];
         first = elim (cases_lt 0 (length heads)) [
@@ -203,7 +230,8 @@ module _ (items heads : List ℕ) (are : AreHeads items heads) (some : 0 < lengt
       let d = place_at items 0 in
       let from : (get_or ps last d).from ≡ end = ap (λ (p : Place). p.from) (get_or-map (place_at items) heads last 0 d (omega arith)) in
       ap (λ qs. map decoded (row_pieces (take end items) qs)) places_fewer
-      ∙ ap (map decoded) (pieces-take items ps last end (heads_flat items heads are) (subst (λ e. All (λ (s : Place). s.to ≤ e) (take last ps)) from (spans_before items ps last d (heads_flat items heads are) low)))
+      ∙ ap (map decoded) (pieces-take items ps last end (heads_flat items heads are)
+      (subst (λ e. All (λ (s : Place). s.to ≤ e) (take last ps)) from (spans_before items ps last d (heads_flat items heads are) low)))
       ∙ sym (take-map decoded last (row_pieces items ps))
 
   pub names_fewer : names_at (take end items) (take last heads) ≡ take last (names_at items heads)
@@ -224,7 +252,8 @@ module _ (items heads : List ℕ) (are : AreHeads items heads) (some : 0 < lengt
       let cut : length (take end items) ≡ end = length-take-le end items (omega (arith, are.inside last (omega arith))) in
       let head : (c : ℕ) → c < last → get_or (take last heads) c 0 ≡ get_or heads c 0 = λ c low. get_or-take last heads c 0 low in
       let item : (p : ℕ) → p < end → get_or (take end items) p 0 ≡ get_or items p 0 = λ p low. get_or-take end items p 0 low in
-      let len : (c : ℕ) → c < last → get_or (take last heads) c 0 + 2 + get_or (take end items) (get_or (take last heads) c 0) 0 ≡ get_or heads c 0 + 2 + get_or items (get_or heads c 0) 0 = λ c low.
+      let len : (c : ℕ) → c < last → get_or (take last heads) c 0 + 2 + get_or (take end items) (get_or (take last heads) c 0) 0
+      ≡ get_or heads c 0 + 2 + get_or items (get_or heads c 0) 0 = λ c low.
       omega (arith, head c low, ap (λ h. get_or (take end items) h 0) (head c low), item (get_or heads c 0) (omega (arith, before_end c low))) in
       record {
         found = cut_here.0 ∙ ap (take last) are.found;
@@ -260,7 +289,8 @@ swap_literals row i j i_low j_low =
     let len : length (literals row) ≡ length row - 2 = length-map (drop 2 row) literal_of ∙ length-drop 2 row in
     let at : (k : ℕ) → k + 2 < length row → literal_of (get_or row (suc (suc k)) 0) ≡ get_or (literals row) k (literal_of 0) = λ k low.
     let two : 2 + k ≡ suc (suc k) = omega arith in
-    ap literal_of (ap (λ n. get_or row n 0) (sym two) ∙ sym (get_or-drop 2 row k 0)) ∙ sym (get_or-map literal_of (drop 2 row) k 0 (literal_of 0) (omega (arith, length-drop 2 row))) in
+    ap literal_of (ap (λ n. get_or row n 0) (sym two) ∙ sym (get_or-drop 2 row k 0))
+    ∙ sym (get_or-map literal_of (drop 2 row) k 0 (literal_of 0) (omega (arith, length-drop 2 row))) in
     ap literals (sym (swap_is row (suc (suc i)) (suc (suc j)) 0 (omega arith) (omega arith)))
     ∙ set_literals (set row (suc (suc i)) (get_or row (suc (suc j)) 0)) j (get_or row (suc (suc i)) 0)
     ∙ ap (λ ls. set ls j (literal_of (get_or row (suc (suc i)) 0))) (set_literals row i (get_or row (suc (suc j)) 0))
@@ -268,10 +298,12 @@ swap_literals row i j i_low j_low =
     ∙ swap_is (literals row) i j (literal_of 0) (omega (arith, len)) (omega (arith, len))
 
 -- two literals change places in the clause
-swap_decoded : (row : List ℕ) (n k l : ℕ) → length row ≡ 2 + n → k < n → l < n → decoded (swap row (suc (suc (turned_place n k))) (suc (suc (turned_place n l)))) ≡ swap (decoded row) k l
+swap_decoded : (row : List ℕ) (n k l : ℕ)
+    → length row ≡ 2 + n → k < n → l < n → decoded (swap row (suc (suc (turned_place n k))) (suc (suc (turned_place n l)))) ≡ swap (decoded row) k l
 swap_decoded row n k l row_len k_low l_low =
     let len : length (literals row) ≡ n = length-map (drop 2 row) literal_of ∙ length-drop 2 row ∙ omega (arith, row_len) in
-    ap turned (swap_literals row (turned_place n k) (turned_place n l) (omega (arith, row_len, place_low n k k_low)) (omega (arith, row_len, place_low n l l_low)))
+    ap turned
+    (swap_literals row (turned_place n k) (turned_place n l) (omega (arith, row_len, place_low n k k_low)) (omega (arith, row_len, place_low n l l_low)))
     ∙ ap (λ m. turned (swap (literals row) (turned_place m k) (turned_place m l))) (sym len)
     ∙ turned-swap (literals row) k l (literal_of 0) (omega (arith, len, k_low)) (omega (arith, len, l_low))
 
@@ -315,8 +347,10 @@ module _ (items heads : List ℕ) (are : AreHeads items heads) (c : ℕ) (known 
   walk_same : (heads_of new ≡ heads_of items) × (left_from 0 new ≡ left_from 0 items)
   walk_same =
       heads_two items (head + 2 + i) (head + 2 + j) b a
-      (subst (λ hs. (d : ℕ) → d < length hs → get_or hs d 0 ≢ head + 2 + i) (sym are.found) (λ d low same. heads_other d 0 i low (omega arith) i_low (omega (arith, same))))
-      (subst (λ hs. (d : ℕ) → d < length hs → get_or hs d 0 ≢ head + 2 + j) (sym are.found) (λ d low same. heads_other d 0 j low (omega arith) j_low (omega (arith, same))))
+      (subst (λ hs. (d : ℕ) → d < length hs → get_or hs d 0 ≢ head + 2 + i) (sym are.found)
+      (λ d low same. heads_other d 0 i low (omega arith) i_low (omega (arith, same))))
+      (subst (λ hs. (d : ℕ) → d < length hs → get_or hs d 0 ≢ head + 2 + j) (sym are.found)
+      (λ d low same. heads_other d 0 j low (omega arith) j_low (omega (arith, same))))
 
   pub names_swapped : names_at new heads ≡ names_at items heads
   names_swapped = names_same new items heads (λ d low. head_item d 1 low (omega arith))
@@ -332,7 +366,8 @@ module _ (items heads : List ℕ) (are : AreHeads items heads) (c : ℕ) (known 
     few = omega (arith, length_same, are.few);
   }
 
-  pub clauses_swapped : (k l : ℕ) → k < get_or items head 0 → l < get_or items head 0 → i ≡ turned_place (get_or items head 0) k → j ≡ turned_place (get_or items head 0) l
+  pub clauses_swapped : (k l : ℕ) → k < get_or items head 0 → l < get_or items head 0 → i ≡ turned_place (get_or items head 0) k
+      → j ≡ turned_place (get_or items head 0) l
       → clauses_at new heads ≡ set (clauses_at items heads) c (swap (clause_of (clauses_at items heads) c) k l)
   clauses_swapped k l k_low l_low i_is j_is =
       let ps = map (place_at items) heads in
@@ -344,10 +379,13 @@ module _ (items heads : List ℕ) (are : AreHeads items heads) (c : ℕ) (known 
       let len = row_length items heads are c known in
       ap (λ qs. map decoded (row_pieces new qs)) (places_same new items heads length_item)
       ∙ ap₂ (λ m n. map decoded (row_pieces (set (set items m b) n a) ps)) i_at j_at
-      ∙ ap (map decoded) (set_set_row items ps (heads_flat items heads are) p c (suc (suc i)) (suc (suc j)) a b (omega (arith, length-map heads (place_at items)))
-      (sym (get_or-map (place_at items) heads c 0 p known)) (omega (arith, len, i_low)) (omega (arith, len, j_low)) (a_is ∙ ap (λ n. get_or items n a) i_at) (b_is ∙ ap (λ n. get_or items n b) j_at))
+      ∙ ap (map decoded)
+      (set_set_row items ps (heads_flat items heads are) p c (suc (suc i)) (suc (suc j)) a b (omega (arith, length-map heads (place_at items)))
+      (sym (get_or-map (place_at items) heads c 0 p known)) (omega (arith, len, i_low)) (omega (arith, len, j_low)) (a_is ∙ ap (λ n. get_or items n a) i_at)
+      (b_is ∙ ap (λ n. get_or items n b) j_at))
       ∙ map-set decoded rows c (swap row (suc (suc i)) (suc (suc j)))
-      ∙ ap (set (map decoded rows) c) (ap₂ (λ u v. decoded (swap row (suc (suc u)) (suc (suc v)))) i_is j_is ∙ swap_decoded row (get_or items head 0) k l len k_low l_low
+      ∙ ap (set (map decoded rows) c)
+      (ap₂ (λ u v. decoded (swap row (suc (suc u)) (suc (suc v)))) i_is j_is ∙ swap_decoded row (get_or items head 0) k l len k_low l_low
       ∙ ap (λ ls. swap ls k l) (sym (clause_row items heads are c known)))
 
 -- the clause that is read at a head
@@ -363,7 +401,8 @@ clause_at_head items heads are head n n_is there =
     ∙ clause_range items heads are c r.0
 
 -- the name that is read at a head
-pub name_at_head : (items heads : List ℕ) → AreHeads items heads → (head n : ℕ) → n ≡ get_or items (head + 1) n → Contains heads head → n ≡ get_or (names_at items heads) (number_of heads head) 0
+pub name_at_head : (items heads : List ℕ) → AreHeads items heads → (head n : ℕ) → n ≡ get_or items (head + 1) n → Contains heads head
+    → n ≡ get_or (names_at items heads) (number_of heads head) 0
 name_at_head items heads are head n n_is there =
     let r = number_low heads head there in
     let c = number_of heads head in
@@ -371,18 +410,21 @@ name_at_head items heads are head n n_is there =
     n_is ∙ get_or_default items (head + 1) n 0 low ∙ ap (λ h. get_or items (h + 1) 0) (sym r.1) ∙ sym (get_or-map (λ h. get_or items (h + 1) 0) heads c 0 0 r.0)
 
 -- no clause stands behind the one of a head
-pub none_after : (items heads : List ℕ) → AreHeads items heads → (head n : ℕ) → n ≡ get_or items head n → Contains heads head → length items ≤ head + 2 + n → suc (number_of heads head) ≡ length heads
+pub none_after : (items heads : List ℕ) → AreHeads items heads → (head n : ℕ) → n ≡ get_or items head n → Contains heads head
+    → length items ≤ head + 2 + n → suc (number_of heads head) ≡ length heads
 none_after items heads are head n n_is there past =
     let r = number_low heads head there in
     let c = number_of heads head in
-    let len : n ≡ get_or items (get_or heads c 0) 0 = n_is ∙ get_or_default items head n 0 (omega (arith, are.inside c r.0, r.1)) ∙ ap (λ h. get_or items h 0) (sym r.1) in
+    let len : n ≡ get_or items (get_or heads c 0) 0 =
+    n_is ∙ get_or_default items head n 0 (omega (arith, are.inside c r.0, r.1)) ∙ ap (λ h. get_or items h 0) (sym r.1) in
     elim (cases_lt (suc c) (length heads)) [
       | inl more ↦ absurd (omega (arith, are.ordered c (suc c) (omega arith) more, are.inside (suc c) more, len, r.1, past))
       | inr ge ↦ omega (arith, ge, r.0)
     ]
 
 -- the head of the clause behind the one of a head
-pub head_after : (items : List ℕ) → AreHeads items (heads_of items) → (head n : ℕ) → n ≡ get_or items head n → Contains (heads_of items) head → head + 2 + n < length items
+pub head_after : (items : List ℕ) → AreHeads items (heads_of items) → (head n : ℕ) → n ≡ get_or items head n → Contains (heads_of items) head
+    → head + 2 + n < length items
     → (suc (number_of (heads_of items) head) < length (heads_of items)) × (head + 2 + n ≡ get_or (heads_of items) (suc (number_of (heads_of items) head)) 0)
 head_after items are head n n_is there low =
     let r = number_low (heads_of items) head there in
@@ -418,7 +460,8 @@ module _ (items heads : List ℕ) (are : AreHeads items heads) (h : ℕ) (there 
   literal_inside k p low is = omega (arith, are.inside (number_of heads h) known_head, at_head, place_here k p low is)
 
   -- two literals change places
-  module _ (i j p q a b : ℕ) (i_low : i < length clause) (j_low : j < length clause) (p_is : p ≡ turned_place n i) (q_is : q ≡ turned_place n j) (a_is : a ≡ get_or items (h + 2 + p) a) (b_is : b ≡ get_or items (h + 2 + q) b) where
+  module _ (i j p q a b : ℕ) (i_low : i < length clause) (j_low : j < length clause) (p_is : p ≡ turned_place n i) (q_is : q ≡ turned_place n j)
+      (a_is : a ≡ get_or items (h + 2 + p) a) (b_is : b ≡ get_or items (h + 2 + q) b) where
     pub swapped_heads : AreHeads (set (set items (h + 2 + p) b) (h + 2 + q) a) heads
     swapped_heads = subst (λ m. AreHeads (set (set items (m + 2 + p) b) (m + 2 + q) a) heads) at_head
         (are_swapped items heads are (number_of heads h) known_head p q a b (place_here i p i_low p_is) (place_here j q j_low q_is)
@@ -445,28 +488,40 @@ value_of items = record { clauses = clauses_at items (heads_of items); heads = h
 pub own_heads : (items heads : List ℕ) → AreHeads items heads → AreHeads items (heads_of items)
 own_heads items heads are = subst (AreHeads items) (sym are.found) are
 
-pub own_value : (items heads : List ℕ) → AreHeads items heads → value_of items ≡ record { clauses = clauses_at items heads; heads = heads; names = names_at items heads }
+pub own_value : (items heads : List ℕ) → AreHeads items heads
+    → value_of items ≡ record { clauses = clauses_at items heads; heads = heads; names = names_at items heads }
 own_value items heads are = ap (λ hs. let v : ArenaValue = record { clauses = clauses_at items hs; heads = hs; names = names_at items hs } in v) are.found
 
 module _ (items : List ℕ) (are : AreHeads items (heads_of items)) where
   -- a clause is put behind the others by a name
-  module _ (name : ℕ) (row : List Literal) (new : List ℕ) (new_is : new ≡ items ++ length row ∷ name ∷ map code (turned row)) (short : length items + 2 + length row < 2 ^ 32) where
+  module _ (name : ℕ) (row : List Literal) (new : List ℕ) (new_is : new ≡ items ++ length row ∷ name ∷ map code (turned row))
+      (short : length items + 2 + length row < 2 ^ 32) where
     are_pushed : AreHeads (items ++ length row ∷ name ∷ map code (turned row)) (heads_of items ++ length items ∷ [])
     are_pushed = are_more items (heads_of items) are name row (omega (arith, length_more items (heads_of items) are name row, short))
 
     pub pushed_heads : AreHeads new (heads_of new)
-    pushed_heads = subst (λ xs. AreHeads xs (heads_of xs)) (sym new_is) (own_heads (items ++ length row ∷ name ∷ map code (turned row)) (heads_of items ++ length items ∷ []) are_pushed)
+    pushed_heads = subst (λ xs. AreHeads xs (heads_of xs)) (sym new_is)
+        (own_heads (items ++ length row ∷ name ∷ map code (turned row)) (heads_of items ++ length items ∷ []) are_pushed)
 
     pub pushed_value : (h : ℕ) → h ≡ length items
-        → value_of new ≡ record { clauses = clauses_at items (heads_of items) ++ row ∷ []; heads = heads_of items ++ h ∷ []; names = names_at items (heads_of items) ++ name ∷ [] }
+        → value_of new ≡ record {
+          clauses = clauses_at items (heads_of items) ++ row ∷ [];
+          heads = heads_of items ++ h ∷ [];
+          names = names_at items (heads_of items) ++ name ∷ [];
+        }
     pushed_value h h_is =
         ap value_of new_is ∙ own_value (items ++ length row ∷ name ∷ map code (turned row)) (heads_of items ++ length items ∷ []) are_pushed
         ∙ ap₂ (λ cs ns. let v : ArenaValue = record { clauses = cs; heads = heads_of items ++ length items ∷ []; names = ns } in v)
         (clauses_more items (heads_of items) are name row) (names_more items (heads_of items) are name row)
-        ∙ ap (λ k. let v : ArenaValue = record { clauses = clauses_at items (heads_of items) ++ row ∷ []; heads = heads_of items ++ k ∷ []; names = names_at items (heads_of items) ++ name ∷ [] } in v) (sym h_is)
+        ∙ ap (λ k. let v : ArenaValue = record {
+          clauses = clauses_at items (heads_of items) ++ row ∷ [];
+          heads = heads_of items ++ k ∷ [];
+          names = names_at items (heads_of items) ++ name ∷ [];
+        } in v) (sym h_is)
 
   -- the last clause is taken off by its head
-  module _ (head : ℕ) (there : Contains (heads_of items) head) (is_last : suc (number_of (heads_of items) head) ≡ length (clauses_at items (heads_of items))) where
+  module _ (head : ℕ) (there : Contains (heads_of items) head)
+      (is_last : suc (number_of (heads_of items) head) ≡ length (clauses_at items (heads_of items))) where
     some_heads : 0 < length (heads_of items)
     some_heads = omega (arith, (number_low (heads_of items) head there).0)
 
@@ -477,7 +532,8 @@ module _ (items : List ℕ) (are : AreHeads items (heads_of items)) where
     end_is = ap (λ n. get_or (heads_of items) n 0) (sym last_number) ∙ (number_low (heads_of items) head there).1
 
     are_popped : AreHeads (take head items) (take (length (heads_of items) - 1) (heads_of items))
-    are_popped = subst (λ e. AreHeads (take e items) (take (length (heads_of items) - 1) (heads_of items))) end_is (are_fewer items (heads_of items) are some_heads)
+    are_popped =
+        subst (λ e. AreHeads (take e items) (take (length (heads_of items) - 1) (heads_of items))) end_is (are_fewer items (heads_of items) are some_heads)
 
     pub popped_heads : AreHeads (take head items) (heads_of (take head items))
     popped_heads = own_heads (take head items) (take (length (heads_of items) - 1) (heads_of items)) are_popped
@@ -493,5 +549,9 @@ module _ (items : List ℕ) (are : AreHeads items (heads_of items)) where
         ∙ ap₂ (λ cs ns. let v : ArenaValue = record { clauses = cs; heads = take last (heads_of items); names = ns } in v)
         (ap (λ e. clauses_at (take e items) (take last (heads_of items))) (sym end_is) ∙ clauses_fewer items (heads_of items) are some_heads)
         (ap (λ e. names_at (take e items) (take last (heads_of items))) (sym end_is) ∙ names_fewer items (heads_of items) are some_heads)
-        ∙ ap (λ n. let v : ArenaValue = record { clauses = take (n - 1) (clauses_at items (heads_of items)); heads = take (n - 1) (heads_of items); names = take (n - 1) (names_at items (heads_of items)) } in v)
+        ∙ ap (λ n. let v : ArenaValue = record {
+          clauses = take (n - 1) (clauses_at items (heads_of items));
+          heads = take (n - 1) (heads_of items);
+          names = take (n - 1) (names_at items (heads_of items));
+        } in v)
         (sym (length_clauses items (heads_of items) are))

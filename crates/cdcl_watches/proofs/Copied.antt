@@ -29,12 +29,15 @@ module _ (items heads : List ℕ) (are : AreHeads items heads) (c : ℕ) (known 
       let at = row_at items heads are c known in
       let inside = are.inside c known in
       let zeroth : h + 0 ≡ h = omega arith in
-      let front : get_or row 0 0 ≡ n = ap (λ xs. get_or xs 0 0) at ∙ range_at items h (h + 2 + n) (omega arith) inside 0 0 (omega arith) ∙ ap (λ p. get_or items p 0) zeroth in
+      let front : get_or row 0 0 ≡ n =
+      ap (λ xs. get_or xs 0 0) at ∙ range_at items h (h + 2 + n) (omega arith) inside 0 0 (omega arith) ∙ ap (λ p. get_or items p 0) zeroth in
       let name : get_or row 1 0 ≡ get_or (names_at items heads) c 0 =
-      ap (λ xs. get_or xs 1 0) at ∙ range_at items h (h + 2 + n) (omega arith) inside 1 0 (omega arith) ∙ sym (get_or-map (λ m. get_or items (m + 1) 0) heads c 0 0 known) in
+      ap (λ xs. get_or xs 1 0) at ∙ range_at items h (h + 2 + n) (omega arith) inside 1 0 (omega arith)
+      ∙ sym (get_or-map (λ m. get_or items (m + 1) 0) heads c 0 0 known) in
       sym at ∙ row_is row (omega (arith, row_length items heads are c known))
       ∙ ap₂ (λ x y. x ∷ y ∷ map code (turned (decoded row))) (front ∙ sym (clause_length items heads are c known)) name
-      ∙ ap (λ r. length (clause_of (clauses_at items heads) c) ∷ get_or (names_at items heads) c 0 ∷ map code (turned r)) (sym (clause_row items heads are c known))
+      ∙ ap (λ r. length (clause_of (clauses_at items heads) c) ∷ get_or (names_at items heads) c 0 ∷ map code (turned r))
+      (sym (clause_row items heads are c known))
 
 module _ (items heads : List ℕ) (are : AreHeads items heads) (h : ℕ) (there : Contains heads h) (n : ℕ) (n_is : n ≡ get_or items h n) where
   at_head : get_or heads (number_of heads h) 0 ≡ h
@@ -47,7 +50,8 @@ module _ (items heads : List ℕ) (are : AreHeads items heads) (h : ℕ) (there 
   items_inside = omega (arith, are.inside (number_of heads h) (number_low heads h there).0, at_head, ap (λ m. get_or items m 0) at_head, count_is)
 
   pub items_at_head : slice_range items h (h + 2 + n)
-      ≡ length (clause_of (clauses_at items heads) (number_of heads h)) ∷ get_or (names_at items heads) (number_of heads h) 0 ∷ map code (turned (clause_of (clauses_at items heads) (number_of heads h)))
+      ≡ length (clause_of (clauses_at items heads) (number_of heads h)) ∷ get_or (names_at items heads) (number_of heads h) 0 ∷ map code
+      (turned (clause_of (clauses_at items heads) (number_of heads h)))
   items_at_head =
       ap (λ m. slice_range items h (h + 2 + m)) count_is
       ∙ ap (λ p. slice_range items p (p + 2 + get_or items p 0)) (sym at_head)
@@ -59,7 +63,8 @@ module _ (items heads : List ℕ) (are : AreHeads items heads) (h : ℕ) (there 
       ∙ sym (clause_length items heads are (number_of heads h) (number_low heads h there).0)
 
 -- the clause at a head of one buffer is put behind those of another, item by item
-module _ (items others : List ℕ) (are : AreHeads items (heads_of items)) (are_others : AreHeads others (heads_of others)) (h : ℕ) (there : Contains (heads_of others) h) (n : ℕ) (n_is : n ≡ get_or others h n)
+module _ (items others : List ℕ) (are : AreHeads items (heads_of items)) (are_others : AreHeads others (heads_of others)) (h : ℕ)
+    (there : Contains (heads_of others) h) (n : ℕ) (n_is : n ≡ get_or others h n)
     (new : List ℕ) (new_is : new ≡ items ++ slice_range others h (h + 2 + n)) (short : length items + 2 + n < 2 ^ 32) where
   abbrev clause : List Literal
   clause = clause_of (clauses_at others (heads_of others)) (number_of (heads_of others) h)

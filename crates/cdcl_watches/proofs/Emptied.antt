@@ -26,7 +26,9 @@ emptied_call pool new spans = nowhere_lists new (length spans) ∙ ap (λ n. rep
 nowhere_blocks : (n : ℕ) → AreBlocks 0 (replicate n nowhere) []
 nowhere_blocks n = record {
   each = λ k low. subst (IsSpan 0) (sym (nowhere_at n k)) (record { inside = omega arith; fits = omega arith; classed = omega arith });
-  apart = λ j k low low_k off. subst (λ (p : Span). AreClear p.from (room_of p.class) (span_at (replicate n nowhere) k).from (room_of (span_at (replicate n nowhere) k).class)) (sym (nowhere_at n j))
+  apart = λ j k low low_k off. subst
+      (λ (p : Span). AreClear p.from (room_of p.class) (span_at (replicate n nowhere) k).from (room_of (span_at (replicate n nowhere) k).class))
+      (sym (nowhere_at n j))
       (subst (λ (q : Span). AreClear 0 0 q.from (room_of q.class)) (sym (nowhere_at n k)) (inl (omega arith)));
   inside = λ c i low. absurd (omega (arith, low));
   between = λ k c i low low_i. absurd (omega (arith, low_i));
@@ -64,14 +66,17 @@ empty_watchers : (n : ℕ) → AreWatchers [] [] (replicate n [])
 empty_watchers n = record {
   none = refl;
   watching = subst (IsWatching []) (sym (numbers_empty [] n)) (empty_watching n);
-  blockers = λ k d low. subst (All (IsBlocking [] [])) (sym (get_or_default (replicate n []) k d [] low ∙ empty_at {X = Watcher} n k)) (All-nil (IsBlocking [] []));
+  blockers =
+      λ k d low. subst (All (IsBlocking [] [])) (sym (get_or_default (replicate n []) k d [] low ∙ empty_at {X = Watcher} n k)) (All-nil (IsBlocking [] []));
 }
 
-module _ (a : ArenaValue) (lists : List (List Watcher)) (n : ℕ) (a_is : a ≡ record { clauses = []; heads = []; names = [] }) (lists_is : lists ≡ replicate n []) where
+module _ (a : ArenaValue) (lists : List (List Watcher)) (n : ℕ) (a_is : a ≡ record { clauses = []; heads = []; names = [] })
+    (lists_is : lists ≡ replicate n []) where
   pub emptied_watchers : AreWatchers a.heads a.clauses lists
   emptied_watchers = subst (λ (v : ArenaValue). AreWatchers v.heads v.clauses lists) (sym a_is) (subst (AreWatchers [] []) (sym lists_is) (empty_watchers n))
 
-  pub emptied_value : (m : ℕ) → n ≡ m → (let v : WatchValue = record { clauses = a.clauses; lists = numbers a.heads lists; names = a.names } in v) ≡ record { clauses = []; lists = replicate m []; names = [] }
+  pub emptied_value : (m : ℕ) → n ≡ m → (let v : WatchValue = record { clauses = a.clauses; lists = numbers a.heads lists; names = a.names } in v)
+      ≡ record { clauses = []; lists = replicate m []; names = [] }
   emptied_value m m_is =
       ap₂ (λ (v : ArenaValue) ls. let w : WatchValue = record { clauses = v.clauses; lists = numbers v.heads ls; names = v.names } in w) a_is lists_is
       ∙ ap (λ ls. let w : WatchValue = record { clauses = []; lists = ls; names = [] } in w) (numbers_empty [] n ∙ ap (λ k. replicate k []) m_is)

@@ -1,4 +1,5 @@
--- The heads that a walk over the items finds: one behind the other, after a clause is put behind the others, after the last is taken off, and after items that are no heads change.
+-- The heads that a walk over the items finds: one behind the other, after a clause is put behind the others, after the last is taken off,
+-- and after items that are no heads change.
 use Rattle.std.proofs.Common.{◌≡◌, ◌≢◌, ℕ, zero, suc, ◌+◌, ◌<◌, ◌≤◌, List, [], ◌∷◌, ◌++◌, take, set, length, get_or, refl, sym, ap, ◌∙◌, subst, arith}
 use Rattle.cdcl_watches.specs.Heads.{heads_from, heads_of, left_from}
 
@@ -12,13 +13,15 @@ left_skipped [] = refl
 left_skipped (x ∷ items) = left_skipped items
 
 -- items behind others
-heads-append : (skip place : ℕ) (items rest : List ℕ) → heads_from skip place (items ++ rest) ≡ heads_from skip place items ++ heads_from (left_from skip items) (place + length items) rest
+heads-append : (skip place : ℕ) (items rest : List ℕ)
+    → heads_from skip place (items ++ rest) ≡ heads_from skip place items ++ heads_from (left_from skip items) (place + length items) rest
 heads-append skip place [] rest =
     let none : place ≡ place + 0 = omega arith in
     ap (λ p. heads_from skip p rest) none
 heads-append zero place (n ∷ items) rest =
     let on : suc place + length items ≡ place + suc (length items) = omega arith in
-    ap (λ hs. place ∷ hs) (heads-append (suc n) (suc place) items rest ∙ ap (λ p. heads_from (suc n) (suc place) items ++ heads_from (left_from (suc n) items) p rest) on)
+    ap (λ hs. place ∷ hs)
+    (heads-append (suc n) (suc place) items rest ∙ ap (λ p. heads_from (suc n) (suc place) items ++ heads_from (left_from (suc n) items) p rest) on)
 heads-append (suc skip) place (x ∷ items) rest =
     let on : suc place + length items ≡ place + suc (length items) = omega arith in
     heads-append skip (suc place) items rest ∙ ap (λ p. heads_from skip (suc place) items ++ heads_from (left_from skip items) p rest) on
@@ -64,11 +67,13 @@ heads_cut zero place (n ∷ items) (suc k) (suc e) low is =
 heads_cut (suc skip) place (x ∷ items) k zero low is = absurd (omega (arith, is, heads_low skip (suc place) items k low))
 heads_cut (suc skip) place (x ∷ items) k (suc e) low is = heads_cut skip (suc place) items k e low (omega (arith, is))
 
-pub heads_fewer : (items : List ℕ) (k e : ℕ) → k < length (heads_of items) → e ≡ get_or (heads_of items) k 0 → (heads_of (take e items) ≡ take k (heads_of items)) × (left_from 0 (take e items) ≡ 0)
+pub heads_fewer : (items : List ℕ) (k e : ℕ) → k < length (heads_of items) → e ≡ get_or (heads_of items) k 0
+    → (heads_of (take e items) ≡ take k (heads_of items)) × (left_from 0 (take e items) ≡ 0)
 heads_fewer items k e low is = heads_cut 0 0 items k e low (omega (arith, is))
 
 -- the first head stands behind the items that are still to come of a clause
-head_behind : (skip place : ℕ) (items : List ℕ) → skip < length items → (0 < length (heads_from skip place items)) × (get_or (heads_from skip place items) 0 0 ≡ place + skip)
+head_behind : (skip place : ℕ) (items : List ℕ) → skip < length items
+    → (0 < length (heads_from skip place items)) × (get_or (heads_from skip place items) 0 0 ≡ place + skip)
 head_behind skip place [] low = absurd (omega (arith, low))
 head_behind zero place (n ∷ items) low = (omega arith, omega arith)
 head_behind (suc skip) place (x ∷ items) low =
@@ -76,7 +81,8 @@ head_behind (suc skip) place (x ∷ items) low =
     (r.0, omega (arith, r.1))
 
 -- the head behind the k-th
-head_next : (skip place : ℕ) (items : List ℕ) (k e : ℕ) → k < length (heads_from skip place items) → place + e ≡ get_or (heads_from skip place items) k 0 → e + 2 + get_or items e 0 < length items
+head_next : (skip place : ℕ) (items : List ℕ) (k e : ℕ) → k < length (heads_from skip place items) → place + e ≡ get_or (heads_from skip place items) k 0
+    → e + 2 + get_or items e 0 < length items
     → (suc k < length (heads_from skip place items)) × (get_or (heads_from skip place items) (suc k) 0 ≡ place + (e + 2 + get_or items e 0))
 head_next skip place [] k e low is more = absurd (omega (arith, low))
 head_next zero place (n ∷ items) zero zero low is more =
@@ -99,7 +105,8 @@ heads_next items k e low is more =
     (r.0, omega (arith, r.1))
 
 -- an item that is no head changes
-heads_set : (skip place : ℕ) (items : List ℕ) (p x : ℕ) → ((k : ℕ) → k < length (heads_from skip place items) → get_or (heads_from skip place items) k 0 ≢ place + p)
+heads_set : (skip place : ℕ) (items : List ℕ) (p x : ℕ)
+    → ((k : ℕ) → k < length (heads_from skip place items) → get_or (heads_from skip place items) k 0 ≢ place + p)
     → (heads_from skip place (set items p x) ≡ heads_from skip place items) × (left_from skip (set items p x) ≡ left_from skip items)
 heads_set skip place [] p x differ = (refl, refl)
 heads_set zero place (n ∷ items) zero x differ = absurd (differ 0 (omega arith) (omega arith))
@@ -110,10 +117,12 @@ heads_set (suc skip) place (y ∷ items) zero x differ = (refl, refl)
 heads_set (suc skip) place (y ∷ items) (suc p) x differ = heads_set skip (suc place) items p x (λ k low e. differ k low (omega (arith, e)))
 
 -- two items change that are no heads
-pub heads_two : (items : List ℕ) (p q x y : ℕ) → ((k : ℕ) → k < length (heads_of items) → get_or (heads_of items) k 0 ≢ p) → ((k : ℕ) → k < length (heads_of items) → get_or (heads_of items) k 0 ≢ q)
+pub heads_two : (items : List ℕ) (p q x y : ℕ) → ((k : ℕ) → k < length (heads_of items) → get_or (heads_of items) k 0 ≢ p)
+    → ((k : ℕ) → k < length (heads_of items) → get_or (heads_of items) k 0 ≢ q)
     → (heads_of (set (set items p x) q y) ≡ heads_of items) × (left_from 0 (set (set items p x) q y) ≡ left_from 0 items)
 heads_two items p q x y not_p not_q =
     let first = heads_set 0 0 items p x (λ k low e. not_p k low (omega (arith, e))) in
-    let still : (k : ℕ) → k < length (heads_of (set items p x)) → get_or (heads_of (set items p x)) k 0 ≢ q = subst (λ hs. (k : ℕ) → k < length hs → get_or hs k 0 ≢ q) (sym first.0) not_q in
+    let still : (k : ℕ) → k < length (heads_of (set items p x)) → get_or (heads_of (set items p x)) k 0 ≢ q =
+    subst (λ hs. (k : ℕ) → k < length hs → get_or hs k 0 ≢ q) (sym first.0) not_q in
     let second = heads_set 0 0 (set items p x) q y (λ k low e. still k low (omega (arith, e))) in
     (second.0 ∙ first.0, second.1 ∙ first.1)

@@ -14,7 +14,8 @@ use Rattle.cdcl_watches.proofs.Numbers.{clause_read, length_at, length_numbers, 
 use Rattle.cdcl_watches.proofs.Blockers.{blockers_set, blockers_swapped, blocking_list}
 
 -- the first two literals of a clause change places
-pub turned_watchers : (heads : List ℕ) (clauses : List (List Literal)) (lists : List (List Watcher)) (c : ℕ) → c < length clauses → 2 ≤ length (clause_of clauses c) → AreWatchers heads clauses lists → AreWatchers heads (set clauses c (swap (clause_of clauses c) 0 1)) lists
+pub turned_watchers : (heads : List ℕ) (clauses : List (List Literal)) (lists : List (List Watcher)) (c : ℕ) → c < length clauses
+    → 2 ≤ length (clause_of clauses c) → AreWatchers heads clauses lists → AreWatchers heads (set clauses c (swap (clause_of clauses c) 0 1)) lists
 turned_watchers heads clauses lists c known long are = record {
   none = are.none;
   watching = turn_watching clauses (numbers heads lists) c are.watching known blank long;
@@ -22,13 +23,16 @@ turned_watchers heads clauses lists c known long are = record {
 }
 
 -- what is read at a place of a literal's list is a clause
-pub known_read : (heads : List ℕ) (clauses : List (List Literal)) (lists : List (List Watcher)) (l : Literal) (i k : ℕ) (w : Watcher) → k ≡ code l → w ≡ get_or (get_or lists k []) i nobody
+pub known_read : (heads : List ℕ) (clauses : List (List Literal)) (lists : List (List Watcher)) (l : Literal) (i k : ℕ) (w : Watcher) → k ≡ code l
+    → w ≡ get_or (get_or lists k []) i nobody
     → AreWatchers heads clauses lists → i < length (list_of (numbers heads lists) l) → clause_number heads w < length clauses
 known_read heads clauses lists l i k w k_is w_is are low =
-    (are.watching.only (clause_number heads w) l (subst (Contains (list_of (numbers heads lists) l)) (sym (clause_read heads are.none lists l i k w k_is w_is)) (Contains-get_or (list_of (numbers heads lists) l) i 0 low))).0
+    (are.watching.only (clause_number heads w) l (subst (Contains (list_of (numbers heads lists) l)) (sym (clause_read heads are.none lists l i k w k_is w_is))
+    (Contains-get_or (list_of (numbers heads lists) l) i 0 low))).0
 
 -- a watcher of the same clause is put at a place
-pub refreshed_watchers : (heads : List ℕ) (clauses : List (List Literal)) (lists : List (List Watcher)) (k i : ℕ) (w : Watcher) → clause_number heads w ≡ clause_number heads (get_or (get_or lists k []) i nobody) → IsBlocking heads clauses w
+pub refreshed_watchers : (heads : List ℕ) (clauses : List (List Literal)) (lists : List (List Watcher)) (k i : ℕ) (w : Watcher)
+    → clause_number heads w ≡ clause_number heads (get_or (get_or lists k []) i nobody) → IsBlocking heads clauses w
     → AreWatchers heads clauses lists → AreWatchers heads clauses (set lists k (set (get_or lists k []) i w))
 refreshed_watchers heads clauses lists k i w same is are = record {
   none = are.none;
@@ -37,17 +41,21 @@ refreshed_watchers heads clauses lists k i w same is are = record {
 }
 
 -- two lists more
-pub letter_watchers : (heads : List ℕ) (clauses : List (List Literal)) (lists : List (List Watcher)) → AreWatchers heads clauses lists → AreWatchers heads clauses ((lists ++ [] ∷ []) ++ [] ∷ [])
+pub letter_watchers : (heads : List ℕ) (clauses : List (List Literal)) (lists : List (List Watcher)) → AreWatchers heads clauses lists
+    → AreWatchers heads clauses ((lists ++ [] ∷ []) ++ [] ∷ [])
 letter_watchers heads clauses lists are = record {
   none = are.none;
   watching = subst (IsWatching clauses) (sym (numbers_two heads are.none lists)) (letter_watching clauses (numbers heads lists) are.watching);
-  blockers = All-push (All (IsBlocking heads clauses)) (lists ++ [] ∷ []) [] (All-push (All (IsBlocking heads clauses)) lists [] are.blockers (All-nil (IsBlocking heads clauses))) (All-nil (IsBlocking heads clauses));
+  blockers = All-push (All (IsBlocking heads clauses)) (lists ++ [] ∷ []) []
+      (All-push (All (IsBlocking heads clauses)) lists [] are.blockers (All-nil (IsBlocking heads clauses))) (All-nil (IsBlocking heads clauses));
 }
 
 -- two lists fewer
-module _ (w : WatchValue) (heads names : List ℕ) (none : clause_number heads nobody ≡ 0) (clauses : List (List Literal)) (lists mid new : List (List Watcher)) (widened : IsWidened w (record { clauses = clauses; lists = numbers heads lists; names = names })) (first : mid ≡ take (length lists - 1) lists) where
+module _ (w : WatchValue) (heads names : List ℕ) (none : clause_number heads nobody ≡ 0) (clauses : List (List Literal)) (lists mid new : List (List Watcher))
+    (widened : IsWidened w (record { clauses = clauses; lists = numbers heads lists; names = names })) (first : mid ≡ take (length lists - 1) lists) where
   pub mid_numbers : numbers heads mid ≡ w.lists ++ [] ∷ []
-  mid_numbers = take_back_is (w.lists ++ [] ∷ []) (numbers heads lists) (numbers heads mid) [] (numbers_shrink heads none lists mid first) (ap (λ (v : WatchValue). v.lists) widened.is ∙ sym (append_assoc w.lists ([] ∷ []) ([] ∷ [])))
+  mid_numbers = take_back_is (w.lists ++ [] ∷ []) (numbers heads lists) (numbers heads mid) [] (numbers_shrink heads none lists mid first)
+      (ap (λ (v : WatchValue). v.lists) widened.is ∙ sym (append_assoc w.lists ([] ∷ []) ([] ∷ [])))
 
   pub mid_some : 0 < length mid
   mid_some = omega (arith, length_numbers heads none mid, ap length mid_numbers, length_push w.lists [])
@@ -56,24 +64,28 @@ module _ (w : WatchValue) (heads names : List ℕ) (none : clause_number heads n
     pub narrowed_is : (let v : WatchValue = record { clauses = clauses; lists = numbers heads new; names = names } in v) ≡ w
     narrowed_is =
         ap (λ (v : WatchValue). let u : WatchValue = record { clauses = v.clauses; lists = numbers heads new; names = v.names } in u) widened.is
-        ∙ ap (λ ls. let u : WatchValue = record { clauses = w.clauses; lists = ls; names = w.names } in u) (take_back_is w.lists (numbers heads mid) (numbers heads new) [] (numbers_shrink heads none mid new second) mid_numbers)
+        ∙ ap (λ ls. let u : WatchValue = record { clauses = w.clauses; lists = ls; names = w.names } in u)
+        (take_back_is w.lists (numbers heads mid) (numbers heads new) [] (numbers_shrink heads none mid new second) mid_numbers)
 
     pub narrowed_watchers : AreWatchers heads clauses lists → AreWatchers heads clauses new
     narrowed_watchers are = record {
       none = none;
       watching = subst (λ (v : WatchValue). IsWatching v.clauses v.lists) (sym narrowed_is) widened.watching;
-      blockers = subst (AreBlockers heads clauses) (sym second) (All-take (All (IsBlocking heads clauses)) (length mid - 1) mid (subst (AreBlockers heads clauses) (sym first) (All-take (All (IsBlocking heads clauses)) (length lists - 1) lists are.blockers)));
+      blockers = subst (AreBlockers heads clauses) (sym second) (All-take (All (IsBlocking heads clauses)) (length mid - 1) mid
+          (subst (AreBlockers heads clauses) (sym first) (All-take (All (IsBlocking heads clauses)) (length lists - 1) lists are.blockers)));
     }
 
 -- what is read at a place of a literal's list has the head of a clause
-pub standing_read : (heads : List ℕ) (clauses : List (List Literal)) (lists : List (List Watcher)) (l : Literal) (i k : ℕ) (w : Watcher) → k ≡ code l → w ≡ get_or (get_or lists k []) i nobody
+pub standing_read : (heads : List ℕ) (clauses : List (List Literal)) (lists : List (List Watcher)) (l : Literal) (i k : ℕ) (w : Watcher) → k ≡ code l
+    → w ≡ get_or (get_or lists k []) i nobody
     → AreWatchers heads clauses lists → i < length (list_of (numbers heads lists) l) → Contains heads w.head
 standing_read heads clauses lists l i k w k_is w_is are low =
     subst (λ (v : Watcher). Contains heads v.head) (sym (w_is ∙ ap (λ n. get_or (get_or lists n []) i nobody) k_is))
     (blocking_list heads clauses lists (code l) are.blockers i nobody (omega (arith, low, length_at heads are.none lists (code l)))).stands
 
 -- a watcher with a literal of its clause
-pub blocking_from : (heads : List ℕ) (clauses : List (List Literal)) (row : List Literal) (head k : ℕ) (l : Literal) (w : Watcher) → w.head ≡ head → blocker_of w ≡ l → l ≡ get_or row k blank
+pub blocking_from : (heads : List ℕ) (clauses : List (List Literal)) (row : List Literal) (head k : ℕ) (l : Literal) (w : Watcher)
+    → w.head ≡ head → blocker_of w ≡ l → l ≡ get_or row k blank
     → row ≡ clause_of clauses (number_of heads head) → k < length row → Contains heads head → IsBlocking heads clauses w
 blocking_from heads clauses row head k l w head_is blocker_is l_is row_is low there = record {
   stands = subst (Contains heads) (sym head_is) there;

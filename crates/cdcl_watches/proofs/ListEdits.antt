@@ -3,14 +3,17 @@ use Rattle.std.proofs.Common.{◌≡◌, ◌≢◌, ℕ, ◌<◌, List, [], map,
 use Rattle.std.proofs.lemmas.List.{map-set, get_or-map, length-map}
 
 -- one of the mapped lists is replaced
-pub map_edit : {V Y : Type 0} (f : V → List Y) (g : List Y → List Y) (vs : List V) (i : ℕ) (v d : V) → i < length vs → f v ≡ g (f (get_or vs i d)) → map f (set vs i v) ≡ set (map f vs) i (g (get_or (map f vs) i []))
+pub map_edit : {V Y : Type 0} (f : V → List Y) (g : List Y → List Y) (vs : List V) (i : ℕ) (v d : V) → i < length vs → f v ≡ g (f (get_or vs i d))
+    → map f (set vs i v) ≡ set (map f vs) i (g (get_or (map f vs) i []))
 map_edit f g vs i v d low is = map-set f vs i v ∙ ap (set (map f vs) i) (is ∙ ap g (sym (get_or-map f vs i d [] low)))
 
 module _ {V Y : Type 0} (f : V → List Y) (vs : List V) (i : ℕ) where
   -- it is read again
-  pub row_edited : (g : List Y → List Y) (v w : V) → i < length vs → w ≡ get_or vs i w → f v ≡ g (f w) → get_or (map f (set vs i v)) i [] ≡ g (get_or (map f vs) i [])
+  pub row_edited : (g : List Y → List Y) (v w : V) → i < length vs → w ≡ get_or vs i w → f v ≡ g (f w)
+      → get_or (map f (set vs i v)) i [] ≡ g (get_or (map f vs) i [])
   row_edited g v w low at is =
-      ap (λ ys. get_or ys i []) (map-set f vs i v) ∙ get_or-set_same (map f vs) i (f v) [] (omega (arith, low, length-map vs f)) ∙ is ∙ ap g (ap f at ∙ sym (get_or-map f vs i w [] low))
+      ap (λ ys. get_or ys i []) (map-set f vs i v) ∙ get_or-set_same (map f vs) i (f v) [] (omega (arith, low, length-map vs f))
+      ∙ is ∙ ap g (ap f at ∙ sym (get_or-map f vs i w [] low))
 
   -- and another
   pub row_other : (j : ℕ) (v : V) → j ≢ i → get_or (map f (set vs i v)) j [] ≡ get_or (map f vs) j []

@@ -1,5 +1,6 @@
 -- Two literals of a clause change places, and another literal is watched.
-use Rattle.std.proofs.Common.{◌≡◌, ◌≢◌, ℕ, ◌<◌, ◌≤◌, ◌+◌, ◌*◌, ◌⊎◌, inl, inr, List, [], ◌∷◌, ◌++◌, Bool, true, false, set, All, Contains, length, get_or, refl, sym, ap, ap₂, ◌∙◌, subst, arith, length-set, get_or-set_same, get_or-set_other, if◌then◌else◌}
+use Rattle.std.proofs.Common.{◌≡◌, ◌≢◌, ℕ, ◌<◌, ◌≤◌, ◌+◌, ◌*◌, ◌⊎◌, inl, inr, List, [], ◌∷◌, ◌++◌, Bool, true, false, set, All, Contains, length, get_or, refl}
+use Rattle.std.proofs.Common.{sym, ap, ap₂, ◌∙◌, subst, arith, length-set, get_or-set_same, get_or-set_other, if◌then◌else◌}
 use Rattle.std.specs.List.{remove, swap}
 use Rattle.std.proofs.lemmas.Bool.{cases_lt, cases_eq}
 use Rattle.std.proofs.lemmas.List.{get_or_default, get_or_append_left, get_or_at, length_push}
@@ -31,7 +32,8 @@ code_same a b same = go a.negated refl b.negated refl
 
 -- where a literal of a changed clause stood
 pub place_swapped : {X : Type 0} (xs : List X) (a b k : ℕ) → a < length xs → b < length xs → k < length xs
-    → (m : ℕ) × (m < length xs) × ((d : X) → get_or (swap xs a b) k d ≡ get_or xs m d) × (((k ≡ a) × (m ≡ b)) ⊎ (((k ≡ b) × (m ≡ a)) ⊎ ((k ≢ a) × (k ≢ b) × (m ≡ k))))
+    → (m : ℕ) × (m < length xs) × ((d : X) → get_or (swap xs a b) k d ≡ get_or xs m d) × (((k ≡ a) × (m ≡ b))
+    ⊎ (((k ≡ b) × (m ≡ a)) ⊎ ((k ≢ a) × (k ≢ b) × (m ≡ k))))
 place_swapped {X} xs a b k a_low b_low k_low =
     let S = λ (d : X). swapped_from_swap xs (swap xs a b) a b d a_low b_low refl in
     elim (cases_eq k a) [
@@ -48,10 +50,28 @@ apart_swapped xs a b a_low b_low apart j k d earlier low =
     let p = place_swapped xs a b j a_low b_low (omega arith) in
     let q = place_swapped xs a b k a_low b_low (omega arith) in
     let differ : p.0 ≢ q.0 = λ eq. elim p.3 [
-      | inl u ↦ elim q.3 [ inl v ↦ omega (arith, u.0, v.0) | inr r ↦ elim r [ inl v ↦ omega (arith, u.0, u.1, v.0, v.1, eq, earlier) | inr v ↦ v.1 (omega (arith, u.1, v.2, eq)) ] ]
+      | inl u ↦ elim q.3 [
+        | inl v ↦ omega (arith, u.0, v.0)
+        | inr r ↦ elim r [
+          | inl v ↦ omega (arith, u.0, u.1, v.0, v.1, eq, earlier)
+          | inr v ↦ v.1 (omega (arith, u.1, v.2, eq))
+        ]
+      ]
       | inr t ↦ elim t [
-        | inl u ↦ elim q.3 [ inl v ↦ omega (arith, u.0, u.1, v.0, v.1, eq, earlier) | inr r ↦ elim r [ inl v ↦ omega (arith, u.0, v.0) | inr v ↦ v.0 (omega (arith, u.1, v.2, eq)) ] ]
-        | inr u ↦ elim q.3 [ inl v ↦ u.1 (omega (arith, u.2, v.1, eq)) | inr r ↦ elim r [ inl v ↦ u.0 (omega (arith, u.2, v.1, eq)) | inr v ↦ omega (arith, u.2, v.2, eq, earlier) ] ]
+        | inl u ↦ elim q.3 [
+          | inl v ↦ omega (arith, u.0, u.1, v.0, v.1, eq, earlier)
+          | inr r ↦ elim r [
+            | inl v ↦ omega (arith, u.0, v.0)
+            | inr v ↦ v.0 (omega (arith, u.1, v.2, eq))
+          ]
+        ]
+        | inr u ↦ elim q.3 [
+          | inl v ↦ u.1 (omega (arith, u.2, v.1, eq))
+          | inr r ↦ elim r [
+            | inl v ↦ u.0 (omega (arith, u.2, v.1, eq))
+            | inr v ↦ omega (arith, u.2, v.2, eq, earlier)
+          ]
+        ]
       ]
     ] in
     λ same.
@@ -90,7 +110,8 @@ first_two r a b d first = elim first.are [
   | inr h ↦ inr (sym h.0 ∙ get_or_default r 1 a d (omega (arith, first.long)), sym h.1 ∙ get_or_default r 0 b d (omega (arith, first.long)))
 ]
 
-pub are_first : (r : List Literal) (a b d : Literal) → 2 ≤ length r → ((a ≡ get_or r 0 d) × (b ≡ get_or r 1 d)) ⊎ ((a ≡ get_or r 1 d) × (b ≡ get_or r 0 d)) → AreFirst r a b
+pub are_first : (r : List Literal) (a b d : Literal) → 2 ≤ length r
+    → ((a ≡ get_or r 0 d) × (b ≡ get_or r 1 d)) ⊎ ((a ≡ get_or r 1 d) × (b ≡ get_or r 0 d)) → AreFirst r a b
 are_first r a b d long h = record {
   long = long;
   are = elim h [
@@ -132,15 +153,25 @@ module _ (clauses : List (List Literal)) (lists : List (List ℕ)) (c : ℕ) (wa
       let e = first_two s l h.0 d h.1 in
       (h.0, are_first r l h.0 d long (elim e [ inl p ↦ inr (p.0 ∙ (S d).0, p.1 ∙ (S d).1) | inr p ↦ inl (p.0 ∙ (S d).1, p.1 ∙ (S d).0) ])) in
       let on : (l : Literal) → IsWatch r l → IsWatch s l = λ l h.
-      let e = first_two r l h.0 d h.1 in
-      (h.0, are_first s l h.0 d (omega arith) (elim e [ inl p ↦ inr (p.0 ∙ sym (S d).1, p.1 ∙ sym (S d).0) | inr p ↦ inl (p.0 ∙ sym (S d).0, p.1 ∙ sym (S d).1) ])) in
+      let e = first_two r l h.0 d h.1 in (
+        h.0,
+        are_first s l h.0 d (omega arith) (elim e [
+          | inl p ↦ inr (
+            p.0 ∙ sym (S d).1,
+            p.1 ∙ sym (S d).0,
+          )
+          | inr p ↦ inl (p.0 ∙ sym (S d).0, p.1 ∙ sym (S d).1)
+        ]),
+      ) in
       record {
         apart = λ k low. elim (cases_eq k c) [
-          | inl same ↦ subst (λ n. AreApart (clause_of more n)) (sym same) (subst AreApart (sym here) (apart_swapped r 0 1 (omega arith) (omega arith) (watching.apart c known)))
+          | inl same ↦ subst (λ n. AreApart (clause_of more n)) (sym same)
+              (subst AreApart (sym here) (apart_swapped r 0 1 (omega arith) (omega arith) (watching.apart c known)))
           | inr other ↦ subst AreApart (sym (get_or-set_other clauses c k s [] other)) (watching.apart k (omega arith))
         ];
         fits = λ k low. elim (cases_eq k c) [
-          | inl same ↦ subst (λ n. All (λ l. code l < length lists) (clause_of more n)) (sym same) (subst (All (λ l. code l < length lists)) (sym here) (all_swapped (λ l. code l < length lists) r 0 1 (omega arith) (omega arith) (watching.fits c known)))
+          | inl same ↦ subst (λ n. All (λ l. code l < length lists) (clause_of more n)) (sym same) (subst (All (λ l. code l < length lists)) (sym here)
+              (all_swapped (λ l. code l < length lists) r 0 1 (omega arith) (omega arith) (watching.fits c known)))
           | inr other ↦ subst (All (λ l. code l < length lists)) (sym (get_or-set_other clauses c k s [] other)) (watching.fits k (omega arith))
         ];
         watched = λ k l low watch. elim (cases_eq k c) [
@@ -153,7 +184,8 @@ module _ (clauses : List (List Literal)) (lists : List (List ℕ)) (c : ℕ) (wa
             let old = watching.only k l there in (
               omega (arith, old.0),
               elim (cases_eq k c) [
-                | inl same ↦ subst (λ n. IsWatch (clause_of more n) l) (sym same) (subst (λ x. IsWatch x l) (sym here) (on l (subst (λ n. IsWatch (clause_of clauses n) l) same old.1)))
+                | inl same ↦ subst (λ n. IsWatch (clause_of more n) l) (sym same)
+                    (subst (λ x. IsWatch x l) (sym here) (on l (subst (λ n. IsWatch (clause_of clauses n) l) same old.1)))
                 | inr other ↦ subst (λ x. IsWatch x l) (sym (get_or-set_other clauses c k s [] other)) old.1
               ],
             );
@@ -161,7 +193,8 @@ module _ (clauses : List (List Literal)) (lists : List (List ℕ)) (c : ℕ) (wa
       }
 
   -- the second literal w gives way to the one at j
-  pub rewatch_watching : (d w m : Literal) (i j : ℕ) → 2 ≤ j → j < length (clause_of clauses c) → w ≡ get_or (clause_of clauses c) 1 d → m ≡ get_or (clause_of clauses c) j d
+  pub rewatch_watching : (d w m : Literal) (i j : ℕ) → 2 ≤ j → j < length (clause_of clauses c) → w ≡ get_or (clause_of clauses c) 1 d
+      → m ≡ get_or (clause_of clauses c) j d
       → i < length (list_of lists w) → get_or (list_of lists w) i 0 ≡ c
       → IsWatching (set clauses c (swap (clause_of clauses c) 1 j)) (set (set lists (code m) (list_of lists m ++ c ∷ [])) (code w) (remove (list_of lists w) i))
   rewatch_watching d w m i j high j_low w_is m_is i_low at =
@@ -189,9 +222,12 @@ module _ (clauses : List (List Literal)) (lists : List (List ℕ)) (c : ℕ) (wa
       let code_w : code w < length lists = subst (λ l. code l < length lists) (sym w_is) (watching.fits c known 1 d (omega arith)) in
       let of_w : list_of new w ≡ cut = list_same half w cut (omega arith) in
       let of_m : list_of new m ≡ grown = list_other half w m cut m_not_w ∙ list_same lists m grown code_m in
-      let of_other : (l : Literal) → l ≢ w → l ≢ m → list_of new l ≡ list_of lists l = λ l not_w not_m. list_other half w l cut not_w ∙ list_other lists m l grown not_m in
-      let r_watch : (l : Literal) → IsWatch r l → (l ≡ a) ⊎ (l ≡ w) = λ l h. elim (first_two r l h.0 d h.1) [ inl p ↦ inl p.0 | inr p ↦ inr (p.0 ∙ sym w_is) ] in
-      let s_watch : (l : Literal) → IsWatch s l → (l ≡ a) ⊎ (l ≡ m) = λ l h. elim (first_two s l h.0 d h.1) [ inl p ↦ inl (p.0 ∙ s0) | inr p ↦ inr (p.0 ∙ s1) ] in
+      let of_other : (l : Literal) → l ≢ w → l ≢ m → list_of new l ≡ list_of lists l =
+      λ l not_w not_m. list_other half w l cut not_w ∙ list_other lists m l grown not_m in
+      let r_watch : (l : Literal) → IsWatch r l → (l ≡ a) ⊎ (l ≡ w) =
+      λ l h. elim (first_two r l h.0 d h.1) [ inl p ↦ inl p.0 | inr p ↦ inr (p.0 ∙ sym w_is) ] in
+      let s_watch : (l : Literal) → IsWatch s l → (l ≡ a) ⊎ (l ≡ m) =
+      λ l h. elim (first_two s l h.0 d h.1) [ inl p ↦ inl (p.0 ∙ s0) | inr p ↦ inr (p.0 ∙ s1) ] in
       let c_not_in_m : ¬ Contains (list_of lists m) c = λ there. elim (r_watch m (watching.only c m there).1) [ inl e ↦ m_not_a e | inr e ↦ m_not_w e ] in
       let at_c : get_or (list_of lists w) i c ≡ c = get_or_default (list_of lists w) i c 0 i_low ∙ at in
       record {
@@ -200,7 +236,8 @@ module _ (clauses : List (List Literal)) (lists : List (List ℕ)) (c : ℕ) (wa
           | inr other ↦ subst AreApart (sym (get_or-set_other clauses c k s [] other)) (watching.apart k (omega arith))
         ];
         fits = λ k low. subst (λ n. All (λ l. code l < n) (clause_of more k)) (sym (new_len ∙ half_len)) (elim (cases_eq k c) [
-          | inl same ↦ subst (λ n. All (λ l. code l < length lists) (clause_of more n)) (sym same) (subst (All (λ l. code l < length lists)) (sym here) (all_swapped (λ l. code l < length lists) r 1 j (omega arith) (omega arith) (watching.fits c known)))
+          | inl same ↦ subst (λ n. All (λ l. code l < length lists) (clause_of more n)) (sym same) (subst (All (λ l. code l < length lists)) (sym here)
+              (all_swapped (λ l. code l < length lists) r 1 j (omega arith) (omega arith) (watching.fits c known)))
           | inr other ↦ subst (All (λ l. code l < length lists)) (sym (get_or-set_other clauses c k s [] other)) (watching.fits k (omega arith))
         ]);
         watched = λ k l low watch. elim (cases_eq k c) [
@@ -208,7 +245,8 @@ module _ (clauses : List (List Literal)) (lists : List (List ℕ)) (c : ℕ) (wa
               (elim (s_watch l (subst (λ x. IsWatch x l) here (subst (λ n. IsWatch (clause_of more n) l) same watch))) [
                 | inl is_a ↦
                     let old = watching.watched c a known (w, are_first r a w d (omega arith) (inl (refl, w_is))) in
-                    subst (λ x. Contains (list_of new x) c) (sym is_a) (subst (λ ls. Contains ls c) (sym (of_other a (λ e. w_not_a (sym e)) (λ e. m_not_a (sym e)))) old)
+                    subst (λ x. Contains (list_of new x) c) (sym is_a)
+                    (subst (λ ls. Contains ls c) (sym (of_other a (λ e. w_not_a (sym e)) (λ e. m_not_a (sym e)))) old)
                 | inr is_m ↦ subst (λ x. Contains (list_of new x) c) (sym is_m) (subst (λ ls. Contains ls c) (sym of_m) (Contains-push (list_of lists m) c))
               ])
           | inr other ↦
@@ -219,7 +257,8 @@ module _ (clauses : List (List Literal)) (lists : List (List ℕ)) (c : ℕ) (wa
                     subst (λ x. Contains (list_of new x) k) (sym is_w) (subst (λ ls. Contains ls k) (sym of_w)
                     (others_stay (list_of lists w) i i_low k (λ e. other (e ∙ get_or_default (list_of lists w) i k 0 i_low ∙ at)) in_w))
                 | inr not_w ↦ elim (same_or_not l m) [
-                  | inl is_m ↦ subst (λ x. Contains (list_of new x) k) (sym is_m) (subst (λ ls. Contains ls k) (sym of_m) (Contains-append_left (list_of lists m) (c ∷ []) k (subst (λ x. Contains (list_of lists x) k) is_m old)))
+                  | inl is_m ↦ subst (λ x. Contains (list_of new x) k) (sym is_m) (subst (λ ls. Contains ls k) (sym of_m)
+                      (Contains-append_left (list_of lists m) (c ∷ []) k (subst (λ x. Contains (list_of lists x) k) is_m old)))
                   | inr not_m ↦ subst (λ ls. Contains ls k) (sym (of_other l not_w not_m)) old
                 ]
               ]
@@ -251,7 +290,8 @@ module _ (clauses : List (List Literal)) (lists : List (List ℕ)) (c : ℕ) (wa
                 | inr not_m ↦
                     let old = subst (λ ls. Contains ls k) (of_other l not_w not_m) there in
                     elim (cases_eq k c) [
-                      | inl same ↦ elim (r_watch l (subst (λ n. IsWatch (clause_of clauses n) l) same (watching.only k l old).1)) [ inl e ↦ of_c same (inl e) | inr e ↦ absurd (not_w e) ]
+                      | inl same ↦ elim (r_watch l (subst (λ n. IsWatch (clause_of clauses n) l) same (watching.only k l old).1))
+                          [ inl e ↦ of_c same (inl e) | inr e ↦ absurd (not_w e) ]
                       | inr other ↦ of_old old other
                     ]
               ]
@@ -259,7 +299,8 @@ module _ (clauses : List (List Literal)) (lists : List (List ℕ)) (c : ℕ) (wa
         once = λ l. elim (same_or_not l w) [
           | inl is_w ↦ subst (λ x. AreApart (list_of new x)) (sym is_w) (subst AreApart (sym of_w) (apart_removed (list_of lists w) i i_low (watching.once w)))
           | inr not_w ↦ elim (same_or_not l m) [
-            | inl is_m ↦ subst (λ x. AreApart (list_of new x)) (sym is_m) (subst AreApart (sym of_m) (apart_pushed (list_of lists m) c c_not_in_m (watching.once m)))
+            | inl is_m ↦
+                subst (λ x. AreApart (list_of new x)) (sym is_m) (subst AreApart (sym of_m) (apart_pushed (list_of lists m) c c_not_in_m (watching.once m)))
             | inr not_m ↦ subst AreApart (sym (of_other l not_w not_m)) (watching.once l)
           ]
         ];
@@ -270,5 +311,6 @@ module _ (clauses : List (List Literal)) (lists : List (List ℕ)) (c : ℕ) (wa
         | inl old ↦ rw (get_or_append_left xs (y ∷ []) e p (omega arith), get_or_append_left xs (y ∷ []) e q old) (apart p q e earlier old)
         | inr end ↦
             let last : length xs ≡ q = omega (arith, length_push xs y) in
-            rw (get_or_append_left xs (y ∷ []) e p (omega arith), get_or_at xs y [] e q last) (λ same. absent (subst (Contains xs) same (Contains-get_or xs p e (omega arith))))
+            rw (get_or_append_left xs (y ∷ []) e p (omega arith), get_or_at xs y [] e q last)
+            (λ same. absent (subst (Contains xs) same (Contains-get_or xs p e (omega arith))))
       ]

@@ -1,6 +1,7 @@
 -- Noted places stay heads where a clause is put behind the others, and where there is more room for them; and
 -- the clause of a noted head is one of the clauses.
-use Rattle.std.proofs.Common.{◌≡◌, ◌≢◌, ℕ, ◌<◌, ◌⊎◌, inl, inr, List, [], ◌∷◌, ◌++◌, set, take, replicate, Contains, length, get_or, refl, sym, ◌∙◌, subst, arith, length-take-le}
+use Rattle.std.proofs.Common.{◌≡◌, ◌≢◌, ℕ, ◌<◌, ◌⊎◌, inl, inr, List, [], ◌∷◌, ◌++◌, set, take, replicate, Contains, length, get_or, refl, sym, ◌∙◌, subst}
+use Rattle.std.proofs.Common.{arith, length-take-le}
 use Rattle.std.proofs.lemmas.List.Elements.{All-append, All-replicate, All-set, Contains-append_left}
 use Rattle.cdcl_watches.specs.Heads.{clauses_at, number_of, AreHeads, AreNoted}
 use Rattle.cdcl_watches.proofs.Buffer.{length_clauses}
@@ -31,7 +32,8 @@ pub noted_none : (heads reasons new : List ℕ) → new ≡ take 0 reasons → A
 noted_none heads reasons new is = subst (AreNoted heads) (sym is) (λ k d low. absurd (omega (arith, low, length-take-le 0 reasons (omega arith))))
 
 -- what is noted, and is a head at all, is one of the heads
-pub noted_head : (heads reasons : List ℕ) (letter h : ℕ) → AreNoted heads reasons → letter < length reasons → h ≡ get_or reasons letter h → h ≢ 4294967295 → Contains heads h
+pub noted_head : (heads reasons : List ℕ) (letter h : ℕ) → AreNoted heads reasons → letter < length reasons → h ≡ get_or reasons letter h
+    → h ≢ 4294967295 → Contains heads h
 noted_head heads reasons letter h noted low is some = elim (noted letter h low) [
   | inl none ↦ absurd (some (is ∙ none))
   | inr there ↦ subst (Contains heads) (sym is) there

@@ -11,7 +11,8 @@ module _ {X : Type 0} (xs : List X) (i : ℕ) (within : i < length xs) where
   length-removed = length-remove xs i within
 
   -- what stands at a place now stood at one before
-  pub place_before : (j : ℕ) → j < length xs - 1 → (k : ℕ) × (k < length xs) × (k ≢ i) × ((d : X) → get_or (remove xs i) j d ≡ get_or xs k d) × (((k ≡ j) × (j < i)) ⊎ ((k ≡ j + 1) × (i ≤ j)))
+  pub place_before : (j : ℕ) → j < length xs - 1
+      → (k : ℕ) × (k < length xs) × (k ≢ i) × ((d : X) → get_or (remove xs i) j d ≡ get_or xs k d) × (((k ≡ j) × (j < i)) ⊎ ((k ≡ j + 1) × (i ≤ j)))
   place_before j below = elim (cases_lt j i) [
     | inl front ↦ (j, omega arith, (λ e. omega (arith, e, front)), (λ d. get_or-remove_below xs i d j front within), inl (refl, front))
     | inr back ↦ (j + 1, omega arith, (λ e. omega (arith, e, back)), (λ d. get_or-remove_above xs i d j back within), inr (refl, back))
@@ -42,7 +43,14 @@ module _ {X : Type 0} (xs : List X) (i : ℕ) (within : i < length xs) where
     | inr back ↦ elim (cases_eq k i) [
       | inl same ↦ absurd (differ (sym is ∙ ap (λ n. get_or xs n y) same))
       | inr other ↦
-          let on : k - 1 + 1 ≡ k = omega (arith, back, other) in
-          (k - 1, omega (arith, length-removed, back, other), get_or-remove_above xs i y (k - 1) (omega (arith, back, other)) within ∙ ap (λ n. get_or xs n y) on ∙ is)
+          let on : k - 1 + 1 ≡ k = omega (arith, back, other) in (
+            k - 1,
+            omega (arith, length-removed, back, other),
+            get_or-remove_above xs i y (k - 1) (omega (
+              arith,
+              back,
+              other,
+            )) within ∙ ap (λ n. get_or xs n y) on ∙ is,
+          )
     ]
   ]

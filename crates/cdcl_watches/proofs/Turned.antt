@@ -1,5 +1,6 @@
 -- The order in which the literals of a clause stand in the buffer.
-use Rattle.std.proofs.Common.{◌≡◌, ◌≢◌, ℕ, zero, suc, ◌+◌, ◌-◌, ◌<◌, ◌≤◌, inl, inr, if◌then◌else◌, List, [], ◌∷◌, ◌++◌, map, take, set, length, get_or, refl, sym, ap, ap₂, ◌∙◌, arith, length-set, get_or-set_same, get_or-set_other}
+use Rattle.std.proofs.Common.{◌≡◌, ◌≢◌, ℕ, zero, suc, ◌+◌, ◌-◌, ◌<◌, ◌≤◌, inl, inr, if◌then◌else◌, List, [], ◌∷◌, ◌++◌, map, take, set, length, get_or, refl}
+use Rattle.std.proofs.Common.{sym, ap, ap₂, ◌∙◌, arith, length-set, get_or-set_same, get_or-set_other}
 use Rattle.std.specs.List.{swap}
 use Rattle.std.proofs.Math.Seq.{take-suc}
 use Rattle.std.proofs.lemmas.Bool.{cases_lt, cases_eq, lt-ltb, le-ltb}
@@ -51,7 +52,8 @@ turned_at (x ∷ []) k d low = ap (λ n. get_or (x ∷ []) n d) (sym (place_near
 turned_at (x ∷ y ∷ rest) zero d low = refl
 turned_at (x ∷ y ∷ rest) (suc zero) d low = refl
 turned_at (x ∷ y ∷ rest) (suc (suc k)) d low =
-    let back : suc (suc (length rest - 1 - k)) ≡ turned_place (suc (suc (length rest))) (suc (suc k)) = omega (arith, low, place_far (suc (suc (length rest))) (suc (suc k)) (omega arith)) in
+    let back : suc (suc (length rest - 1 - k)) ≡ turned_place (suc (suc (length rest))) (suc (suc k)) =
+    omega (arith, low, place_far (suc (suc (length rest))) (suc (suc k)) (omega arith)) in
     get_or-reverse rest k d (omega (arith, low)) ∙ ap (λ n. get_or (x ∷ y ∷ rest) n d) back
 
 -- one is replaced
@@ -89,7 +91,8 @@ turned-swap xs i j d i_low j_low =
     ∙ swap_is (turned xs) i j d (omega (arith, i_low, length_turned xs)) (omega (arith, j_low, length_turned xs))
 
 -- one more of the turned ones is put behind others
-pub turned_more : {X Y : Type 0} (f : X → Y) (xs : List X) (old now new : List Y) (k p : ℕ) (y : Y) (d : X) → k < length xs → now ≡ old ++ map f (take k (turned xs))
+pub turned_more : {X Y : Type 0} (f : X → Y) (xs : List X) (old now new : List Y) (k p : ℕ) (y : Y) (d : X) → k < length xs
+    → now ≡ old ++ map f (take k (turned xs))
     → p ≡ turned_place (length xs) k → y ≡ f (get_or xs p d) → new ≡ now ++ y ∷ [] → new ≡ old ++ map f (take (k + 1) (turned xs))
 turned_more f xs old now new k p y d low now_is p_is y_is new_is =
     let front = take k (turned xs) in
@@ -102,7 +105,8 @@ turned_more f xs old now new k p y d low now_is p_is y_is new_is =
     ∙ ap (λ n. old ++ map f (take n (turned xs))) one
 
 -- what stands at a place of a list that is mapped first
-pub turned_map_at : {X Y : Type 0} (f : X → Y) (xs : List X) (k p : ℕ) (d : X) (e : Y) → k < length (turned (map f xs)) → p ≡ turned_place (length xs) k → f (get_or xs p d) ≡ get_or (turned (map f xs)) k e
+pub turned_map_at : {X Y : Type 0} (f : X → Y) (xs : List X) (k p : ℕ) (d : X) (e : Y) → k < length (turned (map f xs)) → p ≡ turned_place (length xs) k
+    → f (get_or xs p d) ≡ get_or (turned (map f xs)) k e
 turned_map_at f xs k p d e k_low p_is =
     let len = length-map xs f in
     let low : k < length xs = omega (arith, k_low, length_turned (map f xs), len) in

@@ -1,5 +1,6 @@
 -- A walk along a list: what is next, and what it leaves where the next one stays or is taken off.
-use Rattle.std.proofs.Common.{◌≡◌, ◌≢◌, ℕ, ◌<◌, ◌≤◌, ◌+◌, List, [], ◌∷◌, ◌++◌, set, Contains, length, get_or, refl, sym, ap, ◌∙◌, subst, arith, length-set, get_or-set_same, get_or-set_other}
+use Rattle.std.proofs.Common.{◌≡◌, ◌≢◌, ℕ, ◌<◌, ◌≤◌, ◌+◌, List, [], ◌∷◌, ◌++◌, set, Contains, length, get_or, refl, sym, ap, ◌∙◌, subst, arith, length-set}
+use Rattle.std.proofs.Common.{get_or-set_same, get_or-set_other}
 use Rattle.std.specs.List.{remove, swap}
 use Rattle.std.proofs.lemmas.List.{get_or_default}
 use Rattle.std.proofs.lemmas.List.Elements.{Contains-get_or}
@@ -15,16 +16,25 @@ use Rattle.cdcl_watches.proofs.Blockers.{blocking_list}
 use Rattle.cdcl_watches.proofs.Kept.{blocking_from, refreshed_watchers}
 use Rattle.cdcl_watches.proofs.Rewatched.{moved_is, moved_watchers}
 
-module _ (arena : ArenaValue) (lists : List (List Watcher)) (l : Literal) (a b : ℕ) (is : IsWalked arena lists (code l) a b) (there : b < length (get_or lists (code l) [])) where
+module _ (arena : ArenaValue) (lists : List (List Watcher)) (l : Literal) (a b : ℕ) (is : IsWalked arena lists (code l) a b)
+    (there : b < length (get_or lists (code l) [])) where
   -- the next watcher, where the gap is closed
   pub next_low : a < length (get_or (without lists (code l) a b) (code l) [])
-  next_low = omega (arith, ap length (closed_at lists (code l) a b is.known is.order is.inside), gap_length (get_or lists (code l) []) a b is.order is.inside, is.order, there)
+  next_low = omega (
+    arith,
+    ap length (closed_at lists (code l) a b is.known is.order is.inside),
+    gap_length (get_or lists (code l) []) a b is.order is.inside,
+    is.order,
+    there,
+  )
 
   pub next_read : get_or (get_or (without lists (code l) a b) (code l) []) a nobody ≡ get_or (get_or lists (code l) []) b nobody
-  next_read = ap (λ ws. get_or ws a nobody) (closed_at lists (code l) a b is.known is.order is.inside) ∙ read_behind (get_or lists (code l) []) a b is.order is.inside nobody
+  next_read = ap (λ ws. get_or ws a nobody) (closed_at lists (code l) a b is.known is.order is.inside)
+      ∙ read_behind (get_or lists (code l) []) a b is.order is.inside nobody
 
   pub next_blocking : IsBlocking arena.heads arena.clauses (get_or (get_or lists (code l) []) b nobody)
-  next_blocking = subst (IsBlocking arena.heads arena.clauses) next_read (blocking_list arena.heads arena.clauses (without lists (code l) a b) (code l) is.watchers.blockers a nobody next_low)
+  next_blocking = subst (IsBlocking arena.heads arena.clauses) next_read
+      (blocking_list arena.heads arena.clauses (without lists (code l) a b) (code l) is.watchers.blockers a nobody next_low)
 
   -- its clause
   pub next_listed : a < length (list_of (walked arena lists (code l) a b).lists l)
@@ -43,7 +53,8 @@ module _ (arena : ArenaValue) (lists : List (List Watcher)) (l : Literal) (a b :
     pub next_watched : (number_of arena.heads head < length arena.clauses) × IsWatch (clause_of arena.clauses (number_of arena.heads head)) l
     next_watched =
         is.watchers.watching.only (number_of arena.heads head) l
-        (subst (Contains (list_of (walked arena lists (code l) a b).lists l)) next_is (Contains-get_or (list_of (walked arena lists (code l) a b).lists l) a 0 next_listed))
+        (subst (Contains (list_of (walked arena lists (code l) a b).lists l)) next_is
+        (Contains-get_or (list_of (walked arena lists (code l) a b).lists l) a 0 next_listed))
 
     pub next_long : 2 ≤ length (clause_of arena.clauses (number_of arena.heads head))
     next_long = next_watched.1.1.long
@@ -55,13 +66,15 @@ module _ (arena : ArenaValue) (lists : List (List Watcher)) (l : Literal) (a b :
 
       pub first_blocking : (v : Watcher) → v.head ≡ head → blocker_of v ≡ first → IsBlocking arena.heads arena.clauses v
       first_blocking v v_is blocker_is =
-          blocking_from arena.heads arena.clauses (clause_of arena.clauses (number_of arena.heads head)) head 0 first v v_is blocker_is first_read refl (omega (arith, next_long)) next_standing
+          blocking_from arena.heads arena.clauses (clause_of arena.clauses (number_of arena.heads head)) head 0 first v v_is blocker_is first_read refl
+          (omega (arith, next_long)) next_standing
 
       pub first_fits : code first < length (without lists (code l) a b)
       first_fits =
           omega (
             arith,
-            subst (λ m. code m < length (numbers arena.heads (without lists (code l) a b))) (sym first_read) (is.watchers.watching.fits (number_of arena.heads head) next_watched.0 0 blank (omega (arith, next_long))),
+            subst (λ m. code m < length (numbers arena.heads (without lists (code l) a b))) (sym first_read)
+                (is.watchers.watching.fits (number_of arena.heads head) next_watched.0 0 blank (omega (arith, next_long))),
             length_numbers arena.heads is.watchers.none (without lists (code l) a b),
           )
 
@@ -70,7 +83,8 @@ module _ (arena : ArenaValue) (lists : List (List Watcher)) (l : Literal) (a b :
     named : clause_number arena.heads v ≡ clause_number arena.heads (get_or (get_or (without lists (code l) a b) (code l) []) a nobody)
     named = ap (number_of arena.heads) head_is ∙ ap (clause_number arena.heads) (sym next_read)
 
-    stayed : without (set lists (code l) (set (get_or lists (code l) []) a v)) (code l) (a + 1) (b + 1) ≡ set (without lists (code l) a b) (code l) (set (get_or (without lists (code l) a b) (code l) []) a v)
+    stayed : without (set lists (code l) (set (get_or lists (code l) []) a v)) (code l) (a + 1) (b + 1) ≡ set (without lists (code l) a b) (code l)
+        (set (get_or (without lists (code l) a b) (code l) []) a v)
     stayed = closed_put lists (code l) a b is.known is.order is.inside v there
 
     pub stayed_length : length (get_or (set lists (code l) (set (get_or lists (code l) []) a v)) (code l) []) ≡ length (get_or lists (code l) [])
@@ -81,7 +95,8 @@ module _ (arena : ArenaValue) (lists : List (List Watcher)) (l : Literal) (a b :
       known = omega (arith, is.known, length-set lists (code l) (set (get_or lists (code l) []) a v));
       order = omega (arith, is.order);
       inside = omega (arith, there, stayed_length);
-      watchers = subst (AreWatchers arena.heads arena.clauses) (sym stayed) (refreshed_watchers arena.heads arena.clauses (without lists (code l) a b) (code l) a v named blocking is.watchers);
+      watchers = subst (AreWatchers arena.heads arena.clauses) (sym stayed)
+          (refreshed_watchers arena.heads arena.clauses (without lists (code l) a b) (code l) a v named blocking is.watchers);
     }
 
     pub stayed_same : walked arena (set lists (code l) (set (get_or lists (code l) []) a v)) (code l) (a + 1) (b + 1) ≡ walked arena lists (code l) a b
@@ -90,17 +105,21 @@ module _ (arena : ArenaValue) (lists : List (List Watcher)) (l : Literal) (a b :
         (ap (numbers arena.heads) stayed ∙ numbers_refreshed arena.heads is.watchers.none (without lists (code l) a b) (code l) a v named)
 
   -- its clause is watched by another literal, and it is taken off
-  module _ (head : ℕ) (head_is : head ≡ (get_or (get_or lists (code l) []) b nobody).head) (other : Literal) (j : ℕ) (high : 2 ≤ j) (within : j < length (clause_of arena.clauses (number_of arena.heads head)))
-      (second_is : l ≡ get_or (clause_of arena.clauses (number_of arena.heads head)) 1 l) (other_is : other ≡ get_or (clause_of arena.clauses (number_of arena.heads head)) j other) where
+  module _ (head : ℕ) (head_is : head ≡ (get_or (get_or lists (code l) []) b nobody).head) (other : Literal) (j : ℕ) (high : 2 ≤ j)
+      (within : j < length (clause_of arena.clauses (number_of arena.heads head)))
+      (second_is : l ≡ get_or (clause_of arena.clauses (number_of arena.heads head)) 1 l)
+      (other_is : other ≡ get_or (clause_of arena.clauses (number_of arena.heads head)) j other) where
     pub apart_codes : code other ≢ code l
     apart_codes e =
         let c = number_of arena.heads head in
         let other_at : other ≡ get_or (clause_of arena.clauses c) j l = other_is ∙ get_or_default (clause_of arena.clauses c) j other l within in
         is.watchers.watching.apart c (next_watched head head_is).0 1 j l (omega arith) within (sym second_is ∙ sym (code_same other l e) ∙ other_at)
 
-    module _ (v : Watcher) (v_is : v.head ≡ head) (mid : List (List Watcher)) (pushed : mid ≡ set lists (code other) (get_or lists (code other) [] ++ v ∷ [])) where
+    module _ (v : Watcher) (v_is : v.head ≡ head) (mid : List (List Watcher))
+        (pushed : mid ≡ set lists (code other) (get_or lists (code other) [] ++ v ∷ [])) where
       same_row : get_or mid (code l) [] ≡ get_or lists (code l) []
-      same_row = ap (λ ls. get_or ls (code l) []) pushed ∙ get_or-set_other lists (code other) (code l) (get_or lists (code other) [] ++ v ∷ []) [] (λ e. apart_codes (sym e))
+      same_row = ap (λ ls. get_or ls (code l) []) pushed
+          ∙ get_or-set_other lists (code other) (code l) (get_or lists (code other) [] ++ v ∷ []) [] (λ e. apart_codes (sym e))
 
       pub left_length : length (get_or mid (code l) []) ≡ length (get_or lists (code l) [])
       left_length = ap length same_row
@@ -115,9 +134,12 @@ module _ (arena : ArenaValue) (lists : List (List Watcher)) (l : Literal) (a b :
       after = closed_grown mid (code l) a b still_known is.order (omega (arith, left_length, is.inside))
 
       pub left_lists : (walked arena mid (code l) a (b + 1)).lists
-          ≡ set (set (walked arena lists (code l) a b).lists (code other) (list_of (walked arena lists (code l) a b).lists other ++ number_of arena.heads head ∷ [])) (code l) (remove (list_of (walked arena lists (code l) a b).lists l) a)
+          ≡ set
+          (set (walked arena lists (code l) a b).lists (code other) (list_of (walked arena lists (code l) a b).lists other ++ number_of arena.heads head ∷ []))
+          (code l) (remove (list_of (walked arena lists (code l) a b).lists l) a)
       left_lists =
-          moved_is arena.heads arena.clauses (without lists (code l) a b) (without mid (code l) a b) (without mid (code l) a (b + 1)) (number_of arena.heads head) l other a j v is.watchers (next_watched head head_is).0 high within second_is other_is next_listed
+          moved_is arena.heads arena.clauses (without lists (code l) a b) (without mid (code l) a b) (without mid (code l) a (b + 1))
+          (number_of arena.heads head) l other a j v is.watchers (next_watched head head_is).0 high within second_is other_is next_listed
           (ap (number_of arena.heads) v_is) before after
 
       module _ (blocking : IsBlocking arena.heads arena.clauses v) (new : ArenaValue) (heads_are : new.heads ≡ arena.heads)
@@ -129,6 +151,7 @@ module _ (arena : ArenaValue) (lists : List (List Watcher)) (l : Literal) (a b :
           inside = omega (arith, left_length, there);
           watchers = subst (λ hs. AreWatchers hs new.clauses (without mid (code l) a (b + 1))) (sym heads_are)
               (subst (λ cs. AreWatchers arena.heads cs (without mid (code l) a (b + 1))) (sym clauses_are)
-              (moved_watchers arena.heads arena.clauses (without lists (code l) a b) (without mid (code l) a b) (without mid (code l) a (b + 1)) (number_of arena.heads head) l other a j v is.watchers (next_watched head head_is).0 high within second_is other_is next_listed
+              (moved_watchers arena.heads arena.clauses (without lists (code l) a b) (without mid (code l) a b) (without mid (code l) a (b + 1))
+              (number_of arena.heads head) l other a j v is.watchers (next_watched head head_is).0 high within second_is other_is next_listed
               (ap (number_of arena.heads) v_is) before after (next_is head head_is) blocking));
         }

@@ -1,6 +1,7 @@
 -- Clauses in one buffer of numbers: each is its length, its name and the codes of its literals. The codes
 -- behind the first two stand from the last down.
-use Rattle.std.specs.Prelude.{◌≡◌, ℕ, zero, suc, ◌+◌, ◌-◌, ◌<◌, ◌≤◌, ◌^◌, ◌⊎◌, All, Contains, nat_eq, if◌then◌else◌, List, [], ◌∷◌, length, map, take, drop, slice_index_or}
+use Rattle.std.specs.Prelude.{◌≡◌, ℕ, zero, suc, ◌+◌, ◌-◌, ◌<◌, ◌≤◌, ◌^◌, ◌⊎◌, All, Contains, nat_eq, if◌then◌else◌, List, [], ◌∷◌, length, map, take, drop}
+use Rattle.std.specs.Prelude.{slice_index_or}
 use Rattle.cnf_base.specs.declared.literal.Literal.{Literal}
 use Rattle.cnf_base.specs.RowPieces.{Place, row_pieces}
 use Rattle.cdcl_watches.specs.Watching.{literal_of}
@@ -48,7 +49,8 @@ pub record AreHeads (items heads : List ℕ) : Type 0 where
   pub found : heads_of items ≡ heads
   pub whole : left_from 0 items ≡ 0
   pub inside : (c : ℕ) → c < length heads → slice_index_or heads c 0 + 2 + slice_index_or items (slice_index_or heads c 0) 0 ≤ length items
-  pub ordered : (c d : ℕ) → c < d → d < length heads → slice_index_or heads c 0 + 2 + slice_index_or items (slice_index_or heads c 0) 0 ≤ slice_index_or heads d 0
+  pub ordered : (c d : ℕ) → c < d → d < length heads
+      → slice_index_or heads c 0 + 2 + slice_index_or items (slice_index_or heads c 0) 0 ≤ slice_index_or heads d 0
   pub first : slice_index_or heads 0 0 ≡ 0
   pub none : length heads ≡ 0 → length items ≡ 0
   pub few : length items < 2 ^ 32

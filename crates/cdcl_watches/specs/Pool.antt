@@ -54,10 +54,13 @@ pub record IsFree (size : ℕ) (spans : List Span) (spare : List (List ℕ)) (fr
 -- each list and each spare block has its own places of the pool
 pub record AreBlocks (size : ℕ) (spans : List Span) (spare : List (List ℕ)) : Type 0 where
   pub each : (k : ℕ) → k < length spans → IsSpan size (span_at spans k)
-  pub apart : (j k : ℕ) → j < length spans → k < length spans → j ≢ k → AreClear (span_at spans j).from (room_of (span_at spans j).class) (span_at spans k).from (room_of (span_at spans k).class)
+  pub apart : (j k : ℕ) → j < length spans → k < length spans
+      → j ≢ k → AreClear (span_at spans j).from (room_of (span_at spans j).class) (span_at spans k).from (room_of (span_at spans k).class)
   pub inside : (c i : ℕ) → i < length (row_at spare c) → spare_at spare c i + room_of c ≤ size
-  pub between : (k c i : ℕ) → k < length spans → i < length (row_at spare c) → AreClear (span_at spans k).from (room_of (span_at spans k).class) (spare_at spare c i) (room_of c)
-  pub spares : (c i d j : ℕ) → i < length (row_at spare c) → j < length (row_at spare d) → ((c ≢ d) ⊎ (i ≢ j)) → AreClear (spare_at spare c i) (room_of c) (spare_at spare d j) (room_of d)
+  pub between : (k c i : ℕ) → k < length spans → i < length (row_at spare c)
+      → AreClear (span_at spans k).from (room_of (span_at spans k).class) (spare_at spare c i) (room_of c)
+  pub spares : (c i d j : ℕ) → i < length (row_at spare c) → j < length (row_at spare d) → ((c ≢ d) ⊎ (i ≢ j))
+      → AreClear (spare_at spare c i) (room_of c) (spare_at spare d j) (room_of d)
 
 -- a pool in which the places and the lists have numbers of 32 bits
 pub record IsPool (pool : List Watcher) (spans : List Span) (spare : List (List ℕ)) : Type 0 where

@@ -27,17 +27,21 @@ module _ (first second : Signed) where
   pub among_starts : (rest whole : List Signed) → rest ≡ whole → All (Contains (first ∷ second ∷ [])) rest ↔ All (Contains (first ∷ second ∷ [])) whole
   among_starts rest whole e = ((λ all. subst (All (Contains (first ∷ second ∷ []))) e all), λ all. subst (All (Contains (first ∷ second ∷ []))) (sym e) all)
 
-  pub among_on : (rest more whole : List Signed) (l : Signed) → rest ≡ l ∷ more → Contains (first ∷ second ∷ []) l → (All (Contains (first ∷ second ∷ [])) rest ↔ All (Contains (first ∷ second ∷ [])) whole)
+  pub among_on : (rest more whole : List Signed) (l : Signed) → rest ≡ l ∷ more → Contains (first ∷ second ∷ []) l
+      → (All (Contains (first ∷ second ∷ [])) rest ↔ All (Contains (first ∷ second ∷ [])) whole)
       → All (Contains (first ∷ second ∷ [])) more ↔ All (Contains (first ∷ second ∷ [])) whole
   among_on rest more whole l is here same = (
     λ all. same.0 (subst (All (Contains (first ∷ second ∷ []))) (sym is) (All-cons (Contains (first ∷ second ∷ [])) l more here all)),
     λ all. All-tail (Contains (first ∷ second ∷ [])) l more (subst (All (Contains (first ∷ second ∷ []))) is (same.1 all)),
   )
 
-  pub among_ends : (rest whole : List Signed) → rest ≡ [] → (All (Contains (first ∷ second ∷ [])) rest ↔ All (Contains (first ∷ second ∷ [])) whole) → IsTrue true ↔ All (Contains (first ∷ second ∷ [])) whole
-  among_ends rest whole none same = ((λ t. same.0 (subst (All (Contains (first ∷ second ∷ []))) (sym none) (All-nil (Contains (first ∷ second ∷ []))))), λ all. refl)
+  pub among_ends : (rest whole : List Signed) → rest ≡ [] → (All (Contains (first ∷ second ∷ [])) rest ↔ All (Contains (first ∷ second ∷ [])) whole)
+      → IsTrue true ↔ All (Contains (first ∷ second ∷ [])) whole
+  among_ends rest whole none same =
+      ((λ t. same.0 (subst (All (Contains (first ∷ second ∷ []))) (sym none) (All-nil (Contains (first ∷ second ∷ []))))), λ all. refl)
 
-  pub among_not : (rest more whole : List Signed) (l : Signed) → rest ≡ l ∷ more → (l ≡ first → ⊥) → (l ≡ second → ⊥) → (All (Contains (first ∷ second ∷ [])) rest ↔ All (Contains (first ∷ second ∷ [])) whole)
+  pub among_not : (rest more whole : List Signed) (l : Signed) → rest ≡ l ∷ more → (l ≡ first → ⊥) → (l ≡ second → ⊥)
+      → (All (Contains (first ∷ second ∷ [])) rest ↔ All (Contains (first ∷ second ∷ [])) whole)
       → IsTrue false ↔ All (Contains (first ∷ second ∷ [])) whole
   among_not rest more whole l is one two same = (
     (λ t. absurd (false≢true t)),

@@ -40,7 +40,8 @@ module _ (f : Formula) (kind : Kind) (k : ℕ) (log : DerivationValue) (targets 
     has : HasTargets M targets (length targets)
     has j lt = (needed (get_or targets j 0)).1 (target j lt refl)
 
-    kept_target : (i : ℕ) (literals : List Literal) → i < length targets → IsTarget log.lines targets i literals → IsTarget (trimmed M log).lines (new_numbers M log.lines targets) i literals
+    kept_target : (i : ℕ) (literals : List Literal) → i < length targets → IsTarget log.lines targets i literals
+        → IsTarget (trimmed M log).lines (new_numbers M log.lines targets) i literals
     kept_target i literals lt t = (t.0, target_kept M log.lines targets i t.0 has lt t.1, t.2)
 
     pub trimmed_closes : CloseTableau f kind k (trimmed M log).lines (new_numbers M log.lines targets)
@@ -55,6 +56,8 @@ pub trimmed_verifies : TrimmedVerifies
 trimmed_verifies f kind k log new targets numbers M is trim letters known closed shallow few_clauses few_lines =
     let small = letters_through kind (counts f) k in
     let lines_known : AreKnown small (trimmed M log).lines = All-kept_from (All (IsKnown small)) M 1 log.lines known in
-    let closes : CloseTableau f kind k (trimmed M log).lines numbers = subst (CloseTableau f kind k (trimmed M log).lines) (sym trim.targets_are) (trimmed_closes f kind k log targets closed M trim.marks) in
+    let closes : CloseTableau f kind k (trimmed M log).lines numbers =
+    subst (CloseTableau f kind k (trimmed M log).lines) (sym trim.targets_are) (trimmed_closes f kind k log targets closed M trim.marks) in
     let about : DerivationValue → Type 0 = λ l. length l.lines ≤ greatest_u64 → IsLawfulAt f kind k (text_of (written kind k l.lines l.hints numbers)) in
-    subst about (sym trim.is) (steps_verify f kind k (trimmed M log) numbers (trimmed_steps log M (clause_list f kind k) is trim.closed) letters lines_known closes shallow few_clauses) few_lines
+    subst about (sym trim.is) (steps_verify f kind k (trimmed M log) numbers (trimmed_steps log M (clause_list f kind k) is trim.closed)
+    letters lines_known closes shallow few_clauses) few_lines

@@ -1,5 +1,6 @@
 -- From lines whose targets close the tableau to a lawful certificate.
-use Rattle.std.proofs.Common.{◌≡◌, ℕ, zero, suc, ◌+◌, ◌<◌, inl, inr, Some, refl, sym, ap, subst, ◌∙◌, arith, List, [], ◌∷◌, length, take, get_or, ltb, All, Contains}
+use Rattle.std.proofs.Common.{◌≡◌, ℕ, zero, suc, ◌+◌, ◌<◌, inl, inr, Some, refl, sym, ap, subst, ◌∙◌, arith, List, [], ◌∷◌, length, take, get_or, ltb, All}
+use Rattle.std.proofs.Common.{Contains}
 use Rattle.std.proofs.lemmas.List.{get_or_default}
 use Rattle.std.proofs.lemmas.Bool.{cases_lt, cond-true, cond-false, lt-ltb, le-ltb}
 use Rattle.std.proofs.lemmas.Option.{get_or_from_slice_get, slice_get_within}
@@ -18,9 +19,11 @@ use Rattle.cert_text.specs.Writing.{parts_from}
 use Rattle.cert_text.proofs.Written.{written_lines, written_good, target_is_live}
 use Rattle.cert_check.specs.Lawful.{StepsAreLawful}
 
-numbered_within : (small : ℕ) (lines : List (List Signed)) → All (All (IsKnown small)) lines → (n : ℕ) (clause : List Signed) → numbered lines n ≡ Some clause → All (IsKnown small) clause
+numbered_within : (small : ℕ) (lines : List (List Signed)) → All (All (IsKnown small)) lines → (n : ℕ) (clause : List Signed) → numbered lines n ≡ Some clause
+    → All (IsKnown small) clause
 numbered_within small lines all zero clause is = cc
-numbered_within small lines all (suc n) clause is = subst (All (IsKnown small)) (get_or_from_slice_get lines n clause [] is) (all n [] (slice_get_within lines n clause is))
+numbered_within small lines all (suc n) clause is =
+    subst (All (IsKnown small)) (get_or_from_slice_get lines n clause [] is) (all n [] (slice_get_within lines n clause is))
 
 -- a hinted step over letters up to a greatest one is one over letters up to another one, where the lines that may be named are within it
 module _ (clauses lines : List (List Signed)) (greatest small : ℕ) (all : All (All (IsKnown small)) lines) where
@@ -32,11 +35,13 @@ module _ (clauses lines : List (List Signed)) (greatest small : ℕ) (all : All 
   narrow (conflict {hint = hint} {clause = clause} names all_false) = conflict (names_narrow hint clause names) all_false
   narrow (propagate {hint = hint} {clause = clause} names unit rest) = propagate (names_narrow hint clause names) unit (narrow rest)
 
-  pub step_narrow : (clause : List Signed) (hints : List Hint) → All (IsKnown small) clause → IsHintedStep clauses lines greatest clause hints → IsHintedStep clauses lines small clause hints
+  pub step_narrow : (clause : List Signed) (hints : List Hint) → All (IsKnown small) clause → IsHintedStep clauses lines greatest clause hints
+      → IsHintedStep clauses lines small clause hints
   step_narrow clause hints own step = record { within = own; no_pair = step.no_pair; refutes = narrow step.refutes }
 
 -- a target that names a number within the list is one of the targets
-target_there : (targets : List ℕ) (lines : List (List Signed)) (i : ℕ) (line : List Signed) → i < length targets → numbered lines (get_or targets i 0) ≡ Some line → Contains targets (get_or targets i 0)
+target_there : (targets : List ℕ) (lines : List (List Signed)) (i : ℕ) (line : List Signed) → i < length targets
+    → numbered lines (get_or targets i 0) ≡ Some line → Contains targets (get_or targets i 0)
 target_there targets lines i line low is = (i, low, get_or_default targets i (get_or targets i 0) 0 low)
 
 pub steps_are_lawful : StepsAreLawful
@@ -44,8 +49,10 @@ steps_are_lawful f kind k log targets is few known closed =
     let greatest = letters_through kind (counts f) k in
     let clauses = clause_list f kind k in
     let parts = parts_from log.hints targets 0 log.lines log.hints in
-    let good : (i : ℕ) (line : List Signed) → i < k + 2 → numbered log.lines (get_or targets i 0) ≡ Some line → live_line parts (get_or targets i 0) ≡ Some line =
-    λ i line low named. target_is_live log.hints targets log.lines is.paired (get_or targets i 0) (target_there targets log.lines i line (omega (arith, closed.count, low)) named) ∙ named in
+    let good : (i : ℕ) (line : List Signed) → i < k + 2 → numbered log.lines (get_or targets i 0) ≡ Some line
+    → live_line parts (get_or targets i 0) ≡ Some line =
+    λ i line low named. target_is_live log.hints targets log.lines is.paired (get_or targets i 0)
+    (target_there targets log.lines i line (omega (arith, closed.count, low)) named) ∙ named in
     record {
       same_kind = refl;
       letters = few;

@@ -21,11 +21,13 @@ use Rattle.cert_text.proofs.LiveLines.{good_lines_follow, live_stands}
 use Rattle.cert_check.specs.Lawful.{target_literals, IsLawful, LawfulHasNoTrace}
 
 -- a clause of two letters' negations is false where both letters are true
-no_clause : (f : Formula) (kind : Kind) (v : ℕ → Bool) (p q : Meaning) (line : List Signed) → All (Contains (negative_of f kind p ∷ negative_of f kind q ∷ [])) line → clause_value v line ≡ true
+no_clause : (f : Formula) (kind : Kind) (v : ℕ → Bool) (p q : Meaning) (line : List Signed)
+    → All (Contains (negative_of f kind p ∷ negative_of f kind q ∷ [])) line → clause_value v line ≡ true
     → v (number_in f kind p) ≡ true → v (number_in f kind q) ≡ true → ⊥
 no_clause f kind v p q line only holds yes_p yes_q =
     let w = some_element (literal_value v) line holds in
-    elim (Contains-cons_cases (negative_of f kind p) (negative_of f kind q ∷ []) w.0 (All-contains (Contains (negative_of f kind p ∷ negative_of f kind q ∷ [])) line w.0 only w.1)) [
+    elim (Contains-cons_cases (negative_of f kind p) (negative_of f kind q ∷ []) w.0
+    (All-contains (Contains (negative_of f kind p ∷ negative_of f kind q ∷ [])) line w.0 only w.1)) [
       | inl e ↦ clash (v (number_in f kind p)) yes_p (subst (λ l. literal_value v l ≡ true) (sym e) w.2)
       | inr r ↦ elim (Contains-cons_cases (negative_of f kind q) [] w.0 r) [
         | inl e ↦ clash (v (number_in f kind q)) yes_q (subst (λ l. literal_value v l ≡ true) (sym e) w.2)
@@ -38,7 +40,8 @@ no_clause f kind v p q line only holds yes_p yes_q =
 
 module _ (f : Formula) (c : Certificate) (lawful : IsLawful f c.kind c) where
   -- a target with these two letters is false where both are true
-  target_refutes : (i : ℕ) (p q : Meaning) → i < c.depth + 2 → target_literals f c.kind c.depth i ≡ negative_of f c.kind p ∷ negative_of f c.kind q ∷ [] → (v : ℕ → Bool)
+  target_refutes : (i : ℕ) (p q : Meaning)
+      → i < c.depth + 2 → target_literals f c.kind c.depth i ≡ negative_of f c.kind p ∷ negative_of f c.kind q ∷ [] → (v : ℕ → Bool)
       → Satisfies v (clause_list f c.kind c.depth) → v (number_in f c.kind p) ≡ true → v (number_in f c.kind q) ≡ true → ⊥
   target_refutes i p q low literals v holds yes_p yes_q =
       let it = lawful.targets i low in
@@ -54,7 +57,8 @@ module _ (f : Formula) (c : Certificate) (lawful : IsLawful f c.kind c) where
       elim (cases_lt c.depth m) [
         | inl beyond ↦
             let a = unpruned_to f c.kind c.depth w.2 (run_prefix f m w.2 w.3 c.depth (omega arith)) (λ i h. w.5 i (omega arith)) in
-            target_refutes (suc c.depth) (Here c.depth) Unpruned (omega arith) (cond-true (ltb c.depth (suc c.depth)) _ _ (lt-ltb c.depth (suc c.depth) (omega arith))) a.0 a.1 a.2 a.3
+            target_refutes (suc c.depth) (Here c.depth) Unpruned (omega arith)
+            (cond-true (ltb c.depth (suc c.depth)) _ _ (lt-ltb c.depth (suc c.depth) (omega arith))) a.0 a.1 a.2 a.3
         | inr within ↦
             let a = accepted_to f c.kind c.depth m w.2 within w.3 w.4 in
             target_refutes m (Here m) (Accepted m) (omega arith) (cond-false (ltb c.depth m) _ _ (le-ltb c.depth m within)) a.0 a.1 a.2 a.3

@@ -19,7 +19,8 @@ numbered_range lines zero line few is = cc
 numbered_range lines (suc n) line few is = (omega arith, omega (arith, slice_get_within lines n line is, few))
 
 -- the hints of steps are numbers that a text can have
-step_hints : (list : List (List Signed)) (log : DerivationValue) → AreSteps list log → length list ≤ greatest_u64 → length log.lines ≤ greatest_u64 → All (All IsHint) log.hints
+step_hints : (list : List (List Signed)) (log : DerivationValue) → AreSteps list log
+    → length list ≤ greatest_u64 → length log.lines ≤ greatest_u64 → All (All IsHint) log.hints
 step_hints list log is few_clauses few_lines i d low =
     let below : i < length log.lines = omega (arith, low, is.paired) in
     subst (All IsHint) (get_or_default log.hints i [] d low)
@@ -31,14 +32,20 @@ steps_verify f kind k log targets is letters known closed shallow few_clauses fe
       | inl last ↦
           let at : suc k ≡ i = omega (arith, last, low, closed.count) in
           let it = closed.unpruned in
-          subst IsNumber (ap (λ j. get_or targets j 0) at ∙ get_or_default targets i 0 d low) (numbered_range log.lines (get_or targets (suc k) 0) it.0 few_lines it.1)
+          subst IsNumber (ap (λ j. get_or targets j 0) at ∙ get_or_default targets i 0 d low)
+          (numbered_range log.lines (get_or targets (suc k) 0) it.0 few_lines it.1)
       | inr first ↦
           let it = closed.accepted i first in
           subst IsNumber (get_or_default targets i 0 d low) (numbered_range log.lines (get_or targets i 0) it.0 few_lines it.1)
     ] in
-    let literals : All (All IsLiteral) log.lines = λ i d low j e below. let it = known i d low j e below in (it.from_one, omega (arith, it.within, letters)) in (
+    let literals : All (All IsLiteral) log.lines = λ i d low j e below. let it = known i d low j e below in
+    (it.from_one, omega (arith, it.within, letters)) in (
       written kind k log.lines log.hints targets,
-      record { lawful = written_is kind k log.lines log.hints targets shallow closed.count numbers literals (step_hints (clause_list f kind k) log is few_clauses few_lines) few_lines; spelled = refl },
+      record {
+        lawful = written_is kind k log.lines log.hints targets shallow closed.count numbers literals
+            (step_hints (clause_list f kind k) log is few_clauses few_lines) few_lines;
+        spelled = refl;
+      },
       steps_are_lawful f kind k log targets is letters known closed,
       refl,
     )

@@ -1,5 +1,6 @@
 -- The walk over the items of a text: which parts are taken, what the checker keeps of them, and that each line so far is good.
-use Rattle.std.proofs.Common.{◌≡◌, ℕ, zero, suc, ◌<◌, ◌≤◌, ◌↔◌, inl, inr, Bool, true, false, IsTrue, List, [], ◌∷◌, ◌++◌, length, drop, get_or, All, Contains, Some, None, refl, sym, ap, subst, ◌∙◌, arith, append_assoc}
+use Rattle.std.proofs.Common.{◌≡◌, ℕ, zero, suc, ◌<◌, ◌≤◌, ◌↔◌, inl, inr, Bool, true, false, IsTrue, List, [], ◌∷◌, ◌++◌, length, drop, get_or, All, Contains}
+use Rattle.std.proofs.Common.{Some, None, refl, sym, ap, subst, ◌∙◌, arith, append_assoc}
 use Rattle.std.proofs.lemmas.Bool.{cases_lt}
 use Rattle.std.proofs.lemmas.List.{append-nil, length_push}
 use mathlib.Core.Bool.{false≢true}
@@ -25,22 +26,26 @@ use Rattle.cert_check.specs.Lawful.{target_literals, IsGoodTarget}
 use Rattle.cert_check.specs.Walk.{IsGoodKept}
 
 -- a line behind some parts: what stands before it, and what it says
-before_it : (before : List Part) (ls : List Signed) (hs : List Hint) (coming : List Part) → parts_before (before ++ Line ls hs ∷ coming) (length (lines_of before)) ≡ before
+before_it : (before : List Part) (ls : List Signed) (hs : List Hint) (coming : List Part)
+    → parts_before (before ++ Line ls hs ∷ coming) (length (lines_of before)) ≡ before
 before_it [] ls hs coming = refl
 before_it (Line l h ∷ before) ls hs coming = ap (λ ps. Line l h ∷ ps) (before_it before ls hs coming)
 before_it (Delete ns ∷ before) ls hs coming = ap (λ ps. Delete ns ∷ ps) (before_it before ls hs coming)
 
-line_it : (before : List Part) (ls : List Signed) (hs : List Hint) (coming : List Part) → get_or (lines_of (before ++ Line ls hs ∷ coming)) (length (lines_of before)) [] ≡ ls
+line_it : (before : List Part) (ls : List Signed) (hs : List Hint) (coming : List Part)
+    → get_or (lines_of (before ++ Line ls hs ∷ coming)) (length (lines_of before)) [] ≡ ls
 line_it [] ls hs coming = refl
 line_it (Line l h ∷ before) ls hs coming = line_it before ls hs coming
 line_it (Delete ns ∷ before) ls hs coming = line_it before ls hs coming
 
-hints_it : (before : List Part) (ls : List Signed) (hs : List Hint) (coming : List Part) → get_or (hints_of (before ++ Line ls hs ∷ coming)) (length (lines_of before)) [] ≡ hs
+hints_it : (before : List Part) (ls : List Signed) (hs : List Hint) (coming : List Part)
+    → get_or (hints_of (before ++ Line ls hs ∷ coming)) (length (lines_of before)) [] ≡ hs
 hints_it [] ls hs coming = refl
 hints_it (Line l h ∷ before) ls hs coming = hints_it before ls hs coming
 hints_it (Delete ns ∷ before) ls hs coming = hints_it before ls hs coming
 
-lines_long : (before : List Part) (ls : List Signed) (hs : List Hint) (coming : List Part) → length (lines_of before) < length (lines_of (before ++ Line ls hs ∷ coming))
+lines_long : (before : List Part) (ls : List Signed) (hs : List Hint) (coming : List Part)
+    → length (lines_of before) < length (lines_of (before ++ Line ls hs ∷ coming))
 lines_long [] ls hs coming = omega arith
 lines_long (Line l h ∷ before) ls hs coming = let w = lines_long before ls hs coming in omega (arith, w)
 lines_long (Delete ns ∷ before) ls hs coming = lines_long before ls hs coming
@@ -68,7 +73,8 @@ module _ (clauses : List (List Signed)) (letters : ℕ) (c : Certificate) where
   }
 
   -- the line that comes is judged over what the checker keeps
-  module _ (before coming : List Part) (checker : Checker) (ls : List Signed) (hs : List Hint) (parts : c.parts ≡ before ++ Line ls hs ∷ coming) (has : HasTaken before checker) (letters_are : checker.letters ≡ letters) where
+  module _ (before coming : List Part) (checker : Checker) (ls : List Signed) (hs : List Hint) (parts : c.parts ≡ before ++ Line ls hs ∷ coming)
+      (has : HasTaken before checker) (letters_are : checker.letters ≡ letters) where
     live_same : (m : ℕ) → found checker.live m ≡ live_at c.parts (length (lines_of before)) m
     live_same m = has.live m ∙ ap (λ ps. live_line ps m) (sym (ap (λ ps. parts_before ps (length (lines_of before))) parts ∙ before_it before ls hs coming))
 
@@ -81,7 +87,8 @@ module _ (clauses : List (List Signed)) (letters : ℕ) (c : Certificate) where
     good_here : IsStepAmong clauses (found checker.live) checker.letters ls hs ↔ IsGoodLine clauses letters c.parts (length (lines_of before))
     good_here = (
       λ step.
-          subst (λ l. IsStepAmong clauses (live_at c.parts (length (lines_of before))) letters l (get_or (hints_of c.parts) (length (lines_of before)) [])) (sym same_line)
+          subst (λ l. IsStepAmong clauses (live_at c.parts (length (lines_of before))) letters l (get_or (hints_of c.parts) (length (lines_of before)) []))
+          (sym same_line)
           (subst (λ h. IsStepAmong clauses (live_at c.parts (length (lines_of before))) letters ls h) (sym same_hints)
           (step_kept clauses (found checker.live) (live_at c.parts (length (lines_of before))) letters (λ m x e. sym (live_same m) ∙ e) ls hs
           (subst (λ g. IsStepAmong clauses (found checker.live) g ls hs) letters_are step))),
@@ -89,16 +96,19 @@ module _ (clauses : List (List Signed)) (letters : ℕ) (c : Certificate) where
           subst (λ g. IsStepAmong clauses (found checker.live) g ls hs) (sym letters_are)
           (step_kept clauses (live_at c.parts (length (lines_of before))) (found checker.live) letters (λ m x e. live_same m ∙ e) ls hs
           (subst (λ h. IsStepAmong clauses (live_at c.parts (length (lines_of before))) letters ls h) same_hints
-          (subst (λ l. IsStepAmong clauses (live_at c.parts (length (lines_of before))) letters l (get_or (hints_of c.parts) (length (lines_of before)) [])) same_line good))),
+          (subst (λ l. IsStepAmong clauses (live_at c.parts (length (lines_of before))) letters l (get_or (hints_of c.parts) (length (lines_of before)) []))
+          same_line good))),
     )
 
   -- the parts to come, where the next item is a line, a delete or the close
-  next_line : (coming : List Part) (ls : List Signed) (hs : List Hint) (more : List Item) → items.Line ls hs ∷ more ≡ items_from coming c.targets → (ps : List Part) × (coming ≡ Line ls hs ∷ ps) × (more ≡ items_from ps c.targets)
+  next_line : (coming : List Part) (ls : List Signed) (hs : List Hint) (more : List Item) → items.Line ls hs ∷ more ≡ items_from coming c.targets
+      → (ps : List Part) × (coming ≡ Line ls hs ∷ ps) × (more ≡ items_from ps c.targets)
   next_line [] ls hs more is = absurd (cc)
   next_line (Delete ns ∷ ps) ls hs more is = absurd (cc)
   next_line (Line l h ∷ ps) ls hs more is = (ps, cc, cc)
 
-  next_delete : (coming : List Part) (ns : List ℕ) (more : List Item) → items.Delete ns ∷ more ≡ items_from coming c.targets → (ps : List Part) × (coming ≡ Delete ns ∷ ps) × (more ≡ items_from ps c.targets)
+  next_delete : (coming : List Part) (ns : List ℕ) (more : List Item) → items.Delete ns ∷ more ≡ items_from coming c.targets
+      → (ps : List Part) × (coming ≡ Delete ns ∷ ps) × (more ≡ items_from ps c.targets)
   next_delete [] ns more is = absurd (cc)
   next_delete (Line l h ∷ ps) ns more is = absurd (cc)
   next_delete (Delete ms ∷ ps) ns more is = (ps, cc, cc)
@@ -124,7 +134,8 @@ module _ (clauses : List (List Signed)) (letters : ℕ) (c : Certificate) where
         let whole : c.parts ≡ w.before ++ Line ls hs ∷ n.0 = w.parts ∙ ap (λ ps. w.before ++ ps) n.1 in
         omega (arith, w.has.lines, lines_long w.before ls hs n.0, ap (λ ps. length (lines_of ps)) whole)
 
-    pub walk_line : (ls : List Signed) (hs : List Hint) → rest ≡ items.Line ls hs ∷ more → new ≡ with_item checker (items.Line ls hs) → (r : Bool) → IsGoodItem clauses checker (items.Line ls hs) r → r ≡ true → IsWalked more new
+    pub walk_line : (ls : List Signed) (hs : List Hint) → rest ≡ items.Line ls hs ∷ more → new ≡ with_item checker (items.Line ls hs) → (r : Bool)
+        → IsGoodItem clauses checker (items.Line ls hs) r → r ≡ true → IsWalked more new
     walk_line ls hs is taken_is r judged good_one =
         let n = next_line w.coming ls hs more (sym is ∙ w.left) in
         let whole : c.parts ≡ w.before ++ Line ls hs ∷ n.0 = w.parts ∙ ap (λ ps. w.before ++ ps) n.1 in
@@ -139,7 +150,8 @@ module _ (clauses : List (List Signed)) (letters : ℕ) (c : Certificate) where
           good = λ k low. elim (cases_lt k (length (lines_of w.before))) [
             | inl old ↦ w.good k old
             | inr high ↦
-                let last : length (lines_of w.before) ≡ k = omega (arith, high, low, ap length (lines_on w.before (Line ls hs ∷ [])), length_push (lines_of w.before) ls) in
+                let last : length (lines_of w.before) ≡ k =
+                omega (arith, high, low, ap length (lines_on w.before (Line ls hs ∷ [])), length_push (lines_of w.before) ls) in
                 subst (IsGoodLine clauses letters c.parts) last here
           ];
         }
@@ -159,16 +171,19 @@ module _ (clauses : List (List Signed)) (letters : ℕ) (c : Certificate) where
         }
 
     -- the first line that is not good is the first bad one
-    pub walk_bad : (ls : List Signed) (hs : List Hint) → rest ≡ items.Line ls hs ∷ more → (r : Bool) → IsGoodItem clauses checker (items.Line ls hs) r → (r ≡ true → ⊥) → IsFirstBadLine clauses letters c.parts (Some checker.lines)
+    pub walk_bad : (ls : List Signed) (hs : List Hint) → rest ≡ items.Line ls hs ∷ more → (r : Bool) → IsGoodItem clauses checker (items.Line ls hs) r
+        → (r ≡ true → ⊥) → IsFirstBadLine clauses letters c.parts (Some checker.lines)
     walk_bad ls hs is r judged dead =
         let n = next_line w.coming ls hs more (sym is ∙ w.left) in
         let whole : c.parts ≡ w.before ++ Line ls hs ∷ n.0 = w.parts ∙ ap (λ ps. w.before ++ ps) n.1 in
         let no : IsGoodLine clauses letters c.parts checker.lines → ⊥ =
-        λ good. let step = (good_here w.before n.0 checker ls hs whole w.has w.letters_are).1 (subst (IsGoodLine clauses letters c.parts) w.has.lines good) in dead (judged.1 step) in
+        λ good. let step = (good_here w.before n.0 checker ls hs whole w.has w.letters_are).1 (subst (IsGoodLine clauses letters c.parts) w.has.lines good) in
+        dead (judged.1 step) in
         (omega arith, line_counts ls hs is, no, λ k above below. w.good k (omega (arith, below, w.has.lines)))
 
     -- at the close all lines are taken
-    pub walk_closes : (ts : List ℕ) → rest ≡ items.Close ts ∷ more → (ts ≡ c.targets) × ((m : ℕ) → found checker.live m ≡ live_line c.parts m) × IsFirstBadLine clauses letters c.parts None
+    pub walk_closes : (ts : List ℕ)
+        → rest ≡ items.Close ts ∷ more → (ts ≡ c.targets) × ((m : ℕ) → found checker.live m ≡ live_line c.parts m) × IsFirstBadLine clauses letters c.parts None
     walk_closes ts is =
         let n = next_close w.coming ts more (sym is ∙ w.left) in
         let whole : c.parts ≡ w.before = w.parts ∙ ap (λ ps. w.before ++ ps) n.0 ∙ append-nil w.before in (
@@ -178,18 +193,21 @@ module _ (clauses : List (List Signed)) (letters : ℕ) (c : Certificate) where
         )
 
 -- a target is good by what the checker keeps exactly where it is by the text
-pub kept_target : (f : Formula) (kind : Kind) (depth : ℕ) (c : Certificate) (checker : Checker) (targets : List ℕ) (i : ℕ) → c.kind ≡ kind → c.depth ≡ depth → targets ≡ c.targets
+pub kept_target : (f : Formula) (kind : Kind) (depth : ℕ) (c : Certificate) (checker : Checker) (targets : List ℕ) (i : ℕ)
+    → c.kind ≡ kind → c.depth ≡ depth → targets ≡ c.targets
     → ((m : ℕ) → found checker.live m ≡ live_line c.parts m) → IsGoodKept f kind depth checker.live i (get_or targets i 0) ↔ IsGoodTarget f c i
 kept_target f kind depth c checker targets i same_kind same_depth same_targets live =
     let name : get_or targets i 0 ≡ get_or c.targets i 0 = ap (λ ts. get_or ts i 0) same_targets in
     let at : found checker.live (get_or targets i 0) ≡ live_line c.parts (get_or c.targets i 0) = live (get_or targets i 0) ∙ ap (live_line c.parts) name in
-    let literals : target_literals f kind depth i ≡ target_literals f c.kind c.depth i = ap (λ k. target_literals f k depth i) (sym same_kind) ∙ ap (λ d. target_literals f c.kind d i) (sym same_depth) in (
+    let literals : target_literals f kind depth i ≡ target_literals f c.kind c.depth i =
+    ap (λ k. target_literals f k depth i) (sym same_kind) ∙ ap (λ d. target_literals f c.kind d i) (sym same_depth) in (
       λ (line, there, among). (line, sym at ∙ there, subst (λ ls. All (Contains ls) line) literals among),
       λ (line, there, among). (line, at ∙ there, subst (λ ls. All (Contains ls) line) (sym literals) among),
     )
 
 -- what is kept of the line that a target names says whether the target is good
-pub kept_here : (f : Formula) (kind : Kind) (depth : ℕ) (kept : List LiveLine) (i target : ℕ) (literals allowed : List Signed) (r : Bool) → found kept target ≡ Some literals → allowed ≡ target_literals f kind depth i
+pub kept_here : (f : Formula) (kind : Kind) (depth : ℕ) (kept : List LiveLine) (i target : ℕ) (literals allowed : List Signed) (r : Bool)
+    → found kept target ≡ Some literals → allowed ≡ target_literals f kind depth i
     → (IsTrue r ↔ All (Contains allowed) literals) → IsTrue r ↔ IsGoodKept f kind depth kept i target
 kept_here f kind depth kept i target literals allowed r there is test = (
   λ yes. (literals, there, subst (λ ls. All (Contains ls) literals) is (test.0 yes)),
@@ -199,7 +217,8 @@ kept_here f kind depth kept i target literals allowed r there is test = (
       test.1 (subst (λ ls. All (Contains ls) literals) (sym is) (subst (All (Contains (target_literals f kind depth i))) e among)),
 )
 
-pub kept_none : (f : Formula) (kind : Kind) (depth : ℕ) (kept : List LiveLine) (i target : ℕ) → found kept target ≡ None → IsTrue false ↔ IsGoodKept f kind depth kept i target
+pub kept_none : (f : Formula) (kind : Kind) (depth : ℕ) (kept : List LiveLine) (i target : ℕ)
+    → found kept target ≡ None → IsTrue false ↔ IsGoodKept f kind depth kept i target
 kept_none f kind depth kept i target none = (
   (λ yes. absurd (false≢true yes)),
   λ (line, there, among). let clash : None ≡ Some line = sym none ∙ there in absurd (cc),

@@ -47,7 +47,8 @@ IsAnswer f kind bytes (FormFault byte) = IsFormFault bytes byte
 IsAnswer f kind bytes OtherKind = (c : Certificate) × IsTextOf bytes c × (c.kind ≢ kind)
 IsAnswer f kind bytes (TooManyLetters d) = (c : Certificate) × IsTextOf bytes c × (c.kind ≡ kind) × (¬ HasFewLetters f c) × IsInForce f kind c.depth d
 IsAnswer f kind bytes (BadLine n) = (c : Certificate) × IsTextOf bytes c × (c.kind ≡ kind) × HasFewLetters f c × (k : ℕ) × (n ≡ suc k) × IsFirstBadLineOf f c k
-IsAnswer f kind bytes (BadTarget n) = (c : Certificate) × IsTextOf bytes c × (c.kind ≡ kind) × HasFewLetters f c × AreGoodLines f c × (i : ℕ) × (n ≡ suc i) × IsFirstBad (IsGoodTarget f c) 0 (c.depth + 2) (Some i)
+IsAnswer f kind bytes (BadTarget n) = (c : Certificate) × IsTextOf bytes c × (c.kind ≡ kind) × HasFewLetters f c × AreGoodLines f c × (i : ℕ) × (n ≡ suc i)
+    × IsFirstBad (IsGoodTarget f c) 0 (c.depth + 2) (Some i)
 IsAnswer f kind bytes Verified = CertOk f kind bytes
 
 -- the first bad one of a number of places, by its own number from 1
@@ -80,4 +81,5 @@ AllGoodIsVerified = (f : Formula) (kind : Kind) (bytes : List ℕ) (c : Certific
 
 -- where the answer is that the certificate is verified, no trace of the kind satisfies the formula
 abbrev pub VerifiedHasNoTrace : Type 0
-VerifiedHasNoTrace = (f : Formula) (kind : Kind) (bytes : List ℕ) (t : Trace) → IsAnswer f kind bytes (answer_of verdicts.Verified) → IsTrace t → IsOfKind t kind → ¬ Satisfies t f
+VerifiedHasNoTrace = (f : Formula) (kind : Kind) (bytes : List ℕ) (t : Trace) → IsAnswer f kind bytes (answer_of verdicts.Verified) → IsTrace t
+    → IsOfKind t kind → ¬ Satisfies t f

@@ -15,7 +15,8 @@ use Rattle.cert_text.specs.Text.{Certificate, greatest_u64, text_of, IsTextOf}
 use Rattle.cert_text.specs.Live.{lines_of, live_line, IsGoodLine}
 use Rattle.cert_text.specs.Writing.{written}
 
--- the literals that the line of target i + 1 may have, at depth k: that no run is accepted at state i, or, of the last target, that each run of k + 1 states is pruned
+-- the literals that the line of target i + 1 may have, at depth k: that no run is accepted at state i, or, of the last target, that each
+-- run of k + 1 states is pruned
 abbrev pub target_literals : Formula → Kind → ℕ → ℕ → List Signed
 target_literals f kind k i =
     if nat_lt k i then negative_of f kind (Here k) ∷ negative_of f kind Unpruned ∷ []
@@ -23,7 +24,8 @@ target_literals f kind k i =
 
 -- target i + 1 names a line that is live at the close and has only its literals
 abbrev pub IsGoodTarget : Formula → Certificate → ℕ → Type 0
-IsGoodTarget f c i = (line : List Signed) × (live_line c.parts (slice_index_or c.targets i 0) ≡ Some line) × All (Contains (target_literals f c.kind c.depth i)) line
+IsGoodTarget f c i =
+    (line : List Signed) × (live_line c.parts (slice_index_or c.targets i 0) ≡ Some line) × All (Contains (target_literals f c.kind c.depth i)) line
 
 -- line k + 1 is a hinted step over the clause list through the depth, the lines that are live at it and the letters through the depth
 abbrev pub IsGoodLineOf : Formula → Certificate → ℕ → Type 0

@@ -16,16 +16,20 @@ use Rattle.cert_check.specs.Lawful.{IsLawfulAt}
 
 -- targets that close the tableau are lines
 abbrev pub TargetsAreLines : Type 0
-TargetsAreLines = (f : Formula) (kind : Kind) (k : ℕ) (log : DerivationValue) (targets : List ℕ) → CloseTableau f kind k log.lines targets → AreLines log targets
+TargetsAreLines =
+    (f : Formula) (kind : Kind) (k : ℕ) (log : DerivationValue) (targets : List ℕ) → CloseTableau f kind k log.lines targets → AreLines log targets
 
 -- and they close it among the trimmed lines
 abbrev pub TrimmedCloses : Type 0
-TrimmedCloses = (f : Formula) (kind : Kind) (k : ℕ) (log : DerivationValue) (targets : List ℕ) (M : Marks) → AreTheNeeded log targets M → CloseTableau f kind k log.lines targets
+TrimmedCloses = (f : Formula) (kind : Kind) (k : ℕ) (log : DerivationValue) (targets : List ℕ) (M : Marks) → AreTheNeeded log targets M
+    → CloseTableau f kind k log.lines targets
     → CloseTableau f kind k (trimmed M log).lines (new_numbers M log.lines targets)
 
--- what is written of trimmed lines is a lawful certificate of the depth, where the lines are steps over the clause list through k and have the letters from 1 through k, and the targets close the tableau
+-- what is written of trimmed lines is a lawful certificate of the depth, where the lines are steps over the clause list through k and have
+-- the letters from 1 through k, and the targets close the tableau
 abbrev pub TrimmedVerifies : Type 0
-TrimmedVerifies = (f : Formula) (kind : Kind) (k : ℕ) (log new : DerivationValue) (targets numbers : List ℕ) (M : Marks) → AreSteps (clause_list f kind k) log → IsTrimmed log targets new numbers M
+TrimmedVerifies = (f : Formula) (kind : Kind) (k : ℕ) (log new : DerivationValue) (targets numbers : List ℕ) (M : Marks) → AreSteps (clause_list f kind k) log
+    → IsTrimmed log targets new numbers M
     → letters_through kind (counts f) k ≤ 16777216 → AreKnown (letters_through kind (counts f) k) log.lines → CloseTableau f kind k log.lines targets
     → k ≤ 1000 → length (clause_list f kind k) ≤ greatest_u64 → length new.lines ≤ greatest_u64
     → IsLawfulAt f kind k (text_of (written kind k new.lines new.hints numbers))

@@ -1,5 +1,6 @@
 -- What is deleted behind a line: the lines whose last use it is, and no other list.
-use Rattle.std.proofs.Common.{◌≡◌, ℕ, zero, suc, ◌+◌, ◌<◌, ◌≤◌, ◌==◌, ◌||◌, ◌&&◌, ◌⊎◌, inl, inr, Bool, true, false, not, cond, List, [], ◌∷◌, ◌++◌, length, get_or, filter, All, Contains, refl, sym, ap, ap₂, ◌∙◌, subst, arith, if◌then◌else◌}
+use Rattle.std.proofs.Common.{◌≡◌, ℕ, zero, suc, ◌+◌, ◌<◌, ◌≤◌, ◌==◌, ◌||◌, ◌&&◌, ◌⊎◌, inl, inr, Bool, true, false, not, cond, List, [], ◌∷◌, ◌++◌, length}
+use Rattle.std.proofs.Common.{get_or, filter, All, Contains, refl, sym, ap, ap₂, ◌∙◌, subst, arith, if◌then◌else◌}
 use Rattle.std.specs.List.{list_any}
 use Rattle.std.proofs.lemmas.Bool.{cond-false, eqb-true, eq-eqb, ne_eqb, cases_lt, cases_order, cases_eq, and_parts, and_from, and_right}
 use Rattle.std.proofs.lemmas.List.Elements.{All-nil, All-head, All-tail, All-push, Contains-push_cases}
@@ -49,7 +50,8 @@ last_cases : (m n : ℕ) (hss : List (List Hint)) (last : ℕ)
 last_cases m n [] last = inr (refl, λ j low. absurd (omega (arith, low)))
 last_cases m n (hs ∷ hss) last = go (uses m hs) refl (λ x. last_cases m (suc n) hss x)
   where
-    none_of : uses m hs ≡ false → ((j : ℕ) → j < length hss → uses m (get_or hss j []) ≡ false) → (j : ℕ) → j < length (hs ∷ hss) → uses m (get_or (hs ∷ hss) j []) ≡ false
+    none_of : uses m hs ≡ false → ((j : ℕ) → j < length hss → uses m (get_or hss j []) ≡ false) → (j : ℕ) → j < length (hs ∷ hss)
+        → uses m (get_or (hs ∷ hss) j []) ≡ false
     none_of is none zero low = is
     none_of is none (suc j) low = none j (omega (arith, low))
 
@@ -131,7 +133,8 @@ has_filter p m [] = sym (none (p m))
     none false = refl
 has_filter p m (x ∷ xs) = go (x == m) refl (p x) refl (has_filter p m xs)
   where
-    go : (a : Bool) → (x == m) ≡ a → (b : Bool) → p x ≡ b → has m (filter p xs) ≡ (p m && has m xs) → has m (cond b (x ∷ filter p xs) (filter p xs)) ≡ (p m && (a || has m xs))
+    go : (a : Bool) → (x == m) ≡ a → (b : Bool) → p x ≡ b → has m (filter p xs) ≡ (p m && has m xs)
+        → has m (cond b (x ∷ filter p xs) (filter p xs)) ≡ (p m && (a || has m xs))
     go true e true is rest = ap (λ c. c || has m (filter p xs)) e ∙ sym (ap (λ c. c && true) (sym (ap p (eqb-true x m e)) ∙ is))
     go true e false is rest = rest ∙ both (p m) (has m xs) (sym (ap p (eqb-true x m e)) ∙ is)
       where
@@ -156,7 +159,8 @@ ended_ascend hss targets n = (
   filter_ascends (test hss targets n) 0 (numbers_to n) (numbers_ascend n),
   λ m. (
     λ there.
-        let parts = and_parts (test hss targets n m) (has m (numbers_to n)) (sym (has_filter (test hss targets n) m (numbers_to n)) ∙ has_from m (ended_at hss targets n) there) in
+        let parts = and_parts (test hss targets n m) (has m (numbers_to n))
+        (sym (has_filter (test hss targets n) m (numbers_to n)) ∙ has_from m (ended_at hss targets n) there) in
         let both = and_parts (not (has m targets)) (last_use hss m == n) parts.0 in
         let range = range_of n m (has_to m (numbers_to n) parts.1) in
         record {
@@ -169,7 +173,8 @@ ended_ascend hss targets n = (
         has_to m (ended_at hss targets n)
         (has_filter (test hss targets n) m (numbers_to n)
         ∙ and_from (test hss targets n m) (has m (numbers_to n))
-        (and_from (not (has m targets)) (last_use hss m == n) (absent (has m targets) (λ e. ends.no_target (has_to m targets e))) (eq-eqb (last_use hss m) n ends.last))
+        (and_from (not (has m targets)) (last_use hss m == n) (absent (has m targets) (λ e. ends.no_target (has_to m targets e)))
+        (eq-eqb (last_use hss m) n ends.last))
         (has_numbers n m ends.low ends.high)),
   ),
 )
@@ -191,13 +196,20 @@ one_list low (x ∷ xs) [] one two same = absurd (false≢true (sym (same x) ∙
 one_list low (x ∷ xs) (y ∷ ys) one two same =
     let at : x ≡ y = elim (cases_order x y) [
       | inl e ↦ e
-      | inr (inl less) ↦ absurd (false≢true (sym (ap (λ b. b || has x ys) (ne_eqb y x (λ e. omega (arith, e, less))) ∙ has_none y x ys two.1 (omega (arith, less))) ∙ sym (same x) ∙ ap (λ b. b || has x xs) (eq-eqb x x refl)))
-      | inr (inr more) ↦ absurd (false≢true (sym (ap (λ b. b || has y xs) (ne_eqb x y (λ e. omega (arith, e, more))) ∙ has_none x y xs one.1 (omega (arith, more))) ∙ same y ∙ ap (λ b. b || has y ys) (eq-eqb y y refl)))
+      | inr (inl less) ↦ absurd (false≢true (sym (ap (λ b. b || has x ys) (ne_eqb y x (λ e. omega (arith, e, less))) ∙ has_none y x ys two.1 (omega (
+        arith,
+        less,
+      ))) ∙ sym (same x) ∙ ap (λ b. b || has x xs) (eq-eqb x x refl)))
+      | inr (inr more) ↦ absurd (false≢true (sym (ap (λ b. b || has y xs) (ne_eqb x y (λ e. omega (arith, e, more))) ∙ has_none x y xs one.1 (omega (
+        arith,
+        more,
+      ))) ∙ same y ∙ ap (λ b. b || has y ys) (eq-eqb y y refl)))
     ] in
     let other : Ascends x ys = subst (λ l. Ascends l ys) (sym at) two.1 in
     let rest : (m : ℕ) → has m xs ≡ has m ys =
     λ m. elim (cases_lt x m) [
-      | inl above ↦ sym (ap (λ b. b || has m xs) (ne_eqb x m (λ e. omega (arith, e, above)))) ∙ same m ∙ ap (λ b. b || has m ys) (ne_eqb y m (λ e. omega (arith, e, above, at)))
+      | inl above ↦ sym (ap (λ b. b || has m xs) (ne_eqb x m (λ e. omega (arith, e, above)))) ∙ same m
+          ∙ ap (λ b. b || has m ys) (ne_eqb y m (λ e. omega (arith, e, above, at)))
       | inr below ↦ has_none x m xs one.1 below ∙ sym (has_none x m ys other below)
     ] in
     ap₂ (λ z zs. z ∷ zs) at (one_list x xs ys one.1 other rest)
@@ -206,7 +218,8 @@ pub ended_are_one : EndedAreOne
 ended_are_one hss targets n ms up same =
     let is = ended_ascend hss targets n in
     one_list 0 ms (ended_at hss targets n) up is.0 (λ m.
-    alike (has m ms) (has m (ended_at hss targets n)) (λ e. has_from m (ended_at hss targets n) ((is.1 m).1 ((same m).0 (has_to m ms e)))) (λ e. has_from m ms ((same m).1 ((is.1 m).0 (has_to m (ended_at hss targets n) e)))))
+    alike (has m ms) (has m (ended_at hss targets n)) (λ e. has_from m (ended_at hss targets n) ((is.1 m).1 ((same m).0 (has_to m ms e))))
+    (λ e. has_from m ms ((same m).1 ((is.1 m).0 (has_to m (ended_at hss targets n) e)))))
   where
     alike : (a b : Bool) → (a ≡ true → b ≡ true) → (b ≡ true → a ≡ true) → a ≡ b
     alike true b f g = sym (f refl)
@@ -230,6 +243,7 @@ ended_among_all hss targets n (suc count) later low = elim (cases_eq n (suc coun
         | inr none ↦ omega (arith, none.0)
       ] in
       filter_push (λ m. not (list_any (λ t. t == m) targets) && (last_use hss m == n)) (numbers_to count) (suc count)
-      (and_right (not (list_any (λ t. t == suc count) targets)) (last_use hss (suc count) == n) (ne_eqb (last_use hss (suc count)) n (λ e. omega (arith, e, late, other, low))))
+      (and_right (not (list_any (λ t. t == suc count) targets)) (last_use hss (suc count) == n)
+      (ne_eqb (last_use hss (suc count)) n (λ e. omega (arith, e, late, other, low))))
       ∙ ended_among_all hss targets n count later (omega (arith, other, low))
 ]

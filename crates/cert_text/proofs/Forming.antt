@@ -1,5 +1,6 @@
 -- What a pass over the bytes has come to.
-use Rattle.std.proofs.Common.{◌≡◌, ℕ, ◌+◌, ◌<◌, ◌≤◌, ◌==◌, Bool, true, false, cond, List, [], ◌∷◌, ◌++◌, length, take, get_or, Option, Some, None, refl, sym, ap, ap₂, ◌∙◌, subst, arith, add-one, length-append}
+use Rattle.std.proofs.Common.{◌≡◌, ℕ, ◌+◌, ◌<◌, ◌≤◌, ◌==◌, Bool, true, false, cond, List, [], ◌∷◌, ◌++◌, length, take, get_or, Option, Some, None, refl, sym}
+use Rattle.std.proofs.Common.{ap, ap₂, ◌∙◌, subst, arith, add-one, length-append}
 use Rattle.std.specs.Prelude.{codes, decimal}
 use Rattle.std.specs.List.{flat_map}
 use Rattle.std.specs.Option.{option_and_then}
@@ -7,7 +8,8 @@ use Rattle.std.proofs.Math.Seq.{take-suc}
 use Rattle.std.proofs.lemmas.List.{append-nil}
 use Rattle.cert_text.specs.Text.{Part, Line, Delete, Certificate, part_text, IsTextOf, IsFormFault}
 use Rattle.cert_text.specs.Live.{lines_of}
-use Rattle.cert_text.specs.Scan.{OfDepth, OfLiteral, OfHint, OfTarget, OfDelete, AtVersion, AtKind, AtNumber, InNumber, AtPart, AtLiteral, AtHint, AtEnd, Scan, start, step, run}
+use Rattle.cert_text.specs.Scan.{OfDepth, OfLiteral, OfHint, OfTarget, OfDelete, AtVersion, AtKind, AtNumber, InNumber, AtPart, AtLiteral, AtHint, AtEnd, Scan}
+use Rattle.cert_text.specs.Scan.{start, step, run}
 use Rattle.cert_text.specs.Scan as scan
 use Rattle.cert_text.specs.declared.scanning.Head.{Head}
 use Rattle.cert_text.specs.declared.scanning.Place.{Place}
@@ -119,19 +121,24 @@ at_more bytes left l place p b at e = go (step at.scan b) refl (advanced bytes l
     }
 
 -- at a byte that leads nowhere
-pub at_fault : (bytes left : List ℕ) (place : Place) (i : ℕ) → i < length bytes → IsAt (take i bytes) left place → small_advance left place (get_or bytes i 0) ≡ None → IsFormFault bytes i
-at_fault bytes left place i low at e = scans_stop bytes i at.scan low at.is (none (step at.scan (get_or bytes i 0)) (advanced (take i bytes) left place (get_or bytes i 0) at ∙ e))
+pub at_fault : (bytes left : List ℕ) (place : Place) (i : ℕ) → i < length bytes → IsAt (take i bytes) left place
+    → small_advance left place (get_or bytes i 0) ≡ None → IsFormFault bytes i
+at_fault bytes left place i low at e =
+    scans_stop bytes i at.scan low at.is (none (step at.scan (get_or bytes i 0)) (advanced (take i bytes) left place (get_or bytes i 0) at ∙ e))
   where
     none : (o : Option Scan) → shaped o ≡ None → o ≡ None
     none None shape = refl
     none (Some t) shape = cc
 
-pub at_byte : (bytes left l : List ℕ) (place p : Place) (i : ℕ) → i < length bytes → IsAt (take i bytes) left place → small_advance left place (get_or bytes i 0) ≡ Some (l, p) → IsAt (take (i + 1) bytes) l p
+pub at_byte : (bytes left l : List ℕ) (place p : Place) (i : ℕ) → i < length bytes → IsAt (take i bytes) left place
+    → small_advance left place (get_or bytes i 0) ≡ Some (l, p) → IsAt (take (i + 1) bytes) l p
 at_byte bytes left l place p i low at e =
-    subst (λ w. IsAt w l p) (sym (take-suc bytes i 0 low) ∙ ap (λ n. take n bytes) (sym (add-one i))) (at_more (take i bytes) left l place p (get_or bytes i 0) at e)
+    subst (λ w. IsAt w l p) (sym (take-suc bytes i 0 low) ∙ ap (λ n. take n bytes) (sym (add-one i)))
+    (at_more (take i bytes) left l place p (get_or bytes i 0) at e)
 
 -- at the end of a certificate
-pub at_end : (bytes left : List ℕ) (place : Place) (h : Head) → IsAt bytes left place → left ≡ [] → place ≡ places.End h → (c : Certificate) × IsTextOf bytes c × (h ≡ head_of c)
+pub at_end : (bytes left : List ℕ) (place : Place) (h : Head) → IsAt bytes left place → left ≡ [] → place ≡ places.End h
+    → (c : Certificate) × IsTextOf bytes c × (h ≡ head_of c)
 at_end bytes left place h at none end = go at.scan at.is (sym none ∙ at.same_left) (sym end ∙ at.same_place)
   where
     go : (s : Scan) → run start bytes ≡ Some s → [] ≡ s.0 → places.End h ≡ place_of s.1 → (c : Certificate) × IsTextOf bytes c × (h ≡ head_of c)
@@ -146,6 +153,7 @@ at_end bytes left place h at none end = go at.scan at.is (sym none ∙ at.same_l
     go ([], AtEnd c) is l e = (c, read_whole bytes c is, (let same : h ≡ head_of c = cc in same))
 
 -- anywhere else
-pub at_none : (bytes left : List ℕ) (place : Place) → IsAt bytes left place → ((h : Head) → left ≡ [] → place ≡ places.End h → ⊥) → IsFormFault bytes (length bytes)
+pub at_none : (bytes left : List ℕ) (place : Place) → IsAt bytes left place → ((h : Head) → left ≡ [] → place ≡ places.End h → ⊥)
+    → IsFormFault bytes (length bytes)
 at_none bytes left place at other =
     scans_end bytes at.scan at.is (λ c e. other (head_of c) (at.same_left ∙ ap (λ (s : Scan). s.0) e) (at.same_place ∙ ap (λ (s : Scan). place_of s.1) e))

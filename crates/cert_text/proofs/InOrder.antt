@@ -1,5 +1,6 @@
 -- Bytes that are gone over by blocks are numbers: from the lanes of a block to its bytes, and from bytes in order to numbers.
-use Rattle.std.proofs.Common.{◌≡◌, ℕ, zero, suc, ◌+◌, ◌-◌, ◌*◌, ◌%◌, ◌^◌, ◌<◌, ◌≤◌, Bool, true, false, not, ◌||◌, List, [], ◌∷◌, length, get_or, map, Fits, w8, eqb, leb, cond, bit_or, bit_and, IsTrue, refl, sym, ap, ap₂, ◌∙◌, subst, arith}
+use Rattle.std.proofs.Common.{◌≡◌, ℕ, zero, suc, ◌+◌, ◌-◌, ◌*◌, ◌%◌, ◌^◌, ◌<◌, ◌≤◌, Bool, true, false, not, ◌||◌, List, [], ◌∷◌, length, get_or, map, Fits, w8}
+use Rattle.std.proofs.Common.{eqb, leb, cond, bit_or, bit_and, IsTrue, refl, sym, ap, ap₂, ◌∙◌, subst, arith}
 use Rattle.std.proofs.Math.Nat.{pow-suc}
 use Rattle.std.proofs.lemmas.Bool.{agree_below, agree_below_at, eqb-true, eq-eqb}
 use Rattle.std.proofs.lemmas.Simd.{map-map, mask_l-mod, length-chunk, get_or-chunk, get_or-zip2, length-zip2}
@@ -50,7 +51,8 @@ seconds (x ∷ xs) (y ∷ ys) e = ap (λ r. y ∷ r) (seconds xs ys (omega (arit
 -- the top bit of the lane of a byte
 lane_at : (bytes : List ℕ) (at k : ℕ) → 1 ≤ at → at + 16 ≤ length bytes → at ≤ k → k < at + 16 → (z : List ℕ) (f : ℕ × ℕ → ℕ)
     → z ≡ map f (pairs (chunk (at - 1) 16 bytes) (chunk at 16 bytes))
-    → get_or (map (λ t. top 7 (f t)) (pairs (chunk (at - 1) 16 bytes) (chunk at 16 bytes))) (k - at) false ≡ top 7 (f (get_or bytes (k - 1) 0, get_or bytes k 0))
+    → get_or (map (λ t. top 7 (f t)) (pairs (chunk (at - 1) 16 bytes) (chunk at 16 bytes))) (k - at) false ≡ top 7
+    (f (get_or bytes (k - 1) 0, get_or bytes k 0))
 lane_at bytes at k some room from to z f lanes =
     let before = chunk (at - 1) 16 bytes in
     let here = chunk at 16 bytes in
@@ -59,12 +61,16 @@ lane_at bytes at k some room from to z f lanes =
     let long : length (pairs before here) ≡ 16 = length-zip2 (λ a b. (a, b)) before here (long_before ∙ sym long_here) ∙ long_before in
     let pair : get_or (pairs before here) (k - at) (0, 0) ≡ (get_or before (k - at) 0, get_or here (k - at) 0) =
     get_or-zip2 (λ a b. (a, b)) before here (k - at) 0 0 (0, 0) (omega (arith, long_before, from, to)) (omega (arith, long_here, from, to)) in
-    let first : get_or before (k - at) 0 ≡ get_or bytes (k - 1) 0 = get_or-chunk (at - 1) 16 bytes (k - at) 0 (omega (arith, from, to)) ∙ ap (λ i. get_or bytes i 0) (omega (arith, some, from)) in
-    let second : get_or here (k - at) 0 ≡ get_or bytes k 0 = get_or-chunk at 16 bytes (k - at) 0 (omega (arith, from, to)) ∙ ap (λ i. get_or bytes i 0) (omega (arith, from)) in
-    get_or-map (λ t. top 7 (f t)) (pairs before here) (k - at) (0, 0) false (omega (arith, long, from, to)) ∙ ap (λ t. top 7 (f t)) pair ∙ ap₂ (λ a b. top 7 (f (a, b))) first second
+    let first : get_or before (k - at) 0 ≡ get_or bytes (k - 1) 0 =
+    get_or-chunk (at - 1) 16 bytes (k - at) 0 (omega (arith, from, to)) ∙ ap (λ i. get_or bytes i 0) (omega (arith, some, from)) in
+    let second : get_or here (k - at) 0 ≡ get_or bytes k 0 =
+    get_or-chunk at 16 bytes (k - at) 0 (omega (arith, from, to)) ∙ ap (λ i. get_or bytes i 0) (omega (arith, from)) in
+    get_or-map (λ t. top 7 (f t)) (pairs before here) (k - at) (0, 0) false (omega (arith, long, from, to)) ∙ ap (λ t. top 7 (f t)) pair
+    ∙ ap₂ (λ a b. top 7 (f (a, b))) first second
 
 -- the mask of a block, and how many lanes it has
-block_mask : (bytes : List ℕ) (at : ℕ) → 1 ≤ at → at + 16 ≤ length bytes → (z : List ℕ) (f : ℕ × ℕ → ℕ) → z ≡ map f (pairs (chunk (at - 1) 16 bytes) (chunk at 16 bytes))
+block_mask : (bytes : List ℕ) (at : ℕ) → 1 ≤ at → at + 16 ≤ length bytes → (z : List ℕ) (f : ℕ × ℕ → ℕ)
+    → z ≡ map f (pairs (chunk (at - 1) 16 bytes) (chunk at 16 bytes))
     → (length (map (λ t. top 7 (f t)) (pairs (chunk (at - 1) 16 bytes) (chunk at 16 bytes))) ≡ 16)
     × (mask_l (map (top 7) z) % 2 ^ 64 ≡ mask_l (map (λ t. top 7 (f t)) (pairs (chunk (at - 1) 16 bytes) (chunk at 16 bytes))))
 block_mask bytes at some room z f lanes =
@@ -75,7 +81,8 @@ block_mask bytes at some room z f lanes =
     let long : length (pairs before here) ≡ 16 = length-zip2 (λ a b. (a, b)) before here (long_before ∙ sym long_here) ∙ long_before in
     let sized : length (map (λ t. top 7 (f t)) (pairs before here)) ≡ 16 = length-map (pairs before here) (λ t. top 7 (f t)) ∙ long in (
       sized,
-      ap (λ l. mask_l l % 2 ^ 64) (ap (map (top 7)) lanes ∙ map-map (top 7) f (pairs before here)) ∙ mask_l-mod (map (λ t. top 7 (f t)) (pairs before here)) 64 (omega (arith, sized)),
+      ap (λ l. mask_l l % 2 ^ 64) (ap (map (top 7)) lanes ∙ map-map (top 7) f (pairs before here))
+          ∙ mask_l-mod (map (λ t. top 7 (f t)) (pairs before here)) 64 (omega (arith, sized)),
     )
 
 -- a lane of a block's test, by what the byte before it is
@@ -102,7 +109,8 @@ in_order bytes at some room fits z f lanes same mask k from to =
     let a = get_or bytes (k - 1) 0 in
     let b = get_or bytes k 0 in
     let held : top 7 (lane (leb 48 a) (eqb a 32) b) ≡ true = ap (top 7) (sym (same a b)) ∙ sym (lane_at bytes at k some room from to z f lanes) ∙ set in
-    let cell = agree_below_at (λ b. not (top 7 (lane (leb 48 a) (eqb a 32) b)) || may_stand (leb 48 a) (eqb a 32) b) (λ _. true) 256 b (table (leb 48 a) (eqb a 32)) (fits k).fits in
+    let cell = agree_below_at (λ b. not (top 7 (lane (leb 48 a) (eqb a 32) b)) || may_stand (leb 48 a) (eqb a 32) b) (λ _. true) 256 b
+    (table (leb 48 a) (eqb a 32)) (fits k).fits in
     sym (ap (λ t. not t || may_stand (leb 48 a) (eqb a 32) b) held) ∙ cell
 
 -- where the lane of a 0 behind a space has the top bit, and no top bit is set, there is none
@@ -111,7 +119,8 @@ both_set true true p q = refl
 both_set true false p q = cc
 both_set false y p q = cc
 
-pub no_nought : (bytes : List ℕ) (at : ℕ) → 1 ≤ at → at + 16 ≤ length bytes → (z : List ℕ) (f : ℕ × ℕ → ℕ) → z ≡ map f (pairs (chunk (at - 1) 16 bytes) (chunk at 16 bytes))
+pub no_nought : (bytes : List ℕ) (at : ℕ) → 1 ≤ at → at + 16 ≤ length bytes → (z : List ℕ) (f : ℕ × ℕ → ℕ)
+    → z ≡ map f (pairs (chunk (at - 1) 16 bytes) (chunk at 16 bytes))
     → ((a b : ℕ) → f (a, b) ≡ bit_and (cond (eqb b 48) 255 0) (cond (eqb a 32) 255 0))
     → mask_l (map (top 7) z) % 2 ^ 64 ≡ 0 → HasNoNought bytes at (at + 16)
 no_nought bytes at some room z f lanes same mask k from to nought space =
@@ -138,8 +147,15 @@ spaced bytes at room fits z f lanes all some =
     let low : bit.0 < 8 = omega (arith, bit.1, sized) in
     let lane : top 7 (f (get_or here bit.0 0)) ≡ true = sym (get_or-map (λ b. top 7 (f b)) here bit.0 0 false (omega (arith, long, low))) ∙ bit.2 in
     let said : top 7 (f (get_or bytes (at + bit.0) 0)) ≡ true = ap (λ b. top 7 (f b)) (sym (get_or-chunk at 8 bytes bit.0 0 low)) ∙ lane in
-    let cell = agree_below_at (λ b. not (top 7 (f b)) || eqb b 32) (λ _. true) 256 (get_or bytes (at + bit.0) 0) all (fits (at + bit.0)).fits in
-    (at + bit.0, omega arith, omega (arith, low), eqb-true (get_or bytes (at + bit.0) 0) 32 (sym (ap (λ t. not t || eqb (get_or bytes (at + bit.0) 0) 32) said) ∙ cell))
+    let cell = agree_below_at (λ b. not (top 7 (f b)) || eqb b 32) (λ _. true) 256 (get_or bytes (at + bit.0) 0) all (fits (at + bit.0)).fits in (
+      at + bit.0,
+      omega arith,
+      omega (
+        arith,
+        low,
+      ),
+      eqb-true (get_or bytes (at + bit.0) 0) 32 (sym (ap (λ t. not t || eqb (get_or bytes (at + bit.0) 0) 32) said) ∙ cell),
+    )
 
 pub positive : (m : ℕ) → IsTrue (not (eqb m 0)) → 0 < m
 positive zero is = cc

@@ -1,5 +1,6 @@
 -- The line of an item shows by its first byte which it is.
-use Rattle.std.proofs.Common.{◌≡◌, ℕ, ◌+◌, ◌-◌, ◌%◌, ◌<◌, ◌≤◌, Bool, true, false, List, [], ◌∷◌, ◌++◌, length, take, drop, get_or, slice_range, All, refl, sym, ap, ◌∙◌, arith, append_assoc, length-append}
+use Rattle.std.proofs.Common.{◌≡◌, ℕ, ◌+◌, ◌-◌, ◌%◌, ◌<◌, ◌≤◌, Bool, true, false, List, [], ◌∷◌, ◌++◌, length, take, drop, get_or, slice_range, All, refl, sym}
+use Rattle.std.proofs.Common.{ap, ◌∙◌, arith, append_assoc, length-append}
 use Rattle.std.specs.Prelude.{codes, decimal}
 use Rattle.std.specs.List.{flat_map}
 use Rattle.std.proofs.lemmas.Fmt.{decimal_by_steps, decimal_nonempty}
@@ -15,7 +16,8 @@ use Rattle.cert_text.proofs.Standing.{middle}
 use Rattle.cert_text.proofs.Sound.{apart}
 
 digits_low : (n : ℕ) → n ≤ greatest_u64 → All (λ b. b < 58) (decimal n)
-digits_low n few = decimal_by_steps (λ m ds. All (λ b. b < 58) ds) (λ m small. All-push (λ b. b < 58) [] (48 + m) (All-nil (λ b. b < 58)) (omega (arith, small)))
+digits_low n few =
+    decimal_by_steps (λ m ds. All (λ b. b < 58) ds) (λ m small. All-push (λ b. b < 58) [] (48 + m) (All-nil (λ b. b < 58)) (omega (arith, small)))
     (λ m ds big before. All-push (λ b. b < 58) ds (48 + m % 10) before (omega arith)) n (omega (arith, few))
 
 literal_low : (negated : Bool) (n : ℕ) (more : List ℕ) → n ≤ greatest_u64 → get_or (sign_text negated ++ (decimal n ++ more)) 0 0 < 58
@@ -31,8 +33,10 @@ line_low [] hs all = omega arith
 line_low (l ∷ ls) hs all =
     let rest : List ℕ = codes "0 " ++ (flat_map hint_text hs ++ codes "0") in
     let is : line_text (l ∷ ls) hs ≡ sign_text l.negated ++ (decimal l.letter.0 ++ (codes " " ++ (flat_map literal_text ls ++ rest))) =
-    append_assoc (literal_text l) (flat_map literal_text ls) rest ∙ apart (sign_text l.negated) (decimal l.letter.0) (codes " ") (flat_map literal_text ls ++ rest) in
-    let low = literal_low l.negated l.letter.0 (codes " " ++ (flat_map literal_text ls ++ rest)) (let fits = All-head IsLiteral l ls all in omega (arith, fits)) in
+    append_assoc (literal_text l) (flat_map literal_text ls) rest
+    ∙ apart (sign_text l.negated) (decimal l.letter.0) (codes " ") (flat_map literal_text ls ++ rest) in
+    let low = literal_low l.negated l.letter.0 (codes " " ++ (flat_map literal_text ls ++ rest))
+    (let fits = All-head IsLiteral l ls all in omega (arith, fits)) in
     omega (arith, low, ap (λ x. get_or x 0 0) is)
 
 -- numbers stand behind the first bytes of the line
@@ -66,7 +70,8 @@ delete_line line (items.Delete ns) fits is first = record {
 }
 
 -- the literals and the hints in a line
-pub literals_slice : (line : List ℕ) (ls : List Literal) (hs : List Hint) (end : ℕ) → line ≡ line_text ls hs → end ≡ length (flat_map literal_text ls) → take end line ≡ flat_map literal_text ls
+pub literals_slice : (line : List ℕ) (ls : List Literal) (hs : List Hint) (end : ℕ) → line ≡ line_text ls hs → end ≡ length (flat_map literal_text ls)
+    → take end line ≡ flat_map literal_text ls
 literals_slice line ls hs end is at = ap (take end) is ∙ take_at (flat_map literal_text ls) (codes "0 " ++ (flat_map hint_text hs ++ codes "0")) end (sym at)
 
 pub hints_slice : (line : List ℕ) (ls : List Literal) (hs : List Hint) (end : ℕ) → line ≡ line_text ls hs → end ≡ length (flat_map literal_text ls)

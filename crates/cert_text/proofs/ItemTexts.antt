@@ -1,5 +1,6 @@
 -- The items of a text, one after another.
-use Rattle.std.proofs.Common.{◌≡◌, ℕ, ◌+◌, ◌-◌, ◌<◌, ◌≤◌, ◌==◌, ◌⊎◌, inl, inr, Bool, true, false, ◌&&◌, ltb, List, [], ◌∷◌, ◌++◌, length, slice_range, All, refl, sym, ap, ap₂, ◌∙◌, subst, arith, append_assoc, length-append}
+use Rattle.std.proofs.Common.{◌≡◌, ℕ, ◌+◌, ◌-◌, ◌<◌, ◌≤◌, ◌==◌, ◌⊎◌, inl, inr, Bool, true, false, ◌&&◌, ltb, List, [], ◌∷◌, ◌++◌, length, slice_range, All}
+use Rattle.std.proofs.Common.{refl, sym, ap, ap₂, ◌∙◌, subst, arith, append_assoc, length-append}
 use Rattle.std.specs.Prelude.{codes, decimal}
 use Rattle.std.specs.List.{flat_map, list_all}
 use mathlib.Core.Bool.{false≢true}
@@ -14,7 +15,8 @@ use Rattle.cnf_base.specs.declared.literal.Hint.{Hint}
 use Rattle.cnf_base.specs.declared.literal.Hint.TheVariants as hints
 use Rattle.cert_text.specs.declared.item.Item.{Item}
 use Rattle.cert_text.specs.declared.item.Item.TheVariants as items
-use Rattle.cert_text.specs.Text.{Part, Line, Delete, Certificate, greatest_u64, IsLiteral, IsHint, IsNumber, IsPart, IsBegun, IsTextOf, sign_text, kind_text, literal_text, hint_text, target_text, part_text, header_text, close_text}
+use Rattle.cert_text.specs.Text.{Part, Line, Delete, Certificate, greatest_u64, IsLiteral, IsHint, IsNumber, IsPart, IsBegun, IsTextOf, sign_text, kind_text}
+use Rattle.cert_text.specs.Text.{literal_text, hint_text, target_text, part_text, header_text, close_text}
 use Rattle.cert_text.specs.Reading.{certificate_in}
 use Rattle.cert_text.specs.Items.{item_of, items_from, items_of, IsItem, item_line, item_text, items_behind, items_at, IsReading}
 use Rattle.cert_text.proofs.Slices.{in_text, digits_high}
@@ -91,7 +93,10 @@ item_other (items.Line ls hs) is =
 item_other (items.Delete ns) is = cons_other 100 (flat_map target_text ns) (λ e. omega (arith, e)) (flat_other IsNumber target_text ns target_other is)
 item_other (items.Close ts) is =
     All-append Other (codes "close") (flat_map target_text ts)
-    (cons_other 99 (codes "lose") (λ e. omega (arith, e)) (cons_other 108 (codes "ose") (λ e. omega (arith, e)) (cons_other 111 (codes "se") (λ e. omega (arith, e))
+    (cons_other 99 (codes "lose") (λ e. omega (
+      arith,
+      e,
+    )) (cons_other 108 (codes "ose") (λ e. omega (arith, e)) (cons_other 111 (codes "se") (λ e. omega (arith, e))
     (cons_other 115 (codes "e") (λ e. omega (arith, e)) (one_other 101 (λ e. omega (arith, e))))))) (flat_other IsNumber target_text ts target_other is)
 
 -- the header without its newline
@@ -127,8 +132,10 @@ version_few version is = elim is [
 
 pub header_other : (c : Certificate) → IsBegun c → All Other (header_line c)
 header_other c is =
-    All-append Other (codes "ltlcert ") (decimal c.version ++ (codes " " ++ (kind_text c.kind ++ (codes " " ++ decimal c.depth)))) (other_by (codes "ltlcert ") refl)
-    (All-append Other (decimal c.version) (codes " " ++ (kind_text c.kind ++ (codes " " ++ decimal c.depth))) (digits_other c.version (version_few c.version is.version))
+    All-append Other (codes "ltlcert ") (decimal c.version ++ (codes " " ++ (kind_text c.kind ++ (codes " " ++ decimal c.depth))))
+    (other_by (codes "ltlcert ") refl)
+    (All-append Other (decimal c.version) (codes " " ++ (kind_text c.kind ++ (codes " " ++ decimal c.depth)))
+    (digits_other c.version (version_few c.version is.version))
     (cons_other 32 (kind_text c.kind ++ (codes " " ++ decimal c.depth)) (λ e. omega (arith, e))
     (All-append Other (kind_text c.kind) (codes " " ++ decimal c.depth) (kind_other c.kind)
     (cons_other 32 (decimal c.depth) (λ e. omega (arith, e)) (digits_other c.depth (let low = is.depth in omega (arith, low)))))))
@@ -160,7 +167,8 @@ pub reading_all : (whole : List ℕ) (c : Certificate) (end : ℕ) → IsTextOf 
     → IsReading whole (end + 1)
 reading_all whole c end is found =
     let items : List ℕ = flat_map item_text (items_of c) in
-    let spelled : whole ≡ header_line c ++ 10 ∷ items = whole_text whole c is ∙ ap (λ x. x ++ items) (header_split c) ∙ append_assoc (header_line c) (codes "\n") items in
+    let spelled : whole ≡ header_line c ++ 10 ∷ items =
+    whole_text whole c is ∙ ap (λ x. x ++ items) (header_split c) ∙ append_assoc (header_line c) (codes "\n") items in
     let at = found [] (header_line c) items (header_other c is.lawful.begun) spelled refl in
     let size = length-append (header_line c) (codes "\n") in record {
       certificate = c;
@@ -180,10 +188,12 @@ pub reading_new : (whole : List ℕ) (c : Certificate) (end : ℕ) → IsTextOf 
     → items_at whole (end + 1) ≡ items_of (certificate_in whole)
 reading_new whole c end is found =
     let items : List ℕ = flat_map item_text (items_of c) in
-    let spelled : whole ≡ header_line c ++ 10 ∷ items = whole_text whole c is ∙ ap (λ x. x ++ items) (header_split c) ∙ append_assoc (header_line c) (codes "\n") items in
+    let spelled : whole ≡ header_line c ++ 10 ∷ items =
+    whole_text whole c is ∙ ap (λ x. x ++ items) (header_split c) ∙ append_assoc (header_line c) (codes "\n") items in
     let at = found [] (header_line c) items (header_other c is.lawful.begun) spelled refl in
     let size = length-append (header_line c) (codes "\n") in
-    let none : (end + 1) - length (header_text (certificate_in whole)) ≡ 0 = omega (arith, at, size, ap length (header_split c), ap (λ d. length (header_text d)) (in_text whole c is)) in
+    let none : (end + 1) - length (header_text (certificate_in whole)) ≡ 0 =
+    omega (arith, at, size, ap length (header_split c), ap (λ d. length (header_text d)) (in_text whole c is)) in
     ap (λ n. items_behind n (items_of (certificate_in whole))) none ∙ behind_none (items_of (certificate_in whole))
 
 -- an item begins here
@@ -244,7 +254,8 @@ front whole at r low = go r.left r.split refl
       where
         fits : (item : Item) (others : List Item) → items_of r.certificate ≡ r.past ++ item ∷ others → IsItem item
         fits item others split =
-            let all = subst (All IsItem) split (items_fit r.certificate.version r.certificate.parts r.certificate.targets r.is.lawful.begun.parts r.is.lawful.targets) in
+            let all = subst (All IsItem) split
+            (items_fit r.certificate.version r.certificate.parts r.certificate.targets r.is.lawful.begun.parts r.is.lawful.targets) in
             All-head IsItem item others (all_behind r.past (item ∷ others) all)
 
 -- behind the last one
@@ -256,7 +267,8 @@ none_left whole at r end = items_left whole at r ∙ go r.left r.split
     go (item ∷ others) split = absurd (
         let c = r.certificate in
         let spelled : whole ≡ header_text c ++ (flat_map item_text r.past ++ (item_text item ++ flat_map item_text others)) =
-        whole_text whole c r.is ∙ ap (λ x. header_text c ++ flat_map item_text x) split ∙ ap (λ x. header_text c ++ x) (flat_map-append item_text r.past (item ∷ others)) in
+        whole_text whole c r.is ∙ ap (λ x. header_text c ++ flat_map item_text x) split
+        ∙ ap (λ x. header_text c ++ x) (flat_map-append item_text r.past (item ∷ others)) in
         let one = length-append (header_text c) (flat_map item_text r.past ++ (item_text item ++ flat_map item_text others)) in
         let two = length-append (flat_map item_text r.past) (item_text item ++ flat_map item_text others) in
         let three = length-append (item_text item) (flat_map item_text others) in
@@ -269,5 +281,6 @@ pub front_line : (whole : List ℕ) (at end : ℕ) (f : Front whole at) → end 
 front_line whole at end f is = ap (λ y. slice_range y at end) f.spelled ∙ middle f.before (item_line f.item) (10 ∷ f.more) at end (sym f.place) is
 
 -- it is read
-pub front_read : (whole : List ℕ) (at end : ℕ) (f : Front whole at) (item : Item) → end ≡ at + length (item_line f.item) → item ≡ f.item → items_at whole at ≡ item ∷ items_at whole (end + 1)
+pub front_read : (whole : List ℕ) (at end : ℕ) (f : Front whole at) (item : Item) → end ≡ at + length (item_line f.item)
+    → item ≡ f.item → items_at whole at ≡ item ∷ items_at whole (end + 1)
 front_read whole at end f item is same = f.left ∙ ap₂ (λ x xs. x ∷ xs) (sym same) (sym (ap (λ n. items_at whole (n + 1)) is ∙ f.left_next))

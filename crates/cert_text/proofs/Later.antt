@@ -94,9 +94,11 @@ same_greatest k (roles.Target h) = refl
 same_greatest k (roles.Delete h) = refl
 
 digit_later : (k : ℕ) (role : Role) (m : ℕ) → IsBehindRole role
-    → IsLater k (cond (ltb (greatest_in role) m) None (Some ([], places.More role m))) (cond (ltb (greatest_in (later_role k role)) m) None (Some ([], places.More (later_role k role) m)))
+    → IsLater k (cond (ltb (greatest_in role) m) None (Some ([], places.More role m)))
+    (cond (ltb (greatest_in (later_role k role)) m) None (Some ([], places.More (later_role k role) m)))
 digit_later k role m behind =
-    let under = both k (ltb (greatest_in role) m) None (Some ([], places.More role m)) None (Some ([], places.More (later_role k role) m)) (refl, tt) (refl, behind) in (
+    let under = both k (ltb (greatest_in role) m) None (Some ([], places.More role m)) None (Some ([], places.More (later_role k role) m)) (refl, tt)
+    (refl, behind) in (
       ap (λ g. let it : Next = cond (ltb g m) None (Some ([], places.More (later_role k role) m)) in it) (sym (same_greatest k role)) ∙ under.0,
       under.1,
     )
@@ -118,7 +120,8 @@ step_later k (places.Hint h) b behind =
     (both k (b == 45) _ _ _ _ (refl, tt) (first_later k (roles.Hint h) b tt))
 step_later k (places.End h) b behind = (refl, tt)
 
-advance_later : (k : ℕ) (left : List ℕ) (place : Place) (b : ℕ) → IsBehind place → IsLater k (small_advance left place b) (small_advance left (later_place k place) b)
+advance_later : (k : ℕ) (left : List ℕ) (place : Place) (b : ℕ) → IsBehind place
+    → IsLater k (small_advance left place b) (small_advance left (later_place k place) b)
 advance_later k [] place b behind = step_later k place b behind
 advance_later k (x ∷ xs) place b behind = both k (b == x) _ _ _ _ (refl, behind) (refl, tt)
 

@@ -1,5 +1,6 @@
 -- What is live where.
-use Rattle.std.proofs.Common.{◌≡◌, ℕ, zero, suc, ◌+◌, ◌-◌, ◌<◌, ◌≤◌, ◌==◌, ◌||◌, ◌&&◌, inl, inr, Bool, true, false, not, cond, ltb, List, [], ◌∷◌, ◌++◌, length, take, get_or, All, Option, Some, None, is_some, IsTrue, slice_get, refl, sym, ap, ap₂, ◌∙◌, subst, arith, add-one, if◌then◌else◌}
+use Rattle.std.proofs.Common.{◌≡◌, ℕ, zero, suc, ◌+◌, ◌-◌, ◌<◌, ◌≤◌, ◌==◌, ◌||◌, ◌&&◌, inl, inr, Bool, true, false, not, cond, ltb, List, [], ◌∷◌, ◌++◌, length}
+use Rattle.std.proofs.Common.{take, get_or, All, Option, Some, None, is_some, IsTrue, slice_get, refl, sym, ap, ap₂, ◌∙◌, subst, arith, add-one, if◌then◌else◌}
 use Rattle.std.specs.List.{list_any}
 use Rattle.std.proofs.lemmas.Bool.{cond-true, cond-false, eq-eqb, ne_eqb, ltb-true, ltb-false, lt-ltb, le-ltb, cases_lt, cases_order, or_parts, cond_both}
 use Rattle.std.proofs.lemmas.List.{append-nil, take_all, length_push, length-take-le}
@@ -43,15 +44,20 @@ pub good_step : (clauses : List (List Literal)) (greatest : ℕ) (parts : List P
     → IsHintedStep clauses (take k (lines_of parts)) greatest (get_or (lines_of parts) k []) (get_or (hints_of parts) k [])
 good_step clauses greatest parts k good =
     step_from clauses (take k (lines_of parts)) greatest (get_or (lines_of parts) k []) (get_or (hints_of parts) k [])
-    (step_kept clauses (live_at parts k) (numbered (take k (lines_of parts))) greatest (live_earlier parts k) (get_or (lines_of parts) k []) (get_or (hints_of parts) k []) good)
+    (step_kept clauses (live_at parts k) (numbered (take k (lines_of parts))) greatest (live_earlier parts k) (get_or (lines_of parts) k [])
+    (get_or (hints_of parts) k []) good)
 
 -- and each line that its hints name is live
 pub good_lines_are_live : GoodLinesAreLive
 good_lines_are_live clauses greatest parts k =
     let clause = get_or (lines_of parts) k [] in
     let hs = get_or (hints_of parts) k [] in (
-      λ good. (good_step clauses greatest parts k good, λ m there. some_there (live_at parts k m) (hints_there clauses (live_at parts k) greatest good.refutes m there)),
-      λ both. step_left clauses (numbered (take k (lines_of parts))) (live_at parts k) greatest clause hs (step_to clauses (take k (lines_of parts)) greatest clause hs both.0)
+      λ good. (
+        good_step clauses greatest parts k good,
+        λ m there. some_there (live_at parts k m) (hints_there clauses (live_at parts k) greatest good.refutes m there),
+      ),
+      λ both. step_left clauses (numbered (take k (lines_of parts))) (live_at parts k) greatest clause hs
+          (step_to clauses (take k (lines_of parts)) greatest clause hs both.0)
           (λ m there. same_there (live_at parts k m) (numbered (take k (lines_of parts)) m) (live_earlier parts k m) (both.1 m there)),
     )
   where
@@ -64,20 +70,24 @@ good_lines_are_live clauses greatest parts k =
     same_there (Some c) p into some = sym (into c refl)
 
 -- the first k lines follow, by induction on k
-first_follow : (v : ℕ → Bool) (clauses : List (List Literal)) (greatest : ℕ) (parts : List Part) → Satisfies v clauses → ((k : ℕ) → k < length (lines_of parts) → IsGoodLine clauses greatest parts k)
+first_follow : (v : ℕ → Bool) (clauses : List (List Literal)) (greatest : ℕ) (parts : List Part) → Satisfies v clauses
+    → ((k : ℕ) → k < length (lines_of parts) → IsGoodLine clauses greatest parts k)
     → (n : ℕ) → n ≤ length (lines_of parts) → Satisfies v (take n (lines_of parts))
 first_follow v clauses greatest parts holds good zero le = All-nil (λ clause. clause_value v clause ≡ true)
 first_follow v clauses greatest parts holds good (suc n) le =
     let lines = lines_of parts in
     let before = first_follow v clauses greatest parts holds good n (omega arith) in
-    let here = hinted_step_follows v clauses (take n lines) greatest (get_or lines n []) (get_or (hints_of parts) n []) holds before (good_step clauses greatest parts n (good n (omega arith))) in
+    let here = hinted_step_follows v clauses (take n lines) greatest (get_or lines n []) (get_or (hints_of parts) n []) holds before
+    (good_step clauses greatest parts n (good n (omega arith))) in
     rw (← add-one n) (All-more (λ clause. clause_value v clause ≡ true) lines n [] (omega arith) before here)
 
 -- where each line is good, the lines follow from the clauses
-pub good_lines_follow : (v : ℕ → Bool) (clauses : List (List Literal)) (greatest : ℕ) (parts : List Part) → Satisfies v clauses → ((k : ℕ) → k < length (lines_of parts) → IsGoodLine clauses greatest parts k)
+pub good_lines_follow : (v : ℕ → Bool) (clauses : List (List Literal)) (greatest : ℕ) (parts : List Part) → Satisfies v clauses
+    → ((k : ℕ) → k < length (lines_of parts) → IsGoodLine clauses greatest parts k)
     → Satisfies v (lines_of parts)
 good_lines_follow v clauses greatest parts holds good =
-    subst (Satisfies v) (take_all (length (lines_of parts)) (lines_of parts) (omega arith)) (first_follow v clauses greatest parts holds good (length (lines_of parts)) (omega arith))
+    subst (Satisfies v) (take_all (length (lines_of parts)) (lines_of parts) (omega arith))
+    (first_follow v clauses greatest parts holds good (length (lines_of parts)) (omega arith))
 
 -- parts put behind others
 pub lines_on : (parts more : List Part) → lines_of (parts ++ more) ≡ lines_of parts ++ lines_of more
@@ -120,7 +130,8 @@ or_false false = refl
 -- a line that is put behind the parts is live, and changes no other
 pub live_with_line : (parts : List Part) (ls : List Literal) (hs : List Hint) (m : ℕ)
     → live_line (parts ++ Line ls hs ∷ []) m ≡ (if m == suc (length (lines_of parts)) then Some ls else live_line parts m)
-live_with_line parts ls hs zero = sym (cond-false (0 == suc (length (lines_of parts))) (Some ls) None (ne_eqb 0 (suc (length (lines_of parts))) (λ e. omega (arith, e))))
+live_with_line parts ls hs zero =
+    sym (cond-false (0 == suc (length (lines_of parts))) (Some ls) None (ne_eqb 0 (suc (length (lines_of parts))) (λ e. omega (arith, e))))
 live_with_line parts ls hs (suc k) =
     let new = parts ++ Line ls hs ∷ [] in
     let count = length (lines_of parts) in
@@ -128,20 +139,25 @@ live_with_line parts ls hs (suc k) =
     elim (cases_order k count) [
       | inl at ↦
           let gone : is_deleted new k ≡ false = ap (list_any (deletes (suc k))) (ap (parts_behind new) at ∙ behind_last parts ls hs) in
-          let found : slice_get (lines_of new) k ≡ Some ls = ap (λ x. slice_get x k) lines ∙ ap (slice_get (lines_of parts ++ ls ∷ [])) at ∙ get_last (lines_of parts) ls in
-          cond-false (is_deleted new k) None (slice_get (lines_of new) k) gone ∙ found ∙ sym (cond-true (suc k == suc count) (Some ls) (live_line parts (suc k)) (eq-eqb (suc k) (suc count) (ap suc at)))
+          let found : slice_get (lines_of new) k ≡ Some ls =
+          ap (λ x. slice_get x k) lines ∙ ap (slice_get (lines_of parts ++ ls ∷ [])) at ∙ get_last (lines_of parts) ls in
+          cond-false (is_deleted new k) None (slice_get (lines_of new) k) gone
+          ∙ found ∙ sym (cond-true (suc k == suc count) (Some ls) (live_line parts (suc k)) (eq-eqb (suc k) (suc count) (ap suc at)))
       | inr (inl low) ↦
           let gone : is_deleted new k ≡ is_deleted parts k =
-          ap (list_any (deletes (suc k))) (behind_on parts (Line ls hs ∷ []) k low) ∙ list_any-append (deletes (suc k)) (parts_behind parts k) (Line ls hs ∷ []) ∙ or_false (is_deleted parts k) in
+          ap (list_any (deletes (suc k))) (behind_on parts (Line ls hs ∷ []) k low) ∙ list_any-append (deletes (suc k)) (parts_behind parts k) (Line ls hs ∷ [])
+          ∙ or_false (is_deleted parts k) in
           let found : slice_get (lines_of new) k ≡ slice_get (lines_of parts) k = ap (λ x. slice_get x k) lines ∙ get_more (lines_of parts) (ls ∷ []) k low in
-          ap₂ (λ b o. cond b None o) gone found ∙ sym (cond-false (suc k == suc count) (Some ls) (live_line parts (suc k)) (ne_eqb (suc k) (suc count) (λ e. omega (arith, e, low))))
+          ap₂ (λ b o. cond b None o) gone found
+          ∙ sym (cond-false (suc k == suc count) (Some ls) (live_line parts (suc k)) (ne_eqb (suc k) (suc count) (λ e. omega (arith, e, low))))
       | inr (inr high) ↦
           live_past new k (omega (arith, high, ap length lines, length_push (lines_of parts) ls)) ∙ sym (live_past parts k (omega (arith, high)))
           ∙ sym (cond-false (suc k == suc count) (Some ls) (live_line parts (suc k)) (ne_eqb (suc k) (suc count) (λ e. omega (arith, e, high))))
     ]
 
 -- a delete takes away the lines that it names
-pub live_with_delete : (parts : List Part) (ns : List ℕ) (m : ℕ) → live_line (parts ++ Delete ns ∷ []) m ≡ (if list_any (λ n. n == m) ns then None else live_line parts m)
+pub live_with_delete : (parts : List Part) (ns : List ℕ) (m : ℕ)
+    → live_line (parts ++ Delete ns ∷ []) m ≡ (if list_any (λ n. n == m) ns then None else live_line parts m)
 live_with_delete parts ns zero = same (list_any (λ n. n == 0) ns)
   where
     same : (b : Bool) → ◌≡◌ {A = Option (List Literal)} None (cond b None None)
@@ -154,7 +170,8 @@ live_with_delete parts ns (suc k) =
     elim (cases_lt k (length (lines_of parts))) [
       | inl low ↦
           let gone : is_deleted new k ≡ (is_deleted parts k || named) =
-          ap (list_any (deletes (suc k))) (behind_on parts (Delete ns ∷ []) k low) ∙ list_any-append (deletes (suc k)) (parts_behind parts k) (Delete ns ∷ []) ∙ ap (λ b. is_deleted parts k || b) (or_false named) in
+          ap (list_any (deletes (suc k))) (behind_on parts (Delete ns ∷ []) k low) ∙ list_any-append (deletes (suc k)) (parts_behind parts k) (Delete ns ∷ [])
+          ∙ ap (λ b. is_deleted parts k || b) (or_false named) in
           ap₂ (λ b o. cond b None o) gone (ap (λ x. slice_get x k) lines) ∙ turned (is_deleted parts k) named (slice_get (lines_of parts) k)
       | inr high ↦ live_past new k (omega (arith, high, ap length lines)) ∙ past named (live_line parts (suc k)) (live_past parts k high)
     ]
@@ -191,11 +208,13 @@ between (Line ls hs ∷ parts) (suc k) (suc j) low =
     between parts k j (omega (arith, low)) ∙ ap (parts_before (parts_behind parts k)) e
 
 -- a line is deleted before line i + 1 of these parts exactly where no more than i lines stand before the delete
-deleted_before : (m : ℕ) (parts : List Part) (i : ℕ) → i < length (lines_of parts) → list_any (deletes m) (parts_before parts i) ≡ not (ltb i (lines_until m parts))
+deleted_before : (m : ℕ) (parts : List Part) (i : ℕ) → i < length (lines_of parts)
+    → list_any (deletes m) (parts_before parts i) ≡ not (ltb i (lines_until m parts))
 deleted_before m [] i low = absurd (omega (arith, low))
 deleted_before m (Delete ns ∷ parts) i low = go (list_any (λ n. n == m) ns) (deleted_before m parts i low)
   where
-    go : (b : Bool) → list_any (deletes m) (parts_before parts i) ≡ not (ltb i (lines_until m parts)) → (b || list_any (deletes m) (parts_before parts i)) ≡ not (ltb i (cond b 0 (lines_until m parts)))
+    go : (b : Bool) → list_any (deletes m) (parts_before parts i) ≡ not (ltb i (lines_until m parts))
+        → (b || list_any (deletes m) (parts_before parts i)) ≡ not (ltb i (cond b 0 (lines_until m parts)))
     go true e = ap not (sym (le-ltb i 0 (omega arith)))
     go false e = e
 deleted_before m (Line ls hs ∷ parts) zero low = ap not (sym (lt-ltb 0 (suc (lines_until m parts)) (omega arith)))
@@ -212,14 +231,16 @@ count_behind (Line ls hs ∷ parts) zero = omega arith
 count_behind (Line ls hs ∷ parts) (suc k) = count_behind parts k ∙ omega arith
 
 -- a line is live at those behind it up to its last user
-pub live_to_user : (parts : List Part) (k j : ℕ) → j < length (lines_of parts) → live_at parts j (suc k) ≡ (if ltb k j && ltb j (last_user parts k) then slice_get (lines_of parts) k else None)
+pub live_to_user : (parts : List Part) (k j : ℕ) → j < length (lines_of parts)
+    → live_at parts j (suc k) ≡ (if ltb k j && ltb j (last_user parts k) then slice_get (lines_of parts) k else None)
 live_to_user parts k j low = elim (cases_lt k j) [
   | inl before ↦
       let m : ℕ = suc k in
       let qs = parts_behind parts k in
       let gone : is_deleted (parts_before parts j) k ≡ not (ltb (j - suc k) (lines_until m qs)) =
       ap (list_any (deletes m)) (between parts k j before) ∙ deleted_before m qs (j - suc k) (omega (arith, before, low, count_behind parts k)) in
-      let found : slice_get (lines_of (parts_before parts j)) k ≡ slice_get (lines_of parts) k = ap (λ x. slice_get x k) (lines_before parts j) ∙ get_front (lines_of parts) j k before in
+      let found : slice_get (lines_of (parts_before parts j)) k ≡ slice_get (lines_of parts) k =
+      ap (λ x. slice_get x k) (lines_before parts j) ∙ get_front (lines_of parts) j k before in
       let moved : ltb (j - suc k) (lines_until m qs) ≡ ltb j (last_user parts k) = shift j (suc k) (lines_until m qs) (omega arith) in
       ap₂ (λ b o. cond b None o) (gone ∙ ap not moved) found ∙ swapped (ltb j (last_user parts k)) (slice_get (lines_of parts) k)
       ∙ ap (λ b. cond (b && ltb j (last_user parts k)) (slice_get (lines_of parts) k) None) (sym (lt-ltb k j before))
@@ -250,7 +271,8 @@ last_users_stand parts k low = (omega arith, omega (arith, until_count (suc k) (
   where
     until_count : (m : ℕ) (ps : List Part) → lines_until m ps ≤ length (lines_of ps)
     until_count m [] = omega arith
-    until_count m (Delete ns ∷ ps) = cond_both (list_any (λ n. n == m) ns) 0 (lines_until m ps) (λ x. x ≤ length (lines_of ps)) (λ _. omega arith) (λ _. until_count m ps)
+    until_count m (Delete ns ∷ ps) =
+        cond_both (list_any (λ n. n == m) ns) 0 (lines_until m ps) (λ x. x ≤ length (lines_of ps)) (λ _. omega arith) (λ _. until_count m ps)
     until_count m (Line ls hs ∷ ps) = omega (arith, until_count m ps)
 
 -- no part of version 1 deletes

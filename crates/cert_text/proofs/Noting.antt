@@ -1,7 +1,9 @@
 -- Up to where each line is used, as the hints are gone through.
-use Rattle.std.proofs.Common.{◌≡◌, ℕ, suc, ◌+◌, ◌-◌, ◌<◌, ◌≤◌, ◌==◌, ◌||◌, inl, inr, Bool, true, false, List, [], ◌∷◌, ◌++◌, length, take, get_or, set, refl, sym, ap, ap₂, ◌∙◌, subst, arith, if◌then◌else◌}
+use Rattle.std.proofs.Common.{◌≡◌, ℕ, suc, ◌+◌, ◌-◌, ◌<◌, ◌≤◌, ◌==◌, ◌||◌, inl, inr, Bool, true, false, List, [], ◌∷◌, ◌++◌, length, take, get_or, set, refl}
+use Rattle.std.proofs.Common.{sym, ap, ap₂, ◌∙◌, subst, arith, if◌then◌else◌}
 use Rattle.std.proofs.lemmas.Bool.{cond-true, cond-false, eq-eqb, ne_eqb, cases_eq, cases_lt}
-use Rattle.std.proofs.lemmas.List.{length-set, get_or-set_same, get_or-set_other, get_or_append_left, get_or_at, length_push, take_more, take_all, length-take-le}
+use Rattle.std.proofs.lemmas.List.{length-set, get_or-set_same, get_or-set_other, get_or_append_left, get_or_at, length_push, take_more, take_all}
+use Rattle.std.proofs.lemmas.List.{length-take-le}
 use Rattle.std.proofs.lemmas.List.Folds.{list_any-append}
 use Rattle.cnf_base.specs.declared.literal.Hint.{Hint}
 use Rattle.cnf_base.specs.declared.literal.Hint.TheVariants as hints
@@ -16,7 +18,10 @@ or_false false = refl
 
 -- a hint that names no line of these
 pub noted_other : (hint : Hint) (line : ℕ) (old : List ℕ) → ((k : ℕ) → k < length old → is_line (suc k) hint ≡ false) → IsNoted (hint ∷ []) line old old
-noted_other hint line old other = record { count = refl; each = λ k low. sym (cond-false (is_line (suc k) hint || false) line (get_or old k 0) (or_false (is_line (suc k) hint) ∙ other k low)) }
+noted_other hint line old other = record {
+  count = refl;
+  each = λ k low. sym (cond-false (is_line (suc k) hint || false) line (get_or old k 0) (or_false (is_line (suc k) hint) ∙ other k low));
+}
 
 -- a hint that names one
 pub noted_line : (n line : ℕ) (old : List ℕ) → 0 < n → n ≤ length old → IsNoted (hints.Line n ∷ []) line old (set old (n - 1) line)
@@ -39,7 +44,8 @@ noted_on hs h line a b c one two = record {
   count = two.count ∙ one.count;
   each = λ k low.
       two.each k (omega (arith, low, one.count)) ∙ ap (λ x. if uses (suc k) (h ∷ []) then line else x) (one.each k low)
-      ∙ joined (uses (suc k) hs) (uses (suc k) (h ∷ [])) (get_or a k 0) ∙ ap (λ t. if t then line else get_or a k 0) (sym (list_any-append (is_line (suc k)) hs (h ∷ [])));
+      ∙ joined (uses (suc k) hs) (uses (suc k) (h ∷ [])) (get_or a k 0) ∙ ap (λ t. if t then line else get_or a k 0)
+      (sym (list_any-append (is_line (suc k)) hs (h ∷ [])));
 }
   where
     joined : (s t : Bool) (x : ℕ) → (if t then line else (if s then line else x)) ≡ (if (s || t) then line else x)
@@ -48,8 +54,10 @@ noted_on hs h line a b c one two = record {
     joined false true x = refl
     joined false false x = refl
 
-pub noted_more : (hs : List Hint) (i line : ℕ) (h : Hint) (a b c : List ℕ) → i < length hs → h ≡ get_or hs i h → IsNoted (take i hs) line a b → IsNoted (h ∷ []) line b c → IsNoted (take (i + 1) hs) line a c
-noted_more hs i line h a b c low is one two = subst (λ x. IsNoted x line a c) (sym (take_more hs i h low ∙ ap (λ x. take i hs ++ x ∷ []) (sym is))) (noted_on (take i hs) h line a b c one two)
+pub noted_more : (hs : List Hint) (i line : ℕ) (h : Hint) (a b c : List ℕ) → i < length hs → h ≡ get_or hs i h → IsNoted (take i hs) line a b
+    → IsNoted (h ∷ []) line b c → IsNoted (take (i + 1) hs) line a c
+noted_more hs i line h a b c low is one two =
+    subst (λ x. IsNoted x line a c) (sym (take_more hs i h low ∙ ap (λ x. take i hs ++ x ∷ []) (sym is))) (noted_on (take i hs) h line a b c one two)
 
 -- the numbers from 1
 pub record AreNumbered (count : ℕ) (last : List ℕ) : Type 0 where
@@ -76,13 +84,15 @@ pub record AreNoted (hss : List (List Hint)) (count i : ℕ) (last : List ℕ) :
 pub noted_start : (hss : List (List Hint)) (count : ℕ) (last : List ℕ) → AreNumbered count last → AreNoted hss count 0 last
 noted_start hss count last are = record { size = are.size; each = are.each }
 
-last_push : (m n : ℕ) (hss : List (List Hint)) (hs : List Hint) (last : ℕ) → last_among m n (hss ++ hs ∷ []) last ≡ (if uses m hs then suc (n + length hss) else last_among m n hss last)
+last_push : (m n : ℕ) (hss : List (List Hint)) (hs : List Hint) (last : ℕ)
+    → last_among m n (hss ++ hs ∷ []) last ≡ (if uses m hs then suc (n + length hss) else last_among m n hss last)
 last_push m n [] hs last = ap (λ x. if uses m hs then suc x else last) (omega arith)
 last_push m n (h ∷ hss) hs last =
     let x : ℕ = if uses m h then suc n else last in
     last_push m (suc n) hss hs x ∙ ap (λ y. if uses m hs then suc y else last_among m (suc n) hss x) (omega arith)
 
-pub noted_next : (hss : List (List Hint)) (count i : ℕ) (hs : List Hint) (a b : List ℕ) → i < length hss → hs ≡ get_or hss i [] → AreNoted hss count i a → IsNoted hs (i + 1) a b → AreNoted hss count (i + 1) b
+pub noted_next : (hss : List (List Hint)) (count i : ℕ) (hs : List Hint) (a b : List ℕ) → i < length hss → hs ≡ get_or hss i [] → AreNoted hss count i a
+    → IsNoted hs (i + 1) a b → AreNoted hss count (i + 1) b
 noted_next hss count i hs a b low is are noted = record {
   size = noted.count ∙ are.size;
   each = λ k below.

@@ -5,8 +5,10 @@ use Rattle.std.specs.List.{flat_map}
 use Rattle.std.proofs.lemmas.Fmt.{decimal_digit, decimal_step}
 use Rattle.std.proofs.lemmas.Grind.{flat_map-append}
 use Rattle.std.proofs.lemmas.List.{append-nil}
-use Rattle.cert_text.specs.Text.{Certificate, greatest_u64, IsLiteral, IsNumber, IsHint, IsBegun, IsCertificate, kind_text, sign_text, literal_text, hint_text, target_text, part_text, header_text}
-use Rattle.cert_text.specs.Scan.{Role, OfDepth, OfLiteral, OfHint, OfTarget, OfDelete, Place, AtVersion, AtKind, AtNumber, InNumber, AtPart, AtLiteral, AtHint, AtEnd, Scan, greatest}
+use Rattle.cert_text.specs.Text.{Certificate, greatest_u64, IsLiteral, IsNumber, IsHint, IsBegun, IsCertificate, kind_text, sign_text, literal_text, hint_text}
+use Rattle.cert_text.specs.Text.{target_text, part_text, header_text}
+use Rattle.cert_text.specs.Scan.{Role, OfDepth, OfLiteral, OfHint, OfTarget, OfDelete, Place, AtVersion, AtKind, AtNumber, InNumber, AtPart, AtLiteral, AtHint}
+use Rattle.cert_text.specs.Scan.{AtEnd, Scan, greatest}
 
 -- the header and the parts that are read, and the bytes behind them
 abbrev pub header_before : Certificate → List ℕ → List ℕ
@@ -23,7 +25,8 @@ number_at role n = ([], InNumber role n)
 abbrev pub role_before : Role → List ℕ → List ℕ
 role_before (OfDepth version kind) rest = codes "ltlcert " ++ (decimal version ++ (codes " " ++ (kind_text kind ++ (32 ∷ rest))))
 role_before (OfLiteral c literals negated) rest = parts_before c (flat_map literal_text literals ++ (sign_text negated ++ rest))
-role_before (OfHint c literals hints negated) rest = parts_before c (flat_map literal_text literals ++ (codes "0 " ++ (flat_map hint_text hints ++ (sign_text negated ++ rest))))
+role_before (OfHint c literals hints negated) rest =
+    parts_before c (flat_map literal_text literals ++ (codes "0 " ++ (flat_map hint_text hints ++ (sign_text negated ++ rest))))
 role_before (OfTarget c) rest = parts_before c (codes "close" ++ (flat_map target_text c.targets ++ (32 ∷ rest)))
 role_before (OfDelete c lines) rest = parts_before c (codes "d" ++ (flat_map target_text lines ++ (32 ∷ rest)))
 
@@ -62,7 +65,8 @@ IsPlace (AtEnd c) = IsCertificate c
 
 -- an item is put behind the others
 pub flat_more : {X : Type 0} (f : X → List ℕ) (xs : List X) (x : X) (rest : List ℕ) → flat_map f (xs ++ x ∷ []) ++ rest ≡ flat_map f xs ++ (f x ++ rest)
-flat_more f xs x rest = ap (λ ys. ys ++ rest) (flat_map-append f xs (x ∷ []) ∙ ap (λ ys. flat_map f xs ++ ys) (append-nil (f x))) ∙ append_assoc (flat_map f xs) (f x) rest
+flat_more f xs x rest =
+    ap (λ ys. ys ++ rest) (flat_map-append f xs (x ∷ []) ∙ ap (λ ys. flat_map f xs ++ ys) (append-nil (f x))) ∙ append_assoc (flat_map f xs) (f x) rest
 
 -- the first digit, and one more
 pub first_text : (b : ℕ) (rest : List ℕ) → 48 < b → b < 58 → b ∷ rest ≡ decimal (b - 48) ++ rest
@@ -70,12 +74,14 @@ first_text b rest low high =
     let e : 48 + (b - 48) ≡ b = omega arith in
     sym (ap (λ ds. ds ++ rest) (decimal_digit (b - 48) (omega arith)) ∙ ap (λ x. x ∷ rest) e)
 
-pub digit_text : (n b : ℕ) (rest : List ℕ) → 1 ≤ n → 47 < b → b < 58 → 10 * n + (b - 48) ≤ greatest_u64 → decimal n ++ (b ∷ rest) ≡ decimal (10 * n + (b - 48)) ++ rest
+pub digit_text : (n b : ℕ) (rest : List ℕ)
+    → 1 ≤ n → 47 < b → b < 58 → 10 * n + (b - 48) ≤ greatest_u64 → decimal n ++ (b ∷ rest) ≡ decimal (10 * n + (b - 48)) ++ rest
 digit_text n b rest one low high fits =
     let m : ℕ = 10 * n + (b - 48) in
     let quotient : m / 10 ≡ n = omega arith in
     let digit : 48 + m % 10 ≡ b = omega arith in
-    sym (ap (λ ds. ds ++ rest) (decimal_step m (omega arith) (omega arith) ∙ ap (λ k. decimal k ++ ((48 + m % 10) ∷ [])) quotient ∙ ap (λ x. decimal n ++ (x ∷ [])) digit)
+    sym (ap (λ ds. ds ++ rest)
+    (decimal_step m (omega arith) (omega arith) ∙ ap (λ k. decimal k ++ ((48 + m % 10) ∷ [])) quotient ∙ ap (λ x. decimal n ++ (x ∷ [])) digit)
     ∙ append_assoc (decimal n) (b ∷ []) rest)
 
 -- each number that a role allows is below 2 ^ 64

@@ -1,5 +1,6 @@
 -- What a pass over several bytes comes to, without what it has read.
-use Rattle.std.proofs.Common.{◌≡◌, ℕ, ◌+◌, ◌-◌, ◌≤◌, ◌⊎◌, inl, inr, List, [], ◌∷◌, ◌++◌, length, take, All, Option, Some, None, refl, sym, ap, ◌∙◌, subst, arith}
+use Rattle.std.proofs.Common.{◌≡◌, ℕ, ◌+◌, ◌-◌, ◌≤◌, ◌⊎◌, inl, inr, List, [], ◌∷◌, ◌++◌, length, take, All, Option, Some, None, refl, sym, ap, ◌∙◌, subst}
+use Rattle.std.proofs.Common.{arith}
 use Rattle.std.specs.Prelude.{codes}
 use Rattle.std.specs.List.{flat_map}
 use Rattle.std.specs.Option.{option_and_then}
@@ -44,7 +45,8 @@ pub led_more : (before xs left l : List ℕ) (place p : Place) → LeadsTo befor
 led_more before xs left l place p led e = run_on small_move before xs (codes "ltlcert ", places.Version) (left, place) led ∙ e
 
 -- short numbers
-short_on : (place : Place) (bytes : List ℕ) (q : scan.Place) → place ≡ place_of q → AreShort (digits_at place) bytes → small_run [] place bytes ≡ Some ([], place)
+short_on : (place : Place) (bytes : List ℕ) (q : scan.Place) → place ≡ place_of q → AreShort (digits_at place) bytes
+    → small_run [] place bytes ≡ Some ([], place)
 short_on place bytes q is short =
     let on = goes_on q short.0 (subst (λ r. All (IsShort (digits_at r)) short.0) is short.1) in
     ap (small_run [] place) short.2
@@ -53,7 +55,8 @@ short_on place bytes q is short =
     ∙ ap shaped on.2
     ∙ ap (λ r. let it : Next = Some ([], r) in it) (on.1 ∙ sym is)
 
-pub run_behind : (bytes before first left : List ℕ) (from place : Place) (i j : ℕ) → i ≤ j → (j ≡ i) ⊎ ((left ≡ []) × AreShort (digits_at place) (between bytes i j))
+pub run_behind : (bytes before first left : List ℕ) (from place : Place) (i j : ℕ)
+    → i ≤ j → (j ≡ i) ⊎ ((left ≡ []) × AreShort (digits_at place) (between bytes i j))
     → LeadsTo before first from → small_run first from (take i bytes) ≡ Some (left, place) → small_run first from (take j bytes) ≡ Some (left, place)
 run_behind bytes before first left from place i j low (inl same) led e = ap (λ n. small_run first from (take n bytes)) same ∙ e
 run_behind bytes before first left from place i j low (inr (none, short)) led e =
@@ -68,10 +71,12 @@ run_behind bytes before first left from place i j low (inr (none, short)) led e 
     whole = let e : j ≡ i + (j - i) = omega (arith, low) in ap (λ n. take n bytes) e ∙ take-add i (j - i) bytes
 
 -- numbers are in range, and lines are no more than bytes
-pub led_range : (before bytes first left : List ℕ) (from place : Place) → LeadsTo before first from → small_run first from bytes ≡ Some (left, place) → IsInRange place
+pub led_range : (before bytes first left : List ℕ) (from place : Place) → LeadsTo before first from
+    → small_run first from bytes ≡ Some (left, place) → IsInRange place
 led_range before bytes first left from place led e =
     at_range (before ++ bytes) left place (at_led (before ++ bytes) left place (led_more before bytes first left from place led e))
 
-pub led_lines : (before bytes first left : List ℕ) (from place : Place) → LeadsTo before first from → small_run first from bytes ≡ Some (left, place) → left ≡ [] → lines_at place ≤ length (before ++ bytes)
+pub led_lines : (before bytes first left : List ℕ) (from place : Place) → LeadsTo before first from → small_run first from bytes ≡ Some (left, place)
+    → left ≡ [] → lines_at place ≤ length (before ++ bytes)
 led_lines before bytes first left from place led e =
     at_lines (before ++ bytes) left place (at_led (before ++ bytes) left place (led_more before bytes first left from place led e))

@@ -6,7 +6,8 @@ use Rattle.cnf_base.specs.declared.literal.Literal.{Literal}
 use Rattle.cnf_base.specs.declared.literal.Hint.{Hint}
 use Rattle.cert_text.specs.Text.{Line, Delete, Certificate}
 use Rattle.cert_text.specs.Live.{lines_of}
-use Rattle.cert_text.specs.Scan.{Role, OfDepth, OfLiteral, OfHint, OfTarget, OfDelete, Place, AtVersion, AtKind, AtNumber, InNumber, AtPart, AtLiteral, AtHint, AtEnd, Scan, greatest, with_part, end_number, first_digit, literal_step, number_step, place_step}
+use Rattle.cert_text.specs.Scan.{Role, OfDepth, OfLiteral, OfHint, OfTarget, OfDelete, Place, AtVersion, AtKind, AtNumber, InNumber, AtPart, AtLiteral, AtHint}
+use Rattle.cert_text.specs.Scan.{AtEnd, Scan, greatest, with_part, end_number, first_digit, literal_step, number_step, place_step}
 use Rattle.cert_text.specs.Scan as scan
 use Rattle.cert_text.specs.declared.scanning.Head.{Head}
 use Rattle.cert_text.specs.declared.scanning.Role.TheVariants as roles

@@ -1,5 +1,6 @@
 -- Lines are shut where deletes name them.
-use Rattle.std.proofs.Common.{◌≡◌, ℕ, suc, ◌<◌, ◌==◌, ◌&&◌, ◌||◌, Bool, true, false, cond, List, [], ◌∷◌, ◌++◌, length, get_or, refl, sym, ap, ◌∙◌, subst, arith, append_assoc}
+use Rattle.std.proofs.Common.{◌≡◌, ℕ, suc, ◌<◌, ◌==◌, ◌&&◌, ◌||◌, Bool, true, false, cond, List, [], ◌∷◌, ◌++◌, length, get_or, refl, sym, ap, ◌∙◌, subst}
+use Rattle.std.proofs.Common.{arith, append_assoc}
 use Rattle.std.specs.List.{list_any}
 use Rattle.std.proofs.lemmas.List.{append-nil}
 use Rattle.std.proofs.lemmas.List.Folds.{list_any-append}
@@ -42,13 +43,15 @@ shut_on ns n count a b c one two = record {
     go true x is false t = ap (λ u. cond (u && t) count x) is
 
     twice : (x : ℕ) (s t : Bool)
-        → cond ((cond ((x == greatest_u64) && s) count x == greatest_u64) && t) count (cond ((x == greatest_u64) && s) count x) ≡ cond ((x == greatest_u64) && (s || t)) count x
+        → cond ((cond ((x == greatest_u64) && s) count x == greatest_u64) && t) count
+        (cond ((x == greatest_u64) && s) count x) ≡ cond ((x == greatest_u64) && (s || t)) count x
     twice x s t = go (x == greatest_u64) x refl s t
 
 pub up_to_none : (numbers : List ℕ) (count : ℕ) (old : List ℕ) → IsShutUpTo numbers numbers count old old
 up_to_none numbers count old = record { past = []; split = refl; shut = shut_none count old }
 
-pub up_to_more : (numbers left rest : List ℕ) (n count : ℕ) (a b c : List ℕ) → IsShutUpTo numbers left count a b → left ≡ n ∷ rest → IsShut (n ∷ []) count b c → IsShutUpTo numbers rest count a c
+pub up_to_more : (numbers left rest : List ℕ) (n count : ℕ) (a b c : List ℕ) → IsShutUpTo numbers left count a b → left ≡ n ∷ rest → IsShut (n ∷ []) count b c
+    → IsShutUpTo numbers rest count a c
 up_to_more numbers left rest n count a b c one is two = record {
   past = one.past ++ n ∷ [];
   split = one.split ∙ ap (λ x. one.past ++ x) is ∙ sym (append_assoc one.past (n ∷ []) rest);

@@ -1,5 +1,6 @@
 -- What slices of a text say.
-use Rattle.std.proofs.Common.{◌≡◌, ℕ, ◌+◌, ◌-◌, ◌*◌, ◌/◌, ◌%◌, ◌^◌, ◌<◌, ◌≤◌, inl, inr, Bool, true, false, List, [], ◌∷◌, ◌++◌, length, take, drop, get_or, All, Some, refl, sym, ap, ap₂, ◌∙◌, arith, append_assoc, add-one}
+use Rattle.std.proofs.Common.{◌≡◌, ℕ, ◌+◌, ◌-◌, ◌*◌, ◌/◌, ◌%◌, ◌^◌, ◌<◌, ◌≤◌, inl, inr, Bool, true, false, List, [], ◌∷◌, ◌++◌, length, take, drop, get_or, All}
+use Rattle.std.proofs.Common.{Some, refl, sym, ap, ap₂, ◌∙◌, arith, append_assoc, add-one}
 use Rattle.std.specs.Prelude.{codes, decimal}
 use Rattle.std.specs.List.{flat_map}
 use Rattle.std.proofs.Math.Seq.{take-suc}
@@ -12,7 +13,8 @@ use Rattle.cnf_base.specs.declared.literal.Hint.{Hint}
 use Rattle.cnf_base.specs.declared.literal.Hint.TheVariants as hints
 use Rattle.cert_text.specs.Text.{Certificate, greatest_u64, IsLiteral, IsHint, IsNumber, sign_text, literal_text, hint_text, target_text, IsTextOf}
 use Rattle.cert_text.specs.Scan.{Scan, AtLiteral, AtHint, run, literal, hint}
-use Rattle.cert_text.specs.Reading.{blank, certificate_at, certificate_in, literals_at, literals_in, hints_at, hints_in, numbers_in, numbers_at, AreLiterals, AreHints, AreNumbers, EndsNumber, signed_text, IsSigned, value_on}
+use Rattle.cert_text.specs.Reading.{blank, certificate_at, certificate_in, literals_at, literals_in, hints_at, hints_in, numbers_in, numbers_at, AreLiterals}
+use Rattle.cert_text.specs.Reading.{AreHints, AreNumbers, EndsNumber, signed_text, IsSigned, value_on}
 use Rattle.cert_text.proofs.Sound.{apart}
 use Rattle.cert_text.proofs.Complete.{literal_read, hint_read, deletes_read}
 use Rattle.cert_text.proofs.Faults.{scan_text}
@@ -22,7 +24,8 @@ pub in_text : (bytes : List ℕ) (c : Certificate) → IsTextOf bytes c → cert
 in_text bytes c is = ap certificate_at (scan_text bytes c is)
 
 -- the literals in their text
-literals_run : (more : List Literal) (ls : List Literal) → All IsLiteral more → run ([], AtLiteral blank ls) (flat_map literal_text more) ≡ Some ([], AtLiteral blank (ls ++ more))
+literals_run : (more : List Literal) (ls : List Literal) → All IsLiteral more
+    → run ([], AtLiteral blank ls) (flat_map literal_text more) ≡ Some ([], AtLiteral blank (ls ++ more))
 literals_run [] ls all = ap (λ x. let s : Scan = ([], AtLiteral blank x) in Some s) (sym (append-nil ls))
 literals_run (l ∷ more) ls all =
     let here = All-head IsLiteral l more all in
@@ -33,7 +36,8 @@ literals_run (l ∷ more) ls all =
 pub literals_are : (ls : List Literal) → All IsLiteral ls → literals_in (flat_map literal_text ls) ≡ ls
 literals_are ls all = ap literals_at (literals_run ls [] all)
 
-hints_run : (more : List Hint) (hs : List Hint) → All IsHint more → run ([], AtHint blank [] hs) (flat_map hint_text more) ≡ Some ([], AtHint blank [] (hs ++ more))
+hints_run : (more : List Hint) (hs : List Hint) → All IsHint more
+    → run ([], AtHint blank [] hs) (flat_map hint_text more) ≡ Some ([], AtHint blank [] (hs ++ more))
 hints_run [] hs all = ap (λ x. let s : Scan = ([], AtHint blank [] x) in Some s) (sym (append-nil hs))
 hints_run (h ∷ more) hs all =
     hint_read blank [] hs h (flat_map hint_text more) (All-head IsHint h more all)
@@ -85,7 +89,8 @@ passed_more digits value len has low other = record {
       ap (λ v. (v * 10 % 2 ^ 64 + (get_or digits len 0 + 208) % 2 ^ 8) % 2 ^ 64) has.value
       ∙ sym (value_push 0 (take len digits) (get_or digits len 0))
       ∙ ap (value_on 0) (sym (take-suc digits len 0 low) ∙ ap (λ k. take k digits) (sym (add-one len)));
-  passed = λ k below. elim (cases_lt k len) [ inl before ↦ has.passed k before | inr at ↦ (let e : k ≡ len = omega (arith, at, below) in λ h. other (ap (λ i. get_or digits i 0) (sym e) ∙ h)) ];
+  passed = λ k below. elim (cases_lt k len)
+      [ inl before ↦ has.passed k before | inr at ↦ (let e : k ≡ len = omega (arith, at, below) in λ h. other (ap (λ i. get_or digits i 0) (sym e) ∙ h)) ];
 }
 
 -- where it ends
@@ -107,7 +112,8 @@ number_is digits value len has stops n more few is ends =
   where
     behind : (more : List ℕ) → digits ≡ decimal n ++ more → EndsNumber more → 0 < length more → length (decimal n) < len → ⊥
     behind [] is ends some late = omega (arith, some)
-    behind (b ∷ bytes) is ends some late = has.passed (length (decimal n)) late (ap (λ x. get_or x (length (decimal n)) 0) is ∙ get_or_at (decimal n) b bytes 0 (length (decimal n)) refl ∙ ends)
+    behind (b ∷ bytes) is ends some late =
+        has.passed (length (decimal n)) late (ap (λ x. get_or x (length (decimal n)) 0) is ∙ get_or_at (decimal n) b bytes 0 (length (decimal n)) refl ∙ ends)
 
 -- the number at the front has a sign exactly where the first byte is one
 front_digit : (n : ℕ) (more : List ℕ) → n ≤ greatest_u64 → get_or (decimal n ++ more) 0 0 ≡ 45 → ⊥
@@ -128,7 +134,8 @@ plain_digits bytes true n more few is front = absurd (front (ap (λ x. get_or x 
 plain_digits bytes false n more few is front = (refl, is)
 
 -- what is behind the space
-pub behind_space : (digits ds rest : List ℕ) (len : ℕ) → digits ≡ ds ++ (32 ∷ rest) → len ≡ length ds → (len + 1 ≤ length digits) × (take (length digits - (len + 1)) (drop (len + 1) digits) ≡ rest)
+pub behind_space : (digits ds rest : List ℕ) (len : ℕ) → digits ≡ ds ++ (32 ∷ rest) → len ≡ length ds
+    → (len + 1 ≤ length digits) × (take (length digits - (len + 1)) (drop (len + 1) digits) ≡ rest)
 behind_space digits ds rest len is at =
     let long : length (ds ++ 32 ∷ []) ≡ len + 1 = omega (arith, at, length_push ds 32) in (
       omega (arith, ap length is, length-append ds (32 ∷ rest), at),
@@ -161,15 +168,19 @@ front_literal bytes are some = go are.0 are.1 are.2
     }
 
 pub signed_literal : (bytes : List ℕ) → FrontLiteral bytes → IsSigned bytes
-signed_literal bytes f = record { negated = f.first.negated; number = f.first.letter.0; more = flat_map literal_text f.others; fits = omega (arith, f.fits.1); spelled = f.spelled }
+signed_literal bytes f =
+    record { negated = f.first.negated; number = f.first.letter.0; more = flat_map literal_text f.others; fits = omega (arith, f.fits.1); spelled = f.spelled }
 
-pub after_literal : (bytes rest : List ℕ) (f : FrontLiteral bytes) (b : Bool) (n : ℕ) → b ≡ f.first.negated → n ≡ f.first.letter.0 → rest ≡ flat_map literal_text f.others
+pub after_literal : (bytes rest : List ℕ) (f : FrontLiteral bytes) (b : Bool) (n : ℕ)
+    → b ≡ f.first.negated → n ≡ f.first.letter.0 → rest ≡ flat_map literal_text f.others
     → AreLiterals rest × (literals_in bytes ≡ literal b n ∷ literals_in rest)
 after_literal bytes rest f b n sign value left =
     let tail = All-tail IsLiteral f.first f.others f.all in
-    let whole : bytes ≡ flat_map literal_text (f.first ∷ f.others) = f.spelled ∙ sym (apart (sign_text f.first.negated) (decimal f.first.letter.0) (codes " ") (flat_map literal_text f.others)) in (
+    let whole : bytes ≡ flat_map literal_text (f.first ∷ f.others) =
+    f.spelled ∙ sym (apart (sign_text f.first.negated) (decimal f.first.letter.0) (codes " ") (flat_map literal_text f.others)) in (
       (f.others, tail, left),
-      ap literals_in whole ∙ literals_are (f.first ∷ f.others) f.all ∙ ap₂ (λ x xs. x ∷ xs) (ap₂ literal (sym sign) (sym value)) (sym (ap literals_in left ∙ literals_are f.others tail)),
+      ap literals_in whole ∙ literals_are (f.first ∷ f.others) f.all
+          ∙ ap₂ (λ x xs. x ∷ xs) (ap₂ literal (sym sign) (sym value)) (sym (ap literals_in left ∙ literals_are f.others tail)),
     )
 
 -- a hint is at the front
@@ -190,8 +201,22 @@ front_hint bytes are some = go are.0 are.1 are.2
   where
     go : (hs : List Hint) → All IsHint hs → bytes ≡ flat_map hint_text hs → FrontHint bytes
     go [] all is = absurd (omega (arith, some, ap length is))
-    go (hints.Line n ∷ hs) all is = record { negated = true; number = n; others = hs; all = all; fits = All-head IsHint (hints.Line n) hs all; spelled = is ∙ hint_whole true n (flat_map hint_text hs) }
-    go (hints.Clause n ∷ hs) all is = record { negated = false; number = n; others = hs; all = all; fits = All-head IsHint (hints.Clause n) hs all; spelled = is ∙ hint_whole false n (flat_map hint_text hs) }
+    go (hints.Line n ∷ hs) all is = record {
+      negated = true;
+      number = n;
+      others = hs;
+      all = all;
+      fits = All-head IsHint (hints.Line n) hs all;
+      spelled = is ∙ hint_whole true n (flat_map hint_text hs);
+    }
+    go (hints.Clause n ∷ hs) all is = record {
+      negated = false;
+      number = n;
+      others = hs;
+      all = all;
+      fits = All-head IsHint (hints.Clause n) hs all;
+      spelled = is ∙ hint_whole false n (flat_map hint_text hs);
+    }
 
 pub signed_hint : (bytes : List ℕ) → FrontHint bytes → IsSigned bytes
 signed_hint bytes f = record { negated = f.negated; number = f.number; more = flat_map hint_text f.others; fits = f.fits.1; spelled = f.spelled }
@@ -200,9 +225,11 @@ pub after_hint : (bytes rest : List ℕ) (f : FrontHint bytes) (b : Bool) (n : �
     → AreHints rest × (hints_in bytes ≡ hint b n ∷ hints_in rest)
 after_hint bytes rest f b n sign value left =
     let tail = All-tail IsHint (hint f.negated f.number) f.others f.all in
-    let whole : bytes ≡ flat_map hint_text (hint f.negated f.number ∷ f.others) = f.spelled ∙ sym (hint_whole f.negated f.number (flat_map hint_text f.others)) in (
+    let whole : bytes ≡ flat_map hint_text (hint f.negated f.number ∷ f.others) =
+    f.spelled ∙ sym (hint_whole f.negated f.number (flat_map hint_text f.others)) in (
       (f.others, tail, left),
-      ap hints_in whole ∙ hints_are (hint f.negated f.number ∷ f.others) f.all ∙ ap₂ (λ x xs. x ∷ xs) (ap₂ hint (sym sign) (sym value)) (sym (ap hints_in left ∙ hints_are f.others tail)),
+      ap hints_in whole ∙ hints_are (hint f.negated f.number ∷ f.others) f.all
+          ∙ ap₂ (λ x xs. x ∷ xs) (ap₂ hint (sym sign) (sym value)) (sym (ap hints_in left ∙ hints_are f.others tail)),
     )
 
 -- numbers in their text
@@ -230,7 +257,19 @@ front_number bytes are some = go are.0 are.1 are.2
   where
     go : (ns : List ℕ) → All IsNumber ns → bytes ≡ flat_map target_text ns → FrontNumber bytes
     go [] all is = absurd (omega (arith, some, ap length is))
-    go (n ∷ ns) all is = record { first = n; others = ns; all = all; fits = All-head IsNumber n ns all; ends = number_ends ns; long = omega (arith, some); spelled = take_rest bytes 1 ∙ ap (drop 1) is; whole = is }
+    go (n ∷ ns) all is = record {
+      first = n;
+      others = ns;
+      all = all;
+      fits = All-head IsNumber n ns all;
+      ends = number_ends ns;
+      long = omega (
+        arith,
+        some,
+      );
+      spelled = take_rest bytes 1 ∙ ap (drop 1) is;
+      whole = is;
+    }
 
 pub after_number : (bytes rest : List ℕ) (f : FrontNumber bytes) (n : ℕ) → n ≡ f.first → rest ≡ flat_map target_text f.others
     → AreNumbers rest × (numbers_in bytes ≡ n ∷ numbers_in rest)

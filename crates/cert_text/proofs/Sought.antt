@@ -1,5 +1,6 @@
 -- Where a byte, and the 0 behind some literals, stand in a text.
-use Rattle.std.proofs.Common.{◌≡◌, ℕ, ◌+◌, ◌-◌, ◌/◌, ◌%◌, ◌<◌, ◌≤◌, inl, inr, Bool, true, false, List, [], ◌∷◌, ◌++◌, length, take, drop, get_or, All, Some, None, sym, ap, subst, ◌∙◌, arith, append_assoc, length-append}
+use Rattle.std.proofs.Common.{◌≡◌, ℕ, ◌+◌, ◌-◌, ◌/◌, ◌%◌, ◌<◌, ◌≤◌, inl, inr, Bool, true, false, List, [], ◌∷◌, ◌++◌, length, take, drop, get_or, All, Some}
+use Rattle.std.proofs.Common.{None, sym, ap, subst, ◌∙◌, arith, append_assoc, length-append}
 use Rattle.std.specs.Prelude.{codes, decimal}
 use Rattle.std.specs.List.{flat_map}
 use Rattle.std.proofs.Math.Seq.{get_or-append_seam}
@@ -22,7 +23,8 @@ pub record HasSought (bytes : List ℕ) (at byte end : ℕ) : Type 0 where
 pub sought_none : (bytes : List ℕ) (at byte : ℕ) → at ≤ length bytes → HasSought bytes at byte at
 sought_none bytes at byte within = record { low = omega arith; high = within; none = λ k low below. absurd (omega (arith, low, below)) }
 
-pub sought_more : (bytes : List ℕ) (at byte end : ℕ) → HasSought bytes at byte end → end < length bytes → (get_or bytes end 0 ≡ byte → ⊥) → HasSought bytes at byte (end + 1)
+pub sought_more : (bytes : List ℕ) (at byte end : ℕ) → HasSought bytes at byte end → end < length bytes → (get_or bytes end 0 ≡ byte → ⊥)
+    → HasSought bytes at byte (end + 1)
 sought_more bytes at byte end has within other = record {
   low = omega (arith, has.low);
   high = omega (arith, within);
@@ -94,7 +96,8 @@ word_first l more is = go l.negated
         let high = first_positive l.letter.0 is.0 (omega (arith, is)) in
         omega (arith, left, high, e)
 
-pub word_spelled : (l : Literal) (ls : List Literal) (more : List ℕ) → flat_map literal_text (l ∷ ls) ++ 48 ∷ more ≡ word_of l ++ 32 ∷ (flat_map literal_text ls ++ 48 ∷ more)
+pub word_spelled : (l : Literal) (ls : List Literal) (more : List ℕ)
+    → flat_map literal_text (l ∷ ls) ++ 48 ∷ more ≡ word_of l ++ 32 ∷ (flat_map literal_text ls ++ 48 ∷ more)
 word_spelled l ls more =
     append_assoc (literal_text l) (flat_map literal_text ls) (48 ∷ more)
     ∙ apart (sign_text l.negated) (decimal l.letter.0) (codes " ") (flat_map literal_text ls ++ 48 ∷ more)
@@ -102,13 +105,15 @@ word_spelled l ls more =
 
 -- a slice from a place on, read
 slice_at : (bytes hay : List ℕ) (at k : ℕ) → hay ≡ take (length bytes - at) (drop at bytes) → at + k < length bytes → get_or hay k 0 ≡ get_or bytes (at + k) 0
-slice_at bytes hay at k is low = ap (λ xs. get_or xs k 0) is ∙ get_or-take (length bytes - at) (drop at bytes) k 0 (omega (arith, low)) ∙ get_or-drop at bytes k 0
+slice_at bytes hay at k is low =
+    ap (λ xs. get_or xs k 0) is ∙ get_or-take (length bytes - at) (drop at bytes) k 0 (omega (arith, low)) ∙ get_or-drop at bytes k 0
 
 slice_size : (bytes hay : List ℕ) (at : ℕ) → at ≤ length bytes → hay ≡ take (length bytes - at) (drop at bytes) → length hay ≡ length bytes - at
 slice_size bytes hay at within is = ap length is ∙ length-take-le (length bytes - at) (drop at bytes) (omega (arith, length-drop at bytes))
 
 -- the first place of a byte in the slice
-pub sought_before : (bytes hay : List ℕ) (at byte end : ℕ) → at ≤ end → end ≤ length bytes → hay ≡ take (length bytes - at) (drop at bytes) → Nowhere (Passes (is_byte byte) hay) 0 (end - at) → HasSought bytes at byte end
+pub sought_before : (bytes hay : List ℕ) (at byte end : ℕ) → at ≤ end → end ≤ length bytes → hay ≡ take (length bytes - at) (drop at bytes)
+    → Nowhere (Passes (is_byte byte) hay) 0 (end - at) → HasSought bytes at byte end
 sought_before bytes hay at byte end low high is nowhere = record {
   low = low;
   high = high;
@@ -118,16 +123,20 @@ sought_before bytes hay at byte end low high is nowhere = record {
       nowhere (k - at) (omega arith) (omega (arith, from, to)) (eq-eqb (get_or hay (k - at) 0) byte there);
 }
 
-pub sought_nowhere : (bytes hay : List ℕ) (at byte : ℕ) → at ≤ length bytes → hay ≡ take (length bytes - at) (drop at bytes) → IsFirstByte (is_byte byte) hay None → HasSought bytes at byte (length bytes)
+pub sought_nowhere : (bytes hay : List ℕ) (at byte : ℕ) → at ≤ length bytes → hay ≡ take (length bytes - at) (drop at bytes)
+    → IsFirstByte (is_byte byte) hay None → HasSought bytes at byte (length bytes)
 sought_nowhere bytes hay at byte within is none =
-    sought_before bytes hay at byte (length bytes) within (omega arith) is (subst (λ n. Nowhere (Passes (is_byte byte) hay) 0 n) (slice_size bytes hay at within is) none)
+    sought_before bytes hay at byte (length bytes) within (omega arith) is
+    (subst (λ n. Nowhere (Passes (is_byte byte) hay) 0 n) (slice_size bytes hay at within is) none)
 
-pub sought_at : (bytes hay : List ℕ) (at byte k : ℕ) → at ≤ length bytes → hay ≡ take (length bytes - at) (drop at bytes) → IsFirstByte (is_byte byte) hay (Some k)
+pub sought_at : (bytes hay : List ℕ) (at byte k : ℕ) → at ≤ length bytes → hay ≡ take (length bytes - at) (drop at bytes)
+    → IsFirstByte (is_byte byte) hay (Some k)
     → (at + k < length bytes) × HasSought bytes at byte (at + k) × (get_or bytes (at + k) 0 ≡ byte)
 sought_at bytes hay at byte k within is first =
     let low : at + k < length bytes = omega (arith, first.0.high, slice_size bytes hay at within is, within) in
     let less : at + k - at ≡ k = omega arith in (
       low,
-      sought_before bytes hay at byte (at + k) (omega arith) (omega (arith, low)) is (subst (λ n. Nowhere (Passes (is_byte byte) hay) 0 n) (sym less) first.0.before),
+      sought_before bytes hay at byte (at + k) (omega arith) (omega (arith, low)) is
+          (subst (λ n. Nowhere (Passes (is_byte byte) hay) 0 n) (sym less) first.0.before),
       sym (slice_at bytes hay at k is low) ∙ eqb-true (get_or hay k 0) byte first.1,
     )

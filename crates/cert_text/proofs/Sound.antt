@@ -1,5 +1,6 @@
 -- What the scan has read is what stands there.
-use Rattle.std.proofs.Common.{◌≡◌, ℕ, ◌+◌, ◌<◌, ◌≤◌, ◌==◌, inl, inr, Bool, true, false, List, [], ◌∷◌, ◌++◌, length, All, Some, None, refl, sym, ap, ◌∙◌, subst, arith, append_assoc}
+use Rattle.std.proofs.Common.{◌≡◌, ℕ, ◌+◌, ◌<◌, ◌≤◌, ◌==◌, inl, inr, Bool, true, false, List, [], ◌∷◌, ◌++◌, length, All, Some, None, refl, sym, ap, ◌∙◌, subst}
+use Rattle.std.proofs.Common.{arith, append_assoc}
 use Rattle.std.specs.Prelude.{codes, decimal}
 use Rattle.std.specs.List.{flat_map}
 use Rattle.std.proofs.lemmas.Bool.{eqb-true, eqb-false}
@@ -9,18 +10,23 @@ use Rattle.std.proofs.lemmas.Fmt.{decimal_digit}
 use Rattle.ltl_syntax.specs.declared.node.Kind.TheVariants as Kinds
 use Rattle.cnf_base.specs.declared.literal.Literal.{Literal}
 use Rattle.cnf_base.specs.declared.literal.Hint.{Hint}
-use Rattle.cert_text.specs.Text.{Part, Line, Delete, Certificate, IsLiteral, IsNumber, IsHint, IsPart, IsBegun, sign_text, literal_text, hint_text, target_text, part_text, close_text, IsTextOf}
-use Rattle.cert_text.specs.Scan.{Role, OfDepth, OfLiteral, OfHint, OfTarget, OfDelete, Place, AtVersion, AtKind, AtNumber, InNumber, AtPart, AtLiteral, AtHint, AtEnd, Scan, start, greatest, literal, hint, with_part, with_target, header, end_number, first_digit, literal_step, number_step, place_step, step, run}
+use Rattle.cert_text.specs.Text.{Part, Line, Delete, Certificate, IsLiteral, IsNumber, IsHint, IsPart, IsBegun, sign_text, literal_text, hint_text, target_text}
+use Rattle.cert_text.specs.Text.{part_text, close_text, IsTextOf}
+use Rattle.cert_text.specs.Scan.{Role, OfDepth, OfLiteral, OfHint, OfTarget, OfDelete, Place, AtVersion, AtKind, AtNumber, InNumber, AtPart, AtLiteral, AtHint}
+use Rattle.cert_text.specs.Scan.{AtEnd, Scan, start, greatest, literal, hint, with_part, with_target, header, end_number, first_digit, literal_step}
+use Rattle.cert_text.specs.Scan.{number_step, place_step, step, run}
 use Rattle.cert_text.proofs.Leading.{HasRead, LeadsOn, reads_on}
 use Rattle.cert_text.proofs.Digits.{Gives, gives_none, gives_some, gives_if, gives_at, gives_first, gives_digit}
-use Rattle.cert_text.proofs.Places.{number_at, header_before, parts_before, role_before, before, IsStarted, IsRole, IsPlace, flat_more, first_text, digit_text, greatest_fits, header_is}
+use Rattle.cert_text.proofs.Places.{number_at, header_before, parts_before, role_before, before, IsStarted, IsRole, IsPlace, flat_more, first_text, digit_text}
+use Rattle.cert_text.proofs.Places.{greatest_fits, header_is}
 
 -- the byte at the place leads to a place up to which the text is one byte longer, and what is true there
 abbrev Leads : Place → ℕ → Scan → Type 0
 Leads p b t = ((rest : List ℕ) → before p (b ∷ (t.0 ++ rest)) ≡ before t.1 rest) × IsPlace t.1
 
 -- the first digit of a number, where a number of this role may stand
-first_leads : (p : Place) (role : Role) (b : ℕ) → ((rest : List ℕ) → before p rest ≡ role_before role rest) → IsRole role → 9 ≤ greatest role → Gives (Leads p b) (first_digit role b)
+first_leads : (p : Place) (role : Role) (b : ℕ) → ((rest : List ℕ) → before p rest ≡ role_before role rest) → IsRole role → 9 ≤ greatest role
+    → Gives (Leads p b) (first_digit role b)
 first_leads p role b same is room =
     gives_first (Leads p b) (number_at role) b
     (λ low high. (λ rest. same (b ∷ rest) ∙ ap (role_before role) (first_text b rest low high), (is, omega arith, omega arith)))
@@ -32,7 +38,8 @@ started_part c part is fits = record {
 }
 
 -- a literal or the 0 behind the literals
-literal_leads : (p : Place) (c : Certificate) (literals : List Literal) (b : ℕ) → ((rest : List ℕ) → before p rest ≡ before (AtLiteral c literals) rest) → IsStarted c → All IsLiteral literals
+literal_leads : (p : Place) (c : Certificate) (literals : List Literal) (b : ℕ) → ((rest : List ℕ) → before p rest ≡ before (AtLiteral c literals) rest)
+    → IsStarted c → All IsLiteral literals
     → Gives (Leads p b) (literal_step c literals b)
 literal_leads p c literals b same is all =
     gives_at (Leads p) b 48 _ _ (gives_some (Leads p 48) (codes " ", AtHint c literals []) (λ rest. same (48 ∷ 32 ∷ rest), (is, all, All-nil IsHint)))
@@ -46,14 +53,18 @@ apart a b c rest = append_assoc a (b ++ c) rest ∙ ap (λ x. a ++ x) (append_as
 pub literal_more : (literals : List Literal) (negated : Bool) (n : ℕ) (rest : List ℕ)
     → flat_map literal_text literals ++ (sign_text negated ++ (decimal n ++ (32 ∷ rest))) ≡ flat_map literal_text (literals ++ literal negated n ∷ []) ++ rest
 literal_more literals negated n rest =
-    sym (flat_more literal_text literals (literal negated n) rest ∙ ap (λ x. flat_map literal_text literals ++ x) (apart (sign_text negated) (decimal n) (codes " ") rest))
+    sym (flat_more literal_text literals (literal negated n) rest
+    ∙ ap (λ x. flat_map literal_text literals ++ x) (apart (sign_text negated) (decimal n) (codes " ") rest))
 
 pub hint_more : (hints : List Hint) (negated : Bool) (n : ℕ) (rest : List ℕ)
     → flat_map hint_text hints ++ (sign_text negated ++ (decimal n ++ (32 ∷ rest))) ≡ flat_map hint_text (hints ++ hint negated n ∷ []) ++ rest
-hint_more hints true n rest = sym (flat_more hint_text hints (hint true n) rest ∙ ap (λ x. flat_map hint_text hints ++ x) (apart (codes "-") (decimal n) (codes " ") rest))
-hint_more hints false n rest = sym (flat_more hint_text hints (hint false n) rest ∙ ap (λ x. flat_map hint_text hints ++ x) (append_assoc (decimal n) (codes " ") rest))
+hint_more hints true n rest =
+    sym (flat_more hint_text hints (hint true n) rest ∙ ap (λ x. flat_map hint_text hints ++ x) (apart (codes "-") (decimal n) (codes " ") rest))
+hint_more hints false n rest =
+    sym (flat_more hint_text hints (hint false n) rest ∙ ap (λ x. flat_map hint_text hints ++ x) (append_assoc (decimal n) (codes " ") rest))
 
-pub target_more : (lines : List ℕ) (n : ℕ) (rest : List ℕ) → flat_map target_text lines ++ (32 ∷ (decimal n ++ rest)) ≡ flat_map target_text (lines ++ n ∷ []) ++ rest
+pub target_more : (lines : List ℕ) (n : ℕ) (rest : List ℕ)
+    → flat_map target_text lines ++ (32 ∷ (decimal n ++ rest)) ≡ flat_map target_text (lines ++ n ∷ []) ++ rest
 target_more lines n rest = sym (flat_more target_text lines n rest)
 
 -- a line or a delete is put behind the parts
@@ -96,11 +107,14 @@ end_leads (OfTarget c) n b is one few =
     let p = InNumber (OfTarget c) n in
     let begun : IsBegun (with_target c n) = record { version = is.0.version; depth = is.0.depth; parts = is.0.parts } in
     let all = All-push IsNumber c.targets n is.2 (one, few) in
-    let text : (rest : List ℕ) → parts_before c (codes "close" ++ (flat_map target_text c.targets ++ (32 ∷ (decimal n ++ rest)))) ≡ parts_before c (codes "close" ++ (flat_map target_text (c.targets ++ n ∷ []) ++ rest))
+    let text : (rest : List ℕ) → parts_before c (codes "close" ++ (flat_map target_text c.targets ++ (32 ∷ (decimal n ++ rest)))) ≡ parts_before c
+    (codes "close" ++ (flat_map target_text (c.targets ++ n ∷ []) ++ rest))
     = λ rest. ap (λ x. parts_before c (codes "close" ++ x)) (target_more c.targets n rest) in
     gives_if (Leads p b) (length c.targets == c.depth + 1) _ _
-    (λ e. gives_at (Leads p) b 10 _ _ (gives_some (Leads p 10) ([], AtEnd (with_target c n))
-    (λ rest. text (10 ∷ rest), record { begun = begun; count = omega (arith, length_push c.targets n, eqb-true (length c.targets) (c.depth + 1) e); targets = all }))
+    (λ e. gives_at (Leads p) b 10 _ _ (gives_some (Leads p 10) ([], AtEnd (with_target c n)) (
+      λ rest. text (10 ∷ rest),
+      record { begun = begun; count = omega (arith, length_push c.targets n, eqb-true (length c.targets) (c.depth + 1) e); targets = all },
+    ))
     (gives_none (Leads p b)))
     (λ e. gives_at (Leads p) b 32 _ _ (gives_some (Leads p 32) ([], AtNumber (OfTarget (with_target c n)))
     (λ rest. text (32 ∷ rest), (begun, omega (arith, length_push c.targets n, is.1, eqb-false (length c.targets) (c.depth + 1) e), all)))
@@ -108,7 +122,8 @@ end_leads (OfTarget c) n b is one few =
 end_leads (OfDelete c lines) n b is one few =
     let p = InNumber (OfDelete c lines) n in
     let all = All-push IsNumber lines n is.2 (one, few) in
-    let text : (rest : List ℕ) → parts_before c (codes "d" ++ (flat_map target_text lines ++ (32 ∷ (decimal n ++ rest)))) ≡ parts_before c (codes "d" ++ (flat_map target_text (lines ++ n ∷ []) ++ rest))
+    let text : (rest : List ℕ) → parts_before c (codes "d" ++ (flat_map target_text lines ++ (32 ∷ (decimal n ++ rest)))) ≡ parts_before c
+    (codes "d" ++ (flat_map target_text (lines ++ n ∷ []) ++ rest))
     = λ rest. ap (λ x. parts_before c (codes "d" ++ x)) (target_more lines n rest) in
     gives_at (Leads p) b 32 _ _ (gives_some (Leads p 32) ([], AtNumber (OfDelete c (lines ++ n ∷ []))) (λ rest. text (32 ∷ rest), (is.0, is.1, all)))
     (gives_at (Leads p) b 10 _ _ (gives_some (Leads p 10) ([], AtPart (with_part c (Delete (lines ++ n ∷ [])))) (
@@ -120,18 +135,31 @@ end_leads (OfDelete c lines) n b is one few =
 number_leads : (role : Role) (b : ℕ) → IsRole role → Gives (Leads (AtNumber role) b) (number_step role b)
 number_leads (OfDepth version kind) b is =
     let p = AtNumber (OfDepth version kind) in
-    gives_at (Leads p) b 48 _ _ (gives_some (Leads p 48) (codes "\n", AtPart (header version kind 0))
-    (λ rest. ap (λ ds. role_before (OfDepth version kind) (ds ++ (10 ∷ rest))) (sym (decimal_digit 0 (omega arith))), record { begun = record { version = is; depth = omega arith; parts = All-nil (IsPart version) }; none = refl }))
+    gives_at (Leads p) b 48 _ _ (gives_some (Leads p 48) (codes "\n", AtPart (header version kind 0)) (
+      λ rest. ap (λ ds. role_before (OfDepth version kind) (ds ++ (10 ∷ rest))) (sym (decimal_digit 0 (omega arith))),
+      record {
+        begun = record { version = is; depth = omega arith; parts = All-nil (IsPart version) };
+        none = refl;
+      },
+    ))
     (first_leads p (OfDepth version kind) b (λ rest. refl) is (omega arith))
-number_leads (OfLiteral c literals negated) b is = first_leads (AtNumber (OfLiteral c literals negated)) (OfLiteral c literals negated) b (λ rest. refl) is (omega arith)
-number_leads (OfHint c literals hints negated) b is = first_leads (AtNumber (OfHint c literals hints negated)) (OfHint c literals hints negated) b (λ rest. refl) is (omega arith)
+number_leads (OfLiteral c literals negated) b is =
+    first_leads (AtNumber (OfLiteral c literals negated)) (OfLiteral c literals negated) b (λ rest. refl) is (omega arith)
+number_leads (OfHint c literals hints negated) b is =
+    first_leads (AtNumber (OfHint c literals hints negated)) (OfHint c literals hints negated) b (λ rest. refl) is (omega arith)
 number_leads (OfTarget c) b is = first_leads (AtNumber (OfTarget c)) (OfTarget c) b (λ rest. refl) is (omega arith)
 number_leads (OfDelete c lines) b is = first_leads (AtNumber (OfDelete c lines)) (OfDelete c lines) b (λ rest. refl) is (omega arith)
 
 place_leads : (p : Place) (b : ℕ) → IsPlace p → Gives (Leads p b) (place_step p b)
 place_leads AtVersion b is =
-    gives_at (Leads AtVersion) b 49 _ _ (gives_some (Leads AtVersion 49) (codes " ", AtKind 1) (λ rest. ap (λ ds. codes "ltlcert " ++ (ds ++ (32 ∷ rest))) (sym (decimal_digit 1 (omega arith))), inl refl))
-    (gives_at (Leads AtVersion) b 50 _ _ (gives_some (Leads AtVersion 50) (codes " ", AtKind 2) (λ rest. ap (λ ds. codes "ltlcert " ++ (ds ++ (32 ∷ rest))) (sym (decimal_digit 2 (omega arith))), inr refl))
+    gives_at (Leads AtVersion) b 49 _ _ (gives_some (Leads AtVersion 49) (
+      codes " ",
+      AtKind 1,
+    ) (λ rest. ap (λ ds. codes "ltlcert " ++ (ds ++ (32 ∷ rest))) (sym (decimal_digit 1 (omega arith))), inl refl))
+    (gives_at (Leads AtVersion) b 50 _ _ (gives_some (Leads AtVersion 50) (
+      codes " ",
+      AtKind 2,
+    ) (λ rest. ap (λ ds. codes "ltlcert " ++ (ds ++ (32 ∷ rest))) (sym (decimal_digit 2 (omega arith))), inr refl))
     (gives_none (Leads AtVersion b)))
 place_leads (AtKind version) b is =
     let p = AtKind version in
@@ -149,7 +177,8 @@ place_leads (InNumber role n) b is =
 place_leads (AtPart c) b is =
     let p = AtPart c in
     gives_at (Leads p) b 99 _ _ (gives_some (Leads p 99) (codes "lose ", AtNumber (OfTarget c)) (
-      λ rest. subst (λ ts. parts_before c (codes "close " ++ rest) ≡ parts_before c (codes "close" ++ (flat_map target_text ts ++ (32 ∷ rest)))) (sym is.none) refl,
+      λ rest. subst (λ ts. parts_before c (codes "close " ++ rest) ≡ parts_before c (codes "close" ++ (flat_map target_text ts ++ (32 ∷ rest))))
+          (sym is.none) refl,
       (is.begun, subst (λ ts. length ts < c.depth + 2) (sym is.none) (omega arith), subst (All IsNumber) (sym is.none) (All-nil IsNumber)),
     ))
     (gives_at (Leads p) b 100 _ _
@@ -160,8 +189,13 @@ place_leads (AtPart c) b is =
 place_leads (AtLiteral c literals) b is = literal_leads (AtLiteral c literals) c literals b (λ rest. refl) is.0 is.1
 place_leads (AtHint c literals hints) b is =
     let p = AtHint c literals hints in
-    gives_at (Leads p) b 48 _ _ (gives_some (Leads p 48) (codes "\n", AtPart (with_part c (Line literals hints)))
-    (λ rest. ap (parts_before c) (line_text literals hints rest) ∙ part_more c (Line literals hints) rest, started_part c (Line literals hints) is.0 (is.1, is.2)))
+    gives_at (Leads p) b 48 _ _ (gives_some (Leads p 48) (codes "\n", AtPart (with_part c (Line literals hints))) (
+      λ rest. ap (parts_before c) (line_text literals hints rest) ∙ part_more c (Line literals hints) rest,
+      started_part c (Line literals hints) is.0 (
+        is.1,
+        is.2,
+      ),
+    ))
     (gives_at (Leads p) b 45 _ _ (gives_some (Leads p 45) ([], AtNumber (OfHint c literals hints true)) (λ rest. refl, is))
     (first_leads p (OfHint c literals hints false) b (λ rest. refl) is (omega arith)))
 place_leads (AtEnd c) b is = gives_none (Leads (AtEnd c) b)

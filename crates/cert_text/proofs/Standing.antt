@@ -1,5 +1,6 @@
 -- Where the parts of a text stand.
-use Rattle.std.proofs.Common.{◌≡◌, ℕ, zero, suc, ◌+◌, ◌-◌, ◌<◌, List, [], ◌∷◌, ◌++◌, length, take, get_or, slice_range, refl, sym, ap, ◌∙◌, arith, append_assoc, length-append}
+use Rattle.std.proofs.Common.{◌≡◌, ℕ, zero, suc, ◌+◌, ◌-◌, ◌<◌, List, [], ◌∷◌, ◌++◌, length, take, get_or, slice_range, refl, sym, ap, ◌∙◌, arith, append_assoc}
+use Rattle.std.proofs.Common.{length-append}
 use Rattle.std.specs.Prelude.{codes}
 use Rattle.std.specs.List.{flat_map}
 use Rattle.std.proofs.lemmas.Grind.{flat_map-append}
@@ -34,17 +35,22 @@ lines_stand bytes c k is low =
     let l = flat_map literal_text ls in
     let x = flat_map hint_text hs in
     let end : List ℕ = b ++ close_text c.targets in
-    let split : flat_map part_text c.parts ≡ a ++ (part_text (Line ls hs) ++ b) = ap (flat_map part_text) (split_line c.parts k low) ∙ flat_map-append part_text (parts_before c.parts k) (Line ls hs ∷ parts_behind c.parts k) in
+    let split : flat_map part_text c.parts ≡ a ++ (part_text (Line ls hs) ++ b) =
+    ap (flat_map part_text) (split_line c.parts k low) ∙ flat_map-append part_text (parts_before c.parts k) (Line ls hs ∷ parts_behind c.parts k) in
     let whole : bytes ≡ h ++ a ++ (l ++ (codes "0 " ++ (x ++ (48 ∷ 10 ∷ end)))) =
     is.spelled
     ∙ ap (λ y. h ++ (y ++ close_text c.targets)) split
-    ∙ ap (λ y. h ++ y) (append_assoc a (part_text (Line ls hs) ++ b) (close_text c.targets) ∙ ap (λ y. a ++ y) (append_assoc (part_text (Line ls hs)) b (close_text c.targets) ∙ sym (line_text ls hs end)))
+    ∙ ap (λ y. h ++ y) (append_assoc a (part_text (Line ls hs) ++ b) (close_text c.targets)
+    ∙ ap (λ y. a ++ y) (append_assoc (part_text (Line ls hs)) b (close_text c.targets) ∙ sym (line_text ls hs end)))
     ∙ sym (append_assoc h a (l ++ (codes "0 " ++ (x ++ (48 ∷ 10 ∷ end))))) in
     let second : bytes ≡ h ++ a ++ (l ++ codes "0 ") ++ (x ++ (48 ∷ 10 ∷ end)) =
-    whole ∙ ap (λ y. h ++ a ++ y) (sym (append_assoc l (codes "0 ") (x ++ (48 ∷ 10 ∷ end)))) ∙ sym (append_assoc (h ++ a) (l ++ codes "0 ") (x ++ (48 ∷ 10 ∷ end))) in (
-      ap (λ y. slice_range y (line_start c k) (literals_end c k)) whole ∙ middle (h ++ a) l (codes "0 " ++ (x ++ (48 ∷ 10 ∷ end))) (line_start c k) (literals_end c k) refl refl,
+    whole ∙ ap (λ y. h ++ a ++ y) (sym (append_assoc l (codes "0 ") (x ++ (48 ∷ 10 ∷ end))))
+    ∙ sym (append_assoc (h ++ a) (l ++ codes "0 ") (x ++ (48 ∷ 10 ∷ end))) in (
+      ap (λ y. slice_range y (line_start c k) (literals_end c k)) whole
+          ∙ middle (h ++ a) l (codes "0 " ++ (x ++ (48 ∷ 10 ∷ end))) (line_start c k) (literals_end c k) refl refl,
       ap (λ y. slice_range y (literals_end c k + 2) (hints_end c k)) second
-          ∙ middle (h ++ a ++ (l ++ codes "0 ")) x (48 ∷ 10 ∷ end) (literals_end c k + 2) (hints_end c k) (omega (arith, length-append (h ++ a) (l ++ codes "0 "), length-append l (codes "0 "))) refl,
+          ∙ middle (h ++ a ++ (l ++ codes "0 ")) x (48 ∷ 10 ∷ end) (literals_end c k + 2) (hints_end c k)
+          (omega (arith, length-append (h ++ a) (l ++ codes "0 "), length-append l (codes "0 "))) refl,
     )
 
 pub targets_stand : TargetsStand
@@ -58,4 +64,5 @@ targets_stand bytes c is =
     let two = length-append (h ++ a ++ codes "close") (t ++ codes "\n") in
     let three = length-append t (codes "\n") in
     ap (λ y. slice_range y (targets_start c) (length bytes - 1)) whole
-    ∙ middle (h ++ a ++ codes "close") t (codes "\n") (targets_start c) (length bytes - 1) (omega (arith, one)) (omega (arith, one, two, three, ap length whole))
+    ∙ middle (h ++ a ++ codes "close") t (codes "\n") (targets_start c) (length bytes - 1) (omega (arith, one))
+    (omega (arith, one, two, three, ap length whole))

@@ -5,7 +5,8 @@ use Rattle.std.proofs.lemmas.Bool.{cond-true, cond-false, eq-eqb, ne_eqb}
 use Rattle.std.proofs.lemmas.List.{length_push}
 use Rattle.ltl_syntax.specs.declared.node.Kind.TheVariants as Kinds
 use Rattle.cert_text.specs.Text.{Line, Delete, Certificate}
-use Rattle.cert_text.specs.Scan.{Role, OfDepth, OfLiteral, OfHint, OfTarget, OfDelete, Place, AtVersion, AtKind, AtNumber, InNumber, AtPart, AtLiteral, AtHint, AtEnd, literal, hint, with_part, with_target, header, step, run}
+use Rattle.cert_text.specs.Scan.{Role, OfDepth, OfLiteral, OfHint, OfTarget, OfDelete, Place, AtVersion, AtKind, AtNumber, InNumber, AtPart, AtLiteral, AtHint}
+use Rattle.cert_text.specs.Scan.{AtEnd, literal, hint, with_part, with_target, header, step, run}
 use Rattle.cert_text.proofs.Places.{IsRole, IsPlace}
 use Rattle.cert_text.proofs.Machine.{run_step}
 
@@ -15,8 +16,14 @@ IsViable p = (rest : List ℕ) × (c : Certificate) × (run ([], p) rest ≡ Som
 
 -- the number of targets that are wanted behind this one
 in_target : (more : ℕ) (c : Certificate) (n : ℕ) → length c.targets + suc more ≡ c.depth + 2 → IsViable (InNumber (OfTarget c) n)
-in_target zero c n count =
-    (10 ∷ [], with_target c n, run_step step ([], InNumber (OfTarget c) n) ([], AtEnd (with_target c n)) 10 [] (cond-true (length c.targets == c.depth + 1) _ _ (eq-eqb (length c.targets) (c.depth + 1) (omega (arith, count)))))
+in_target zero c n count = (
+  10 ∷ [],
+  with_target c n,
+  run_step step (
+    [],
+    InNumber (OfTarget c) n,
+  ) ([], AtEnd (with_target c n)) 10 [] (cond-true (length c.targets == c.depth + 1) _ _ (eq-eqb (length c.targets) (c.depth + 1) (omega (arith, count)))),
+)
 in_target (suc more) c n count =
     let again = in_target more (with_target c n) 1 (omega (arith, count, length_push c.targets n)) in (
       32 ∷ 49 ∷ again.0,

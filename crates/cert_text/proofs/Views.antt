@@ -1,5 +1,6 @@
 -- What a view tells of a line.
-use Rattle.std.proofs.Common.{◌≡◌, ℕ, zero, suc, ◌+◌, ◌-◌, ◌<◌, ◌≤◌, ◌==◌, ◌||◌, Bool, true, false, cond, List, [], ◌∷◌, ◌++◌, length, get_or, slice_range, All, None, refl, sym, ap, ◌∙◌, arith, append_assoc, length-append}
+use Rattle.std.proofs.Common.{◌≡◌, ℕ, zero, suc, ◌+◌, ◌-◌, ◌<◌, ◌≤◌, ◌==◌, ◌||◌, Bool, true, false, cond, List, [], ◌∷◌, ◌++◌, length, get_or, slice_range, All}
+use Rattle.std.proofs.Common.{None, refl, sym, ap, ◌∙◌, arith, append_assoc, length-append}
 use Rattle.std.specs.Prelude.{codes, is_some, slice_get}
 use Rattle.std.specs.List.{flat_map, list_any}
 use mathlib.Core.Bool.{false≢true}
@@ -7,7 +8,8 @@ use Rattle.std.proofs.lemmas.Bool.{cond-true, cond-false}
 use Rattle.std.proofs.lemmas.Grind.{flat_map-append}
 use Rattle.std.proofs.lemmas.List.Elements.{All-head, All-tail, All-append}
 use Rattle.cert_text.specs.declared.marks.Span.{Span}
-use Rattle.cert_text.specs.Text.{Part, Line, Delete, Certificate, greatest_u64, IsLiteral, IsHint, IsPart, IsTextOf, literal_text, hint_text, part_text, header_text, close_text}
+use Rattle.cert_text.specs.Text.{Part, Line, Delete, Certificate, greatest_u64, IsLiteral, IsHint, IsPart, IsTextOf, literal_text, hint_text, part_text}
+use Rattle.cert_text.specs.Text.{header_text, close_text}
 use Rattle.cert_text.specs.Live.{lines_of, hints_of, parts_before, parts_behind, deletes, is_deleted, live_line, lines_until, last_user}
 use Rattle.cert_text.specs.Reading.{literals_end, hints_end}
 use Rattle.cert_text.specs.View.{span_of, end_of}
@@ -42,11 +44,13 @@ hints_stand bytes c k is low =
     let l = flat_map literal_text ls in
     let x = flat_map hint_text hs in
     let end : List ℕ = b ++ close_text c.targets in
-    let split : flat_map part_text c.parts ≡ a ++ (part_text (Line ls hs) ++ b) = ap (flat_map part_text) (split_line c.parts k low) ∙ flat_map-append part_text (parts_before c.parts k) (Line ls hs ∷ parts_behind c.parts k) in
+    let split : flat_map part_text c.parts ≡ a ++ (part_text (Line ls hs) ++ b) =
+    ap (flat_map part_text) (split_line c.parts k low) ∙ flat_map-append part_text (parts_before c.parts k) (Line ls hs ∷ parts_behind c.parts k) in
     let whole : bytes ≡ h ++ a ++ (l ++ (codes "0 " ++ (x ++ (48 ∷ 10 ∷ end)))) =
     is.spelled
     ∙ ap (λ y. h ++ (y ++ close_text c.targets)) split
-    ∙ ap (λ y. h ++ y) (append_assoc a (part_text (Line ls hs) ++ b) (close_text c.targets) ∙ ap (λ y. a ++ y) (append_assoc (part_text (Line ls hs)) b (close_text c.targets) ∙ sym (line_text ls hs end)))
+    ∙ ap (λ y. h ++ y) (append_assoc a (part_text (Line ls hs) ++ b) (close_text c.targets)
+    ∙ ap (λ y. a ++ y) (append_assoc (part_text (Line ls hs)) b (close_text c.targets) ∙ sym (line_text ls hs end)))
     ∙ sym (append_assoc h a (l ++ (codes "0 " ++ (x ++ (48 ∷ 10 ∷ end))))) in
     let one = length-append (h ++ a) (l ++ codes "0 ") in
     let two = length-append l (codes "0 ") in record {
@@ -54,18 +58,22 @@ hints_stand bytes c k is low =
       more = end;
       place = omega (arith, one, two);
       spelled =
-          whole ∙ ap (λ y. (h ++ a) ++ y) (sym (append_assoc l (codes "0 ") (x ++ (48 ∷ 10 ∷ end)))) ∙ sym (append_assoc (h ++ a) (l ++ codes "0 ") (x ++ (48 ∷ 10 ∷ end)))
+          whole ∙ ap (λ y. (h ++ a) ++ y) (sym (append_assoc l (codes "0 ") (x ++ (48 ∷ 10 ∷ end))))
+          ∙ sym (append_assoc (h ++ a) (l ++ codes "0 ") (x ++ (48 ∷ 10 ∷ end)))
           ∙ ap (λ y. ((h ++ a) ++ (l ++ codes "0 ")) ++ y) (sym (append_assoc x (codes "0") (10 ∷ end)));
     }
 
 -- the newline behind a line's hints, found from where they begin
 pub hints_found : (bytes : List ℕ) (c : Certificate) (k end : ℕ) → IsTextOf bytes c → k < length (lines_of c.parts)
-    → ((before word more : List ℕ) → All Other word → bytes ≡ before ++ (word ++ 10 ∷ more) → length before ≡ literals_end c k + 2 → end ≡ literals_end c k + 2 + length word)
+    → ((before word more : List ℕ) → All Other word → bytes ≡ before ++ (word ++ 10 ∷ more)
+    → length before ≡ literals_end c k + 2 → end ≡ literals_end c k + 2 + length word)
     → end ≡ hints_end c k + 1
 hints_found bytes c k end is low found =
     let s = hints_stand bytes c k is low in
     let x = flat_map hint_text (get_or (hints_of c.parts) k []) in
-    let other = All-append Other x (codes "0") (flat_other IsHint hint_text (get_or (hints_of c.parts) k []) hint_other (line_fits c.version c.parts k is.lawful.begun.parts low).1) (one_other 48 (λ e. omega (arith, e))) in
+    let other = All-append Other x (codes "0")
+    (flat_other IsHint hint_text (get_or (hints_of c.parts) k []) hint_other (line_fits c.version c.parts k is.lawful.begun.parts low).1)
+    (one_other 48 (λ e. omega (arith, e))) in
     let at = found s.before (x ++ codes "0") s.more other s.spelled s.place in
     omega (arith, at, length-append x (codes "0"))
 
@@ -80,7 +88,8 @@ until_all m [] none = refl
 until_all m (Line ls hs ∷ parts) none = ap suc (until_all m parts none)
 until_all m (Delete ns ∷ parts) none = go (list_any (λ n. n == m) ns) none (until_all m parts)
   where
-    go : (b : Bool) → (b || list_any (deletes m) parts) ≡ false → (list_any (deletes m) parts ≡ false → lines_until m parts ≡ length (lines_of parts)) → cond b 0 (lines_until m parts) ≡ length (lines_of parts)
+    go : (b : Bool) → (b || list_any (deletes m) parts) ≡ false → (list_any (deletes m) parts ≡ false → lines_until m parts ≡ length (lines_of parts))
+        → cond b 0 (lines_until m parts) ≡ length (lines_of parts)
     go true e all = absurd (false≢true (sym e))
     go false e all = all e
 
@@ -92,7 +101,8 @@ count_fits bytes c is =
     omega (arith, low, one, two, ap length is.spelled)
 
 -- up to where a line may be used
-pub end_open : (parts : List Part) (k : ℕ) → length (lines_of parts) < greatest_u64 → k < length (lines_of parts) → end_of parts k ≡ greatest_u64 → is_deleted parts k ≡ false
+pub end_open : (parts : List Part) (k : ℕ) → length (lines_of parts) < greatest_u64 → k < length (lines_of parts)
+    → end_of parts k ≡ greatest_u64 → is_deleted parts k ≡ false
 end_open parts k few low at = go (is_deleted parts k) at
   where
     go : (b : Bool) → cond b (last_user parts k) greatest_u64 ≡ greatest_u64 → b ≡ false
@@ -139,7 +149,8 @@ pub record LiteralsStand (bytes : List ℕ) (c : Certificate) (k : ℕ) (span : 
   pub fits : All IsLiteral (get_or (lines_of c.parts) k [])
   pub slice : slice_range bytes span.start span.end ≡ flat_map literal_text (get_or (lines_of c.parts) k [])
 
-pub literals_stand : (bytes : List ℕ) (c : Certificate) (k : ℕ) (span : Span) → IsTextOf bytes c → k < length (lines_of c.parts) → span ≡ span_of c k → LiteralsStand bytes c k span
+pub literals_stand : (bytes : List ℕ) (c : Certificate) (k : ℕ) (span : Span) → IsTextOf bytes c → k < length (lines_of c.parts) → span ≡ span_of c k
+    → LiteralsStand bytes c k span
 literals_stand bytes c k span is low at = record {
   forward = omega (arith, ap (λ (s : Span). s.start) at, ap (λ (s : Span). s.end) at);
   within = omega (arith, ap (λ (s : Span). s.end) at, hints_within bytes c k is low);
@@ -158,11 +169,13 @@ pub hints_slice : (bytes : List ℕ) (c : Certificate) (k : ℕ) (span : Span) (
     → HintsFound bytes c k (span.end + 2) end
 hints_slice bytes c k span end is low at found =
     let behind : span.end ≡ literals_end c k = ap (λ (s : Span). s.end) at in
-    let newline = hints_found bytes c k end is low (λ before word more other spelled place. (let e = found before word more other spelled (omega (arith, place, behind)) in omega (arith, e, behind))) in
+    let newline = hints_found bytes c k end is low
+    (λ before word more other spelled place. (let e = found before word more other spelled (omega (arith, place, behind)) in omega (arith, e, behind))) in
     let stop : end - 1 ≡ hints_end c k = omega (arith, newline) in record {
       forward = omega (arith, newline, behind);
       fits = (line_fits c.version c.parts k is.lawful.begun.parts low).1;
-      slice = ap (λ i. slice_range bytes (i + 2) (end - 1)) behind ∙ ap (λ j. slice_range bytes (literals_end c k + 2) j) stop ∙ (lines_stand bytes c k is low).1;
+      slice = ap (λ i. slice_range bytes (i + 2) (end - 1)) behind ∙ ap (λ j. slice_range bytes (literals_end c k + 2) j) stop
+          ∙ (lines_stand bytes c k is low).1;
     }
 
 pub end_of_open : (parts : List Part) (k : ℕ) → is_deleted parts k ≡ false → end_of parts k ≡ greatest_u64

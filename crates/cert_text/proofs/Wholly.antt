@@ -12,15 +12,18 @@ use Rattle.cert_text.specs.Text.{Part, Line, part_text, kind_text, close_text, t
 use Rattle.cert_text.specs.Writing.{ended_at, delete_of, parts_from, written}
 
 -- a line, and the delete behind it
-pub step_written : (old mid new : List ℕ) (ls l : List Literal) (hs h : List Hint) (ns e : List ℕ) → mid ≡ old ++ part_text (Line ls hs) → new ≡ mid ++ flat_map part_text (delete_of ns) → ls ≡ l → hs ≡ h → ns ≡ e
+pub step_written : (old mid new : List ℕ) (ls l : List Literal) (hs h : List Hint) (ns e : List ℕ) → mid ≡ old ++ part_text (Line ls hs)
+    → new ≡ mid ++ flat_map part_text (delete_of ns) → ls ≡ l → hs ≡ h → ns ≡ e
     → new ≡ old ++ (part_text (Line l h) ++ flat_map part_text (delete_of e))
 step_written old mid new ls l hs h ns e one two same_ls same_hs same_ns =
-    two ∙ ap₂ (λ x y. x ++ flat_map part_text (delete_of y)) (one ∙ ap₂ (λ x y. old ++ part_text (Line x y)) same_ls same_hs) same_ns ∙ append_assoc old (part_text (Line l h)) (flat_map part_text (delete_of e))
+    two ∙ ap₂ (λ x y. x ++ flat_map part_text (delete_of y)) (one ∙ ap₂ (λ x y. old ++ part_text (Line x y)) same_ls same_hs) same_ns
+    ∙ append_assoc old (part_text (Line l h)) (flat_map part_text (delete_of e))
 
 -- the parts from a line on
 parts_step : (hss : List (List Hint)) (ts : List ℕ) (ls : List (List Literal)) (i : ℕ) → i < length ls → i < length hss
     → flat_map part_text (parts_from hss ts i (drop i ls) (drop i hss))
-    ≡ (part_text (Line (get_or ls i []) (get_or hss i [])) ++ flat_map part_text (delete_of (ended_at hss ts (i + 1)))) ++ flat_map part_text (parts_from hss ts (i + 1) (drop (i + 1) ls) (drop (i + 1) hss))
+    ≡ (part_text (Line (get_or ls i []) (get_or hss i [])) ++ flat_map part_text (delete_of (ended_at hss ts (i + 1)))) ++ flat_map part_text
+    (parts_from hss ts (i + 1) (drop (i + 1) ls) (drop (i + 1) hss))
 parts_step hss ts ls i low_ls low_hs =
     let l = get_or ls i [] in
     let h = get_or hss i [] in
@@ -42,11 +45,13 @@ write_more hss ts ls i old new whole low paired put are =
 -- behind the last line
 pub write_end : (hss : List (List Hint)) (ts : List ℕ) (ls : List (List Literal)) (i : ℕ) (out whole : List ℕ) → length ls ≤ i
     → out ++ flat_map part_text (parts_from hss ts i (drop i ls) (drop i hss)) ≡ whole → out ≡ whole
-write_end hss ts ls i out whole end are = sym (append-nil out) ∙ sym (ap (λ x. out ++ flat_map part_text (parts_from hss ts i x (drop i hss))) (drop_all i ls end)) ∙ are
+write_end hss ts ls i out whole end are =
+    sym (append-nil out) ∙ sym (ap (λ x. out ++ flat_map part_text (parts_from hss ts i x (drop i hss))) (drop_all i ls end)) ∙ are
 
 -- the whole text, behind what was there
 pub text_written : (kind : Kind) (depth : ℕ) (ls : List (List Literal)) (hss : List (List Hint)) (ts old out whole : List ℕ)
-    → out ≡ old ++ ((codes "ltlcert 2 " ++ (kind_text kind ++ (codes " " ++ (decimal depth ++ codes "\n")))) ++ flat_map part_text (parts_from hss ts 0 ls hss)) → whole ≡ out ++ close_text ts
+    → out ≡ old ++ ((codes "ltlcert 2 " ++ (kind_text kind ++ (codes " " ++ (decimal depth ++ codes "\n")))) ++ flat_map part_text (parts_from hss ts 0 ls hss))
+    → whole ≡ out ++ close_text ts
     → whole ≡ old ++ text_of (written kind depth ls hss ts)
 text_written kind depth ls hss ts old out whole lines close =
     let rest : List ℕ = kind_text kind ++ (codes " " ++ (decimal depth ++ codes "\n")) in

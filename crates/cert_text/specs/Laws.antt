@@ -1,5 +1,6 @@
 -- What the laws of certificate texts say.
-use Rattle.std.specs.Prelude.{◌≡◌, ℕ, suc, ◌+◌, ◌-◌, ◌<◌, ◌≤◌, ◌⊎◌, ◌↔◌, ◌==◌, ◌&&◌, Bool, nat_lt, is_some, IsTrue, List, [], length, take, get_or, slice_get, slice_index_or, slice_range, filter, not, All, Contains, Some, None, if◌then◌else◌}
+use Rattle.std.specs.Prelude.{◌≡◌, ℕ, suc, ◌+◌, ◌-◌, ◌<◌, ◌≤◌, ◌⊎◌, ◌↔◌, ◌==◌, ◌&&◌, Bool, nat_lt, is_some, IsTrue, List, [], length, take, get_or, slice_get}
+use Rattle.std.specs.Prelude.{slice_index_or, slice_range, filter, not, All, Contains, Some, None, if◌then◌else◌}
 use Rattle.std.specs.List.{list_any, flat_map}
 use Rattle.ltl_syntax.specs.declared.node.Kind.{Kind}
 use Rattle.cnf_base.specs.declared.literal.Literal.{Literal}
@@ -7,7 +8,8 @@ use Rattle.cnf_base.specs.declared.literal.Hint.{Hint}
 use Rattle.cnf_base.specs.declared.literal.Hint.TheVariants as hints
 use Rattle.cnf_base.specs.Step.{numbered, IsHintedStep}
 use Rattle.cnf_base.specs.Meaning.{Satisfies}
-use Rattle.cert_text.specs.Text.{Part, Certificate, greatest_u64, IsLiteral, IsNumber, IsHint, IsPart, literal_text, hint_text, target_text, text_of, IsTextOf, BeginsText, IsFormFault}
+use Rattle.cert_text.specs.Text.{Part, Certificate, greatest_u64, IsLiteral, IsNumber, IsHint, IsPart, literal_text, hint_text, target_text, text_of, IsTextOf}
+use Rattle.cert_text.specs.Text.{BeginsText, IsFormFault}
 use Rattle.cert_text.specs.Scan.{Scan, AtEnd, start, step, run}
 use Rattle.cert_text.specs.Live.{lines_of, hints_of, live_line, live_at, IsGoodLine, last_user}
 use Rattle.cert_text.specs.Reading.{certificate_in, line_start, literals_end, hints_end, targets_start}
@@ -78,8 +80,10 @@ WrittenIsText = (kind : Kind) (depth : ℕ) (lines : List (List Literal)) (hints
 
 -- a hinted step over the earlier lines is one over those that are live where it is written
 abbrev pub WrittenIsGood : Type 0
-WrittenIsGood = (clauses lines : List (List Literal)) (hints : List (List Hint)) (targets : List ℕ) (greatest k : ℕ) → length hints ≡ length lines → k < length lines
-    → IsHintedStep clauses (take k lines) greatest (slice_index_or lines k []) (slice_index_or hints k []) → IsGoodLine clauses greatest (parts_from hints targets 0 lines hints) k
+WrittenIsGood =
+    (clauses lines : List (List Literal)) (hints : List (List Hint)) (targets : List ℕ) (greatest k : ℕ) → length hints ≡ length lines → k < length lines
+    → IsHintedStep clauses (take k lines) greatest (slice_index_or lines k []) (slice_index_or hints k [])
+    → IsGoodLine clauses greatest (parts_from hints targets 0 lines hints) k
 
 -- the targets are live at the close
 abbrev pub TargetsAreLive : Type 0
@@ -92,14 +96,17 @@ LastUsesAreLast = (hss : List (List Hint)) (m : ℕ) → IsLastUse hss m (last_u
 
 -- what is deleted behind line n are, ascending, the lines that end there, and no other list of numbers is this
 abbrev pub EndedAscend : Type 0
-EndedAscend = (hss : List (List Hint)) (targets : List ℕ) (n : ℕ) → Ascends 0 (ended_at hss targets n) × ((m : ℕ) → Contains (ended_at hss targets n) m ↔ EndsAt hss targets n m)
+EndedAscend = (hss : List (List Hint)) (targets : List ℕ) (n : ℕ) → Ascends 0 (ended_at hss targets n)
+    × ((m : ℕ) → Contains (ended_at hss targets n) m ↔ EndsAt hss targets n m)
 
 abbrev pub EndedAreOne : Type 0
-EndedAreOne = (hss : List (List Hint)) (targets : List ℕ) (n : ℕ) (ms : List ℕ) → Ascends 0 ms → ((m : ℕ) → Contains ms m ↔ EndsAt hss targets n m) → ms ≡ ended_at hss targets n
+EndedAreOne = (hss : List (List Hint)) (targets : List ℕ) (n : ℕ) (ms : List ℕ) → Ascends 0 ms → ((m : ℕ) → Contains ms m ↔ EndsAt hss targets n m)
+    → ms ≡ ended_at hss targets n
 
 -- where each line is used by later lines alone, what ends at line n may be sought among the numbers of all lines
 abbrev pub EndedAmongAll : Type 0
-EndedAmongAll = (hss : List (List Hint)) (targets : List ℕ) (n count : ℕ) → ((j m : ℕ) → j < length hss → Contains (slice_index_or hss j []) (hints.Line m) → m ≤ suc j) → n ≤ count
+EndedAmongAll = (hss : List (List Hint)) (targets : List ℕ) (n count : ℕ)
+    → ((j m : ℕ) → j < length hss → Contains (slice_index_or hss j []) (hints.Line m) → m ≤ suc j) → n ≤ count
     → filter (λ m. not (list_any (λ t. t == m) targets) && (last_use hss m == n)) (numbers_to count) ≡ ended_at hss targets n
 
 -- where the parts of a text stand

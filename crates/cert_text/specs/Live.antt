@@ -52,7 +52,8 @@ live_at parts k m = live_line (parts_before parts k) m
 
 -- line k + 1 is a hinted step over the clauses, the lines that are live at it and the greatest letter
 abbrev pub IsGoodLine : List (List Literal) → ℕ → List Part → ℕ → Type 0
-IsGoodLine clauses greatest parts k = IsStepAmong clauses (live_at parts k) greatest (slice_index_or (lines_of parts) k []) (slice_index_or (hints_of parts) k [])
+IsGoodLine clauses greatest parts k =
+    IsStepAmong clauses (live_at parts k) greatest (slice_index_or (lines_of parts) k []) (slice_index_or (hints_of parts) k [])
 
 -- how many lines stand before the first of these parts that deletes line m
 abbrev pub lines_until : ℕ → List Part → ℕ

@@ -4,7 +4,8 @@ use Rattle.std.specs.List.{flat_map}
 use Rattle.ltl_syntax.specs.declared.node.Kind.TheVariants as Kinds
 use Rattle.cnf_base.specs.declared.literal.Literal.{Literal}
 use Rattle.cnf_base.specs.declared.literal.Hint.{Hint}
-use Rattle.cert_text.specs.Text.{Part, Line, Delete, Certificate, greatest_u64, IsLiteral, IsHint, IsNumber, sign_text, literal_text, hint_text, target_text, part_text, header_text}
+use Rattle.cert_text.specs.Text.{Part, Line, Delete, Certificate, greatest_u64, IsLiteral, IsHint, IsNumber, sign_text, literal_text, hint_text, target_text}
+use Rattle.cert_text.specs.Text.{part_text, header_text}
 use Rattle.cert_text.specs.Live.{lines_of, hints_of, parts_before}
 use Rattle.cert_text.specs.Scan.{Scan, AtNumber, AtPart, AtLiteral, AtHint, AtEnd, OfDelete, header, start, run}
 

@@ -36,7 +36,8 @@ digits_at (places.Literal h) = 7
 digits_at (places.Hint h) = 19
 digits_at (places.End h) = 0
 
--- within numbers with signs and spaces, whether byte b may stand behind a byte that is a digit or not, and a space or not: a digit from 1 on may everywhere, a 0 and a space behind a digit, and a minus sign behind a space
+-- within numbers with signs and spaces, whether byte b may stand behind a byte that is a digit or not, and a space or not: a digit from 1
+-- on may everywhere, a 0 and a space behind a digit, and a minus sign behind a space
 abbrev pub may_stand : Bool → Bool → ℕ → Bool
 may_stand digit space b = (nat_lt 48 b && nat_lt b 58) || ((digit && ((b == 48) || (b == 32))) || ((b == 45) && space))
 

@@ -12,7 +12,8 @@ abbrev pub first_text : List ℕ
 first_text = codes "ltlcert 1 infinite 0\n-2 0 2 1 0\nclose 1 1\n"
 
 abbrev pub first_certificate : Certificate
-first_certificate = record { version = 1; kind = Kinds.Infinite; depth = 0; parts = Line (minus 2 ∷ []) (hints.Clause 2 ∷ hints.Clause 1 ∷ []) ∷ []; targets = 1 ∷ 1 ∷ [] }
+first_certificate =
+    record { version = 1; kind = Kinds.Infinite; depth = 0; parts = Line (minus 2 ∷ []) (hints.Clause 2 ∷ hints.Clause 1 ∷ []) ∷ []; targets = 1 ∷ 1 ∷ [] }
 
 -- the line again by itself, after which it is deleted
 abbrev pub second_text : List ℕ
@@ -35,7 +36,8 @@ pub record WorkedTexts : Type 0 where
   pub first : IsTextOf first_text first_certificate
   pub second : IsTextOf second_text second_certificate
   -- what is written of the two lines is the second text
-  pub again : written Kinds.Infinite 0 ((minus 2 ∷ []) ∷ (minus 2 ∷ []) ∷ []) ((hints.Clause 2 ∷ hints.Clause 1 ∷ []) ∷ (hints.Line 1 ∷ []) ∷ []) (2 ∷ 2 ∷ []) ≡ second_certificate
+  pub again : written Kinds.Infinite 0 ((minus 2 ∷ []) ∷ (minus 2 ∷ []) ∷ []) ((hints.Clause 2 ∷ hints.Clause 1 ∷ []) ∷ (hints.Line 1 ∷ []) ∷ []) (2 ∷ 2 ∷ [])
+      ≡ second_certificate
   -- line 1 is live at line 2 and not at the close
   pub live : live_at second_certificate.parts 1 1 ≡ Some (minus 2 ∷ [])
   pub deleted : live_line second_certificate.parts 1 ≡ None

@@ -33,17 +33,21 @@ module _ (f : Formula) (m : ℕ) (lt : m < length (eventualities f)) where
   number numbers is = ap (λ ns. get_or ns m 0) is ∙ get_or-map (place_in (closure f)) (eventualities f) m (NConst false) 0 lt
 
   pub known_at : (numbers : List ℕ) → numbers ≡ numbers_of f (eventualities f) → IsNumber (length (closure f)) (get_or numbers m 0)
-  known_at numbers is = subst (IsNumber (length (closure f))) (sym (number numbers is)) (known_number f (eventuality f m) (eventuality_in f (eventuality f m) member))
+  known_at numbers is =
+      subst (IsNumber (length (closure f))) (sym (number numbers is)) (known_number f (eventuality f m) (eventuality_in f (eventuality f m) member))
 
-right_same : (names : List (List ℕ)) (f : Formula) (n : ℕ) (e : Norm) (x : Entry) → IsTrue (is_eventuality e) → StandsFor names f e x → right_by n x ≡ place_in (closure f) (right_of e)
+right_same : (names : List (List ℕ)) (f : Formula) (n : ℕ) (e : Norm) (x : Entry) → IsTrue (is_eventuality e) → StandsFor names f e x
+    → right_by n x ≡ place_in (closure f) (right_of e)
 right_same names f n (NUntil a b) x y s = ap (right_by n) s
 right_same names f n e x y s = cc
 
-request_same : (names : List (List ℕ)) (f : Formula) (n : ℕ) (e : Norm) (x : Entry) → IsTrue (is_eventuality e) → StandsFor names f e x → request_by n x ≡ place_in (closure f) (request_of e)
+request_same : (names : List (List ℕ)) (f : Formula) (n : ℕ) (e : Norm) (x : Entry) → IsTrue (is_eventuality e) → StandsFor names f e x
+    → request_by n x ≡ place_in (closure f) (request_of e)
 request_same names f n (NUntil a b) x y s = ap (request_by n) s
 request_same names f n e x y s = cc
 
-module _ (names : List (List ℕ)) (f : Formula) (entries : List Entry) (are : AreEntries names f entries) (m : ℕ) (lt : m < length (eventualities f)) (numbers : List ℕ)
+module _ (names : List (List ℕ)) (f : Formula) (entries : List Entry) (are : AreEntries names f entries) (m : ℕ) (lt : m < length (eventualities f))
+    (numbers : List ℕ)
     (is : numbers ≡ numbers_of f (eventualities f)) where
   it_is : IsTrue (is_eventuality (eventuality f m))
   it_is = (Contains-from_filter is_eventuality (closure f) (eventuality f m) (member f m lt)).1

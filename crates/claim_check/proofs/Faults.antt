@@ -23,7 +23,8 @@ use Rattle.claim_check.proofs.Finding.{found_none, not_all}
 use Rattle.claim_check.proofs.Layered.{has_base, of_entries, all_known, base_each, base_has}
 
 -- the eventuality is one, and the claims are of entries
-pub begun : (f : Formula) (kind : Kind) (clauses lines : List (List Signed)) (layer : Layer) (b : Base) (w : ℕ) (r : Option ℕ) → IsBaseOf f kind layer.eventuality b → w ≡ width f → r ≡ None
+pub begun : (f : Formula) (kind : Kind) (clauses lines : List (List Signed)) (layer : Layer) (b : Base) (w : ℕ) (r : Option ℕ)
+    → IsBaseOf f kind layer.eventuality b → w ≡ width f → r ≡ None
     → IsFound (λ q. All (IsKnown w) (get_or layer.claims q [])) (length layer.claims) r → IsBegun f kind clauses lines layer
 begun f kind clauses lines layer b w r is we e found = record {
   base = has_base f kind layer.eventuality b is;
@@ -31,7 +32,8 @@ begun f kind clauses lines layer b w r is we e found = record {
 }
 
 -- behind the base, the step's answer is the layer's
-pub joined : (f : Formula) (kind : Kind) (clauses lines final : List (List Signed)) (layer : Layer) (answer : Option Fault) → final ≡ lines ++ clauses_of layer.base_lines
+pub joined : (f : Formula) (kind : Kind) (clauses lines final : List (List Signed)) (layer : Layer) (answer : Option Fault)
+    → final ≡ lines ++ clauses_of layer.base_lines
     → IsBasedWhole f kind clauses lines layer → IsStepAnswer f clauses final layer answer → IsLayerAnswer f kind clauses lines layer answer
 joined f kind clauses lines final layer answer e based is = go answer (subst (λ x. IsStepAnswer f clauses x layer answer) e is)
   where
@@ -44,29 +46,34 @@ joined f kind clauses lines final layer answer e based is = go answer (subst (λ
     go (Some (BaseLine n)) s = absurd s
     go (Some (BaseTarget n)) s = absurd s
 
-pub joined_ok : (f : Formula) (kind : Kind) (clauses lines final : List (List Signed)) (layer : Layer) (r : Result (Option Fault) AllocError) → final ≡ lines ++ clauses_of layer.base_lines
+pub joined_ok : (f : Formula) (kind : Kind) (clauses lines final : List (List Signed)) (layer : Layer) (r : Result (Option Fault) AllocError)
+    → final ≡ lines ++ clauses_of layer.base_lines
     → IsBasedWhole f kind clauses lines layer → IfOk r (IsStepAnswer f clauses final layer) → IfOk r (IsLayerAnswer f kind clauses lines layer)
 joined_ok f kind clauses lines final layer (Ok answer) e based is = joined f kind clauses lines final layer answer e based is
 joined_ok f kind clauses lines final layer (Err refused) e based is = is
 
 -- a layer with a fault is not lawful
-pub fault_refuses : (f : Formula) (kind : Kind) (clauses lines : List (List Signed)) (layer : Layer) (fault : Fault) → IsFault f kind clauses lines layer fault → ¬ IsLawfulLayer f kind clauses lines layer
+pub fault_refuses : (f : Formula) (kind : Kind) (clauses lines : List (List Signed)) (layer : Layer) (fault : Fault) → IsFault f kind clauses lines layer fault
+    → ¬ IsLawfulLayer f kind clauses lines layer
 fault_refuses f kind clauses lines layer Eventuality is law = is (base_has f kind layer.eventuality (lines ++ clauses_of layer.base_lines) layer law.base)
 fault_refuses f kind clauses lines layer (Claim n) is law =
     not_all (IsOfEntries f layer) (length layer.claims) n is.1 (λ q lt. All-get_or (λ c. All (IsKnown (width f)) c) layer.claims q [] lt law.claims)
-fault_refuses f kind clauses lines layer (BaseLine n) is law = not_all (IsGoodStep clauses lines (greatest f) layer.base_lines) (length layer.base_lines) n is.1 law.base_lines
+fault_refuses f kind clauses lines layer (BaseLine n) is law =
+    not_all (IsGoodStep clauses lines (greatest f) layer.base_lines) (length layer.base_lines) n is.1 law.base_lines
 fault_refuses f kind clauses lines layer (BaseTarget n) is law =
     not_all (IsBased f kind (lines ++ clauses_of layer.base_lines) layer layer.eventuality) (length layer.claims) n is.1
     (base_each f kind layer.eventuality (lines ++ clauses_of layer.base_lines) layer law.base)
 fault_refuses f kind clauses lines layer (StepLine n) is law =
-    not_all (IsGoodStep (clauses ++ next_claims (width f) layer) (lines ++ clauses_of layer.base_lines) (greatest f) layer.step_lines) (length layer.step_lines) n is.1 law.step_lines
+    not_all (IsGoodStep (clauses ++ next_claims (width f) layer) (lines ++ clauses_of layer.base_lines) (greatest f) layer.step_lines) (length layer.step_lines)
+    n is.1 law.step_lines
 fault_refuses f kind clauses lines layer (StepTarget n) is law =
     not_all (IsKept f (lines ++ clauses_of layer.base_lines ++ clauses_of layer.step_lines) layer) (length layer.claims) n is.1 law.step
 
 -- a certificate with a reason is not lawful
 pub reason_refuses : (f : Formula) (kind : Kind) (c : Certificate) (reason : Reason) → IsReason f kind c reason → ¬ IsLawful f kind c
 reason_refuses f kind c Reasons.Kind is law = is law.same_kind
-reason_refuses f kind c (Reasons.Layer n fault) (j, e, is) law = fault_refuses f kind (clauses_before f c j) (lines_before c j) (layer_at c j) fault is.here (law.layers j is.within)
+reason_refuses f kind c (Reasons.Layer n fault) (j, e, is) law =
+    fault_refuses f kind (clauses_before f c j) (lines_before c j) (layer_at c j) fault is.here (law.layers j is.within)
 reason_refuses f kind c (Reasons.Line n) is law = not_all (IsGoodClose f kind c) (length c.lines) n is.1 law.lines
 reason_refuses f kind c Reasons.Target is law = is.2 law.close
 

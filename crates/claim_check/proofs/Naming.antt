@@ -1,5 +1,6 @@
 -- A target that names a line.
-use Rattle.std.proofs.Common.{◌≡◌, ◌↔◌, ◌⊎◌, ℕ, zero, suc, ◌+◌, ◌-◌, ◌<◌, ◌≤◌, Bool, IsTrue, List, [], ◌∷◌, length, get_or, Some, None, slice_get, All, Contains, refl, sym, ap, subst, ◌∙◌, arith}
+use Rattle.std.proofs.Common.{◌≡◌, ◌↔◌, ◌⊎◌, ℕ, zero, suc, ◌+◌, ◌-◌, ◌<◌, ◌≤◌, Bool, IsTrue, List, [], ◌∷◌, length, get_or, Some, None, slice_get, All}
+use Rattle.std.proofs.Common.{Contains, refl, sym, ap, subst, ◌∙◌, arith}
 use Rattle.std.proofs.lemmas.List.{get_or_past}
 use Rattle.cnf_base.specs.declared.literal.Literal.{Literal}
 use Rattle.cnf_base.specs.Step.{numbered, clause_at}
@@ -23,13 +24,15 @@ not_named lines (suc m) out = none lines m (omega (arith, out))
     none (l ∷ ls) zero most = absurd (omega arith)
     none (l ∷ ls) (suc k) most = none ls k (omega arith)
 
-pub names_target : (lines : List (List Literal)) (targets : List ℕ) (i : ℕ) (literals : List Literal) (b : Bool) → 1 ≤ get_or targets i 0 → get_or targets i 0 ≤ length lines
+pub names_target : (lines : List (List Literal)) (targets : List ℕ) (i : ℕ) (literals : List Literal) (b : Bool) → 1 ≤ get_or targets i 0
+    → get_or targets i 0 ≤ length lines
     → (IsTrue b ↔ All (Contains literals) (clause_at lines (get_or targets i 0))) → IsTrue b ↔ IsTarget lines targets i literals
 names_target lines targets i literals b one most are =
     let is = named lines (get_or targets i 0) one most in
     (λ h. (clause_at lines (get_or targets i 0), is, are.0 h), λ w. are.1 (same w.0 (sym is ∙ w.1) w.2))
   where
-    same : (line : List Literal) → Some (clause_at lines (get_or targets i 0)) ≡ Some line → All (Contains literals) line → All (Contains literals) (clause_at lines (get_or targets i 0))
+    same : (line : List Literal) → Some (clause_at lines (get_or targets i 0)) ≡ Some line → All (Contains literals) line
+        → All (Contains literals) (clause_at lines (get_or targets i 0))
     same line e all = let is : clause_at lines (get_or targets i 0) ≡ line = cc in subst (All (Contains literals)) (sym is) all
 
 -- the clause of number n + 1 is the one at place n

@@ -25,7 +25,8 @@ use Rattle.claim_check.proofs.Faults.{fault_refuses, reason_refuses}
 
 -- the first that is not good has one number
 one_number : (Good : ℕ → Type 0) (count m n : ℕ) → IsFirst Good count m → IsFirst Good count n → m ≡ n
-one_number Good count m n (k, e, is) (i, d, it) = let same : Some k ≡ Some i = one_first Good 0 count (Some k) (Some i) is it in let at : k ≡ i = cc in omega (arith, e, d, at)
+one_number Good count m n (k, e, is) (i, d, it) = let same : Some k ≡ Some i = one_first Good 0 count (Some k) (Some i) is it in let at : k ≡ i = cc in
+    omega (arith, e, d, at)
 
 -- how many kinds of faults come before
 abbrev stage : Fault → ℕ
@@ -60,7 +61,8 @@ module _ (f : Formula) (kind : Kind) (clauses lines : List (List Signed)) (layer
   clash (Claim m) (StepTarget n) lt x y = foreign m x.1 y.0.based.read.begun.claims
   clash (BaseLine m) (BaseTarget n) lt x y = not_all (IsGoodStep clauses lines (greatest f) layer.base_lines) (length layer.base_lines) m x.1 y.0.steps
   clash (BaseLine m) (StepLine n) lt x y = not_all (IsGoodStep clauses lines (greatest f) layer.base_lines) (length layer.base_lines) m x.1 y.0.read.steps
-  clash (BaseLine m) (StepTarget n) lt x y = not_all (IsGoodStep clauses lines (greatest f) layer.base_lines) (length layer.base_lines) m x.1 y.0.based.read.steps
+  clash (BaseLine m) (StepTarget n) lt x y =
+      not_all (IsGoodStep clauses lines (greatest f) layer.base_lines) (length layer.base_lines) m x.1 y.0.based.read.steps
   clash (BaseTarget m) (StepLine n) lt x y =
       let all = lines ++ clauses_of layer.base_lines in
       not_all (IsBased f kind all layer layer.eventuality) (length layer.claims) m x.1 (base_each f kind layer.eventuality all layer y.0.base)
@@ -68,18 +70,21 @@ module _ (f : Formula) (kind : Kind) (clauses lines : List (List Signed)) (layer
       let all = lines ++ clauses_of layer.base_lines in
       not_all (IsBased f kind all layer layer.eventuality) (length layer.claims) m x.1 (base_each f kind layer.eventuality all layer y.0.based.base)
   clash (StepLine m) (StepTarget n) lt x y =
-      not_all (IsGoodStep (clauses ++ next_claims (width f) layer) (lines ++ clauses_of layer.base_lines) (greatest f) layer.step_lines) (length layer.step_lines) m x.1 y.0.steps
+      not_all (IsGoodStep (clauses ++ next_claims (width f) layer) (lines ++ clauses_of layer.base_lines) (greatest f) layer.step_lines)
+      (length layer.step_lines) m x.1 y.0.steps
   clash (StepTarget m) b lt x y = absurd (omega (arith, lt, last_stage b))
   clash a b lt x y = absurd (omega (arith, lt))
 
   fault_one : (a b : Fault) → IsFault f kind clauses lines layer a → IsFault f kind clauses lines layer b → a ≡ b
   fault_one Eventuality Eventuality x y = refl
   fault_one (Claim m) (Claim n) x y = ap Claim (one_number (IsOfEntries f layer) (length layer.claims) m n x.1 y.1)
-  fault_one (BaseLine m) (BaseLine n) x y = ap BaseLine (one_number (IsGoodStep clauses lines (greatest f) layer.base_lines) (length layer.base_lines) m n x.1 y.1)
+  fault_one (BaseLine m) (BaseLine n) x y =
+      ap BaseLine (one_number (IsGoodStep clauses lines (greatest f) layer.base_lines) (length layer.base_lines) m n x.1 y.1)
   fault_one (BaseTarget m) (BaseTarget n) x y =
       ap BaseTarget (one_number (IsBased f kind (lines ++ clauses_of layer.base_lines) layer layer.eventuality) (length layer.claims) m n x.1 y.1)
   fault_one (StepLine m) (StepLine n) x y =
-      ap StepLine (one_number (IsGoodStep (clauses ++ next_claims (width f) layer) (lines ++ clauses_of layer.base_lines) (greatest f) layer.step_lines) (length layer.step_lines) m n x.1 y.1)
+      ap StepLine (one_number (IsGoodStep (clauses ++ next_claims (width f) layer) (lines ++ clauses_of layer.base_lines) (greatest f) layer.step_lines)
+      (length layer.step_lines) m n x.1 y.1)
   fault_one (StepTarget m) (StepTarget n) x y =
       ap StepTarget (one_number (IsKept f (lines ++ clauses_of layer.base_lines ++ clauses_of layer.step_lines) layer) (length layer.claims) m n x.1 y.1)
   fault_one a b x y = elim (cases_order (stage a) (stage b)) [
@@ -92,12 +97,14 @@ module _ (f : Formula) (kind : Kind) (c : Certificate) where
   refuses : (j : ℕ) (fault : Fault) → IsFirstFault f kind c j fault → ¬ AreLawfulLayers f kind c
   refuses j fault is all = fault_refuses f kind (clauses_before f c j) (lines_before c j) (layer_at c j) fault is.here (all j is.within)
 
-  layers_one : (m n i j : ℕ) (a b : Fault) → m ≡ suc i → n ≡ suc j → IsFirstFault f kind c i a → IsFirstFault f kind c j b → Reasons.Layer m a ≡ Reasons.Layer n b
+  layers_one : (m n i j : ℕ) (a b : Fault) → m ≡ suc i → n ≡ suc j → IsFirstFault f kind c i a → IsFirstFault f kind c j b
+      → Reasons.Layer m a ≡ Reasons.Layer n b
   layers_one m n i j a b e d x y = elim (cases_order i j) [
     | inl same ↦
         let number : m ≡ n = omega (arith, e, d, same) in
         let fault : a ≡ b =
-        fault_one f kind (clauses_before f c j) (lines_before c j) (layer_at c j) a b (subst (λ k. IsFault f kind (clauses_before f c k) (lines_before c k) (layer_at c k) a) same x.here) y.here in
+        fault_one f kind (clauses_before f c j) (lines_before c j) (layer_at c j) a b
+        (subst (λ k. IsFault f kind (clauses_before f c k) (lines_before c k) (layer_at c k) a) same x.here) y.here in
         ap (λ k. Reasons.Layer k a) number ∙ ap (Reasons.Layer n) fault
     | inr (inl less) ↦ absurd (fault_refuses f kind (clauses_before f c i) (lines_before c i) (layer_at c i) a x.here (y.before i less))
     | inr (inr more) ↦ absurd (fault_refuses f kind (clauses_before f c j) (lines_before c j) (layer_at c j) b y.here (x.before j more))

@@ -1,17 +1,20 @@
 -- The parts over the entries are those of the list of a step.
-use Rattle.std.proofs.Common.{◌≡◌, ℕ, suc, refl, Bool, true, false, ap, ap₂, sym, ◌∙◌, List, [], ◌∷◌, ◌++◌, length, get_or, flat_map, map, filter, append_assoc, All, subst, if◌then◌else◌}
+use Rattle.std.proofs.Common.{◌≡◌, ℕ, suc, refl, Bool, true, false, ap, ap₂, sym, ◌∙◌, List, [], ◌∷◌, ◌++◌, length, get_or, flat_map, map, filter, append_assoc}
+use Rattle.std.proofs.Common.{All, subst, if◌then◌else◌}
 use Rattle.std.proofs.lemmas.List.{map-append}
 use Rattle.ltl_syntax.specs.Formula.{Formula, Name, Fresh}
 use Rattle.ltl_syntax.specs.declared.node.Kind.TheVariants as Kinds
 use Rattle.cnf_base.specs.declared.literal.Literal.{Literal as Signed}
-use Rattle.ltl_closure.specs.Norm.{Norm, NConst, NLetter, NNotLetter, NAnd, NOr, NNext, NWeakNext, NYesterday, NWeakYesterday, NUntil, NRelease, NSince, NTrigger}
+use Rattle.ltl_closure.specs.Norm.{Norm, NConst, NLetter, NNotLetter, NAnd, NOr, NNext, NWeakNext, NYesterday, NWeakYesterday, NUntil, NRelease, NSince}
+use Rattle.ltl_closure.specs.Norm.{NTrigger}
 use Rattle.ltl_closure.specs.Closure.{closure, is_next, is_yesterday}
 use Rattle.ltl_closure.specs.Entries.{place_in, StandsFor, AreEntries}
 use Rattle.ltl_closure.specs.declared.entry.Entry.{Entry}
 use Rattle.ltl_closure.specs.declared.entry.Entry.TheVariants as Is
 use Rattle.ltl_closure.proofs.Places.{closure_placed}
 use Rattle.enc_layout.specs.Letters.{Accepted, below}
-use Rattle.enc_layout.specs.Clauses.{Literal, Plus, Minus, Clause, letter_of, gate, gates_part, links_part, acceptance_part, start, next_clauses, before_clauses, is_strong_next}
+use Rattle.enc_layout.specs.Clauses.{Literal, Plus, Minus, Clause, letter_of, gate, gates_part, links_part, acceptance_part, start, next_clauses}
+use Rattle.enc_layout.specs.Clauses.{before_clauses, is_strong_next}
 use Rattle.enc_layout.specs.Numbered.{IsInside}
 use Rattle.enc_layout.proofs.Standing.{entries_inside}
 use Rattle.enc_layout.proofs.ByIndex.{below_same, flat_map_below}
@@ -49,7 +52,8 @@ module _ (names : List (List ℕ)) (f : Formula) (entries : List Entry) (are : A
   over G H same =
       ap (λ n. below n (λ k. G (suc k) (get_or entries k Is.True))) are.long
       ∙ (below_same (length (closure f)) (λ k. G (suc k) (get_or entries k Is.True)) (λ k. H (get_or (closure f) k (NConst false))) (λ k lt.
-      ap (λ n. G n (get_or entries k Is.True)) (sym (closure_placed f k (NConst false) lt)) ∙ same (get_or (closure f) k (NConst false)) (get_or entries k Is.True) (are.each k lt))
+      ap (λ n. G n (get_or entries k Is.True)) (sym (closure_placed f k (NConst false) lt))
+      ∙ same (get_or (closure f) k (NConst false)) (get_or entries k Is.True) (are.each k lt))
       ∙ sym (flat_map_below H (closure f) (NConst false)))
 
   next_same : (e : Norm) (x : Entry) → StandsFor names f e x → next_entry (place_in (closure f) e) x ≡ where_true is_next (next_clauses f 0) e
@@ -160,7 +164,8 @@ pub more : (w : ℕ) (old mid new : List (List Signed)) (cs ds : List Clause) �
 more w old mid new cs ds a b =
     b ∙ (ap (λ z. z ++ rows w ds) a ∙ (append_assoc old (rows w cs) (rows w ds) ∙ ap (λ z. old ++ z) (sym (map-append (map (signed_by w)) cs ds))))
 
-pub list_done : (f : Formula) (cs : List Clause) (old new : List (List Signed)) → cs ≡ step_clauses f → new ≡ old ++ rows (width f) cs → new ≡ old ++ step_list f
+pub list_done : (f : Formula) (cs : List Clause) (old new : List (List Signed)) → cs ≡ step_clauses f → new ≡ old ++ rows (width f) cs
+    → new ≡ old ++ step_list f
 list_done f cs old new is e = e ∙ ap (λ z. old ++ z) (ap (rows (width f)) is ∙ rows_same f (step_clauses f))
 
 pub inside : (names : List (List ℕ)) (f : Formula) (entries : List Entry) → AreEntries names f entries → All (IsInside (length entries)) entries

@@ -1,5 +1,6 @@
 -- There is a verdict on each certificate.
-use Rattle.std.proofs.Common.{◌≡◌, ℕ, zero, suc, ◌+◌, ◌*◌, ◌⊎◌, inl, inr, Bool, true, false, List, [], ◌∷◌, ◌++◌, length, Option, Some, None, refl, sym, subst, arith}
+use Rattle.std.proofs.Common.{◌≡◌, ℕ, zero, suc, ◌+◌, ◌*◌, ◌⊎◌, inl, inr, Bool, true, false, List, [], ◌∷◌, ◌++◌, length, Option, Some, None, refl, sym, subst}
+use Rattle.std.proofs.Common.{arith}
 use mathlib.Core.Bool.{false≢true}
 use Rattle.std.specs.Bool.{Decides}
 use Rattle.std.specs.List.{list_all}
@@ -56,13 +57,15 @@ target_or_not : (lines : List (List Signed)) (targets : List ℕ) (i : ℕ) (lit
 target_or_not lines targets i literals = or_not (is_target lines targets i literals) _ (Decides-target lines targets i literals)
 
 entries_or_not : (f : Formula) (layer : Layer) (q : ℕ) → OrNot (IsOfEntries f layer q)
-entries_or_not f layer q = or_not (list_all (is_known (width f)) (claim_at layer q)) _ (Decides-all (is_known (width f)) (IsKnown (width f)) (Decides-known (width f)) (claim_at layer q))
+entries_or_not f layer q = or_not (list_all (is_known (width f)) (claim_at layer q)) _
+    (Decides-all (is_known (width f)) (IsKnown (width f)) (Decides-known (width f)) (claim_at layer q))
 
 base_or_not : (f : Formula) (kind : Kind) (e : Option ℕ) → OrNot (HasBase f kind e)
 base_or_not f Kinds.Finite None = inl tt
 base_or_not f Kinds.Finite (Some m) = inr (λ h. h)
 base_or_not f Kinds.Infinite None = inl tt
-base_or_not f Kinds.Infinite (Some m) = elim (cases_lt m (length (eventualities f))) [ inl less ↦ inl less | inr most ↦ inr (λ less. omega (arith, less, most)) ]
+base_or_not f Kinds.Infinite (Some m) =
+    elim (cases_lt m (length (eventualities f))) [ inl less ↦ inl less | inr most ↦ inr (λ less. omega (arith, less, most)) ]
 
 both_or_not : (P Q : Type 0) → OrNot P → OrNot Q → OrNot (P × Q)
 both_or_not P Q (inl p) (inl q) = inl (p, q)
@@ -91,7 +94,8 @@ module _ (f : Formula) (kind : Kind) (clauses lines : List (List Signed)) (layer
   final = lines ++ clauses_of layer.base_lines ++ clauses_of layer.step_lines
 
   on_step : IsBasedWhole f kind clauses lines layer → Answer
-  on_step is = go (first_found (IsGoodStep opened based (greatest f) layer.step_lines) (step_or_not opened based (greatest f) layer.step_lines) (length layer.step_lines))
+  on_step is = go
+      (first_found (IsGoodStep opened based (greatest f) layer.step_lines) (step_or_not opened based (greatest f) layer.step_lines) (length layer.step_lines))
     where
       go : (r : Option ℕ) × IsFound (IsGoodStep opened based (greatest f) layer.step_lines) (length layer.step_lines) r → Answer
       go (Some n, bad) = (Some (StepLine n), (is, bad))
@@ -100,18 +104,22 @@ module _ (f : Formula) (kind : Kind) (clauses lines : List (List Signed)) (layer
         where
           on_targets : (r : Option ℕ) × IsFound (IsKept f final layer) (length layer.claims) r → Answer
           on_targets (Some n, bad) = (Some (StepTarget n), (record { based = is; steps = steps }, bad))
-          on_targets (None, kept) = (None, record { claims = is.read.begun.claims; base_lines = is.read.steps; base = is.base; step_lines = steps; step = kept })
+          on_targets (None, kept) =
+              (None, record { claims = is.read.begun.claims; base_lines = is.read.steps; base = is.base; step_lines = steps; step = kept })
 
   on_base : IsBegun f kind clauses lines layer → Answer
-  on_base is = go (first_found (IsGoodStep clauses lines (greatest f) layer.base_lines) (step_or_not clauses lines (greatest f) layer.base_lines) (length layer.base_lines))
+  on_base is = go
+      (first_found (IsGoodStep clauses lines (greatest f) layer.base_lines) (step_or_not clauses lines (greatest f) layer.base_lines) (length layer.base_lines))
     where
       go : (r : Option ℕ) × IsFound (IsGoodStep clauses lines (greatest f) layer.base_lines) (length layer.base_lines) r → Answer
       go (Some n, bad) = (Some (BaseLine n), (is, bad))
-      go (None, steps) = on_targets (first_found (IsBased f kind based layer layer.eventuality) (based_or_not f kind based layer layer.eventuality) (length layer.claims))
+      go (None, steps) =
+          on_targets (first_found (IsBased f kind based layer layer.eventuality) (based_or_not f kind based layer layer.eventuality) (length layer.claims))
         where
           on_targets : (r : Option ℕ) × IsFound (IsBased f kind based layer layer.eventuality) (length layer.claims) r → Answer
           on_targets (Some n, bad) = (Some (BaseTarget n), (record { begun = is; steps = steps }, bad))
-          on_targets (None, each) = on_step (record { read = record { begun = is; steps = steps }; base = base_whole f kind layer.eventuality based layer is.base each })
+          on_targets (None, each) =
+              on_step (record { read = record { begun = is; steps = steps }; base = base_whole f kind layer.eventuality based layer is.base each })
 
   layer_answer : Answer
   layer_answer = elim (base_or_not f kind layer.eventuality) [
@@ -145,7 +153,8 @@ module _ (f : Formula) (kind : Kind) (c : Certificate) where
 
   on_close : IsReadToClose f kind c → Said
   on_close read =
-      let n = length c.layers in go (first_found (IsGoodClose f kind c) (step_or_not (clauses_before f c n) (lines_before c n) (greatest f) c.lines) (length c.lines))
+      let n = length c.layers in
+      go (first_found (IsGoodClose f kind c) (step_or_not (clauses_before f c n) (lines_before c n) (greatest f) c.lines) (length c.lines))
     where
       go : (r : Option ℕ) × IsFound (IsGoodClose f kind c) (length c.lines) r → Said
       go (Some n, bad) = (Refused (Reasons.Line n), (read, bad))
@@ -163,7 +172,8 @@ module _ (f : Formula) (kind : Kind) (c : Certificate) where
         where
           at_fault : (a : Option Fault) × IsLayerAnswer f kind (clauses_before f c j) (lines_before c j) (layer_at c j) a → Said
           at_fault (None, lawful) = absurd (is.2 lawful)
-          at_fault (Some fault, here) = (Refused (Reasons.Layer n fault), (j, e, record { same_kind = same; within = is.1; before = λ i less. is.3 i (omega arith) less; here = here }))
+          at_fault (Some fault, here) =
+              (Refused (Reasons.Layer n fault), (j, e, record { same_kind = same; within = is.1; before = λ i less. is.3 i (omega arith) less; here = here }))
 
 pub verdict_there : VerdictIsThere
 verdict_there f kind c = elim (kind_or_not c.kind kind) [ inl same ↦ on_layers f kind c same | inr other ↦ (Refused Reasons.Kind, other) ]

@@ -1,5 +1,6 @@
 -- Lines are taken one by one.
-use Rattle.std.proofs.Common.{◌≡◌, ℕ, zero, suc, ◌+◌, ◌-◌, ◌<◌, ◌≤◌, List, [], ◌∷◌, ◌++◌, length, get_or, All, Some, None, refl, sym, ap, ◌∙◌, subst, arith, add-one, below_more}
+use Rattle.std.proofs.Common.{◌≡◌, ℕ, zero, suc, ◌+◌, ◌-◌, ◌<◌, ◌≤◌, List, [], ◌∷◌, ◌++◌, length, get_or, All, Some, None, refl, sym, ap, ◌∙◌, subst, arith}
+use Rattle.std.proofs.Common.{add-one, below_more}
 use Rattle.std.proofs.lemmas.List.Elements.{All-push}
 use Rattle.cnf_base.specs.declared.literal.Literal.{Literal}
 use Rattle.cnf_base.specs.declared.literal.Hint.{Hint}
@@ -20,7 +21,8 @@ none_at : {X : Type 0} (k : ℕ) (d : X) → get_or [] k d ≡ d
 none_at zero d = refl
 none_at (suc k) d = refl
 
-line_is : (cs : List (List Literal)) (hs : List (List Hint)) (k : ℕ) → k < length cs → line_at (hinted cs hs) k ≡ record { literals = get_or cs k []; hints = get_or hs k [] }
+line_is : (cs : List (List Literal)) (hs : List (List Hint)) (k : ℕ) → k < length cs
+    → line_at (hinted cs hs) k ≡ record { literals = get_or cs k []; hints = get_or hs k [] }
 line_is [] hs k lt = absurd (omega arith)
 line_is (c ∷ cs) [] zero lt = refl
 line_is (c ∷ cs) [] (suc k) lt = line_is cs [] k (omega arith) ∙ ap (λ h. record { literals = get_or cs k []; hints = h }) (none_at k [])
@@ -37,7 +39,8 @@ module _ (clauses earlier : List (List Literal)) (greatest : ℕ) (cs : List (Li
   pub begun : AreKnown greatest earlier → earlier ≡ earlier ++ [] → IsTaken 0 earlier
   begun known same = record { known = known; are = same; good = λ j lt. absurd (omega (arith, lt)) }
 
-  module _ (k : ℕ) (lines : List (List Literal)) (is : IsTaken k lines) (low : k < length cs) (literals : List Literal) (hints : List Hint) (li : literals ≡ clause_at cs (k + 1))
+  module _ (k : ℕ) (lines : List (List Literal)) (is : IsTaken k lines) (low : k < length cs) (literals : List Literal) (hints : List Hint)
+      (li : literals ≡ clause_at cs (k + 1))
       (hi : hints ≡ get_or hs k []) where
     abbrev Step : Type 0
     Step = IsHintedStep clauses lines greatest literals hints
@@ -46,7 +49,8 @@ module _ (clauses earlier : List (List Literal)) (greatest : ℕ) (cs : List (Li
     at = let e : k + 1 - 1 ≡ k = omega arith in li ∙ ap (λ n. get_or cs n []) e
 
     line : line_at (hinted cs hs) k ≡ record { literals = literals; hints = hints }
-    line = line_is cs hs k low ∙ (ap (λ l. record { literals = l; hints = get_or hs k [] }) (sym at) ∙ ap (λ h. record { literals = literals; hints = h }) (sym hi))
+    line = line_is cs hs k low
+        ∙ (ap (λ l. record { literals = l; hints = get_or hs k [] }) (sym at) ∙ ap (λ h. record { literals = literals; hints = h }) (sym hi))
 
     pub step_good : Step → IsGoodStep clauses earlier greatest (hinted cs hs) k
     step_good step =
@@ -72,7 +76,8 @@ module _ (clauses earlier : List (List Literal)) (greatest : ℕ) (cs : List (Li
         let l = long cs hs in
         bad_here (IsGoodStep clauses earlier greatest (hinted cs hs)) (length (hinted cs hs)) k (omega (arith, low, l)) (λ good. bad (good_step good)) is.good
 
-  pub all_good : (k : ℕ) (lines : List (List Literal)) → IsTaken k lines → length cs ≤ k → IsFound (IsGoodStep clauses earlier greatest (hinted cs hs)) (length (hinted cs hs)) None
+  pub all_good : (k : ℕ) (lines : List (List Literal)) → IsTaken k lines
+      → length cs ≤ k → IsFound (IsGoodStep clauses earlier greatest (hinted cs hs)) (length (hinted cs hs)) None
   all_good k lines is most =
       let l = long cs hs in none_bad (IsGoodStep clauses earlier greatest (hinted cs hs)) (length (hinted cs hs)) k (omega (arith, l, most)) is.good
 

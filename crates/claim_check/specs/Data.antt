@@ -32,4 +32,5 @@ certificate_in c = record { kind = c.kind; layers = map layer_in c.layers.items;
 
 -- line k + 1 is a hinted step over the clauses, the earlier lines and those of this list before it
 abbrev pub IsGoodStep : List (List Literal) → List (List Literal) → ℕ → List HintedLine → ℕ → Type 0
-IsGoodStep clauses earlier greatest lines k = IsHintedStep clauses (earlier ++ first_clauses lines k) greatest (line_at lines k).literals (line_at lines k).hints
+IsGoodStep clauses earlier greatest lines k =
+    IsHintedStep clauses (earlier ++ first_clauses lines k) greatest (line_at lines k).literals (line_at lines k).hints

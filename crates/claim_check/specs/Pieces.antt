@@ -33,12 +33,14 @@ start_entry t x = []
 
 -- the link of entry number t, where it is a next request
 abbrev pub next_entry : ℕ → Entry → List Clause
-next_entry t (Is.Next a w) = (Minus (Here 1) ∷ Minus (EntryAt 0 t) ∷ Plus (EntryAt 1 a) ∷ []) ∷ (Minus (Here 1) ∷ Plus (EntryAt 0 t) ∷ Minus (EntryAt 1 a) ∷ []) ∷ []
+next_entry t (Is.Next a w) =
+    (Minus (Here 1) ∷ Minus (EntryAt 0 t) ∷ Plus (EntryAt 1 a) ∷ []) ∷ (Minus (Here 1) ∷ Plus (EntryAt 0 t) ∷ Minus (EntryAt 1 a) ∷ []) ∷ []
 next_entry t x = []
 
 -- and where it is a yesterday request
 abbrev pub yesterday_entry : ℕ → Entry → List Clause
-yesterday_entry t (Is.Yesterday a w) = (Minus (Here 1) ∷ Minus (EntryAt 1 t) ∷ Plus (EntryAt 0 a) ∷ []) ∷ (Minus (Here 1) ∷ Plus (EntryAt 1 t) ∷ Minus (EntryAt 0 a) ∷ []) ∷ []
+yesterday_entry t (Is.Yesterday a w) =
+    (Minus (Here 1) ∷ Minus (EntryAt 1 t) ∷ Plus (EntryAt 0 a) ∷ []) ∷ (Minus (Here 1) ∷ Plus (EntryAt 1 t) ∷ Minus (EntryAt 0 a) ∷ []) ∷ []
 yesterday_entry t x = []
 
 -- a last state has no strong next request

@@ -54,7 +54,8 @@ module _ (f : Formula) (kind : Kind) (clauses lines : List (List Signed)) (layer
   IsFault (BaseLine n) = IsBegun × IsFirst (IsGoodStep clauses lines (greatest f) layer.base_lines) (length layer.base_lines) n
   IsFault (BaseTarget n) = IsReadToBase × IsFirst (IsBased f kind (lines ++ clauses_of layer.base_lines) layer layer.eventuality) (length layer.claims) n
   IsFault (StepLine n) =
-      IsBasedWhole × IsFirst (IsGoodStep (clauses ++ next_claims (width f) layer) (lines ++ clauses_of layer.base_lines) (greatest f) layer.step_lines) (length layer.step_lines) n
+      IsBasedWhole × IsFirst (IsGoodStep (clauses ++ next_claims (width f) layer) (lines ++ clauses_of layer.base_lines) (greatest f) layer.step_lines)
+      (length layer.step_lines) n
   IsFault (StepTarget n) = IsReadToStep × IsFirst (IsKept f (lines ++ clauses_of layer.base_lines ++ clauses_of layer.step_lines) layer) (length layer.claims) n
 
   -- the same up to the base
@@ -70,10 +71,13 @@ module _ (f : Formula) (kind : Kind) (clauses lines : List (List Signed)) (layer
 -- the first fault of the step alone, where these lines may be named before it
 abbrev pub IsStepAnswer : Formula → List (List Signed) → List (List Signed) → Layer → Option Fault → Type 0
 IsStepAnswer f clauses lines layer None =
-    AreHintedSteps (clauses ++ next_claims (width f) layer) lines (greatest f) layer.step_lines × ((q : ℕ) → q < length layer.claims → IsKept f (lines ++ clauses_of layer.step_lines) layer q)
-IsStepAnswer f clauses lines layer (Some (StepLine n)) = IsFirst (IsGoodStep (clauses ++ next_claims (width f) layer) lines (greatest f) layer.step_lines) (length layer.step_lines) n
+    AreHintedSteps (clauses ++ next_claims (width f) layer) lines (greatest f) layer.step_lines
+    × ((q : ℕ) → q < length layer.claims → IsKept f (lines ++ clauses_of layer.step_lines) layer q)
+IsStepAnswer f clauses lines layer (Some (StepLine n)) =
+    IsFirst (IsGoodStep (clauses ++ next_claims (width f) layer) lines (greatest f) layer.step_lines) (length layer.step_lines) n
 IsStepAnswer f clauses lines layer (Some (StepTarget n)) =
-    AreHintedSteps (clauses ++ next_claims (width f) layer) lines (greatest f) layer.step_lines × IsFirst (IsKept f (lines ++ clauses_of layer.step_lines) layer) (length layer.claims) n
+    AreHintedSteps (clauses ++ next_claims (width f) layer) lines (greatest f) layer.step_lines
+    × IsFirst (IsKept f (lines ++ clauses_of layer.step_lines) layer) (length layer.claims) n
 IsStepAnswer f clauses lines layer (Some fault) = ⊥
 
 module _ (f : Formula) (kind : Kind) (c : Certificate) where

@@ -2,7 +2,8 @@
 use Rattle.std.proofs.Common.{◌≡◌, ◌<◌, Bool, true, false, inl, inr, refl, sym, subst, ◌∙◌, arith, List, [], ◌∷◌, ◌++◌, Contains, if◌then◌else◌}
 use Rattle.std.proofs.lemmas.List.Elements.{Contains-append_left, Contains-push, Contains-push_cases}
 use Rattle.ltl_syntax.specs.Formula.{Formula}
-use Rattle.ltl_closure.specs.Norm.{Norm, NConst, NLetter, NNotLetter, NAnd, NOr, NNext, NWeakNext, NYesterday, NWeakYesterday, NUntil, NRelease, NSince, NTrigger, pos_of}
+use Rattle.ltl_closure.specs.Norm.{Norm, NConst, NLetter, NNotLetter, NAnd, NOr, NNext, NWeakNext, NYesterday, NWeakYesterday, NUntil, NRelease, NSince}
+use Rattle.ltl_closure.specs.Norm.{NTrigger, pos_of}
 use Rattle.ltl_closure.specs.Closure.{closure, walk, with_new, added, holds_entry}
 use Rattle.ltl_closure.specs.Entries.{place_in}
 use Rattle.ltl_closure.proofs.Lists.{Contains-nil, Contains-cons_cases}
@@ -97,7 +98,8 @@ both_walk a b wa wb xs zs o =
       sym (with_new-append xs (walk a) (walk b ++ zs) ∙ with_new-append first (walk b) zs),
     )
 
-binary_walks : (a b g : Norm) → operands g ≡ a ∷ b ∷ [] → Walks a → Walks b → (xs : List Norm) → IsOrdered xs → Ends (with_new xs (walk a ++ (walk b ++ g ∷ []))) g
+binary_walks : (a b g : Norm) → operands g ≡ a ∷ b ∷ [] → Walks a → Walks b → (xs : List Norm) → IsOrdered xs
+    → Ends (with_new xs (walk a ++ (walk b ++ g ∷ []))) g
 binary_walks a b g n wa wb xs o =
     let w = both_walk a b wa wb xs (g ∷ []) o in
     subst (λ ys. Ends ys g) w.3 (binary_ends w.0 a b g n w.1 w.2)

@@ -1,5 +1,6 @@
 -- The entries of a closure are nodes over earlier entries.
-use Rattle.std.proofs.Common.{◌≡◌, ℕ, suc, ◌-◌, ◌<◌, Bool, true, false, refl, sym, ap, subst, ◌∙◌, arith, List, [], ◌∷◌, length, get_or, Contains, if◌then◌else◌}
+use Rattle.std.proofs.Common.{◌≡◌, ℕ, suc, ◌-◌, ◌<◌, Bool, true, false, refl, sym, ap, subst, ◌∙◌, arith, List, [], ◌∷◌, length, get_or, Contains}
+use Rattle.std.proofs.Common.{if◌then◌else◌}
 use Rattle.std.proofs.lemmas.List.Elements.{Contains-get_or}
 use Rattle.ltl_syntax.specs.Formula.{Name, Fresh, Formula, Const, Letter, Unary, Binary}
 use Rattle.ltl_syntax.specs.declared.node.UnaryOp.{UnaryOp}
@@ -8,7 +9,8 @@ use Rattle.ltl_syntax.specs.declared.node.BinaryOp.{BinaryOp}
 use Rattle.ltl_syntax.specs.declared.node.BinaryOp.TheVariants as two
 use Rattle.ltl_syntax.specs.declared.node.Node.{Node}
 use Rattle.ltl_syntax.specs.declared.node.Node.TheVariants as nodes
-use Rattle.ltl_closure.specs.Norm.{Norm, NConst, NLetter, NNotLetter, NAnd, NOr, NNext, NWeakNext, NYesterday, NWeakYesterday, NUntil, NRelease, NSince, NTrigger}
+use Rattle.ltl_closure.specs.Norm.{Norm, NConst, NLetter, NNotLetter, NAnd, NOr, NNext, NWeakNext, NYesterday, NWeakYesterday, NUntil, NRelease, NSince}
+use Rattle.ltl_closure.specs.Norm.{NTrigger}
 use Rattle.ltl_closure.specs.Closure.{closure}
 use Rattle.ltl_closure.specs.Entries.{place_in, StandsAmong, AreEntries, IsNumber, entry_at}
 use Rattle.ltl_closure.specs.declared.entry.Entry.{Entry}
@@ -49,7 +51,8 @@ module _ (names : List (List ℕ)) (f : Formula) (entries : List Entry) (are : A
       let low = place_from_one (closure f) a in
       let high = place_within (closure f) a m in
       alike names (closure f) a (entry_at entries (place a))
-      (subst (λ e. StandsAmong names (closure f) e (entry_at entries (place a))) (entry_place (closure f) a (NConst false) m) (are.each (place a - 1) (omega arith)))
+      (subst (λ e. StandsAmong names (closure f) e (entry_at entries (place a))) (entry_place (closure f) a (NConst false) m)
+      (are.each (place a - 1) (omega arith)))
 
   module _ (t : ℕ) where
     -- the node is a formula over entries before t
@@ -139,7 +142,8 @@ module _ (names : List (List ℕ)) (f : Formula) (entries : List Entry) (are : A
       let lt : t - 1 < length (closure f) = omega arith in
       let up : suc (t - 1) ≡ t = omega arith in
       let e = get_or (closure f) (t - 1) (NConst false) in
-      let w = shows t e (entry_at entries t) (Contains-get_or (closure f) (t - 1) (NConst false) lt) (closure_placed f (t - 1) (NConst false) lt ∙ up) (are.each (t - 1) lt) in
+      let w = shows t e (entry_at entries t) (Contains-get_or (closure f) (t - 1) (NConst false) lt) (closure_placed f (t - 1) (NConst false) lt ∙ up)
+      (are.each (t - 1) lt) in
       record { formula = w.0; before = w.1 }
 
   -- the left operand is an entry too

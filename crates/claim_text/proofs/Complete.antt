@@ -1,5 +1,6 @@
 -- The pass reads every text to its end.
-use Rattle.std.proofs.Common.{◌≡◌, ℕ, suc, ◌+◌, ◌-◌, ◌<◌, ◌≤◌, ◌==◌, Bool, true, false, List, [], ◌∷◌, ◌++◌, length, get_or, All, Option, Some, None, refl, sym, ap, ◌∙◌, arith, append_assoc}
+use Rattle.std.proofs.Common.{◌≡◌, ℕ, suc, ◌+◌, ◌-◌, ◌<◌, ◌≤◌, ◌==◌, Bool, true, false, List, [], ◌∷◌, ◌++◌, length, get_or, All, Option, Some, None, refl, sym}
+use Rattle.std.proofs.Common.{ap, ◌∙◌, arith, append_assoc}
 use Rattle.std.specs.Prelude.{codes, decimal}
 use Rattle.std.specs.List.{flat_map}
 use Rattle.std.proofs.lemmas.Bool.{cond-true, cond-false, eq-eqb, ne_eqb}
@@ -14,8 +15,10 @@ use Rattle.cnf_base.specs.declared.literal.Hint.TheVariants as hints
 use Rattle.cert_text.specs.Text.{IsLiteral, IsNumber, IsHint, kind_text, literal_text, hint_text, target_text}
 use Rattle.cert_text.specs.Scan.{literal}
 use Rattle.claims.specs.Certificate.{HintedLine, Layer, Certificate}
-use Rattle.claim_text.specs.Text.{eventuality_number, claim_text, line_text, targets_text, layer_text, text_of, base_targets_of, base_count, IsEventuality, IsLine, IsLayer, IsWritable}
-use Rattle.claim_text.specs.Scan.{Draft, Scan, outside, within, start, opened, wanted_in, with_base, with_step, closed, acted, greatest_in, place_behind, end_in, first_in, nought_in, literal_in, decided, moved, step, run}
+use Rattle.claim_text.specs.Text.{eventuality_number, claim_text, line_text, targets_text, layer_text, text_of, base_targets_of, base_count, IsEventuality}
+use Rattle.claim_text.specs.Text.{IsLine, IsLayer, IsWritable}
+use Rattle.claim_text.specs.Scan.{Draft, Scan, outside, within, start, opened, wanted_in, with_base, with_step, closed, acted, greatest_in, place_behind}
+use Rattle.claim_text.specs.Scan.{end_in, first_in, nought_in, literal_in, decided, moved, step, run}
 use Rattle.claim_text.specs.declared.place.Section.{Section}
 use Rattle.claim_text.specs.declared.place.Section.TheVariants as sections
 use Rattle.claim_text.specs.declared.place.Role.{Role}
@@ -104,7 +107,8 @@ literals_read (l ∷ more) claim p d rest reads all =
     ∙ literals_read more claim (places.Literal claim) (with_literals d (d.literals ++ l ∷ [])) rest (λ b h. refl) (All-tail IsLiteral l more all)
     ∙ ap (λ ls. run (behind claim (with_literals d ls)) rest) (append_assoc d.literals (l ∷ []) more)
 
-hint_read : (d : Draft) (h : Hint) (rest : List ℕ) → IsHint h → run ([], places.Hint, d) (hint_text h ++ rest) ≡ run ([], places.Hint, with_hints d (d.hints ++ h ∷ [])) rest
+hint_read : (d : Draft) (h : Hint) (rest : List ℕ) → IsHint h
+    → run ([], places.Hint, d) (hint_text h ++ rest) ≡ run ([], places.Hint, with_hints d (d.hints ++ h ∷ [])) rest
 hint_read d (hints.Line n) rest is =
     ap (λ x. run ([], places.Hint, d) (45 ∷ x)) (append_assoc (decimal n) (codes " ") rest)
     ∙ number_read ([], places.First (roles.Hint true), d) (roles.Hint true) d (first_is (roles.Hint true) d) n is.0 is.1 (32 ∷ rest)
@@ -126,15 +130,18 @@ hints_read (h ∷ more) d rest all =
     ∙ ap (λ hs. run ([], places.Item, acted acts.Line (with_hints d hs)) rest) (append_assoc d.hints (h ∷ []) more)
 
 -- a line may come in a section
-line_may : (s : Section) (l : Layer) → HasClaims s l → (kind : Kind) (layers : List Layer) (lines : List HintedLine) → AsLiteral false places.Item (within kind layers s l lines)
-line_may sections.Outside l has kind layers lines b low = cond-false (b == 99) _ _ (ne_eqb b 99 (λ e. omega arith)) ∙ cond-false (b == 108) _ _ (ne_eqb b 108 (λ e. omega arith))
+line_may : (s : Section) (l : Layer) → HasClaims s l → (kind : Kind) (layers : List Layer) (lines : List HintedLine)
+    → AsLiteral false places.Item (within kind layers s l lines)
+line_may sections.Outside l has kind layers lines b low =
+    cond-false (b == 99) _ _ (ne_eqb b 99 (λ e. omega arith)) ∙ cond-false (b == 108) _ _ (ne_eqb b 108 (λ e. omega arith))
 line_may sections.Base l has kind layers lines b low =
     cond-false (b == 99) _ _ (ne_eqb b 99 (λ e. omega arith))
     ∙ cond-false (length l.claims == 0) _ _ (ne_eqb (length l.claims) 0 (λ e. omega (arith, has, e)))
     ∙ cond-false (b == 98) _ _ (ne_eqb b 98 (λ e. omega arith))
 line_may sections.Step l has kind layers lines b low = cond-false (b == 115) _ _ (ne_eqb b 115 (λ e. omega arith))
 
-line_read : (kind : Kind) (layers : List Layer) (s : Section) (l : Layer) (lines : List HintedLine) (line : HintedLine) (rest : List ℕ) → HasClaims s l → IsLine line
+line_read : (kind : Kind) (layers : List Layer) (s : Section) (l : Layer) (lines : List HintedLine) (line : HintedLine) (rest : List ℕ)
+    → HasClaims s l → IsLine line
     → run ([], places.Item, within kind layers s l lines) (line_text line ++ rest) ≡ run ([], places.Item, within kind layers s l (lines ++ line ∷ [])) rest
 line_read kind layers s l lines line rest has is =
     let d = within kind layers s l lines in
@@ -142,7 +149,8 @@ line_read kind layers s l lines line rest has is =
     ∙ literals_read line.literals false places.Item d (32 ∷ (flat_map hint_text line.hints ++ (48 ∷ 10 ∷ rest))) (line_may s l has kind layers lines) is.0
     ∙ hints_read line.hints (with_literals d line.literals) rest is.1
 
-lines_read : (more : List HintedLine) (kind : Kind) (layers : List Layer) (s : Section) (l : Layer) (lines : List HintedLine) (rest : List ℕ) → HasClaims s l → All IsLine more
+lines_read : (more : List HintedLine) (kind : Kind) (layers : List Layer) (s : Section) (l : Layer) (lines : List HintedLine) (rest : List ℕ)
+    → HasClaims s l → All IsLine more
     → run ([], places.Item, within kind layers s l lines) (flat_map line_text more ++ rest) ≡ run ([], places.Item, within kind layers s l (lines ++ more)) rest
 lines_read [] kind layers s l lines rest has all = ap (λ ls. run ([], places.Item, within kind layers s l ls) rest) (sym (append-nil lines))
 lines_read (line ∷ more) kind layers s l lines rest has all =
@@ -153,18 +161,28 @@ lines_read (line ∷ more) kind layers s l lines rest has all =
 
 -- claims
 abbrev with_claims : Layer → List (List Literal) → Layer
-with_claims l cs = record { eventuality = l.eventuality; claims = cs; base_lines = l.base_lines; base_targets = l.base_targets; step_lines = l.step_lines; step_targets = l.step_targets }
+with_claims l cs = record {
+  eventuality = l.eventuality;
+  claims = cs;
+  base_lines = l.base_lines;
+  base_targets = l.base_targets;
+  step_lines = l.step_lines;
+  step_targets = l.step_targets;
+}
 
 claim_read : (kind : Kind) (layers : List Layer) (l : Layer) (c : List Literal) (rest : List ℕ) → All IsLiteral c
-    → run ([], places.Item, within kind layers sections.Base l []) (claim_text c ++ rest) ≡ run ([], places.Item, within kind layers sections.Base (with_claims l (l.claims ++ c ∷ [])) []) rest
+    → run ([], places.Item, within kind layers sections.Base l [])
+    (claim_text c ++ rest) ≡ run ([], places.Item, within kind layers sections.Base (with_claims l (l.claims ++ c ∷ [])) []) rest
 claim_read kind layers l c rest is =
     let d = within kind layers sections.Base l [] in
     ap (run ([], places.Item, d)) (sym (claim_is c rest))
     ∙ literals_read c true (places.Literal true) d (10 ∷ rest) (λ b low. refl) is
 
 claims_read : (more : List (List Literal)) (kind : Kind) (layers : List Layer) (l : Layer) (rest : List ℕ) → All (All IsLiteral) more
-    → run ([], places.Item, within kind layers sections.Base l []) (flat_map claim_text more ++ rest) ≡ run ([], places.Item, within kind layers sections.Base (with_claims l (l.claims ++ more)) []) rest
-claims_read [] kind layers l rest all = ap (λ cs. run ([], places.Item, within kind layers sections.Base (with_claims l cs) []) rest) (sym (append-nil l.claims))
+    → run ([], places.Item, within kind layers sections.Base l [])
+    (flat_map claim_text more ++ rest) ≡ run ([], places.Item, within kind layers sections.Base (with_claims l (l.claims ++ more)) []) rest
+claims_read [] kind layers l rest all =
+    ap (λ cs. run ([], places.Item, within kind layers sections.Base (with_claims l cs) []) rest) (sym (append-nil l.claims))
 claims_read (c ∷ more) kind layers l rest all =
     ap (run ([], places.Item, within kind layers sections.Base l [])) (append_assoc (claim_text c) (flat_map claim_text more) rest)
     ∙ claim_read kind layers l c (flat_map claim_text more ++ rest) (All-head (All IsLiteral) c more all)
@@ -173,12 +191,23 @@ claims_read (c ∷ more) kind layers l rest all =
 
 -- some targets are read
 abbrev pub holding : Kind → List Layer → Section → Layer → List HintedLine → List ℕ → Draft
-holding kind layers s l lines targets = record { kind = kind; layers = layers; section = s; layer = l; lines = lines; literals = []; hints = []; targets = targets; target = 0 }
+holding kind layers s l lines targets =
+    record { kind = kind; layers = layers; section = s; layer = l; lines = lines; literals = []; hints = []; targets = targets; target = 0 }
 
 -- and all of them
 abbrev pub final : Section → Kind → List Layer → Layer → List HintedLine → List ℕ → Draft
 final sections.Outside kind layers l lines targets =
-    record { kind = kind; layers = layers; section = sections.Outside; layer = l; lines = lines; literals = []; hints = []; targets = []; target = get_or targets 0 0 }
+    record {
+      kind = kind;
+      layers = layers;
+      section = sections.Outside;
+      layer = l;
+      lines = lines;
+      literals = [];
+      hints = [];
+      targets = [];
+      target = get_or targets 0 0;
+    }
 final sections.Base kind layers l lines targets = within kind layers sections.Step (with_base l lines targets) []
 final sections.Step kind layers l lines targets = outside kind (layers ++ with_step l lines targets ∷ []) []
 
@@ -191,11 +220,13 @@ last_read sections.Step kind layers l lines ts n count = refl
 
 targets_read : (more : List ℕ) (s : Section) (kind : Kind) (layers : List Layer) (l : Layer) (lines : List HintedLine) (ts : List ℕ) (n : ℕ) (rest : List ℕ)
     → length ts + suc (length more) ≡ wanted_in s l → All IsNumber more
-    → run ([], places.More roles.Target n, holding kind layers s l lines ts) (flat_map target_text more ++ (10 ∷ rest)) ≡ run ([], place_behind s, final s kind layers l lines (ts ++ n ∷ more)) rest
+    → run ([], places.More roles.Target n, holding kind layers s l lines ts)
+    (flat_map target_text more ++ (10 ∷ rest)) ≡ run ([], place_behind s, final s kind layers l lines (ts ++ n ∷ more)) rest
 targets_read [] s kind layers l lines ts n rest count all =
     let d = holding kind layers s l lines ts in
     let last : length ts + 1 ≡ wanted_in s l = omega (arith, count) in
-    run_step step ([], places.More roles.Target n, d) ([], place_behind s, closed s d n) 10 rest (ap (moved d) (cond-true (length ts + 1 == wanted_in s l) _ _ (eq-eqb (length ts + 1) (wanted_in s l) last)))
+    run_step step ([], places.More roles.Target n, d) ([], place_behind s, closed s d n) 10 rest
+    (ap (moved d) (cond-true (length ts + 1 == wanted_in s l) _ _ (eq-eqb (length ts + 1) (wanted_in s l) last)))
     ∙ ap (λ f. run ([], place_behind s, f) rest) (last_read s kind layers l lines ts n last)
 targets_read (m ∷ more) s kind layers l lines ts n rest count all =
     let d = holding kind layers s l lines ts in
@@ -214,11 +245,14 @@ word_read : (s : Section) (kind : Kind) (layers : List Layer) (l : Layer) (lines
 word_read sections.Outside kind layers l lines rest has = refl
 word_read sections.Base kind layers l lines rest has =
     let d = within kind layers sections.Base l lines in
-    run_step step ([], places.Item, d) (codes "ase ", places.First roles.Target, d) 98 (codes "ase " ++ rest) (ap (moved d) (cond-false (length l.claims == 0) _ _ (ne_eqb (length l.claims) 0 (λ e. omega (arith, has, e)))))
+    run_step step ([], places.Item, d) (codes "ase ", places.First roles.Target, d) 98 (codes "ase " ++ rest)
+    (ap (moved d) (cond-false (length l.claims == 0) _ _ (ne_eqb (length l.claims) 0 (λ e. omega (arith, has, e)))))
 word_read sections.Step kind layers l lines rest has = refl
 
-close_read : (s : Section) (targets : List ℕ) (kind : Kind) (layers : List Layer) (l : Layer) (lines : List HintedLine) (rest : List ℕ) → HasClaims s l → 1 ≤ wanted_in s l → length targets ≡ wanted_in s l → All IsNumber targets
-    → run ([], places.Item, within kind layers s l lines) (word s ++ (flat_map target_text targets ++ (10 ∷ rest))) ≡ run ([], place_behind s, final s kind layers l lines targets) rest
+close_read : (s : Section) (targets : List ℕ) (kind : Kind) (layers : List Layer) (l : Layer) (lines : List HintedLine) (rest : List ℕ) → HasClaims s l
+    → 1 ≤ wanted_in s l → length targets ≡ wanted_in s l → All IsNumber targets
+    → run ([], places.Item, within kind layers s l lines)
+    (word s ++ (flat_map target_text targets ++ (10 ∷ rest))) ≡ run ([], place_behind s, final s kind layers l lines targets) rest
 close_read s [] kind layers l lines rest has some count all = absurd (omega (arith, some, count))
 close_read s (n ∷ more) kind layers l lines rest has some count all =
     let d = within kind layers s l lines in
@@ -230,13 +264,16 @@ close_read s (n ∷ more) kind layers l lines rest has some count all =
 
 -- the first line of a layer
 eventuality_read : (e : Option ℕ) (kind : Kind) (layers : List Layer) (rest : List ℕ) → IsEventuality e
-    → run ([], places.Item, outside kind layers []) (codes "layer " ++ (decimal (eventuality_number e) ++ (10 ∷ rest))) ≡ run ([], places.Item, within kind layers sections.Base (opened e) []) rest
-eventuality_read None kind layers rest is = ap (λ ds. run ([], places.Item, outside kind layers []) (codes "layer " ++ (ds ++ (10 ∷ rest)))) (decimal_digit 0 (omega arith))
+    → run ([], places.Item, outside kind layers [])
+    (codes "layer " ++ (decimal (eventuality_number e) ++ (10 ∷ rest))) ≡ run ([], places.Item, within kind layers sections.Base (opened e) []) rest
+eventuality_read None kind layers rest is =
+    ap (λ ds. run ([], places.Item, outside kind layers []) (codes "layer " ++ (ds ++ (10 ∷ rest)))) (decimal_digit 0 (omega arith))
 eventuality_read (Some e) kind layers rest is =
     let d = outside kind layers [] in
     let same : e + 1 - 1 ≡ e = omega arith in
     number_read ([], places.First roles.Eventuality, d) roles.Eventuality d
-    (λ b l h. ap (moved d) (cond-false (b == 48) _ _ (ne_eqb b 48 (λ f. omega arith))) ∙ first_is roles.Eventuality d b l h) (e + 1) (omega arith) (omega (arith, is)) (10 ∷ rest)
+    (λ b l h. ap (moved d) (cond-false (b == 48) _ _ (ne_eqb b 48 (λ f. omega arith))) ∙ first_is roles.Eventuality d b l h) (e + 1) (omega arith)
+    (omega (arith, is)) (10 ∷ rest)
     ∙ ap (λ k. run ([], places.Item, within kind layers sections.Base (opened (Some k)) []) rest) same
 
 base_some : (l : Layer) → 1 ≤ length l.claims → 1 ≤ base_count l

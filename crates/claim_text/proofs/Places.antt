@@ -162,17 +162,20 @@ IsPlace places.End d = IsEnd d
 pub claim_is : (ls : List Literal) (rest : List ℕ) → codes "c " ++ (flat_map literal_text ls ++ (48 ∷ 10 ∷ rest)) ≡ claim_text ls ++ rest
 claim_is ls rest = ap (λ x. codes "c " ++ x) (sym (append_assoc (flat_map literal_text ls) (codes "0\n") rest))
 
-pub line_is : (l : HintedLine) (rest : List ℕ) → flat_map literal_text l.literals ++ (codes "0 " ++ (flat_map hint_text l.hints ++ (48 ∷ 10 ∷ rest))) ≡ line_text l ++ rest
+pub line_is : (l : HintedLine) (rest : List ℕ)
+    → flat_map literal_text l.literals ++ (codes "0 " ++ (flat_map hint_text l.hints ++ (48 ∷ 10 ∷ rest))) ≡ line_text l ++ rest
 line_is l rest =
     sym (append_assoc (flat_map literal_text l.literals) (codes "0 " ++ (flat_map hint_text l.hints ++ codes "0\n")) rest
     ∙ ap (λ x. flat_map literal_text l.literals ++ (codes "0 " ++ x)) (append_assoc (flat_map hint_text l.hints) (codes "0\n") rest))
 
 pub targets_are : (w ts rest : List ℕ) → w ++ (flat_map target_text ts ++ (10 ∷ rest)) ≡ targets_text w ts ++ rest
-targets_are w ts rest = sym (append_assoc w (flat_map target_text ts ++ codes "\n") rest ∙ ap (λ x. w ++ x) (append_assoc (flat_map target_text ts) (codes "\n") rest))
+targets_are w ts rest =
+    sym (append_assoc w (flat_map target_text ts ++ codes "\n") rest ∙ ap (λ x. w ++ x) (append_assoc (flat_map target_text ts) (codes "\n") rest))
 
 -- a layer with the bytes behind it
 pub layer_is : (l : Layer) (rest : List ℕ)
-    → open_before sections.Step l (flat_map line_text l.step_lines ++ (codes "step" ++ (flat_map target_text l.step_targets ++ (10 ∷ rest)))) ≡ layer_text l ++ rest
+    → open_before sections.Step l
+    (flat_map line_text l.step_lines ++ (codes "step" ++ (flat_map target_text l.step_targets ++ (10 ∷ rest)))) ≡ layer_text l ++ rest
 layer_is l rest =
     ap (λ x. open_before sections.Step l (flat_map line_text l.step_lines ++ x)) (targets_are (codes "step") l.step_targets rest)
     ∙ ap (claims_before l) (ap (λ x. flat_map line_text l.base_lines ++ x) (targets_are (codes "base") l.base_targets step))
@@ -184,7 +187,8 @@ layer_is l rest =
     (append_assoc (flat_map line_text l.base_lines) _ rest
     ∙ ap (λ x. flat_map line_text l.base_lines ++ x)
     (append_assoc (targets_text (codes "base") l.base_targets) _ rest
-    ∙ ap (λ x. targets_text (codes "base") l.base_targets ++ x) (append_assoc (flat_map line_text l.step_lines) (targets_text (codes "step") l.step_targets) rest))))))
+    ∙ ap (λ x. targets_text (codes "base") l.base_targets ++ x)
+    (append_assoc (flat_map line_text l.step_lines) (targets_text (codes "step") l.step_targets) rest))))))
   where
     step : List ℕ
     step = flat_map line_text l.step_lines ++ (targets_text (codes "step") l.step_targets ++ rest)

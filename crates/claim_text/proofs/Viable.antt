@@ -1,5 +1,6 @@
 -- From each place that the pass can reach some bytes lead to the end of a text.
-use Rattle.std.proofs.Common.{◌≡◌, ℕ, zero, suc, ◌+◌, ◌-◌, ◌<◌, ◌≤◌, ◌==◌, ◌⊎◌, inl, inr, Bool, true, false, List, [], ◌∷◌, ◌++◌, length, Option, Some, None, refl, sym, ap, ◌∙◌, subst, arith}
+use Rattle.std.proofs.Common.{◌≡◌, ℕ, zero, suc, ◌+◌, ◌-◌, ◌<◌, ◌≤◌, ◌==◌, ◌⊎◌, inl, inr, Bool, true, false, List, [], ◌∷◌, ◌++◌, length, Option, Some, None}
+use Rattle.std.proofs.Common.{refl, sym, ap, ◌∙◌, subst, arith}
 use Rattle.std.specs.Prelude.{codes}
 use Rattle.std.proofs.lemmas.Bool.{cond-true, cond-false, eq-eqb, ne_eqb}
 use Rattle.std.proofs.lemmas.List.{length_push}
@@ -69,18 +70,21 @@ at s kind layers l lines literals hints targets target =
     record { kind = kind; layers = layers; section = s; layer = l; lines = lines; literals = literals; hints = hints; targets = targets; target = target }
 
 -- outside a layer, at its step, and at its base where there is a claim
-at_outside : (kind : Kind) (layers : List Layer) (l : Layer) (lines : List HintedLine) (literals : List Literal) (hints : List Hint) (targets : List ℕ) (target : ℕ) → targets ≡ []
+at_outside : (kind : Kind) (layers : List Layer) (l : Layer) (lines : List HintedLine) (literals : List Literal) (hints : List Hint) (targets : List ℕ)
+    (target : ℕ) → targets ≡ []
     → IsViable places.Item (at sections.Outside kind layers l lines literals hints targets target)
 at_outside kind layers l lines literals hints targets target none =
     let d = at sections.Outside kind layers l lines literals hints targets target in
     let again = in_target d 1 (omega (arith, ap length none)) (λ ts m. ([], closed sections.Outside (with_targets d ts) m, refl)) in
     (codes "close 1" ++ again.0, again.1, again.2)
 
-at_step : (kind : Kind) (layers : List Layer) (l : Layer) (lines : List HintedLine) (literals : List Literal) (hints : List Hint) (targets : List ℕ) (target : ℕ) → targets ≡ [] → 1 ≤ length l.claims
+at_step : (kind : Kind) (layers : List Layer) (l : Layer) (lines : List HintedLine) (literals : List Literal) (hints : List Hint) (targets : List ℕ)
+    (target : ℕ) → targets ≡ [] → 1 ≤ length l.claims
     → IsViable places.Item (at sections.Step kind layers l lines literals hints targets target)
 at_step kind layers l lines literals hints targets target none some =
     let d = at sections.Step kind layers l lines literals hints targets target in
-    let again = in_target d 1 (omega (arith, ap length none, some)) (λ ts m. at_outside kind (layers ++ with_step l lines (ts ++ m ∷ []) ∷ []) (opened None) [] literals hints [] target refl) in
+    let again = in_target d 1 (omega (arith, ap length none, some))
+    (λ ts m. at_outside kind (layers ++ with_step l lines (ts ++ m ∷ []) ∷ []) (opened None) [] literals hints [] target refl) in
     (codes "step 1" ++ again.0, again.1, again.2)
 
 base_some : (l : Layer) → 1 ≤ length l.claims → 1 ≤ base_count l
@@ -90,11 +94,13 @@ base_some l some = go l.eventuality
     go None = some
     go (Some e) = omega (arith, some)
 
-at_base : (kind : Kind) (layers : List Layer) (l : Layer) (lines : List HintedLine) (literals : List Literal) (hints : List Hint) (targets : List ℕ) (target : ℕ) → targets ≡ [] → 1 ≤ length l.claims
+at_base : (kind : Kind) (layers : List Layer) (l : Layer) (lines : List HintedLine) (literals : List Literal) (hints : List Hint) (targets : List ℕ)
+    (target : ℕ) → targets ≡ [] → 1 ≤ length l.claims
     → IsViable places.Item (at sections.Base kind layers l lines literals hints targets target)
 at_base kind layers l lines literals hints targets target none some =
     let d = at sections.Base kind layers l lines literals hints targets target in
-    let again = in_target d 1 (omega (arith, ap length none, base_some l some)) (λ ts m. at_step kind layers (with_base l lines (ts ++ m ∷ [])) [] literals hints [] target refl some) in (
+    let again = in_target d 1 (omega (arith, ap length none, base_some l some))
+    (λ ts m. at_step kind layers (with_base l lines (ts ++ m ∷ [])) [] literals hints [] target refl some) in (
       codes "base 1" ++ again.0,
       again.1,
       run_step step ([], places.Item, d) (codes "ase ", places.First roles.Target, d) 98 (codes "ase 1" ++ again.0)
@@ -103,7 +109,8 @@ at_base kind layers l lines literals hints targets target none some =
     )
 
 -- where there is none yet
-at_head : (kind : Kind) (layers : List Layer) (l : Layer) (lines : List HintedLine) (literals : List Literal) (hints : List Hint) (targets : List ℕ) (target : ℕ) → targets ≡ [] → lines ≡ []
+at_head : (kind : Kind) (layers : List Layer) (l : Layer) (lines : List HintedLine) (literals : List Literal) (hints : List Hint) (targets : List ℕ)
+    (target : ℕ) → targets ≡ [] → lines ≡ []
     → IsViable places.Item (at sections.Base kind layers l lines literals hints targets target)
 at_head kind layers l lines literals hints targets target none empty =
     let d = at sections.Base kind layers l lines literals hints targets target in
@@ -115,14 +122,16 @@ at_head kind layers l lines literals hints targets target none empty =
           ∙ again.2,
     )
 
-at_item : (s : Section) (kind : Kind) (layers : List Layer) (l : Layer) (lines : List HintedLine) (literals : List Literal) (hints : List Hint) (targets : List ℕ) (target : ℕ) → targets ≡ [] → IsOpen s l
+at_item : (s : Section) (kind : Kind) (layers : List Layer) (l : Layer) (lines : List HintedLine) (literals : List Literal) (hints : List Hint)
+    (targets : List ℕ) (target : ℕ) → targets ≡ [] → IsOpen s l
     → HasClaims s l ⊎ (lines ≡ []) → IsViable places.Item (at s kind layers l lines literals hints targets target)
 at_item sections.Outside kind layers l lines literals hints targets target none open_is may = at_outside kind layers l lines literals hints targets target none
 at_item sections.Base kind layers l lines literals hints targets target none open_is may = elim may [
   | inl some ↦ at_base kind layers l lines literals hints targets target none some
   | inr empty ↦ at_head kind layers l lines literals hints targets target none empty
 ]
-at_item sections.Step kind layers l lines literals hints targets target none open_is may = at_step kind layers l lines literals hints targets target none open_is.some
+at_item sections.Step kind layers l lines literals hints targets target none open_is may =
+    at_step kind layers l lines literals hints targets target none open_is.some
 
 -- an item at the draft
 item : (d : Draft) → d.targets ≡ [] → IsOpen d.section d.layer → HasClaims d.section d.layer ⊎ (d.lines ≡ []) → IsViable places.Item d
@@ -132,7 +141,8 @@ item d none open_is may = at_item d.section d.kind d.layers d.layer d.lines d.li
 after : (s : Section) (d : Draft) (m : ℕ) → IsOpen s d.layer → HasClaims s d.layer → IsViable (place_behind s) (closed s d m)
 after sections.Outside d m open_is may = ([], closed sections.Outside d m, refl)
 after sections.Base d m open_is may = at_step d.kind d.layers (with_base d.layer d.lines (d.targets ++ m ∷ [])) [] d.literals d.hints [] d.target refl may
-after sections.Step d m open_is may = at_outside d.kind (d.layers ++ with_step d.layer d.lines (d.targets ++ m ∷ []) ∷ []) (opened None) [] d.literals d.hints [] d.target refl
+after sections.Step d m open_is may =
+    at_outside d.kind (d.layers ++ with_step d.layer d.lines (d.targets ++ m ∷ []) ∷ []) (opened None) [] d.literals d.hints [] d.target refl
 
 base_section : (d : Draft) → d.section ≡ sections.Base → d.targets ≡ [] → d.lines ≡ [] → IsViable places.Item (acted acts.Claim d)
 base_section d s none empty =
@@ -157,7 +167,8 @@ in_number roles.Eventuality n d is =
     let again = at_head d.kind d.layers (opened (Some (n - 1))) d.lines d.literals d.hints d.targets d.target is.clear.targets is.lines in
     (10 ∷ again.0, again.1, again.2)
 in_number (roles.Literal claim negated) n d is =
-    let again = at_literals claim (acted (acts.Literal (literal negated n)) d) is.draft.layer (same_may claim d (acted (acts.Literal (literal negated n)) d) refl refl refl is.may) is.targets in
+    let again = at_literals claim (acted (acts.Literal (literal negated n)) d) is.draft.layer
+    (same_may claim d (acted (acts.Literal (literal negated n)) d) refl refl refl is.may) is.targets in
     (32 ∷ again.0, again.1, again.2)
 in_number (roles.Hint negated) n d is =
     let again = at_hints (acted (acts.Hint (hint negated n)) d) is.draft.layer is.may is.targets in

@@ -1,5 +1,6 @@
 -- One pass over the bytes: a byte is decided upon by the place and by what is read so far, and then acted upon.
-use Rattle.std.specs.Prelude.{ℕ, ◌+◌, ◌-◌, ◌*◌, ◌≤◌, ⊤, Bool, true, false, ◌&&◌, ◌==◌, nat_lt, List, [], ◌∷◌, ◌++◌, length, codes, if◌then◌else◌, Option, Some, None}
+use Rattle.std.specs.Prelude.{ℕ, ◌+◌, ◌-◌, ◌*◌, ◌≤◌, ⊤, Bool, true, false, ◌&&◌, ◌==◌, nat_lt, List, [], ◌∷◌, ◌++◌, length, codes, if◌then◌else◌, Option, Some}
+use Rattle.std.specs.Prelude.{None}
 use Rattle.ltl_syntax.specs.declared.node.Kind.{Kind}
 use Rattle.ltl_syntax.specs.declared.node.Kind.TheVariants as Kinds
 use Rattle.cnf_base.specs.declared.literal.Literal.{Literal}
@@ -35,10 +36,12 @@ opened e = record { eventuality = e; claims = []; base_lines = []; base_targets 
 
 -- outside a layer, and within one
 abbrev pub outside : Kind → List Layer → List HintedLine → Draft
-outside kind layers lines = record { kind = kind; layers = layers; section = sections.Outside; layer = opened None; lines = lines; literals = []; hints = []; targets = []; target = 0 }
+outside kind layers lines =
+    record { kind = kind; layers = layers; section = sections.Outside; layer = opened None; lines = lines; literals = []; hints = []; targets = []; target = 0 }
 
 abbrev pub within : Kind → List Layer → Section → Layer → List HintedLine → Draft
-within kind layers section layer lines = record { kind = kind; layers = layers; section = section; layer = layer; lines = lines; literals = []; hints = []; targets = []; target = 0 }
+within kind layers section layer lines =
+    record { kind = kind; layers = layers; section = section; layer = layer; lines = lines; literals = []; hints = []; targets = []; target = 0 }
 
 -- nothing is read
 abbrev pub blank : Draft
@@ -261,7 +264,8 @@ item_in sections.Step d b = if b == 115 then Some (codes "tep ", places.First ro
 
 abbrev pub more_in : Role → ℕ → Draft → ℕ → Next
 more_in role n d b =
-    if nat_lt 47 b && nat_lt b 58 then (if nat_lt (greatest_in role) (10 * n + (b - 48)) then None else Some ([], places.More role (10 * n + (b - 48)), acts.Nothing))
+    if nat_lt 47 b && nat_lt b 58
+    then (if nat_lt (greatest_in role) (10 * n + (b - 48)) then None else Some ([], places.More role (10 * n + (b - 48)), acts.Nothing))
     else end_in role n d b
 
 abbrev pub kind_in : ℕ → Next

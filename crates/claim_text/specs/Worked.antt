@@ -12,11 +12,13 @@ abbrev pub first_text : List ℕ
 first_text = codes "ltlinv 1 infinite\n-1 0 2 1 0\nclose 1\n"
 
 abbrev pub first_certificate : Certificate
-first_certificate = record { kind = Kinds.Infinite; layers = []; lines = record { literals = minus 1 ∷ []; hints = hints.Clause 2 ∷ hints.Clause 1 ∷ [] } ∷ []; target = 1 }
+first_certificate =
+    record { kind = Kinds.Infinite; layers = []; lines = record { literals = minus 1 ∷ []; hints = hints.Clause 2 ∷ hints.Clause 1 ∷ [] } ∷ []; target = 1 }
 
 -- a layer without an eventuality, and one with the eventuality number 2, whose first claim is empty
 abbrev pub second_text : List ℕ
-second_text = codes "ltlinv 1 finite\nlayer 0\nc -2 3 0\n-2 0 1 0\nbase 1\nstep 7\nlayer 3\nc 0\nc 5 0\nbase 1 2 3 4\n0 -1 0\nstep 1 1\n0 0\nclose 18446744073709551615\n"
+second_text =
+    codes "ltlinv 1 finite\nlayer 0\nc -2 3 0\n-2 0 1 0\nbase 1\nstep 7\nlayer 3\nc 0\nc 5 0\nbase 1 2 3 4\n0 -1 0\nstep 1 1\n0 0\nclose 18446744073709551615\n"
 
 abbrev pub second_certificate : Certificate
 second_certificate = record {

@@ -3,7 +3,8 @@ use Rattle.std.proofs.Common.{◌≡◌, Bool, true, false, not, ◌&&◌, ◌||
 use Rattle.std.specs.List.{AllByRecursion as Each}
 use Rattle.std.proofs.lemmas.Bool.{or_left}
 use Rattle.ltl_syntax.specs.Formula.{Formula}
-use Rattle.ltl_closure.specs.Norm.{Norm, NConst, NLetter, NNotLetter, NAnd, NOr, NNext, NWeakNext, NYesterday, NWeakYesterday, NUntil, NRelease, NSince, NTrigger}
+use Rattle.ltl_closure.specs.Norm.{Norm, NConst, NLetter, NNotLetter, NAnd, NOr, NNext, NWeakNext, NYesterday, NWeakYesterday, NUntil, NRelease, NSince}
+use Rattle.ltl_closure.specs.Norm.{NTrigger}
 use Rattle.ltl_closure.specs.Closure.{closure}
 use Rattle.ltl_closure.specs.Keys.{needs}
 use Rattle.ltl_closure.specs.Run.{RunState, val}

@@ -1,5 +1,6 @@
 -- Whether a certificate is lawful, computed.
-use Rattle.std.proofs.Common.{◌≡◌, ◌==◌, ℕ, zero, suc, ◌+◌, ◌*◌, ◌<◌, Bool, true, false, List, [], ◌∷◌, ◌++◌, length, get_or, All, Contains, Option, Some, None, refl, ap, ap₂, ◌∙◌, arith}
+use Rattle.std.proofs.Common.{◌≡◌, ◌==◌, ℕ, zero, suc, ◌+◌, ◌*◌, ◌<◌, Bool, true, false, List, [], ◌∷◌, ◌++◌, length, get_or, All, Contains, Option, Some, None}
+use Rattle.std.proofs.Common.{refl, ap, ap₂, ◌∙◌, arith}
 use mathlib.Core.Bool.{false≢true, ◌&&◌, beq}
 use Rattle.std.specs.Bool.{Decides}
 use Rattle.std.specs.List.{list_all}
@@ -19,7 +20,8 @@ use Rattle.ltl_closure.specs.Closure.{eventualities}
 use Rattle.enc_layout.specs.Targets.{IsTarget}
 use Rattle.claims.specs.Between.{width, greatest}
 use Rattle.claims.specs.Certificate.{HintedLine, Layer, Certificate, line_at, layer_at, claim_at, first_clauses, clauses_of, next_claims}
-use Rattle.claims.specs.Lawful.{AreHintedSteps, AreTargets, ArePairedTargets, IsBase, IsLawfulLayer, IsLawful, clauses_before, lines_before, not_after, not_first, not_last, pending, not_fulfilled}
+use Rattle.claims.specs.Lawful.{AreHintedSteps, AreTargets, ArePairedTargets, IsBase, IsLawfulLayer, IsLawful, clauses_before, lines_before, not_after}
+use Rattle.claims.specs.Lawful.{not_first, not_last, pending, not_fulfilled}
 
 -- whether the test passes at each number below n
 abbrev each_below : (ℕ → Bool) → ℕ → Bool

@@ -5,7 +5,8 @@ use Rattle.std.proofs.lemmas.List.Elements.{All-from_recursion}
 use Rattle.ltl_syntax.specs.declared.node.Kind.TheVariants as Kinds
 use Rattle.ltl_syntax.specs.Formula.{Formula}
 use Rattle.cnf_base.specs.Known.{IsKnown}
-use Rattle.ltl_closure.specs.Norm.{Norm, NConst, NLetter, NNotLetter, NAnd, NOr, NNext, NWeakNext, NYesterday, NWeakYesterday, NUntil, NRelease, NSince, NTrigger, pos_of}
+use Rattle.ltl_closure.specs.Norm.{Norm, NConst, NLetter, NNotLetter, NAnd, NOr, NNext, NWeakNext, NYesterday, NWeakYesterday, NUntil, NRelease, NSince}
+use Rattle.ltl_closure.specs.Norm.{NTrigger, pos_of}
 use Rattle.ltl_closure.specs.Closure.{closure, nexts, yesterdays, argument}
 use Rattle.ltl_closure.specs.Keys.{needs}
 use Rattle.ltl_closure.proofs.Lists.{Contains-from_filter}
@@ -13,7 +14,8 @@ use Rattle.ltl_closure.proofs.Entries.{closure_root}
 use Rattle.ltl_closure.proofs.Places.{place_from_one, place_within}
 use Rattle.ltl_closure.proofs.Known.{next_in, yesterday_in}
 use Rattle.enc_layout.specs.Letters.{Meaning}
-use Rattle.enc_layout.specs.Clauses.{Literal, Plus, Minus, Clause, letter_of, strong_gate, weak_gate, gate, gates_part, links_part, acceptance_part, start, next_clauses, before_clauses, is_strong_next}
+use Rattle.enc_layout.specs.Clauses.{Literal, Plus, Minus, Clause, letter_of, strong_gate, weak_gate, gate, gates_part, links_part, acceptance_part, start}
+use Rattle.enc_layout.specs.Clauses.{next_clauses, before_clauses, is_strong_next}
 use Rattle.enc_layout.proofs.Each.{Each-append, Each-flat_map, Each-map}
 use Rattle.enc_layout.proofs.Carries.{argument_in}
 use Rattle.enc_layout.proofs.Within.{letter_in}
@@ -127,7 +129,8 @@ module _ (f : Formula) where
 
   clauses_range : Each Ranges (step_clauses f)
   clauses_range =
-      Each-append Ranges (gates_part f 0) (gates_part f 1 ++ (links_part f 1 ++ (links_part f 0 ++ acceptance_part f Kinds.Finite 0))) (gates_range (letter_of f 0) here)
+      Each-append Ranges (gates_part f 0) (gates_part f 1 ++ (links_part f 1 ++ (links_part f 0 ++ acceptance_part f Kinds.Finite 0)))
+      (gates_range (letter_of f 0) here)
       (Each-append Ranges (gates_part f 1) (links_part f 1 ++ (links_part f 0 ++ acceptance_part f Kinds.Finite 0)) (gates_range (letter_of f 1) next)
       (Each-append Ranges (links_part f 1) (links_part f 0 ++ acceptance_part f Kinds.Finite 0) links_range
       (Each-append Ranges (links_part f 0) (acceptance_part f Kinds.Finite 0) starts_range ends_range)))

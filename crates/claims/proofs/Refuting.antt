@@ -1,5 +1,6 @@
 -- The claims of lawful layers hold along a sequence, and a lawful certificate leaves no trace.
-use Rattle.std.proofs.Common.{◌≡◌, ℕ, zero, suc, ◌<◌, ◌≤◌, Bool, true, false, not, IsTrue, refl, sym, ap, subst, ◌∙◌, arith, List, [], ◌∷◌, ◌++◌, length, ltb, leb}
+use Rattle.std.proofs.Common.{◌≡◌, ℕ, zero, suc, ◌<◌, ◌≤◌, Bool, true, false, not, IsTrue, refl, sym, ap, subst, ◌∙◌, arith, List, [], ◌∷◌, ◌++◌, length, ltb}
+use Rattle.std.proofs.Common.{leb}
 use Rattle.std.proofs.lemmas.Bool.{lt-ltb, ltb-true, le-leb, leb-true}
 use Rattle.std.proofs.lemmas.List.Elements.{All-nil, All-append}
 use Rattle.ltl_syntax.specs.declared.node.Kind.{Kind}

@@ -40,7 +40,8 @@ module _ (f : Formula) (v : ℕ → Bool) (holds : Satisfies v (step_list f)) wh
 
   gates : (i : ℕ) → i ≤ 1 → Each T (gates_part f i)
   gates zero le = Each-left T (gates_part f 0) (gates_part f 1 ++ (links_part f 1 ++ (links_part f 0 ++ acceptance_part f Kinds.Finite 0))) all
-  gates (suc zero) le = Each-left T (gates_part f 1) (links_part f 1 ++ (links_part f 0 ++ acceptance_part f Kinds.Finite 0)) (Each-right T (gates_part f 0) _ all)
+  gates (suc zero) le =
+      Each-left T (gates_part f 1) (links_part f 1 ++ (links_part f 0 ++ acceptance_part f Kinds.Finite 0)) (Each-right T (gates_part f 0) _ all)
   gates (suc (suc i)) le = absurd (omega arith)
 
   value : (i : ℕ) → i ≤ 1 → (e : Norm) → Contains (closure f) e → V (letter_of f i e) ≡ val (state_in f v i) e

@@ -12,7 +12,8 @@ use Rattle.ltl_closure.proofs.Lists.{Contains-from_filter}
 use Rattle.ltl_closure.proofs.Entries.{closure_root}
 use Rattle.ltl_closure.proofs.Known.{next_in, yesterday_in}
 use Rattle.enc_layout.specs.Letters.{Meaning}
-use Rattle.enc_layout.specs.Clauses.{Literal, Plus, Minus, Clause, literal_true, clause_true, letter_of, gates_part, links_part, acceptance_part, start, next_clauses, before_clauses, is_strong_next}
+use Rattle.enc_layout.specs.Clauses.{Literal, Plus, Minus, Clause, literal_true, clause_true, letter_of, gates_part, links_part, acceptance_part, start}
+use Rattle.enc_layout.specs.Clauses.{next_clauses, before_clauses, is_strong_next}
 use Rattle.enc_layout.proofs.Each.{Each-append, Each-flat_map, Each-map}
 use Rattle.enc_layout.proofs.Gates.{IsTrueClause}
 use Rattle.enc_layout.proofs.Carries.{next_value, argument_in}
@@ -105,7 +106,8 @@ module _ (f : Formula) (s u : RunState) (has_next is_first is_last : Bool) where
 
     clauses_true : Each T (step_clauses f)
     clauses_true =
-        Each-append T (gates_part f 0) (gates_part f 1 ++ (links_part f 1 ++ (links_part f 0 ++ acceptance_part f Kinds.Finite 0))) (gates_true f (letter_of f 0) V s here)
+        Each-append T (gates_part f 0) (gates_part f 1 ++ (links_part f 1 ++ (links_part f 0 ++ acceptance_part f Kinds.Finite 0)))
+        (gates_true f (letter_of f 0) V s here)
         (Each-append T (gates_part f 1) (links_part f 1 ++ (links_part f 0 ++ acceptance_part f Kinds.Finite 0)) (gates_true f (letter_of f 1) V u next)
         (Each-append T (links_part f 1) (links_part f 0 ++ acceptance_part f Kinds.Finite 0) links_true
         (Each-append T (links_part f 0) (acceptance_part f Kinds.Finite 0) first_true last_true)))

@@ -1,6 +1,7 @@
 -- Sequences of states in which each may come right before the next, wherever they begin; and the assignment that a state and the next one give to
 -- the letters of a step.
-use Rattle.std.specs.Prelude.{◌≡◌, ℕ, zero, suc, ◌+◌, ◌-◌, ◌*◌, ◌<◌, ◌≤◌, nat_le, nat_lt, Bool, true, false, IsTrue, IsFalse, if◌then◌else◌, slice_index_or, Contains}
+use Rattle.std.specs.Prelude.{◌≡◌, ℕ, zero, suc, ◌+◌, ◌-◌, ◌*◌, ◌<◌, ◌≤◌, nat_le, nat_lt, Bool, true, false, IsTrue, IsFalse, if◌then◌else◌, slice_index_or}
+use Rattle.std.specs.Prelude.{Contains}
 use Rattle.ltl_syntax.specs.Formula.{Formula}
 use Rattle.ltl_closure.specs.Norm.{Norm, NConst, NNext, NYesterday, NWeakYesterday, pos_of}
 use Rattle.ltl_closure.specs.Closure.{closure, nexts, yesterdays, eventualities, argument}

@@ -1,5 +1,6 @@
 -- Literals evenly apart, by their places.
-use Rattle.std.proofs.Common.{◌≡◌, ℕ, zero, suc, ◌+◌, ◌-◌, ◌*◌, ◌<◌, ◌≤◌, arith, sym, ◌∙◌, ap, refl, inl, inr, List, [], ◌∷◌, ◌++◌, length, get_or, get_or-append-add}
+use Rattle.std.proofs.Common.{◌≡◌, ℕ, zero, suc, ◌+◌, ◌-◌, ◌*◌, ◌<◌, ◌≤◌, arith, sym, ◌∙◌, ap, refl, inl, inr, List, [], ◌∷◌, ◌++◌, length, get_or}
+use Rattle.std.proofs.Common.{get_or-append-add}
 use Rattle.std.specs.Prelude.{slice_get, Some}
 use Rattle.std.proofs.lemmas.Bool.{cases_lt}
 use Rattle.std.proofs.lemmas.Nat.{mul-le}
@@ -22,7 +23,8 @@ evenly_place first apart count now k is lt = let e = evenly_long first apart cou
 evenly_get : (first apart count k : ℕ) (d : Signed) → k < count → get_or (evenly first apart count) k d ≡ plain (first + k * apart)
 evenly_get first apart zero k d lt = absurd (omega arith)
 evenly_get first apart (suc n) k d lt = elim (cases_lt k n) [
-  | inl before ↦ get_or_append_left (evenly first apart n) (plain (first + n * apart) ∷ []) d k (omega (arith, evenly_long first apart n)) ∙ evenly_get first apart n k d before
+  | inl before ↦ get_or_append_left (evenly first apart n) (plain (first + n * apart) ∷ []) d k (omega (arith, evenly_long first apart n))
+      ∙ evenly_get first apart n k d before
   | inr here ↦
       let e : k ≡ n = omega arith in
       let l : k ≡ length (evenly first apart n) + 0 = omega (arith, evenly_long first apart n) in
@@ -32,4 +34,5 @@ evenly_get first apart (suc n) k d lt = elim (cases_lt k n) [
 
 pub evenly_at : (first apart count k : ℕ) → k < count → slice_get (evenly first apart count) k ≡ Some (plain (first + k * apart))
 evenly_at first apart count k lt =
-    slice_get-get_or (evenly first apart count) k (plain 0) (omega (arith, evenly_long first apart count)) ∙ ap Some (evenly_get first apart count k (plain 0) lt)
+    slice_get-get_or (evenly first apart count) k (plain 0) (omega (arith, evenly_long first apart count))
+    ∙ ap Some (evenly_get first apart count k (plain 0) lt)

@@ -15,7 +15,8 @@ longer old all out new place x low at is step =
     ∙ ap (λ row. old ++ row ∷ []) (sym (take_more all place x low ∙ ap (λ y. take place all ++ y ∷ []) (get_or_from_slice_get all place x x at)))))
 
 -- a clause more of those that are put behind the old ones
-pub next_more : {X : Type 0} (old all out new : List X) (place : ℕ) (x d : X) → place < length all → get_or all place d ≡ x → out ≡ old ++ take place all → new ≡ out ++ x ∷ [] → new ≡ old ++ take (place + 1) all
+pub next_more : {X : Type 0} (old all out new : List X) (place : ℕ) (x d : X) → place < length all → get_or all place d ≡ x → out ≡ old ++ take place all
+    → new ≡ out ++ x ∷ [] → new ≡ old ++ take (place + 1) all
 next_more old all out new place x d low at is step =
     step
     ∙ (ap (λ xs. xs ++ x ∷ []) is

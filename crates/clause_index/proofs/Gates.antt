@@ -2,7 +2,8 @@
 use Rattle.std.proofs.Common.{◌≡◌, ℕ, zero, suc, ◌+◌, ◌-◌, ◌*◌, ◌<◌, ◌≤◌, arith, refl, true, false, inl, inr, ap, sym, ◌∙◌, List, length, get_or, length-append}
 use Rattle.std.proofs.lemmas.Bool.{cases_lt}
 use Rattle.ltl_syntax.specs.Formula.{Formula, Name, Fresh}
-use Rattle.ltl_closure.specs.Norm.{Norm, NConst, NLetter, NNotLetter, NAnd, NOr, NNext, NWeakNext, NYesterday, NWeakYesterday, NUntil, NRelease, NSince, NTrigger}
+use Rattle.ltl_closure.specs.Norm.{Norm, NConst, NLetter, NNotLetter, NAnd, NOr, NNext, NWeakNext, NYesterday, NWeakYesterday, NUntil, NRelease, NSince}
+use Rattle.ltl_closure.specs.Norm.{NTrigger}
 use Rattle.ltl_closure.specs.Closure.{closure}
 use Rattle.ltl_closure.specs.Entries.{place_in, StandsFor, AreEntries, IsNumber, entry_at}
 use Rattle.ltl_closure.specs.declared.entry.Entry.{Entry}
@@ -69,7 +70,8 @@ gates_less entries k (suc n) le = elim (cases_lt k (suc n)) [
 ]
 
 -- what is before all gates is before some entry
-pub walk_within : (entries : List Entry) (k left index : ℕ) → k ≤ length entries → gates_before entries k + left ≡ index → index < gates_before entries (length entries) → k < length entries
+pub walk_within : (entries : List Entry) (k left index : ℕ) → k ≤ length entries
+    → gates_before entries k + left ≡ index → index < gates_before entries (length entries) → k < length entries
 walk_within entries k left index le is lt = elim (cases_lt k (length entries)) [
   | inl before ↦ before
   | inr here ↦ let less = gates_less entries (length entries) k here in absurd (omega arith)
@@ -97,7 +99,8 @@ module _ (names : List (List ℕ)) (f : Formula) (entries : List Entry) (are : A
   gates_same i =
       ap (λ n. below n (gates_by entries i)) are.long
       ∙ (below_same (length (closure f)) (gates_by entries i) (λ k. gate (letter_of f i) (get_or (closure f) k (NConst false))) (λ k lt.
-      ap (λ n. entry_gate i n (get_or entries k Is.True)) (sym (closure_placed f k (NConst false) lt)) ∙ gate_same i (get_or (closure f) k (NConst false)) (get_or entries k Is.True) (are.each k lt))
+      ap (λ n. entry_gate i n (get_or entries k Is.True)) (sym (closure_placed f k (NConst false) lt))
+      ∙ gate_same i (get_or (closure f) k (NConst false)) (get_or entries k Is.True) (are.each k lt))
       ∙ sym (flat_map_below (gate (letter_of f i)) (closure f) (NConst false)))
 
   -- how many gates' clauses there are
@@ -105,7 +108,8 @@ module _ (names : List (List ℕ)) (f : Formula) (entries : List Entry) (are : A
   gates_total i = sym (ap length (gates_same i)) ∙ gates_long entries i (length entries)
 
   -- a clause of the gates is one of an entry's gate
-  pub gate_row : (layout : LayoutValue) (i t rest index : ℕ) → IsNumber (length entries) t → gates_before entries (t - 1) + rest ≡ index → rest < gate_size (entry_at entries t)
+  pub gate_row : (layout : LayoutValue) (i t rest index : ℕ) → IsNumber (length entries) t
+      → gates_before entries (t - 1) + rest ≡ index → rest < gate_size (entry_at entries t)
       → row_at layout (entry_gate i t (entry_at entries t)) rest ≡ row_at layout (gates_part f i) index
   gate_row layout i t rest index number is lt =
       let x = entry_at entries t in
@@ -113,5 +117,6 @@ module _ (names : List (List ℕ)) (f : Formula) (entries : List Entry) (are : A
       let inside : t - 1 < length entries = omega (arith, number.0, number.1) in
       let long = gate_long i (suc (t - 1)) (entry_at entries t) in
       ap (λ n. row_at layout (entry_gate i n x) rest) (sym again)
-      ∙ (sym (row_below layout.kind layout.counts (length entries) (gates_by entries i) (t - 1) rest (gates_before entries (t - 1)) inside (omega arith) (gates_long entries i (t - 1)))
+      ∙ (sym (row_below layout.kind layout.counts (length entries) (gates_by entries i) (t - 1) rest (gates_before entries (t - 1)) inside (omega arith)
+      (gates_long entries i (t - 1)))
       ∙ (ap (λ z. row_at layout z (gates_before entries (t - 1) + rest)) (gates_same i) ∙ ap (row_at layout (gates_part f i)) is))

@@ -4,7 +4,8 @@ use Rattle.std.proofs.lemmas.List.{get_or-map, get_or-append_right, length-map}
 use Rattle.std.proofs.lemmas.List.{get_or_append_left}
 use Rattle.std.proofs.lemmas.List.Elements.{Contains-get_or}
 use Rattle.ltl_syntax.specs.Formula.{Formula, Name, Fresh}
-use Rattle.ltl_closure.specs.Norm.{Norm, NConst, NLetter, NNotLetter, NAnd, NOr, NNext, NWeakNext, NYesterday, NWeakYesterday, NUntil, NRelease, NSince, NTrigger}
+use Rattle.ltl_closure.specs.Norm.{Norm, NConst, NLetter, NNotLetter, NAnd, NOr, NNext, NWeakNext, NYesterday, NWeakYesterday, NUntil, NRelease, NSince}
+use Rattle.ltl_closure.specs.Norm.{NTrigger}
 use Rattle.ltl_closure.specs.Closure.{closure, nexts, yesterdays, eventualities, argument, is_eventuality}
 use Rattle.ltl_closure.specs.Entries.{place_in, numbers_of, StandsFor, AreEntries, IsNumber, entry_at}
 use Rattle.ltl_closure.specs.Run.{request_of, right_of}
@@ -30,7 +31,8 @@ module _ (f : Formula) (es : List Norm) (numbers : List ℕ) (is : numbers ≡ n
       let e = get_or es k (NConst false) in
       subst (IsNumber (length (closure f))) (sym (number_same k lt)) (known_number f e (in_closure e (Contains-get_or es k (NConst false) lt)))
 
-pub argument_number_known : (f : Formula) (es : List Norm) → ((e : Norm) → Contains es e → Contains (closure f) e) → (k : ℕ) → k < length es → IsNumber (length (closure f)) (argument_at f es k)
+pub argument_number_known : (f : Formula) (es : List Norm) → ((e : Norm) → Contains es e → Contains (closure f) e) → (k : ℕ) → k < length es
+    → IsNumber (length (closure f)) (argument_at f es k)
 argument_number_known f es in_closure k lt =
     let e = get_or es k (NConst false) in
     known_number f (argument e) (argument_in f e (in_closure e (Contains-get_or es k (NConst false) lt)))
@@ -82,7 +84,8 @@ module _ (names : List (List ℕ)) (f : Formula) where
   request_same t (NUntil a b) x y s = ap (request_by t) s
   request_same t e x y s = cc
 
-  module _ (entries : List Entry) (are : AreEntries names f entries) (es : List Norm) (in_closure : (e : Norm) → Contains es e → Contains (closure f) e) (numbers : List ℕ) (is : numbers ≡ numbers_of f es) (k : ℕ) (lt : k < length es) where
+  module _ (entries : List Entry) (are : AreEntries names f entries) (es : List Norm) (in_closure : (e : Norm) → Contains es e → Contains (closure f) e)
+      (numbers : List ℕ) (is : numbers ≡ numbers_of f es) (k : ℕ) (lt : k < length es) where
     pub member_stands : StandsFor names f (get_or es k (NConst false)) (entry_at entries (get_or numbers k 0))
     member_stands =
         let e = get_or es k (NConst false) in
@@ -97,7 +100,8 @@ module _ (names : List (List ℕ)) (f : Formula) where
     pub member_weak : weak_by (entry_at entries (get_or numbers k 0)) ≡ weak_at f es k
     member_weak = weak_same (get_or es k (NConst false)) (entry_at entries (get_or numbers k 0)) member_stands
 
-module _ (names : List (List ℕ)) (f : Formula) (entries : List Entry) (are : AreEntries names f entries) (numbers : List ℕ) (is : numbers ≡ numbers_of f (eventualities f)) (m : ℕ) (lt : m < length (eventualities f)) where
+module _ (names : List (List ℕ)) (f : Formula) (entries : List Entry) (are : AreEntries names f entries) (numbers : List ℕ)
+    (is : numbers ≡ numbers_of f (eventualities f)) (m : ℕ) (lt : m < length (eventualities f)) where
   abbrev x : Entry
   x = entry_at entries (get_or numbers m 0)
 
@@ -116,7 +120,8 @@ module _ (names : List (List ℕ)) (f : Formula) (entries : List Entry) (are : A
 module _ (f : Formula) (m : ℕ) (lt : m < length (eventualities f)) where
   pub right_known : IsNumber (length (closure f)) (right_number f m)
   right_known =
-      known_number f (right_of (eventuality f m)) (right_in f (eventuality f m) (eventuality_in f (eventuality f m) (Contains-get_or (eventualities f) m (NConst false) lt)))
+      known_number f (right_of (eventuality f m))
+      (right_in f (eventuality f m) (eventuality_in f (eventuality f m) (Contains-get_or (eventualities f) m (NConst false) lt)))
 
   pub request_known : IsNumber (length (closure f)) (request_number f m)
   request_known = known_number f (request_of (eventuality f m)) (request_in f (eventuality f m) (Contains-get_or (eventualities f) m (NConst false) lt))

@@ -9,7 +9,8 @@ use Rattle.ltl_closure.specs.Closure.{closure as closure_of, nexts, yesterdays, 
 use Rattle.ltl_closure.specs.Entries.{ClosureValue, AreEntries}
 use Rattle.ltl_closure.specs.declared.entry.Entry.{Entry}
 use Rattle.enc_layout.specs.Letters.{LayoutValue}
-use Rattle.enc_layout.specs.Clauses.{Clause, layout_of, state_clauses, gates_part, pairs_part, acceptance_part, pruning_part, step_clauses, clauses_through, literal_in, counts, signed_clauses, clause_list, is_strong_next}
+use Rattle.enc_layout.specs.Clauses.{Clause, layout_of, state_clauses, gates_part, pairs_part, acceptance_part, pruning_part, step_clauses, clauses_through}
+use Rattle.enc_layout.specs.Clauses.{literal_in, counts, signed_clauses, clause_list, is_strong_next}
 use Rattle.clause_index.specs.declared.sizes.Sizes.{Sizes}
 use Rattle.clause_index.specs.declared.place.Section.{Section}
 use Rattle.clause_index.specs.declared.place.Section.TheVariants as sections
@@ -125,12 +126,14 @@ section_numbers_are c s is d i t n le first count =
 
 -- the sizes that are counted are those of the formula
 pub sizes_made : (c : ClosureValue) (entries : List Entry) → AreEntries c.names c.formula entries → (kind : Kind) (g x y e s : ℕ) → kind ≡ c.kind
-    → g ≡ gates_before entries (length entries) → x ≡ length (nexts c.formula) → y ≡ length (yesterdays c.formula) → e ≡ length (eventualities c.formula) → s ≡ strong_before (nexts c.formula) (length (nexts c.formula))
+    → g ≡ gates_before entries (length entries) → x ≡ length (nexts c.formula) → y ≡ length (yesterdays c.formula) → e ≡ length (eventualities c.formula)
+    → s ≡ strong_before (nexts c.formula) (length (nexts c.formula))
     → ◌≡◌ {A = Sizes} (record { kind = kind; gates = g; nexts = x; yesterdays = y; eventualities = e; strong = s }) (sizes_of c.formula c.kind)
 sizes_made c entries are kind g x y e s ki gi xi yi ei si =
     let gates : g ≡ length (gates_part c.formula 0) = gi ∙ sym (gates_total c.names c.formula entries are 0) in
     let strong : s ≡ length (filter is_strong_next (closure_of c.formula)) = si ∙ sym (strong_total c.formula) in
     cc
 
-pub list_within : (f : Formula) (kind : Kind) (d number : ℕ) (s : Sizes) → s ≡ sizes_of f kind → 1 ≤ number → number ≤ length (clause_list f kind d) → number - 1 < before_step s.kind s (d + 1)
+pub list_within : (f : Formula) (kind : Kind) (d number : ℕ) (s : Sizes) → s ≡ sizes_of f kind → 1 ≤ number → number ≤ length (clause_list f kind d)
+    → number - 1 < before_step s.kind s (d + 1)
 list_within f kind d number s is from le = subst (λ z. number - 1 < before_step z.kind z (d + 1)) (sym is) (omega (arith, list_long f kind d))

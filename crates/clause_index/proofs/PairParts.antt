@@ -8,7 +8,8 @@ use Rattle.ltl_closure.specs.Closure.{eventualities}
 use Rattle.ltl_closure.specs.Entries.{ClosureValue}
 use Rattle.enc_layout.proofs.Counting.{length-carried}
 use Rattle.enc_layout.specs.Letters.{Unpruned, Equal, LoopTo, Differs, below}
-use Rattle.enc_layout.specs.Clauses.{Clause, Plus, Minus, counts, carried, place_clauses, equal_clause, fulfilled_clauses, loop_clause, closing_clauses, pair_clauses, seen_clauses, new_clauses, pruned_clause, pruning_part, signed_clauses, clause_list}
+use Rattle.enc_layout.specs.Clauses.{Clause, Plus, Minus, counts, carried, place_clauses, equal_clause, fulfilled_clauses, loop_clause, closing_clauses}
+use Rattle.enc_layout.specs.Clauses.{pair_clauses, seen_clauses, new_clauses, pruned_clause, pruning_part, signed_clauses, clause_list}
 use Rattle.clause_index.specs.declared.sizes.Sizes.{Sizes}
 use Rattle.clause_index.specs.declared.place.Section.TheVariants as sections
 use Rattle.clause_index.specs.declared.numbers.Numbers.{Numbers}

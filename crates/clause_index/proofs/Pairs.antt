@@ -1,5 +1,6 @@
 -- The clauses of pairs of states, by their indexes.
-use Rattle.std.proofs.Common.{◌≡◌, ℕ, zero, suc, ◌+◌, ◌-◌, ◌*◌, ◌/◌, ◌%◌, ◌<◌, ◌≤◌, true, false, arith, refl, inl, inr, ap, ap₂, sym, subst, ◌∙◌, List, [], ◌∷◌, length, length-append, map, add-one, ◌≢◌}
+use Rattle.std.proofs.Common.{◌≡◌, ℕ, zero, suc, ◌+◌, ◌-◌, ◌*◌, ◌/◌, ◌%◌, ◌<◌, ◌≤◌, true, false, arith, refl, inl, inr, ap, ap₂, sym, subst, ◌∙◌, List, [], ◌∷◌}
+use Rattle.std.proofs.Common.{length, length-append, map, add-one, ◌≢◌}
 use Rattle.std.specs.Prelude.{nat_lt}
 use Rattle.std.proofs.Math.Nat.{mod-lt}
 use Rattle.std.proofs.lemmas.Bool.{cases_lt, lt-ltb, le-ltb}
@@ -10,7 +11,8 @@ use Rattle.ltl_syntax.specs.Formula.{Formula}
 use Rattle.ltl_closure.specs.Closure.{nexts, yesterdays, eventualities}
 use Rattle.enc_layout.proofs.Counting.{length-carried}
 use Rattle.enc_layout.specs.Letters.{LayoutValue, EntryAt, Equal, LoopTo, Differs, Fulfilled, below}
-use Rattle.enc_layout.specs.Clauses.{Clause, Plus, Minus, literal_in, carried, place_clauses, equal_clause, fulfilled_clauses, loop_clause, closing_clauses, pair_clauses, pairs_part}
+use Rattle.enc_layout.specs.Clauses.{Clause, Plus, Minus, literal_in, carried, place_clauses, equal_clause, fulfilled_clauses, loop_clause, closing_clauses}
+use Rattle.enc_layout.specs.Clauses.{pair_clauses, pairs_part}
 use Rattle.clause_index.specs.Rows.{row_at}
 use Rattle.clause_index.specs.Counts.{sizes_of, pair_size, near_size, fulfilled_size}
 use Rattle.clause_index.specs.ByNumber.{place_by, fulfilled_by, number_at, right_number, request_number}
@@ -44,17 +46,21 @@ module _ (layout : LayoutValue) (f : Formula) (i l : ℕ) where
       ∙ (ap (λ n. row_at layout (place_by i l (suc (index / 4)) n) (index % 4)) is
       ∙ sym (row_even layout.kind layout.counts 4 (length (carried f)) (place_clauses f i l) index (λ k h. refl) lt))
 
-  pub fulfilled_row : (index right size : ℕ) → l < i → index < length (eventualities f) * fulfilled_size i l → size ≡ fulfilled_size i l → right ≡ right_number f (index / size)
-      → row_at layout (fulfilled_by i l (index / size + 1) right) (index % size) ≡ row_at layout (below (length (eventualities f)) (fulfilled_clauses f i l)) index
+  pub fulfilled_row : (index right size : ℕ) → l < i → index < length (eventualities f) * fulfilled_size i l → size ≡ fulfilled_size i l
+      → right ≡ right_number f (index / size)
+      → row_at layout (fulfilled_by i l (index / size + 1) right) (index % size) ≡ row_at layout
+      (below (length (eventualities f)) (fulfilled_clauses f i l)) index
   fulfilled_row index right size earlier lt is r =
       ap (λ q. row_at layout (fulfilled_by i l q right) (index % size)) (add-one (index / size))
       ∙ (ap (λ n. row_at layout (fulfilled_by i l (suc (index / size)) n) (index % size)) r
       ∙ (ap (λ cs. row_at layout cs (index % size)) (fulfilled_same f i l (index / size) earlier)
       ∙ (ap (λ s. row_at layout (fulfilled_clauses f i l (index / s)) (index % s)) is
-      ∙ sym (row_even layout.kind layout.counts (fulfilled_size i l) (length (eventualities f)) (fulfilled_clauses f i l) index (λ m some. fulfilled_long f i l m earlier) lt))))
+      ∙ sym (row_even layout.kind layout.counts (fulfilled_size i l) (length (eventualities f)) (fulfilled_clauses f i l) index
+      (λ m some. fulfilled_long f i l m earlier) lt))))
 
   pub asked_row : (index request : ℕ) → index < length (eventualities f) → request ≡ request_number f index
-      → minus layout (LoopTo l i) ∷ minus layout (EntryAt i request) ∷ plus layout (Fulfilled l i (index + 1)) ∷ [] ≡ row_at layout (below (length (eventualities f)) (λ m. loop_clause f i l m ∷ [])) index
+      → minus layout (LoopTo l i) ∷ minus layout (EntryAt i request) ∷ plus layout (Fulfilled l i (index + 1)) ∷ [] ≡ row_at layout
+      (below (length (eventualities f)) (λ m. loop_clause f i l m ∷ [])) index
   asked_row index request lt r =
       let same : index / 1 ≡ index = omega arith in
       let none : index % 1 ≡ 0 = omega arith in
@@ -71,21 +77,25 @@ module _ (layout : LayoutValue) (f : Formula) (i l : ℕ) where
   length-F : l < i → length F ≡ length (eventualities f) * fulfilled_size i l
   length-F lt = length-even (fulfilled_size i l) (length (eventualities f)) (fulfilled_clauses f i l) (λ m some. fulfilled_long f i l m lt)
 
-  pub closing_first : (index : ℕ) → l < i → index < length (eventualities f) * fulfilled_size i l → row_at layout (below (length (eventualities f)) (fulfilled_clauses f i l)) index ≡ row_at layout (closing_clauses f Kinds.Infinite i l) index
+  pub closing_first : (index : ℕ) → l < i → index < length (eventualities f) * fulfilled_size i l
+      → row_at layout (below (length (eventualities f)) (fulfilled_clauses f i l)) index ≡ row_at layout (closing_clauses f Kinds.Infinite i l) index
   closing_first index earlier lt =
       sym (row_left layout.kind layout.counts F ((Minus (LoopTo l i) ∷ Plus (Equal l i) ∷ []) ∷ L) index (omega (arith, length-F earlier)))
 
-  pub closing_middle : (index : ℕ) → l < i → index ≡ length (eventualities f) * fulfilled_size i l → minus layout (LoopTo l i) ∷ plus layout (Equal l i) ∷ [] ≡ row_at layout (closing_clauses f Kinds.Infinite i l) index
+  pub closing_middle : (index : ℕ) → l < i → index ≡ length (eventualities f) * fulfilled_size i l
+      → minus layout (LoopTo l i) ∷ plus layout (Equal l i) ∷ [] ≡ row_at layout (closing_clauses f Kinds.Infinite i l) index
   closing_middle index earlier is =
       let at : length (eventualities f) * fulfilled_size i l + 0 ≡ index = omega arith in
-      sym (row_right layout.kind layout.counts F ((Minus (LoopTo l i) ∷ Plus (Equal l i) ∷ []) ∷ L) (length (eventualities f) * fulfilled_size i l) 0 (length-F earlier))
+      sym (row_right layout.kind layout.counts F ((Minus (LoopTo l i) ∷ Plus (Equal l i) ∷ []) ∷ L) (length (eventualities f) * fulfilled_size i l) 0
+      (length-F earlier))
       ∙ ap (row_at layout (closing_clauses f Kinds.Infinite i l)) at
 
   pub closing_last : (index k : ℕ) → l < i → length (eventualities f) * fulfilled_size i l + (1 + k) ≡ index
       → row_at layout (below (length (eventualities f)) (λ m. loop_clause f i l m ∷ [])) k ≡ row_at layout (closing_clauses f Kinds.Infinite i l) index
   closing_last index k earlier is =
       sym (row_right layout.kind layout.counts ((Minus (LoopTo l i) ∷ Plus (Equal l i) ∷ []) ∷ []) L 1 k refl)
-      ∙ (sym (row_right layout.kind layout.counts F ((Minus (LoopTo l i) ∷ Plus (Equal l i) ∷ []) ∷ L) (length (eventualities f) * fulfilled_size i l) (1 + k) (length-F earlier))
+      ∙ (sym (row_right layout.kind layout.counts F ((Minus (LoopTo l i) ∷ Plus (Equal l i) ∷ []) ∷ L) (length (eventualities f) * fulfilled_size i l) (1 + k)
+      (length-F earlier))
       ∙ ap (row_at layout (closing_clauses f Kinds.Infinite i l)) is)
 
   pub closing_long : l < i → length (closing_clauses f Kinds.Infinite i l) ≡ length (eventualities f) * fulfilled_size i l + (1 + length (eventualities f))
@@ -95,16 +105,20 @@ module _ (layout : LayoutValue) (f : Formula) (i l : ℕ) where
     abbrev P : List Clause
     P = below (length (carried f)) (place_clauses f i l)
 
-    pub pair_first : (index : ℕ) → index < length (carried f) * 4 → row_at layout (below (length (carried f)) (place_clauses f i l)) index ≡ row_at layout (pair_clauses f kind i l) index
-    pair_first index lt = sym (row_left layout.kind layout.counts P (equal_clause f i l ∷ closing_clauses f kind i l) index (omega (arith, length-places f i l)))
+    pub pair_first : (index : ℕ) → index < length (carried f) * 4
+        → row_at layout (below (length (carried f)) (place_clauses f i l)) index ≡ row_at layout (pair_clauses f kind i l) index
+    pair_first index lt =
+        sym (row_left layout.kind layout.counts P (equal_clause f i l ∷ closing_clauses f kind i l) index (omega (arith, length-places f i l)))
 
-    pub pair_middle : (index : ℕ) → index ≡ length (carried f) * 4 → map (literal_in layout.kind layout.counts) (equal_clause f i l) ≡ row_at layout (pair_clauses f kind i l) index
+    pub pair_middle : (index : ℕ)
+        → index ≡ length (carried f) * 4 → map (literal_in layout.kind layout.counts) (equal_clause f i l) ≡ row_at layout (pair_clauses f kind i l) index
     pair_middle index is =
         let at : length (carried f) * 4 + 0 ≡ index = omega arith in
         sym (row_right layout.kind layout.counts P (equal_clause f i l ∷ closing_clauses f kind i l) (length (carried f) * 4) 0 (length-places f i l))
         ∙ ap (row_at layout (pair_clauses f kind i l)) at
 
-    pub pair_last : (index k : ℕ) → length (carried f) * 4 + (1 + k) ≡ index → row_at layout (closing_clauses f kind i l) k ≡ row_at layout (pair_clauses f kind i l) index
+    pub pair_last : (index k : ℕ)
+        → length (carried f) * 4 + (1 + k) ≡ index → row_at layout (closing_clauses f kind i l) k ≡ row_at layout (pair_clauses f kind i l) index
     pair_last index k is =
         sym (row_right layout.kind layout.counts (equal_clause f i l ∷ []) (closing_clauses f kind i l) 1 k refl)
         ∙ (sym (row_right layout.kind layout.counts P (equal_clause f i l ∷ closing_clauses f kind i l) (length (carried f) * 4) (1 + k) (length-places f i l))
@@ -118,7 +132,8 @@ pub behind_infinite : (f : Formula) (kind : Kind) (i l index : ℕ) → index < 
 behind_infinite f Kinds.Infinite i l index lt = refl
 behind_infinite f Kinds.Finite i l index lt = absurd (omega arith)
 
-pub behind_within : (f : Formula) (kind : Kind) (i l index : ℕ) → index < length (closing_clauses f kind i l) → index < length (closing_clauses f Kinds.Infinite i l)
+pub behind_within : (f : Formula) (kind : Kind) (i l index : ℕ) → index < length (closing_clauses f kind i l)
+    → index < length (closing_clauses f Kinds.Infinite i l)
 behind_within f Kinds.Infinite i l index lt = lt
 behind_within f Kinds.Finite i l index lt = absurd (omega arith)
 
@@ -137,7 +152,8 @@ pub record IsInPair (layout : LayoutValue) (f : Formula) (kind : Kind) (i index 
   pub within : index % size < length (pair_clauses f kind i (index / size))
   pub row : row_at layout (pair_clauses f kind i (index / size)) (index % size) ≡ row_at layout (pairs_part f kind i) index
 
-in_pair : (layout : LayoutValue) (f : Formula) (kind : Kind) (i index : ℕ) → index < length (pairs_part f kind i) → IsInPair layout f kind i index (pair_size kind (sizes_of f kind))
+in_pair : (layout : LayoutValue) (f : Formula) (kind : Kind) (i index : ℕ) → index < length (pairs_part f kind i)
+    → IsInPair layout f kind i index (pair_size kind (sizes_of f kind))
 in_pair layout f kind zero index lt = absurd (omega arith)
 in_pair layout f kind (suc j) index lt =
     let size = pair_size kind (sizes_of f kind) in
@@ -145,28 +161,33 @@ in_pair layout f kind (suc j) index lt =
     let less = near_less kind f in
     let some = pair_some kind f in
     let before : index / pair_size kind (sizes_of f kind) < suc j = block_within size (suc j) index (omega arith) in
-    let inside : index % pair_size kind (sizes_of f kind) < length (pair_clauses f kind (suc j) (index / pair_size kind (sizes_of f kind))) = elim (cases_lt (index / size) j) [
+    let inside : index % pair_size kind (sizes_of f kind) < length (pair_clauses f kind (suc j) (index / pair_size kind (sizes_of f kind))) =
+    elim (cases_lt (index / size) j) [
       | inl far ↦
           let long = pair_far f kind (suc j) (index / size) (omega arith) in
           let rest = mod-lt index {m = size} some in
           omega arith
       | inr last ↦
           let same : index / pair_size kind (sizes_of f kind) ≡ j = omega arith in
-          let whole : j * pair_size kind (sizes_of f kind) + index % pair_size kind (sizes_of f kind) ≡ index = ap (λ q. q * size + index % size) (sym same) ∙ div-add-mod' index size in
+          let whole : j * pair_size kind (sizes_of f kind) + index % pair_size kind (sizes_of f kind) ≡ index =
+          ap (λ q. q * size + index % size) (sym same) ∙ div-add-mod' index size in
           let long = pair_near f kind (suc j) (index / size) (ap suc same) in
           omega arith
     ] in
     record {
       earlier = before;
       within = inside;
-      row = sym (row_blocks layout.kind layout.counts size (suc j) (pair_clauses f kind (suc j)) index some (λ k h. pair_far f kind (suc j) k (omega arith)) before inside);
+      row = sym (row_blocks layout.kind layout.counts size (suc j) (pair_clauses f kind (suc j)) index some
+          (λ k h. pair_far f kind (suc j) k (omega arith)) before inside);
     }
 
-pub in_pair_of : (layout : LayoutValue) (f : Formula) (kind : Kind) (i index size : ℕ) → size ≡ pair_size kind (sizes_of f kind) → index < length (pairs_part f kind i) → IsInPair layout f kind i index size
+pub in_pair_of : (layout : LayoutValue) (f : Formula) (kind : Kind) (i index size : ℕ) → size ≡ pair_size kind (sizes_of f kind)
+    → index < length (pairs_part f kind i) → IsInPair layout f kind i index size
 in_pair_of layout f kind i index size is lt = subst (IsInPair layout f kind i index) (sym is) (in_pair layout f kind i index lt)
 
 pub equal_all : (layout : LayoutValue) (f : Formula) (i l n : ℕ) → n ≡ length (carried f)
-    → map (literal_in layout.kind layout.counts) (Plus (Equal l i) ∷ below n (λ q. Plus (Differs l i (suc q)) ∷ [])) ≡ map (literal_in layout.kind layout.counts) (equal_clause f i l)
+    → map (literal_in layout.kind layout.counts)
+    (Plus (Equal l i) ∷ below n (λ q. Plus (Differs l i (suc q)) ∷ [])) ≡ map (literal_in layout.kind layout.counts) (equal_clause f i l)
 equal_all layout f i l n is = ap (λ m. map (literal_in layout.kind layout.counts) (Plus (Equal l i) ∷ below m (λ q. Plus (Differs l i (suc q)) ∷ []))) is
 
 -- what is behind the clause of equal carries

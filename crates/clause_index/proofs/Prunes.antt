@@ -1,5 +1,6 @@
 -- The clauses of pruning, by their indexes.
-use Rattle.std.proofs.Common.{◌≡◌, ℕ, zero, suc, ◌+◌, ◌-◌, ◌*◌, ◌/◌, ◌%◌, ◌<◌, ◌≤◌, arith, refl, ap, ap₂, sym, subst, ◌∙◌, List, [], ◌∷◌, ◌++◌, length, map, add-one, ◌≢◌}
+use Rattle.std.proofs.Common.{◌≡◌, ℕ, zero, suc, ◌+◌, ◌-◌, ◌*◌, ◌/◌, ◌%◌, ◌<◌, ◌≤◌, arith, refl, ap, ap₂, sym, subst, ◌∙◌, List, [], ◌∷◌, ◌++◌, length, map}
+use Rattle.std.proofs.Common.{add-one, ◌≢◌}
 use Rattle.std.proofs.Math.Nat.{mod-lt}
 use Rattle.ltl_syntax.specs.declared.node.Kind.{Kind}
 use Rattle.ltl_syntax.specs.declared.node.Kind.TheVariants as Kinds
@@ -24,15 +25,22 @@ module _ (layout : LayoutValue) (f : Formula) (i : ℕ) where
   news_of j = below (length (eventualities f)) (new_clauses f i j) ++ pruned_clause f i j ∷ []
 
   pub news_first : (j index : ℕ) → index < length (eventualities f) * 3
-      → row_at layout (below (length (eventualities f)) (new_clauses f i j)) index ≡ row_at layout (below (length (eventualities f)) (new_clauses f i j) ++ pruned_clause f i j ∷ []) index
-  news_first j index lt = sym (row_left layout.kind layout.counts (below (length (eventualities f)) (new_clauses f i j)) (pruned_clause f i j ∷ []) index (omega (arith, news_long f i j)))
+      → row_at layout (below (length (eventualities f)) (new_clauses f i j)) index ≡ row_at layout
+      (below (length (eventualities f)) (new_clauses f i j) ++ pruned_clause f i j ∷ []) index
+  news_first j index lt =
+      sym (row_left layout.kind layout.counts (below (length (eventualities f)) (new_clauses f i j)) (pruned_clause f i j ∷ []) index (omega (
+        arith,
+        news_long f i j,
+      )))
 
   pub news_last : (j index n : ℕ) → index ≡ length (eventualities f) * 3 → n ≡ length (eventualities f)
-      → map (literal_in layout.kind layout.counts) (pruned_row n i j) ≡ row_at layout (below (length (eventualities f)) (new_clauses f i j) ++ pruned_clause f i j ∷ []) index
+      → map (literal_in layout.kind layout.counts) (pruned_row n i j) ≡ row_at layout
+      (below (length (eventualities f)) (new_clauses f i j) ++ pruned_clause f i j ∷ []) index
   news_last j index n is ni =
       let at : length (eventualities f) * 3 + 0 ≡ index = omega arith in
       ap (λ m. map (literal_in layout.kind layout.counts) (pruned_row m i j)) ni
-      ∙ (sym (row_right layout.kind layout.counts (below (length (eventualities f)) (new_clauses f i j)) (pruned_clause f i j ∷ []) (length (eventualities f) * 3) 0 (news_long f i j))
+      ∙ (sym (row_right layout.kind layout.counts (below (length (eventualities f)) (new_clauses f i j)) (pruned_clause f i j ∷ [])
+      (length (eventualities f) * 3) 0 (news_long f i j))
       ∙ ap (row_at layout (below (length (eventualities f)) (new_clauses f i j) ++ pruned_clause f i j ∷ [])) at)
 
   abbrev S : List Clause
@@ -53,7 +61,8 @@ module _ (layout : LayoutValue) (f : Formula) (i : ℕ) where
 
   -- and of the second
   pub news_row : (index rest pair : ℕ) → pair ≡ 1 + 3 * length (eventualities f) → i * (1 + length (eventualities f)) + rest ≡ index → rest < i * pair
-      → row_at layout (below (length (eventualities f)) (new_clauses f i (rest / pair)) ++ pruned_clause f i (rest / pair) ∷ []) (rest % pair) ≡ row_at layout (pruning_part f Kinds.Infinite i) index
+      → row_at layout (below (length (eventualities f)) (new_clauses f i (rest / pair)) ++ pruned_clause f i (rest / pair) ∷ []) (rest % pair) ≡ row_at layout
+      (pruning_part f Kinds.Infinite i) index
   news_row index rest pair is at lt =
       let size = 1 + 3 * length (eventualities f) in
       let within : rest < i * (1 + 3 * length (eventualities f)) = subst (λ s. rest < i * s) is lt in
@@ -63,14 +72,16 @@ module _ (layout : LayoutValue) (f : Formula) (i : ℕ) where
       ∙ ap (row_at layout (pruning_part f Kinds.Infinite i)) at))
 
   -- a second carry on finite traces
-  pub finite_row : (index : ℕ) → index < i → map (literal_in layout.kind layout.counts) (Minus Unpruned ∷ Minus (Equal index i) ∷ []) ≡ row_at layout (pruning_part f Kinds.Finite i) index
+  pub finite_row : (index : ℕ) → index < i
+      → map (literal_in layout.kind layout.counts) (Minus Unpruned ∷ Minus (Equal index i) ∷ []) ≡ row_at layout (pruning_part f Kinds.Finite i) index
   finite_row index lt =
       let same : index / 1 ≡ index = omega arith in
       let none : index % 1 ≡ 0 = omega arith in
       sym (row_even layout.kind layout.counts 1 i (λ j. (Minus Unpruned ∷ Minus (Equal j i) ∷ []) ∷ []) index (λ k h. refl) (omega arith)
       ∙ rw (same, none) refl)
 
-pub infinite_long : (f : Formula) (i : ℕ) → length (pruning_part f Kinds.Infinite i) ≡ i * (1 + length (eventualities f)) + i * (1 + 3 * length (eventualities f))
+pub infinite_long : (f : Formula) (i : ℕ)
+    → length (pruning_part f Kinds.Infinite i) ≡ i * (1 + length (eventualities f)) + i * (1 + 3 * length (eventualities f))
 infinite_long f i = let a = length-pruning_part f Kinds.Infinite i in omega arith
 
 pub finite_long : (f : Formula) (i : ℕ) → length (pruning_part f Kinds.Finite i) ≡ i
@@ -81,12 +92,14 @@ rest_within s n index lt = mod-lt index {m = s} (block_some s n index lt)
 
 -- what is fulfilled between the states of a pair is seen
 pub seen_later : (layout : LayoutValue) (i l index : ℕ) → index < 1 + layout.counts.eventualities → index ≢ 0
-    → minus layout (Equal l i) ∷ minus layout (Fulfilled l i index) ∷ plus layout (Seen i index) ∷ [] ≡ row_at layout (seen_pair layout.counts.eventualities i l) index
+    → minus layout (Equal l i) ∷ minus layout (Fulfilled l i index) ∷ plus layout (Seen i index) ∷ [] ≡ row_at layout
+    (seen_pair layout.counts.eventualities i l) index
 seen_later layout i l zero lt some = absurd (some refl)
 seen_later layout i l (suc m) lt some =
     let same : m / 1 ≡ m = omega arith in
     let none : m % 1 ≡ 0 = omega arith in
-    sym (row_even layout.kind layout.counts 1 layout.counts.eventualities (λ m. (Minus (Equal l i) ∷ Minus (Fulfilled l i (suc m)) ∷ Plus (Seen i (suc m)) ∷ []) ∷ []) m (λ k h. refl) (omega arith)
+    sym (row_even layout.kind layout.counts 1 layout.counts.eventualities
+    (λ m. (Minus (Equal l i) ∷ Minus (Fulfilled l i (suc m)) ∷ Plus (Seen i (suc m)) ∷ []) ∷ []) m (λ k h. refl) (omega arith)
     ∙ rw (same, none) refl)
 
 pub rest_place : (f : Formula) (i index n : ℕ) → n ≡ length (eventualities f) → i * (1 + n) ≤ index → index < length (pruning_part f Kinds.Infinite i)

@@ -1,5 +1,6 @@
 -- Where a clause stands in lists that are put together.
-use Rattle.std.proofs.Common.{◌≡◌, ℕ, zero, suc, ◌+◌, ◌*◌, ◌/◌, ◌%◌, ◌<◌, arith, sym, ◌∙◌, ap, subst, refl, inl, inr, List, [], ◌++◌, length, get_or, map, flat_map, length-append, get_or-append-add}
+use Rattle.std.proofs.Common.{◌≡◌, ℕ, zero, suc, ◌+◌, ◌*◌, ◌/◌, ◌%◌, ◌<◌, arith, sym, ◌∙◌, ap, subst, refl, inl, inr, List, [], ◌++◌, length, get_or, map}
+use Rattle.std.proofs.Common.{flat_map, length-append, get_or-append-add}
 use Rattle.std.proofs.Math.Nat.{mod-lt, div-lt_iff_lt-mul}
 use Rattle.std.proofs.lemmas.Bool.{cases_lt}
 use Rattle.std.proofs.lemmas.Nat.{div-add-mod'}
@@ -91,7 +92,8 @@ module _ (kind : Kind) (c : Counts) where
           let a = length-append (below m g) (g m) in
           omega arith
 
-  pub row_even : (s n : ℕ) (g : ℕ → List Clause) (index : ℕ) → ((k : ℕ) → k < n → length (g k) ≡ s) → index < n * s → row (below n g) index ≡ row (g (index / s)) (index % s)
+  pub row_even : (s n : ℕ) (g : ℕ → List Clause) (index : ℕ) → ((k : ℕ) → k < n → length (g k) ≡ s)
+      → index < n * s → row (below n g) index ≡ row (g (index / s)) (index % s)
   row_even s n g index same lt =
       let some = block_some s n index lt in
       let inside = mod-lt index {m = s} some in
@@ -100,12 +102,14 @@ module _ (kind : Kind) (c : Counts) where
       row_blocks s n g index some (λ k h. same k (omega arith)) before (omega arith)
 
   -- over the members of a list
-  pub row_flat : {Y : Type 0} (s : ℕ) (g : Y → List Clause) (ys : List Y) (d : Y) (index : ℕ) → ((k : ℕ) → k < length ys → length (g (get_or ys k d)) ≡ s) → index < length ys * s
+  pub row_flat : {Y : Type 0} (s : ℕ) (g : Y → List Clause) (ys : List Y) (d : Y) (index : ℕ) → ((k : ℕ) → k < length ys → length (g (get_or ys k d)) ≡ s)
+      → index < length ys * s
       → row (flat_map g ys) index ≡ row (g (get_or ys (index / s) d)) (index % s)
   row_flat s g ys d index same lt =
       ap (λ z. row z index) (flat_map_below g ys d) ∙ row_even s (length ys) (λ k. g (get_or ys k d)) index same lt
 
-  pub row_map : {Y : Type 0} (h : Y → Clause) (ys : List Y) (d : Y) (index : ℕ) → index < length ys → row (map h ys) index ≡ map (literal_in kind c) (h (get_or ys index d))
+  pub row_map : {Y : Type 0} (h : Y → Clause) (ys : List Y) (d : Y) (index : ℕ) → index < length ys
+      → row (map h ys) index ≡ map (literal_in kind c) (h (get_or ys index d))
   row_map h ys d index lt =
       let l = length-map ys h in
       get_or-map (map (literal_in kind c)) (map h ys) index [] [] (omega arith)

@@ -65,7 +65,8 @@ module _ (c : Counts) where
   pub loops_less : (i : ℕ) → number (LoopTo 0 i) ≤ number (LoopTo 1 i)
   loops_less i = let e = loop_next i 1 in omega arith
 
-  pub loops_small : (i : ℕ) → 0 < i → letters_through Kinds.Infinite c i ≤ 16777216 → number (LoopTo 0 i) + (i - 1) * (number (LoopTo 1 i) - number (LoopTo 0 i)) ≤ 16777216
+  pub loops_small : (i : ℕ)
+      → 0 < i → letters_through Kinds.Infinite c i ≤ 16777216 → number (LoopTo 0 i) + (i - 1) * (number (LoopTo 1 i) - number (LoopTo 0 i)) ≤ 16777216
   loops_small i some fits =
       let w = number_within Kinds.Infinite c i (LoopTo (i - 1) i) (omega arith, omega arith) in
       let most = w.1 in
@@ -73,7 +74,8 @@ module _ (c : Counts) where
       omega arith
 
 -- the same for the kind of a layout
-pub loops_small_of : (kind : Kind) (c : Counts) → kind ≡ Kinds.Infinite → (i : ℕ) → 0 < i → letters_through kind c i ≤ 16777216 → (a b : ℕ) → a ≡ number_of kind c (LoopTo 0 i) → b ≡ number_of kind c (LoopTo 1 i)
+pub loops_small_of : (kind : Kind) (c : Counts) → kind ≡ Kinds.Infinite → (i : ℕ) → 0 < i → letters_through kind c i ≤ 16777216 → (a b : ℕ)
+    → a ≡ number_of kind c (LoopTo 0 i) → b ≡ number_of kind c (LoopTo 1 i)
     → a + (i - 1) * (b - a) ≤ 16777216
 loops_small_of Kinds.Infinite c is i some fits a b ai bi = rw (ai, bi) (loops_small c i some fits)
 loops_small_of Kinds.Finite c is i some fits a b ai bi = cc
@@ -84,10 +86,12 @@ loops_same_of Kinds.Infinite c is i a b ai bi =
     run_same Kinds.Infinite c a (b - a) i (λ l. LoopTo l i) (λ k lt. ap₂ (λ x y. x + k * (y - x)) ai bi ∙ loops_next c i k)
 loops_same_of Kinds.Finite c is i a b ai bi = cc
 
-pub new_small_of : (kind : Kind) (c : Counts) → kind ≡ Kinds.Infinite → (l i : ℕ) → l < i → 0 < c.eventualities → letters_through kind c i ≤ 16777216 → number_of kind c (New l i 1) + (c.eventualities - 1) * 1 ≤ 16777216
+pub new_small_of : (kind : Kind) (c : Counts) → kind ≡ Kinds.Infinite → (l i : ℕ)
+    → l < i → 0 < c.eventualities → letters_through kind c i ≤ 16777216 → number_of kind c (New l i 1) + (c.eventualities - 1) * 1 ≤ 16777216
 new_small_of Kinds.Infinite c is l i lt some fits = (new_small c l i lt some fits).1
 new_small_of Kinds.Finite c is l i lt some fits = cc
 
-pub new_same_of : (kind : Kind) (c : Counts) → kind ≡ Kinds.Infinite → (l i n a : ℕ) → a ≡ number_of kind c (New l i 1) → evenly a 1 n ≡ map (literal_in kind c) (below n (λ m. Plus (New l i (suc m)) ∷ []))
+pub new_same_of : (kind : Kind) (c : Counts) → kind ≡ Kinds.Infinite → (l i n a : ℕ) → a ≡ number_of kind c (New l i 1)
+    → evenly a 1 n ≡ map (literal_in kind c) (below n (λ m. Plus (New l i (suc m)) ∷ []))
 new_same_of Kinds.Infinite c is l i n a ai = run_same Kinds.Infinite c a 1 n (λ m. New l i (suc m)) (λ k lt. ap (λ x. x + k * 1) ai ∙ new_next c l i k)
 new_same_of Kinds.Finite c is l i n a ai = cc

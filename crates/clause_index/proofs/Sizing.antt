@@ -1,5 +1,6 @@
 -- The parts of a step have as many clauses as their sizes say.
-use Rattle.std.proofs.Common.{◌≡◌, ℕ, zero, suc, ◌+◌, ◌-◌, ◌*◌, ◌/◌, ◌<◌, ◌≤◌, Bool, true, false, IsTrue, arith, sym, ◌∙◌, ap, refl, inl, inr, List, [], ◌∷◌, ◌++◌, length, get_or, flat_map, length-append, append_assoc, add-one}
+use Rattle.std.proofs.Common.{◌≡◌, ℕ, zero, suc, ◌+◌, ◌-◌, ◌*◌, ◌/◌, ◌<◌, ◌≤◌, Bool, true, false, IsTrue, arith, sym, ◌∙◌, ap, refl, inl, inr, List, [], ◌∷◌}
+use Rattle.std.proofs.Common.{◌++◌, length, get_or, flat_map, length-append, append_assoc, add-one}
 use Rattle.std.specs.Prelude.{nat_lt, filter, if◌then◌else◌}
 use Rattle.std.proofs.lemmas.Bool.{lt-ltb, le-ltb, cases_lt}
 use Rattle.std.proofs.lemmas.List.{length-map}
@@ -7,15 +8,19 @@ use Rattle.std.proofs.lemmas.List.Elements.{Contains-get_or}
 use Rattle.ltl_syntax.specs.declared.node.Kind.{Kind}
 use Rattle.ltl_syntax.specs.declared.node.Kind.TheVariants as Kinds
 use Rattle.ltl_syntax.specs.Formula.{Formula}
-use Rattle.ltl_closure.specs.Norm.{Norm, NConst, NLetter, NNotLetter, NAnd, NOr, NNext, NWeakNext, NYesterday, NWeakYesterday, NUntil, NRelease, NSince, NTrigger}
+use Rattle.ltl_closure.specs.Norm.{Norm, NConst, NLetter, NNotLetter, NAnd, NOr, NNext, NWeakNext, NYesterday, NWeakYesterday, NUntil, NRelease, NSince}
+use Rattle.ltl_closure.specs.Norm.{NTrigger}
 use Rattle.ltl_closure.specs.Closure.{closure, nexts, yesterdays, eventualities, is_yesterday}
 use Rattle.ltl_closure.proofs.Lists.{Contains-from_filter}
 use Rattle.enc_layout.specs.Letters.{Meaning, Accepted, EmptyAt, LoopTo, Equal, Differs, Fulfilled, Seen, Unpruned, below}
-use Rattle.enc_layout.specs.Clauses.{Plus, Minus, letter_of, carried, chain_part, gates_part, gate, start, next_clauses, before_clauses, links_part, place_clauses, equal_clause, fulfilled_clauses, loop_clause, closing_clauses, pair_clauses, pairs_part, is_strong_next, acceptance_part, seen_clauses, new_clauses, pruned_clause, pruning_part, state_clauses, step_clauses}
+use Rattle.enc_layout.specs.Clauses.{Plus, Minus, letter_of, carried, chain_part, gates_part, gate, start, next_clauses, before_clauses, links_part}
+use Rattle.enc_layout.specs.Clauses.{place_clauses, equal_clause, fulfilled_clauses, loop_clause, closing_clauses, pair_clauses, pairs_part, is_strong_next}
+use Rattle.enc_layout.specs.Clauses.{acceptance_part, seen_clauses, new_clauses, pruned_clause, pruning_part, state_clauses, step_clauses}
 use Rattle.enc_layout.proofs.ByIndex.{flat_map_below}
 use Rattle.enc_layout.proofs.Counting.{length-carried}
 use Rattle.clause_index.specs.declared.sizes.Sizes.{Sizes}
-use Rattle.clause_index.specs.Counts.{sizes_of, chain_size, link_size, state_size, pair_size, near_size, pairs_size, accept_size, prune_size, step_size, before_step, fulfilled_size, closing_size}
+use Rattle.clause_index.specs.Counts.{sizes_of, chain_size, link_size, state_size, pair_size, near_size, pairs_size, accept_size, prune_size, step_size}
+use Rattle.clause_index.specs.Counts.{before_step, fulfilled_size, closing_size}
 
 pub length-even : {X : Type 0} (s n : ℕ) (g : ℕ → List X) → ((k : ℕ) → k < n → length (g k) ≡ s) → length (below n g) ≡ n * s
 length-even s zero g h = omega arith
@@ -25,7 +30,8 @@ length-even s (suc n) g h =
     let a = length-append (below n g) (g n) in
     omega arith
 
-pub length-flat : {X Y : Type 0} (s : ℕ) (g : X → List Y) (xs : List X) (d : X) → ((k : ℕ) → k < length xs → length (g (get_or xs k d)) ≡ s) → length (flat_map g xs) ≡ length xs * s
+pub length-flat : {X Y : Type 0} (s : ℕ) (g : X → List Y) (xs : List X) (d : X) → ((k : ℕ) → k < length xs → length (g (get_or xs k d)) ≡ s)
+    → length (flat_map g xs) ≡ length xs * s
 length-flat s g xs d h = ap length (flat_map_below g xs d) ∙ length-even s (length xs) (λ k. g (get_or xs k d)) h
 
 -- gates
@@ -179,7 +185,8 @@ module _ (f : Formula) where
 
   pub seen_long : (i l : ℕ) → length (seen_clauses f i l) ≡ 1 + length (eventualities f)
   seen_long i l =
-      let a = length-even 1 (length (eventualities f)) (λ m. (Minus (Equal l i) ∷ Minus (Fulfilled l i (suc m)) ∷ Plus (Seen i (suc m)) ∷ []) ∷ []) (λ m some. refl) in
+      let a = length-even 1 (length (eventualities f)) (λ m. (Minus (Equal l i) ∷ Minus (Fulfilled l i (suc m)) ∷ Plus (Seen i (suc m)) ∷ []) ∷ [])
+      (λ m some. refl) in
       omega arith
 
   pub news_long : (i j : ℕ) → length (below (length (eventualities f)) (new_clauses f i j)) ≡ length (eventualities f) * 3
@@ -197,7 +204,8 @@ module _ (f : Formula) where
   pub length-pruning_part : (kind : Kind) (i : ℕ) → length (pruning_part f kind i) ≡ i * prune_size kind (sizes_of f kind)
   length-pruning_part Kinds.Infinite i =
       let a = all_seen_long i in
-      let b = length-even (1 + 3 * length (eventualities f)) i (λ j. below (length (eventualities f)) (new_clauses f i j) ++ pruned_clause f i j ∷ []) (λ j lt. pruned_long i j) in
+      let b = length-even (1 + 3 * length (eventualities f)) i (λ j. below (length (eventualities f)) (new_clauses f i j) ++ pruned_clause f i j ∷ [])
+      (λ j lt. pruned_long i j) in
       let c = length-append (below i (seen_clauses f i)) (below i (λ j. below (length (eventualities f)) (new_clauses f i j) ++ pruned_clause f i j ∷ [])) in
       omega arith
   length-pruning_part Kinds.Finite i = length-even 1 i (λ j. (Minus Unpruned ∷ Minus (Equal j i) ∷ []) ∷ []) (λ j lt. refl)
@@ -212,10 +220,12 @@ module _ (f : Formula) where
       omega arith
 
   -- a step is its states and what comes behind them
-  pub step_states : (kind : Kind) (i : ℕ) → step_clauses f kind i ≡ state_clauses f i ++ (pairs_part f kind i ++ (acceptance_part f kind i ++ pruning_part f kind i))
+  pub step_states : (kind : Kind) (i : ℕ)
+      → step_clauses f kind i ≡ state_clauses f i ++ (pairs_part f kind i ++ (acceptance_part f kind i ++ pruning_part f kind i))
   step_states kind i =
       let late = pairs_part f kind i ++ (acceptance_part f kind i ++ pruning_part f kind i) in
-      sym (append_assoc (chain_part i) (gates_part f i ++ links_part f i) late ∙ ap (λ z. chain_part i ++ z) (append_assoc (gates_part f i) (links_part f i) late))
+      sym
+      (append_assoc (chain_part i) (gates_part f i ++ links_part f i) late ∙ ap (λ z. chain_part i ++ z) (append_assoc (gates_part f i) (links_part f i) late))
 
   length-step : (kind : Kind) (i : ℕ) → length (step_clauses f kind i) ≡ step_size kind (sizes_of f kind) i
   length-step kind i =

@@ -14,10 +14,14 @@ module _ (layout : LayoutValue) (f : Formula) (i : ℕ) where
   chain_first index lt = sym (row_left layout.kind layout.counts (chain_part i) (gates_part f i ++ links_part f i) index (omega (arith, length-chain_part f i)))
 
   behind : (k index : ℕ) → chain_size i + k ≡ index → row_at layout (gates_part f i ++ links_part f i) k ≡ row_at layout (state_clauses f i) index
-  behind k index is = sym (row_right layout.kind layout.counts (chain_part i) (gates_part f i ++ links_part f i) (chain_size i) k (length-chain_part f i)) ∙ ap (row_at layout (state_clauses f i)) is
+  behind k index is = sym (row_right layout.kind layout.counts (chain_part i) (gates_part f i ++ links_part f i) (chain_size i) k (length-chain_part f i))
+      ∙ ap (row_at layout (state_clauses f i)) is
 
-  pub gates_middle : (k index : ℕ) → k < length (gates_part f i) → chain_size i + k ≡ index → row_at layout (gates_part f i) k ≡ row_at layout (state_clauses f i) index
+  pub gates_middle : (k index : ℕ) → k < length (gates_part f i)
+      → chain_size i + k ≡ index → row_at layout (gates_part f i) k ≡ row_at layout (state_clauses f i) index
   gates_middle k index lt is = sym (row_left layout.kind layout.counts (gates_part f i) (links_part f i) k lt) ∙ behind k index is
 
-  pub links_last : (gates k index : ℕ) → gates ≡ length (gates_part f 0) → chain_size i + (gates + k) ≡ index → row_at layout (links_part f i) k ≡ row_at layout (state_clauses f i) index
-  links_last gates k index all is = sym (row_right layout.kind layout.counts (gates_part f i) (links_part f i) gates k (length-gates_part f i ∙ sym all)) ∙ behind (gates + k) index is
+  pub links_last : (gates k index : ℕ) → gates ≡ length (gates_part f 0)
+      → chain_size i + (gates + k) ≡ index → row_at layout (links_part f i) k ≡ row_at layout (state_clauses f i) index
+  links_last gates k index all is =
+      sym (row_right layout.kind layout.counts (gates_part f i) (links_part f i) gates k (length-gates_part f i ∙ sym all)) ∙ behind (gates + k) index is

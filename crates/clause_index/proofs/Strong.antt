@@ -1,5 +1,6 @@
 -- The strong next requests among all, and the clauses of acceptance by their indexes.
-use Rattle.std.proofs.Common.{◌≡◌, ℕ, zero, suc, ◌+◌, ◌<◌, ◌≤◌, Bool, true, false, not, IsTrue, arith, refl, inl, inr, ap, ap₂, sym, ◌∙◌, List, [], ◌∷◌, length, get_or, map, take, cond, add-one}
+use Rattle.std.proofs.Common.{◌≡◌, ℕ, zero, suc, ◌+◌, ◌<◌, ◌≤◌, Bool, true, false, not, IsTrue, arith, refl, inl, inr, ap, ap₂, sym, ◌∙◌, List, [], ◌∷◌, length}
+use Rattle.std.proofs.Common.{get_or, map, take, cond, add-one}
 use Rattle.std.specs.Prelude.{filter}
 use Rattle.std.proofs.lemmas.Bool.{cases_lt}
 use Rattle.std.proofs.lemmas.List.Filters.{length-filter_more}
@@ -7,7 +8,8 @@ use Rattle.std.proofs.Math.Seq.{take-length}
 use Rattle.std.proofs.lemmas.List.Elements.{Contains-get_or}
 use Rattle.ltl_syntax.specs.declared.node.Kind.TheVariants as Kinds
 use Rattle.ltl_syntax.specs.Formula.{Formula}
-use Rattle.ltl_closure.specs.Norm.{Norm, NConst, NLetter, NNotLetter, NAnd, NOr, NNext, NWeakNext, NYesterday, NWeakYesterday, NUntil, NRelease, NSince, NTrigger}
+use Rattle.ltl_closure.specs.Norm.{Norm, NConst, NLetter, NNotLetter, NAnd, NOr, NNext, NWeakNext, NYesterday, NWeakYesterday, NUntil, NRelease, NSince}
+use Rattle.ltl_closure.specs.Norm.{NTrigger}
 use Rattle.ltl_closure.specs.Closure.{closure, nexts, is_next}
 use Rattle.ltl_closure.proofs.Lists.{Contains-from_filter}
 use Rattle.enc_layout.specs.Letters.{LayoutValue, Accepted, EmptyAt, EntryAt}
@@ -40,12 +42,14 @@ next_strong (NWeakNext a) h = refl
 next_strong e h = cc
 
 -- a member that a filter keeps stands behind those that are kept before it
-kept_by : {X : Type 0} (p : X → Bool) (x : X) (xs : List X) (k : ℕ) (d : X) (b : Bool) → p x ≡ b → get_or (filter p xs) (length (filter p (take k xs))) d ≡ get_or xs k d
+kept_by : {X : Type 0} (p : X → Bool) (x : X) (xs : List X) (k : ℕ) (d : X) (b : Bool)
+    → p x ≡ b → get_or (filter p xs) (length (filter p (take k xs))) d ≡ get_or xs k d
     → get_or (filter p (x ∷ xs)) (length (filter p (x ∷ take k xs))) d ≡ get_or xs k d
 kept_by p x xs k d true e ih = rw e ih
 kept_by p x xs k d false e ih = rw e ih
 
-kept : {X : Type 0} (p : X → Bool) (xs : List X) (k : ℕ) (d : X) → k < length xs → p (get_or xs k d) ≡ true → get_or (filter p xs) (length (filter p (take k xs))) d ≡ get_or xs k d
+kept : {X : Type 0} (p : X → Bool) (xs : List X) (k : ℕ) (d : X) → k < length xs
+    → p (get_or xs k d) ≡ true → get_or (filter p xs) (length (filter p (take k xs))) d ≡ get_or xs k d
 kept p [] k d lt h = absurd (omega arith)
 kept p (x ∷ xs) zero d lt h = rw h refl
 kept p (x ∷ xs) (suc k) d lt h = kept_by p x xs k d (p x) refl (kept p xs k d (omega arith) h)
@@ -78,7 +82,8 @@ module _ (f : Formula) where
       ∙ (ap (λ z. length (filter is_strong_next z)) (sym (take-length (nexts f)))
       ∙ strong_counted (length (nexts f)) (omega arith))
 
-  strong_at : (k : ℕ) → k < length (nexts f) → weak_at f (nexts f) k ≡ false → get_or (filter is_strong_next (closure f)) (strong_before (nexts f) k) (NConst false) ≡ get_or (nexts f) k (NConst false)
+  strong_at : (k : ℕ) → k < length (nexts f) → weak_at f (nexts f) k ≡ false
+      → get_or (filter is_strong_next (closure f)) (strong_before (nexts f) k) (NConst false) ≡ get_or (nexts f) k (NConst false)
   strong_at k lt w =
       let strong : is_strong_next (get_or (nexts f) k (NConst false)) ≡ true = next_strong (get_or (nexts f) k (NConst false)) (next_at k lt) ∙ ap not w in
       ap₂ (λ z n. get_or z n (NConst false)) (sym (strong_filter (closure f))) (sym (strong_counted k (omega arith)))
@@ -100,7 +105,8 @@ module _ (f : Formula) where
   ]
 
   -- what is before all strong ones is before some next request
-  pub walk_within : (k left index : ℕ) → k ≤ length (nexts f) → strong_before (nexts f) k + left ≡ index → index < strong_before (nexts f) (length (nexts f)) → k < length (nexts f)
+  pub walk_within : (k left index : ℕ) → k ≤ length (nexts f) → strong_before (nexts f) k + left ≡ index → index < strong_before (nexts f) (length (nexts f))
+      → k < length (nexts f)
   walk_within k left index le is lt = elim (cases_lt k (length (nexts f))) [
     | inl before ↦ before
     | inr here ↦ let less = strong_less (nexts f) (length (nexts f)) k here in absurd (omega arith)
@@ -112,26 +118,31 @@ module _ (f : Formula) where
   walk_ends false left size is lt = (omega arith, refl)
 
   module _ (layout : LayoutValue) (i : ℕ) where
-    pub end_row : (k number index : ℕ) → k < length (nexts f) → strong_before (nexts f) k ≡ index → weak_at f (nexts f) k ≡ false → index < strong_before (nexts f) (length (nexts f)) → number ≡ number_at f (nexts f) k
+    pub end_row : (k number index : ℕ) → k < length (nexts f) → strong_before (nexts f) k ≡ index → weak_at f (nexts f) k ≡ false
+        → index < strong_before (nexts f) (length (nexts f)) → number ≡ number_at f (nexts f) k
         → minus layout (Accepted i) ∷ minus layout (EntryAt i number) ∷ [] ≡ row_at layout (acceptance_part f Kinds.Finite i) index
     end_row k number index lt is w within n =
         let total = strong_total in
         let strong = filter is_strong_next (closure f) in
         ap (λ m. minus layout (Accepted i) ∷ minus layout (EntryAt i m) ∷ []) n
         ∙ (ap (λ e. map (literal_in layout.kind layout.counts) (Minus (Accepted i) ∷ Minus (letter_of f i e) ∷ [])) (sym (strong_at k lt w))
-        ∙ (ap (λ m. map (literal_in layout.kind layout.counts) (Minus (Accepted i) ∷ Minus (letter_of f i (get_or (filter is_strong_next (closure f)) m (NConst false))) ∷ [])) is
+        ∙ (ap (λ m. map (literal_in layout.kind layout.counts)
+        (Minus (Accepted i) ∷ Minus (letter_of f i (get_or (filter is_strong_next (closure f)) m (NConst false))) ∷ [])) is
         ∙ sym (row_map layout.kind layout.counts (λ t. Minus (Accepted i) ∷ Minus (letter_of f i t) ∷ []) strong (NConst false) index (omega arith))))
 
     pub empty_row : (index number : ℕ) → index < length (nexts f) → number ≡ number_at f (nexts f) index
-        → minus layout (EmptyAt i) ∷ minus layout (EntryAt i number) ∷ [] ≡ row_at layout (map (λ t. Minus (EmptyAt i) ∷ Minus (letter_of f i t) ∷ []) (nexts f)) index
+        → minus layout (EmptyAt i) ∷ minus layout (EntryAt i number) ∷ [] ≡ row_at layout
+        (map (λ t. Minus (EmptyAt i) ∷ Minus (letter_of f i t) ∷ []) (nexts f)) index
     empty_row index number lt n =
         ap (λ m. minus layout (EmptyAt i) ∷ minus layout (EntryAt i m) ∷ []) n
         ∙ sym (row_map layout.kind layout.counts (λ t. Minus (EmptyAt i) ∷ Minus (letter_of f i t) ∷ []) (nexts f) (NConst false) index lt)
 
-    pub accepted_row : (index : ℕ) → index ≡ 0 → map (literal_in layout.kind layout.counts) (accepted_clause i) ≡ row_at layout (acceptance_part f Kinds.Infinite i) index
+    pub accepted_row : (index : ℕ)
+        → index ≡ 0 → map (literal_in layout.kind layout.counts) (accepted_clause i) ≡ row_at layout (acceptance_part f Kinds.Infinite i) index
     accepted_row index is = rw is refl
 
-    pub behind_accepted : (k index : ℕ) → 1 + k ≡ index → row_at layout (map (λ t. Minus (EmptyAt i) ∷ Minus (letter_of f i t) ∷ []) (nexts f)) k ≡ row_at layout (acceptance_part f Kinds.Infinite i) index
+    pub behind_accepted : (k index : ℕ) → 1 + k ≡ index
+        → row_at layout (map (λ t. Minus (EmptyAt i) ∷ Minus (letter_of f i t) ∷ []) (nexts f)) k ≡ row_at layout (acceptance_part f Kinds.Infinite i) index
     behind_accepted k index is =
         sym (row_right layout.kind layout.counts (accepted_clause i ∷ []) (map (λ t. Minus (EmptyAt i) ∷ Minus (letter_of f i t) ∷ []) (nexts f)) 1 k refl)
         ∙ ap (row_at layout (acceptance_part f Kinds.Infinite i)) is

@@ -85,9 +85,11 @@ entry_gate i g (Is.Letter n) = []
 entry_gate i g (Is.Fresh n) = []
 entry_gate i g (Is.NotLetter p) = (Plus (EntryAt i g) ∷ Plus (EntryAt i p) ∷ []) ∷ (Minus (EntryAt i g) ∷ Minus (EntryAt i p) ∷ []) ∷ []
 entry_gate i g (Is.And a b) =
-    (Minus (EntryAt i g) ∷ Plus (EntryAt i a) ∷ []) ∷ (Minus (EntryAt i g) ∷ Plus (EntryAt i b) ∷ []) ∷ (Plus (EntryAt i g) ∷ Minus (EntryAt i a) ∷ Minus (EntryAt i b) ∷ []) ∷ []
+    (Minus (EntryAt i g) ∷ Plus (EntryAt i a) ∷ []) ∷ (Minus (EntryAt i g) ∷ Plus (EntryAt i b) ∷ [])
+    ∷ (Plus (EntryAt i g) ∷ Minus (EntryAt i a) ∷ Minus (EntryAt i b) ∷ []) ∷ []
 entry_gate i g (Is.Or a b) =
-    (Plus (EntryAt i g) ∷ Minus (EntryAt i a) ∷ []) ∷ (Plus (EntryAt i g) ∷ Minus (EntryAt i b) ∷ []) ∷ (Minus (EntryAt i g) ∷ Plus (EntryAt i a) ∷ Plus (EntryAt i b) ∷ []) ∷ []
+    (Plus (EntryAt i g) ∷ Minus (EntryAt i a) ∷ []) ∷ (Plus (EntryAt i g) ∷ Minus (EntryAt i b) ∷ [])
+    ∷ (Minus (EntryAt i g) ∷ Plus (EntryAt i a) ∷ Plus (EntryAt i b) ∷ []) ∷ []
 entry_gate i g (Is.Until a b r) = strong_gate (EntryAt i g) (EntryAt i a) (EntryAt i b) (EntryAt i r)
 entry_gate i g (Is.Since a b r) = strong_gate (EntryAt i g) (EntryAt i a) (EntryAt i b) (EntryAt i r)
 entry_gate i g (Is.Release a b r) = weak_gate (EntryAt i g) (EntryAt i a) (EntryAt i b) (EntryAt i r)
@@ -146,7 +148,8 @@ fulfilled_by i l m b =
 
 -- what equal carries at l and i say of state i, where there are e eventualities
 abbrev pub seen_pair : ℕ → ℕ → ℕ → List Clause
-seen_pair e i l = (Minus (Equal l i) ∷ Plus (Repeated i) ∷ []) ∷ below e (λ m. (Minus (Equal l i) ∷ Minus (Fulfilled l i (suc m)) ∷ Plus (Seen i (suc m)) ∷ []) ∷ [])
+seen_pair e i l =
+    (Minus (Equal l i) ∷ Plus (Repeated i) ∷ []) ∷ below e (λ m. (Minus (Equal l i) ∷ Minus (Fulfilled l i (suc m)) ∷ Plus (Seen i (suc m)) ∷ []) ∷ [])
 
 -- what is new between j and i of eventuality m, whose request is entry r
 abbrev pub new_by : ℕ → ℕ → ℕ → ℕ → List Clause

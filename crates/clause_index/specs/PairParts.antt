@@ -5,7 +5,8 @@ use Rattle.ltl_syntax.specs.declared.node.Kind.TheVariants as Kinds
 use Rattle.ltl_syntax.specs.Formula.{Formula}
 use Rattle.ltl_closure.specs.Closure.{eventualities}
 use Rattle.enc_layout.specs.Letters.{Unpruned, Equal, LoopTo, below}
-use Rattle.enc_layout.specs.Clauses.{Clause, Plus, Minus, carried, place_clauses, equal_clause, fulfilled_clauses, loop_clause, seen_clauses, new_clauses, pruned_clause}
+use Rattle.enc_layout.specs.Clauses.{Clause, Plus, Minus, carried, place_clauses, equal_clause, fulfilled_clauses, loop_clause, seen_clauses, new_clauses}
+use Rattle.enc_layout.specs.Clauses.{pruned_clause}
 use Rattle.clause_index.specs.declared.sizes.Sizes.{Sizes}
 use Rattle.clause_index.specs.declared.place.Section.TheVariants as sections
 use Rattle.clause_index.specs.declared.numbers.PairPart.{PairPart}

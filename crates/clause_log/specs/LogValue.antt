@@ -30,7 +30,8 @@ with_line log clause hints = record { inputs = log.inputs; lines = log.lines ++ 
 -- each line is a hinted step over the inputs and the lines before it
 pub record IsLog (log : LogValue) : Type 0 where
   pub paired : length log.hints ≡ length log.lines
-  pub steps : (k : ℕ) → k < length log.lines → IsHintedStep log.inputs (take k log.lines) greatest_u32 (slice_index_or log.lines k []) (slice_index_or log.hints k [])
+  pub steps : (k : ℕ) → k < length log.lines
+      → IsHintedStep log.inputs (take k log.lines) greatest_u32 (slice_index_or log.lines k []) (slice_index_or log.hints k [])
 
 -- a clause was put behind the inputs of a log
 pub record IsInputAdded (before now : LogValue) : Type 0 where

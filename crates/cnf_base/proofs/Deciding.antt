@@ -1,5 +1,6 @@
 -- Whether a clause with hints is a hinted step, computed.
-use Rattle.std.proofs.Common.{◌≡◌, ◌==◌, ℕ, suc, ◌⊎◌, ◌||◌, Bool, true, false, not, List, [], ◌∷◌, get_or, All, Contains, Option, Some, None, refl, ap, ap₂, ◌∙◌, arith}
+use Rattle.std.proofs.Common.{◌≡◌, ◌==◌, ℕ, suc, ◌⊎◌, ◌||◌, Bool, true, false, not, List, [], ◌∷◌, get_or, All, Contains, Option, Some, None, refl, ap, ap₂}
+use Rattle.std.proofs.Common.{◌∙◌, arith}
 use mathlib.Core.Bool.{false≢true, ◌&&◌, beq}
 use Rattle.std.specs.Bool.{Decides}
 use Rattle.std.specs.List.{list_any, list_all}
@@ -62,8 +63,16 @@ is_known greatest l = ltb 0 l.letter.0 && ltb l.letter.0 (suc greatest)
 
 Decides-known : (greatest : ℕ) (l : Literal) → Decides (is_known greatest l) (IsKnown greatest l)
 Decides-known greatest l =
-    let both = Decides-and (ltb 0 l.letter.0) (ltb l.letter.0 (suc greatest)) (Decides-ltb 0 l.letter.0) (Decides-ltb l.letter.0 (suc greatest)) in
-    (λ e. let p = both.0 e in record { from_one = omega (arith, p.0); within = omega (arith, p.1) }, λ known. both.1 (omega (arith, known.from_one), omega (arith, known.within)))
+    let both = Decides-and (ltb 0 l.letter.0) (ltb l.letter.0 (suc greatest)) (Decides-ltb 0 l.letter.0) (Decides-ltb l.letter.0 (suc greatest)) in (
+      λ e. let p = both.0 e in record {
+        from_one = omega (
+          arith,
+          p.0,
+        );
+        within = omega (arith, p.1);
+      },
+      λ known. both.1 (omega (arith, known.from_one), omega (arith, known.within)),
+    )
 
 abbrev are_known : ℕ → List Literal → Bool
 are_known greatest clause = list_all (is_known greatest) clause
@@ -95,7 +104,8 @@ Decides-unit falses clause u =
     let others : Bool = list_all (λ l. has falses l || same l u) clause in
     let Others : Type 0 = All (λ l. Contains falses l ⊎ (l ≡ u)) clause in
     let is_others : Decides others Others =
-    Decides-all (λ l. has falses l || same l u) (λ l. Contains falses l ⊎ (l ≡ u)) (λ l. Decides-or (has falses l) (same l u) (Decides-has falses l) (Decides-same l u)) clause in
+    Decides-all (λ l. has falses l || same l u) (λ l. Contains falses l ⊎ (l ≡ u))
+    (λ l. Decides-or (has falses l) (same l u) (Decides-has falses l) (Decides-same l u)) clause in
     let front = Decides-and (has clause u) (not (has falses u)) (Decides-has clause u) (Decides-not (has falses u) (Decides-has falses u)) in
     let back = Decides-and (not (has falses (opposite u))) others (Decides-not (has falses (opposite u)) (Decides-has falses (opposite u))) is_others in
     let all = Decides-and (has clause u && not (has falses u)) (not (has falses (opposite u)) && others) front back in (
@@ -108,7 +118,8 @@ abbrev may_name : ℕ → Hint → List Literal → Bool
 may_name greatest (Clause number) clause = true
 may_name greatest (Line number) clause = are_known greatest clause
 
-Decides-named : (greatest : ℕ) (hint : Hint) (clause : List Literal) → Decides (may_name greatest hint clause) ((number : ℕ) → hint ≡ Line number → All (IsKnown greatest) clause)
+Decides-named : (greatest : ℕ) (hint : Hint) (clause : List Literal)
+    → Decides (may_name greatest hint clause) ((number : ℕ) → hint ≡ Line number → All (IsKnown greatest) clause)
 Decides-named greatest (Clause number) clause = (λ e n is. cc, λ h. refl)
 Decides-named greatest (Line number) clause =
     let within = Decides-all_known greatest clause in
@@ -123,7 +134,8 @@ module _ (clauses lines : List (List Literal)) (greatest : ℕ) where
       on_some (named clauses lines hint) (λ clause. may_name greatest hint clause
       && list_any (λ u. is_unit falses clause u && refutes (opposite u ∷ falses) (next ∷ hints)) clause)
 
-  names_of : (hint : Hint) (clause : List Literal) → named clauses lines hint ≡ Some clause → may_name greatest hint clause ≡ true → Names clauses lines greatest hint clause
+  names_of : (hint : Hint) (clause : List Literal) → named clauses lines hint ≡ Some clause
+      → may_name greatest hint clause ≡ true → Names clauses lines greatest hint clause
   names_of hint clause is known = record { is = is; within = (Decides-named greatest hint clause).0 known }
 
   found : (hints : List Hint) (falses : List Literal) → refutes falses hints ≡ true → Refutes clauses lines greatest falses hints
@@ -140,12 +152,14 @@ module _ (clauses lines : List (List Literal)) (greatest : ℕ) where
       let both = and_parts (is_unit falses it.0 unit.0) (refutes (opposite unit.0 ∷ falses) (next ∷ hints)) unit.2 in
       propagate (names_of hint it.0 it.1 parts.0) ((Decides-unit falses it.0 unit.0).0 both.0) (found (next ∷ hints) (opposite unit.0 ∷ falses) both.1)
 
-  after : (hints : List Hint) (falses : List Literal) (hint : Hint) (clause : List Literal) (u : Literal) → Names clauses lines greatest hint clause → IsUnit falses clause u
+  after : (hints : List Hint) (falses : List Literal) (hint : Hint) (clause : List Literal) (u : Literal) → Names clauses lines greatest hint clause
+      → IsUnit falses clause u
       → refutes (opposite u ∷ falses) hints ≡ true → refutes falses (hint ∷ hints) ≡ true
   after [] falses hint clause u names unit e = absurd (false≢true e)
   after (next ∷ hints) falses hint clause u names unit e =
       let step : List Literal → Literal → Bool = λ clause u. is_unit falses clause u && refutes (opposite u ∷ falses) (next ∷ hints) in
-      let here : step clause u ≡ true = and_made (is_unit falses clause u) (refutes (opposite u ∷ falses) (next ∷ hints)) ((Decides-unit falses clause u).1 unit) e in
+      let here : step clause u ≡ true =
+      and_made (is_unit falses clause u) (refutes (opposite u ∷ falses) (next ∷ hints)) ((Decides-unit falses clause u).1 unit) e in
       let passes = list_any_at (step clause) clause unit.there.0 u unit.there.1 (ap (step clause) unit.there.2 ∙ here) in
       some_made (named clauses lines hint) (λ clause. may_name greatest hint clause && list_any (step clause) clause) clause names.is
       (and_made (may_name greatest hint clause) (list_any (step clause) clause) ((Decides-named greatest hint clause).1 names.within) passes)
@@ -153,7 +167,8 @@ module _ (clauses lines : List (List Literal)) (greatest : ℕ) where
   kept : {falses : List Literal} {hints : List Hint} → Refutes clauses lines greatest falses hints → refutes falses hints ≡ true
   kept (conflict {falses = falses} {hint = hint} {clause = clause} names all_false) =
       some_made (named clauses lines hint) (λ clause. may_name greatest hint clause && is_false falses clause) clause names.is
-      (and_made (may_name greatest hint clause) (is_false falses clause) ((Decides-named greatest hint clause).1 names.within) ((Decides-false falses clause).1 all_false))
+      (and_made (may_name greatest hint clause) (is_false falses clause) ((Decides-named greatest hint clause).1 names.within)
+      ((Decides-false falses clause).1 all_false))
   kept (propagate {falses = falses} {hint = hint} {hints = hints} {clause = clause} {u = u} names unit rest) =
       after hints falses hint clause u names unit (kept rest)
 
@@ -161,7 +176,8 @@ module _ (clauses lines : List (List Literal)) (greatest : ℕ) where
   abbrev pub is_hinted_step : List Literal → List Hint → Bool
   is_hinted_step clause hints = are_known greatest clause && (has_no_pair clause && refutes clause hints)
 
-  pub Decides-hinted_step : (clause : List Literal) (hints : List Hint) → Decides (is_hinted_step clause hints) (IsHintedStep clauses lines greatest clause hints)
+  pub Decides-hinted_step : (clause : List Literal) (hints : List Hint)
+      → Decides (is_hinted_step clause hints) (IsHintedStep clauses lines greatest clause hints)
   Decides-hinted_step clause hints =
       let rest : Decides (refutes clause hints) (Refutes clauses lines greatest clause hints) = (found hints clause, kept) in
       let all = Decides-and (are_known greatest clause) (has_no_pair clause && refutes clause hints) (Decides-all_known greatest clause)

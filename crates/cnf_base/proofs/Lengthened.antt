@@ -1,5 +1,6 @@
 -- The last row, and what an item that is put behind its others makes of the rows.
-use Rattle.std.proofs.Common.{◌≡◌, ℕ, zero, suc, ◌+◌, ◌-◌, ◌≤◌, List, [], ◌∷◌, ◌++◌, length, take, drop, set, get_or, slice_range, refl, sym, ap, ap₂, ◌∙◌, arith, length-append, length-drop}
+use Rattle.std.proofs.Common.{◌≡◌, ℕ, zero, suc, ◌+◌, ◌-◌, ◌≤◌, List, [], ◌∷◌, ◌++◌, length, take, drop, set, get_or, slice_range, refl, sym, ap, ap₂, ◌∙◌}
+use Rattle.std.proofs.Common.{arith, length-append, length-drop}
 use Rattle.std.proofs.lemmas.List.{drop-append-le, take_all, length-map}
 use Rattle.cnf_base.specs.RowPieces.{Place, row_pieces, AreTiles, lengthened}
 use Rattle.cnf_base.proofs.RowLemmas.{range-append}
@@ -28,7 +29,8 @@ lengthened_last {X} before row item =
     ∙ set-behind before row (row ++ item ∷ [])
 
 -- the last place, which ends with the list, and one item more
-range_grows : {X : Type 0} (xs : List X) (x : X) (from : ℕ) → from ≤ length xs → slice_range (xs ++ x ∷ []) from (length xs + 1) ≡ slice_range xs from (length xs) ++ x ∷ []
+range_grows : {X : Type 0} (xs : List X) (x : X) (from : ℕ) → from ≤ length xs
+    → slice_range (xs ++ x ∷ []) from (length xs + 1) ≡ slice_range xs from (length xs) ++ x ∷ []
 range_grows xs x from inside =
     ap (take (length xs + 1 - from)) (drop-append-le from xs (x ∷ []) inside)
     ∙ take_all (length xs + 1 - from) (drop from xs ++ x ∷ []) (omega (arith, length-append (drop from xs) (x ∷ []), length-drop from xs))
@@ -39,7 +41,8 @@ module _ {X : Type 0} (items : List X) (item : X) (q : Place) (end : ℕ) (grown
   abbrev longer : Place
   longer = record { from = q.from; to = end }
 
-  pub tiles_grow : (start : ℕ) (places : List Place) (n : ℕ) → suc n ≡ length places → AreTiles start places (length items) → q ≡ get_or places n q → AreTiles start (set places n longer) end
+  pub tiles_grow : (start : ℕ) (places : List Place) (n : ℕ) → suc n ≡ length places → AreTiles start places (length items) → q ≡ get_or places n q
+      → AreTiles start (set places n longer) end
   tiles_grow start [] n last tiles is = absurd (omega (arith, last))
   tiles_grow start (p ∷ []) zero last tiles is = (ap (λ r. r.from) is ∙ tiles.0, omega (arith, tiles.1, tiles.2, grown), refl)
   tiles_grow start (p ∷ r ∷ places) zero last tiles is = absurd (omega (arith, last))
@@ -50,7 +53,8 @@ module _ {X : Type 0} (items : List X) (item : X) (q : Place) (end : ℕ) (grown
   rows_grow start [] n last tiles is = absurd (omega (arith, last))
   rows_grow start (p ∷ []) zero last tiles is =
       ap₂ (λ i j. slice_range (items ++ item ∷ []) i j ∷ []) (ap (λ r. r.from) is) grown
-      ∙ ap (λ row. row ∷ []) (range_grows items item p.from (omega (arith, tiles.0, tiles.1, tiles.2)) ∙ ap (λ j. slice_range items p.from j ++ item ∷ []) (sym tiles.2))
+      ∙ ap (λ row. row ∷ [])
+      (range_grows items item p.from (omega (arith, tiles.0, tiles.1, tiles.2)) ∙ ap (λ j. slice_range items p.from j ++ item ∷ []) (sym tiles.2))
   rows_grow start (p ∷ r ∷ places) zero last tiles is = absurd (omega (arith, last))
   rows_grow start (p ∷ places) (suc n) last tiles is =
       ap₂ ◌∷◌ (range-append items (item ∷ []) p.from p.to (omega (arith, tiles.0, tiles.1)) (start_below p.to places (length items) tiles.2))

@@ -20,9 +20,11 @@ module _ (clauses more lines next : List (List Literal)) (greatest : ℕ) where
   names_more : (hint : Hint) (clause : List Literal) → Names clauses lines greatest hint clause → Names (clauses ++ more) (lines ++ next) greatest hint clause
   names_more hint clause names = record { is = named_more hint clause names.is; within = names.within }
 
-  pub refutes_more : {falses : List Literal} {hints : List Hint} → Refutes clauses lines greatest falses hints → Refutes (clauses ++ more) (lines ++ next) greatest falses hints
+  pub refutes_more : {falses : List Literal} {hints : List Hint} → Refutes clauses lines greatest falses hints
+      → Refutes (clauses ++ more) (lines ++ next) greatest falses hints
   refutes_more (conflict names all_false) = conflict (names_more _ _ names) all_false
   refutes_more (propagate names unit rest) = propagate (names_more _ _ names) unit (refutes_more rest)
 
-  pub step_more : (clause : List Literal) (hints : List Hint) → IsHintedStep clauses lines greatest clause hints → IsHintedStep (clauses ++ more) (lines ++ next) greatest clause hints
+  pub step_more : (clause : List Literal) (hints : List Hint) → IsHintedStep clauses lines greatest clause hints
+      → IsHintedStep (clauses ++ more) (lines ++ next) greatest clause hints
   step_more clause hints step = record { within = step.within; no_pair = step.no_pair; refutes = refutes_more step.refutes }

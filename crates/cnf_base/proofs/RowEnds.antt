@@ -1,5 +1,6 @@
 -- The places of rows from where they end.
-use Rattle.std.proofs.Common.{◌≡◌, ℕ, zero, suc, ◌+◌, ◌<◌, ◌≤◌, List, [], ◌∷◌, ◌++◌, length, take, set, get_or, All, slice_range, refl, sym, ap, subst, ◌∙◌, arith, length-take-le}
+use Rattle.std.proofs.Common.{◌≡◌, ℕ, zero, suc, ◌+◌, ◌<◌, ◌≤◌, List, [], ◌∷◌, ◌++◌, length, take, set, get_or, All, slice_range, refl, sym, ap, subst, ◌∙◌}
+use Rattle.std.proofs.Common.{arith, length-take-le}
 use Rattle.std.proofs.lemmas.List.{length-map, get_or-map}
 use Rattle.cnf_base.specs.RowPieces.{Place, row_pieces, places_of, start_of, AreTiles, IsPlace, lengthened}
 use Rattle.cnf_base.proofs.RowTiles.{flat_tiles, tiles-push, tiles-take}
@@ -15,7 +16,8 @@ start_next : (start end : ℕ) (ends : List ℕ) (n : ℕ) → start_of start (e
 start_next start end ends zero = refl
 start_next start end ends (suc n) = refl
 
-pub place_of_row : (start : ℕ) (ends : List ℕ) (n : ℕ) (d : Place) → n < length ends → get_or (places_of start ends) n d ≡ record { from = start_of start ends n; to = get_or ends n 0 }
+pub place_of_row : (start : ℕ) (ends : List ℕ) (n : ℕ) (d : Place) → n < length ends
+    → get_or (places_of start ends) n d ≡ record { from = start_of start ends n; to = get_or ends n 0 }
 place_of_row start [] n d low = absurd (omega (arith, low))
 place_of_row start (end ∷ ends) zero d low = refl
 place_of_row start (end ∷ ends) (suc n) d low =
@@ -26,20 +28,25 @@ pub tiles_end : (start : ℕ) (ends : List ℕ) (count : ℕ) → AreTiles start
 tiles_end start [] count tiles = tiles
 tiles_end start (end ∷ ends) count tiles = start_next start end ends (length ends) ∙ tiles_end end ends count tiles.2
 
-pub places-push : (start : ℕ) (ends : List ℕ) (end : ℕ) → places_of start (ends ++ end ∷ []) ≡ places_of start ends ++ record { from = start_of start ends (length ends); to = end } ∷ []
+pub places-push : (start : ℕ) (ends : List ℕ) (end : ℕ)
+    → places_of start (ends ++ end ∷ []) ≡ places_of start ends ++ record { from = start_of start ends (length ends); to = end } ∷ []
 places-push start [] end = refl
 places-push start (x ∷ ends) end =
     ap (λ (places : List Place). record { from = start; to = x } ∷ places)
     (places-push x ends end ∙ ap (λ (s : ℕ). places_of x ends ++ record { from = s; to = end } ∷ []) (sym (start_next start x ends (length ends))))
 
 -- the last row ends elsewhere
-pub places-set : (start : ℕ) (ends : List ℕ) (last end : ℕ) → suc last ≡ length ends → places_of start (set ends last end) ≡ set (places_of start ends) last record { from = start_of start ends last; to = end }
+pub places-set : (start : ℕ) (ends : List ℕ) (last end : ℕ) → suc last ≡ length ends
+    → places_of start (set ends last end) ≡ set (places_of start ends) last record { from = start_of start ends last; to = end }
 places-set start [] last end is = absurd (omega (arith, is))
 places-set start (x ∷ []) zero end is = refl
 places-set start (x ∷ y ∷ ends) zero end is = absurd (omega (arith, is))
 places-set start (x ∷ ends) (suc last) end is =
     ap (λ (places : List Place). record { from = start; to = x } ∷ places)
-    (places-set x ends last end (omega (arith, is)) ∙ ap (λ (s : ℕ). set (places_of x ends) last record { from = s; to = end }) (sym (start_next start x ends last)))
+    (places-set x ends last end (omega (
+      arith,
+      is,
+    )) ∙ ap (λ (s : ℕ). set (places_of x ends) last record { from = s; to = end }) (sym (start_next start x ends last)))
 
 pub places-take : (start : ℕ) (ends : List ℕ) (n : ℕ) → places_of start (take n ends) ≡ take n (places_of start ends)
 places-take start [] zero = refl
@@ -72,7 +79,8 @@ module _ {X : Type 0} (items : List X) (ends : List ℕ) (tiles : AreTiles 0 (pl
     tiles_front =
         let inside : start_of 0 ends n ≤ length items = omega (arith, is_place.forward, is_place.inside) in
         subst (λ (places : List Place). AreTiles 0 places (length (take (start_of 0 ends n) items))) (sym (places-take 0 ends n))
-        (subst (AreTiles 0 (take n (places_of 0 ends))) (ap (λ (s : Place). s.from) (place_of_row 0 ends n here low) ∙ sym (length-take-le (start_of 0 ends n) items inside))
+        (subst (AreTiles 0 (take n (places_of 0 ends)))
+        (ap (λ (s : Place). s.from) (place_of_row 0 ends n here low) ∙ sym (length-take-le (start_of 0 ends n) items inside))
         (tiles-take 0 (places_of 0 ends) (length items) n here tiles in_places))
 
     pub rows_front : row_pieces (take (start_of 0 ends n) items) (places_of 0 (take n ends)) ≡ take n (row_pieces items (places_of 0 ends))
@@ -80,19 +88,24 @@ module _ {X : Type 0} (items : List X) (ends : List ℕ) (tiles : AreTiles 0 (pl
         let flat = flat_tiles 0 (places_of 0 ends) (length items) tiles in
         ap (λ (places : List Place). row_pieces (take (start_of 0 ends n) items) places) (places-take 0 ends n)
         ∙ pieces-take items (places_of 0 ends) n (start_of 0 ends n) flat
-        (subst (λ (s : Place). All (λ t. t.to ≤ s.from) (take n (places_of 0 ends))) (place_of_row 0 ends n here low) (spans_before items (places_of 0 ends) n here flat in_places))
+        (subst (λ (s : Place). All (λ t. t.to ≤ s.from) (take n (places_of 0 ends))) (place_of_row 0 ends n here low)
+        (spans_before items (places_of 0 ends) n here flat in_places))
 
   -- a row more
   module _ (row : List X) (end : ℕ) (is : end ≡ length items + length row) where
     pub tiles_more : AreTiles 0 (places_of 0 (ends ++ end ∷ [])) end
     tiles_more =
         subst (λ (places : List Place). AreTiles 0 places end) (sym (places-push 0 ends end))
-        (tiles-push 0 (places_of 0 ends) (length items) record { from = start_of 0 ends (length ends); to = end } tiles (tiles_end 0 ends (length items) tiles) (omega (arith, is)))
+        (tiles-push 0 (places_of 0 ends) (length items) record {
+          from = start_of 0 ends (length ends);
+          to = end;
+        } tiles (tiles_end 0 ends (length items) tiles) (omega (arith, is)))
 
     pub rows_more : row_pieces (items ++ row) (places_of 0 (ends ++ end ∷ [])) ≡ row_pieces items (places_of 0 ends) ++ row ∷ []
     rows_more =
         ap (λ (places : List Place). row_pieces (items ++ row) places) (places-push 0 ends end)
-        ∙ pieces-push items row (places_of 0 ends) record { from = start_of 0 ends (length ends); to = end } (flat_tiles 0 (places_of 0 ends) (length items) tiles)
+        ∙ pieces-push items row (places_of 0 ends) record { from = start_of 0 ends (length ends); to = end }
+        (flat_tiles 0 (places_of 0 ends) (length items) tiles)
         (tiles_end 0 ends (length items) tiles) is
 
   -- an item more in the last row

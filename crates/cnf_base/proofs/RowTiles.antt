@@ -30,18 +30,21 @@ flat_tiles start (p ∷ places) end tiles =
     pairs rest (suc i) (suc j) e earlier below = rest i j e (omega (arith, earlier)) (omega (arith, below))
 
 -- a place that begins at the end is put behind the others
-pub tiles-push : (start : ℕ) (places : List Place) (end : ℕ) (p : Place) → AreTiles start places end → p.from ≡ end → end ≤ p.to → AreTiles start (places ++ p ∷ []) p.to
+pub tiles-push : (start : ℕ) (places : List Place) (end : ℕ) (p : Place) → AreTiles start places end
+    → p.from ≡ end → end ≤ p.to → AreTiles start (places ++ p ∷ []) p.to
 tiles-push start [] end p tiles from forward = (from ∙ sym tiles, omega (arith, tiles, forward), refl)
 tiles-push start (q ∷ places) end p tiles from forward = (tiles.0, tiles.1, tiles-push q.to places end p tiles.2 from forward)
 
 -- the first n places end where the next begins
-pub tiles-take : (start : ℕ) (places : List Place) (end n : ℕ) (d : Place) → AreTiles start places end → n < length places → AreTiles start (take n places) (get_or places n d).from
+pub tiles-take : (start : ℕ) (places : List Place) (end n : ℕ) (d : Place) → AreTiles start places end → n < length places
+    → AreTiles start (take n places) (get_or places n d).from
 tiles-take start [] end n d tiles below = absurd (omega (arith, below))
 tiles-take start (p ∷ places) end zero d tiles below = sym tiles.0
 tiles-take start (p ∷ places) end (suc n) d tiles below = (tiles.0, tiles.1, tiles-take p.to places end n d tiles.2 (omega (arith, below)))
 
 -- the place of a row lies within the list
-pub place_at : {X : Type 0} (items : List X) (places : List Place) (index : ℕ) (p : Place) → AreTiles 0 places (length items) → index < length (row_pieces items places) → p ≡ get_or places index p
+pub place_at : {X : Type 0} (items : List X) (places : List Place) (index : ℕ) (p : Place) → AreTiles 0 places (length items)
+    → index < length (row_pieces items places) → p ≡ get_or places index p
     → IsPlace (length items) p
 place_at items places index p tiles low is =
     let below : index < length places = omega (arith, low, length-map places (λ s. slice_range items s.from s.to)) in

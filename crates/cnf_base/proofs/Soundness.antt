@@ -1,5 +1,6 @@
 -- A hinted step follows from the clauses and the lines before it.
-use Rattle.std.proofs.Common.{◌≡◌, ℕ, zero, suc, ◌⊎◌, inl, inr, ◌||◌, Bool, true, false, not, List, [], ◌∷◌, All, Contains, Some, if◌then◌else◌, refl, sym, ap, ◌∙◌, arith}
+use Rattle.std.proofs.Common.{◌≡◌, ℕ, zero, suc, ◌⊎◌, inl, inr, ◌||◌, Bool, true, false, not, List, [], ◌∷◌, All, Contains, Some, if◌then◌else◌, refl, sym, ap}
+use Rattle.std.proofs.Common.{◌∙◌, arith}
 use Rattle.std.specs.List.{list_any}
 use mathlib.Core.Bool.{false≢true}
 use Rattle.std.proofs.lemmas.List.Elements.{All-nil, All-cons, All-contains}
@@ -43,12 +44,14 @@ no_element p (x ∷ xs) none = go (p x) refl (λ h. no_element p xs h)
     go false is rest = All-cons (λ y. p y ≡ false) x xs is (rest (ap (λ b. b || list_any p xs) (sym is) ∙ none))
 
 -- the clause of a number is one of the clauses
-pub satisfied_number : (v : ℕ → Bool) (clauses : List (List Literal)) (n : ℕ) (clause : List Literal) → Satisfies v clauses → numbered clauses n ≡ Some clause → clause_value v clause ≡ true
+pub satisfied_number : (v : ℕ → Bool) (clauses : List (List Literal)) (n : ℕ) (clause : List Literal) → Satisfies v clauses → numbered clauses n ≡ Some clause
+    → clause_value v clause ≡ true
 satisfied_number v clauses zero clause holds is = cc
 satisfied_number v clauses (suc n) clause holds is =
     rw (sym (get_or_from_slice_get clauses n clause [] is)) (holds n [] (slice_get_within clauses n clause is))
 
-satisfied_hint : (v : ℕ → Bool) (clauses lines : List (List Literal)) (hint : Hint) (clause : List Literal) → Satisfies v clauses → Satisfies v lines → named clauses lines hint ≡ Some clause → clause_value v clause ≡ true
+satisfied_hint : (v : ℕ → Bool) (clauses lines : List (List Literal)) (hint : Hint) (clause : List Literal) → Satisfies v clauses → Satisfies v lines
+    → named clauses lines hint ≡ Some clause → clause_value v clause ≡ true
 satisfied_hint v clauses lines (Clause n) clause holds before is = satisfied_number v clauses n clause holds is
 satisfied_hint v clauses lines (Line n) clause holds before is = satisfied_number v lines n clause before is
 
@@ -67,7 +70,8 @@ module _ (v : ℕ → Bool) (clauses lines : List (List Literal)) (greatest : �
         | inr is ↦ refuted rest (All-cons (λ l. literal_value v l ≡ false) (opposite u) falses (opposite_value v u (rw (sym is) found.2)) false_under)
       ]
 
-pub hinted_step_follows : (v : ℕ → Bool) (clauses lines : List (List Literal)) (greatest : ℕ) (clause : List Literal) (hints : List Hint) → Satisfies v clauses → Satisfies v lines → IsHintedStep clauses lines greatest clause hints → clause_value v clause ≡ true
+pub hinted_step_follows : (v : ℕ → Bool) (clauses lines : List (List Literal)) (greatest : ℕ) (clause : List Literal) (hints : List Hint) → Satisfies v clauses
+    → Satisfies v lines → IsHintedStep clauses lines greatest clause hints → clause_value v clause ≡ true
 hinted_step_follows v clauses lines greatest clause hints holds before step = go (clause_value v clause) refl
   where
     go : (b : Bool) → clause_value v clause ≡ b → clause_value v clause ≡ true

@@ -28,7 +28,8 @@ pub data RefutesAmong (clauses : List (List Literal)) (lines : ℕ → Option (L
       → RefutesAmong clauses lines greatest falses (hint ∷ hints)
 
 -- the clause with these hints is a hinted step over the clauses, the lines that may be named and the greatest letter
-pub record IsStepAmong (clauses : List (List Literal)) (lines : ℕ → Option (List Literal)) (greatest : ℕ) (clause : List Literal) (hints : List Hint) : Type 0 where
+pub record IsStepAmong (clauses : List (List Literal)) (lines : ℕ → Option (List Literal)) (greatest : ℕ) (clause : List Literal)
+    (hints : List Hint) : Type 0 where
   pub within : All (IsKnown greatest) clause
   pub no_pair : HasNoPair clause
   pub refutes : RefutesAmong clauses lines greatest clause hints

@@ -62,7 +62,8 @@ follow_nothing Monitor words takes follow = follow
 follow_nothing Depast words takes follow = follow
 follow_nothing c words takes follow = absurd (false_not_true takes)
 
-pub no_settings : (name : CommandName) (words : List (List ℕ)) → takes_options name ≡ true → NoneAreSaid (command_row name).options words → FollowsNothing name words
+pub no_settings : (name : CommandName) (words : List (List ℕ)) → takes_options name ≡ true → NoneAreSaid (command_row name).options words
+    → FollowsNothing name words
 no_settings name words takes none c is follow =
     let said = subst (λ n. SomeAreSaid (command_row n).options words) is (follow_settings c words (ap takes_options is ∙ takes) follow) in none said.0 said.1
 
@@ -83,16 +84,19 @@ first_asks words more word c whole (more', e, follow) =
     let behind : more' ≡ more = cc in
     (named, subst (Follow c) behind follow)
 
-pub asks_unknown : (words more : List (List ℕ)) (word : List ℕ) → words ≡ word ∷ more → ((name : CommandName) → word ≢ (command_row name).word) → (c : Command) → Asks words c → ⊥
+pub asks_unknown : (words more : List (List ℕ)) (word : List ℕ) → words ≡ word ∷ more → ((name : CommandName) → word ≢ (command_row name).word) → (c : Command)
+    → Asks words c → ⊥
 asks_unknown words more word whole unknown c asks = unknown (name_of c) (first_asks words more word c whole asks).0
 
-pub asks_nothing : (words more : List (List ℕ)) (word : List ℕ) (name : CommandName) → words ≡ word ∷ more → word ≡ (command_row name).word → FollowsNothing name more → (c : Command) → Asks words c → ⊥
+pub asks_nothing : (words more : List (List ℕ)) (word : List ℕ) (name : CommandName) → words ≡ word ∷ more → word ≡ (command_row name).word
+    → FollowsNothing name more → (c : Command) → Asks words c → ⊥
 asks_nothing words more word name whole named none c asks =
     let first = first_asks words more word c whole asks in
     none c (command_word_one (name_of c) name (sym first.0 ∙ named)) first.1
 
 -- a command's word, and what follows it, ask for the command
-pub asks_what_follows : (words more : List (List ℕ)) (word : List ℕ) (name : CommandName) (a : Asked) → words ≡ word ∷ more → word ≡ (command_row name).word → Follows name more a → IsAsked words a
+pub asks_what_follows : (words more : List (List ℕ)) (word : List ℕ) (name : CommandName) (a : Asked) → words ≡ word ∷ more → word ≡ (command_row name).word
+    → Follows name more a → IsAsked words a
 asks_what_follows words more word name a whole named (is, tell) =
     tells a (whole ∙ ap (λ w. w ∷ more) (named ∙ ap (λ n. (command_row n).word) (sym is))) tell where
       tells : (a : Asked) → words ≡ (command_row (name_asked a)).word ∷ more → Tell more a → IsAsked words a
@@ -111,7 +115,8 @@ no_words_asked c (more, e, follow) = cc
 -- ---- values that are handed on
 
 -- what is known of a value is known of what it is put into
-pub match_mapped : {X Y : Type 0} (from : Option X) (to : Option Y) (f : X → Y) (P P' : Type 0) (Q : X → Type 0) (Q' : Y → Type 0) → MatchOption from (to ≡ None) (λ x. IsSomeAnd to (λ y. y ≡ f x))
+pub match_mapped : {X Y : Type 0} (from : Option X) (to : Option Y) (f : X → Y) (P P' : Type 0) (Q : X → Type 0) (Q' : Y → Type 0)
+    → MatchOption from (to ≡ None) (λ x. IsSomeAnd to (λ y. y ≡ f x))
     → MatchOption from P Q → (P → P') → ((x : X) → Q x → Q' (f x)) → MatchOption to P' Q'
 match_mapped None to f P P' Q Q' mapped h none some = rw mapped (none h)
 match_mapped (Some x) None f P P' Q Q' mapped h none some = absurd mapped

@@ -33,11 +33,13 @@ beside o among n = absurd (false_not_true among)
 without_check : (cs : List Setting) → All (IsAmong verify_row) cs → check_of cs ≡ false → All (IsAmong refute_row) cs
 without_check [] among n = All-nil (IsAmong refute_row)
 without_check (c ∷ cs) among n = by (same_option c.option names.Check) refl (without_check cs) where
-  by : (b : Bool) → same_option c.option names.Check ≡ b → (All (IsAmong verify_row) cs → check_of cs ≡ false → All (IsAmong refute_row) cs) → All (IsAmong refute_row) (c ∷ cs)
+  by : (b : Bool) → same_option c.option names.Check ≡ b → (All (IsAmong verify_row) cs → check_of cs ≡ false → All (IsAmong refute_row) cs)
+      → All (IsAmong refute_row) (c ∷ cs)
   by true e rest = let there : check_of (c ∷ cs) ≡ true = rw e refl in absurd (false_not_true (sym n ∙ there))
   by false e rest =
       let same : check_of (c ∷ cs) ≡ check_of cs = rw e refl in
-      All-cons (IsAmong refute_row) c cs (beside c.option (All-head (IsAmong verify_row) c cs among) e) (rest (All-tail (IsAmong verify_row) c cs among) (sym same ∙ n))
+      All-cons (IsAmong refute_row) c cs (beside c.option (All-head (IsAmong verify_row) c cs among) e)
+      (rest (All-tail (IsAmong verify_row) c cs among) (sym same ∙ n))
 
 -- settings that are taken, but not to refute, have --check among them
 checked : (cs : List Setting) → All (IsAmong verify_row) cs → (All (IsAmong refute_row) cs → ⊥) → check_of cs ≡ true
@@ -48,7 +50,8 @@ checked cs among never = by (check_of cs) refl where
 
 -- ---- what is asked for
 
-pub asks_to_verify : (words : List (List ℕ)) → NoneAreSaid refute_row words → (options : Options) → AreSaid verify_row words options → IsRefutationAsked words (refutation.Check options)
+pub asks_to_verify : (words : List (List ℕ)) → NoneAreSaid refute_row words → (options : Options) → AreSaid verify_row words options
+    → IsRefutationAsked words (refutation.Check options)
 asks_to_verify words none options (settings, (say, once, among), are) =
     (settings, ((say, once, among), checked settings among (λ other. none settings (say, once, other))), are)
 

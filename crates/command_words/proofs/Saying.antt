@@ -1,5 +1,6 @@
 -- Which settings words say, read from the front.
-use Rattle.std.proofs.Common.{◌≡◌, ◌≢◌, ◌∙◌, ℕ, ◌≤◌, ◌-◌, ◌==◌, ◌||◌, Bool, true, false, inl, inr, List, [], ◌∷◌, ◌++◌, codes, Option, Some, None, All, refl, sym, ap, ap₂, subst, append_assoc, append-nil, length, get_or, arith, length-append, map, take, drop, take_all, MatchOption}
+use Rattle.std.proofs.Common.{◌≡◌, ◌≢◌, ◌∙◌, ℕ, ◌≤◌, ◌-◌, ◌==◌, ◌||◌, Bool, true, false, inl, inr, List, [], ◌∷◌, ◌++◌, codes, Option, Some, None, All, refl}
+use Rattle.std.proofs.Common.{sym, ap, ap₂, subst, append_assoc, append-nil, length, get_or, arith, length-append, map, take, drop, take_all, MatchOption}
 use Rattle.std.proofs.lemmas.List.Elements.{All-nil, All-cons, All-head, All-tail, All-push}
 use Rattle.std.proofs.lemmas.List.{get_or_append_left, get_or_at}
 use Rattle.std.proofs.lemmas.List.Quantifiers.{all_pairs_push}
@@ -11,7 +12,8 @@ use Rattle.command_words.specs.declared.options.Seen.{Seen}
 use Rattle.command_words.specs.Table.{option_row, option_word, same_option, has_option}
 use Rattle.command_words.specs.Words.{Setting, Says, SayAll, Once, IsAmong, IsNumberIn, IsNumberOf, name, stands}
 use Rattle.command_words.specs.Said.{SayOnce, SomeAreSaid, NoneAreSaid, is_seen, with_seen, SaysFirst, SaysNothing, AreRoundEquals, GoesOn, IsApart}
-use Rattle.command_words.proofs.OneCommand.{false_not_true, apart, no_equals, has_equals, before_equals, before_joined, joined_equals, Form, alone, two, one, form, form_option, first_one, says_some, not_joined, same_behind}
+use Rattle.command_words.proofs.OneCommand.{false_not_true, apart, no_equals, has_equals, before_equals, before_joined, joined_equals, Form, alone, two, one}
+use Rattle.command_words.proofs.OneCommand.{form, form_option, first_one, says_some, not_joined, same_behind}
 
 -- ---- a further setting
 
@@ -21,12 +23,14 @@ said_more (d ∷ ds) c words more (front, back, whole, says, rest) last =
     (front, back ++ more, ap (λ ws. ws ++ more) whole ∙ append_assoc front back more, says, said_more ds c back more rest last)
 
 -- what is said behind the words that say these settings
-said_behind : (cs ds : List Setting) (front rest : List (List ℕ)) → SayAll cs front → SayAll ds (front ++ rest) → (es : List Setting) × (ds ≡ cs ++ es) × SayAll es rest
+said_behind : (cs ds : List Setting) (front rest : List (List ℕ)) → SayAll cs front → SayAll ds (front ++ rest)
+    → (es : List Setting) × (ds ≡ cs ++ es) × SayAll es rest
 said_behind [] ds front rest e all = (ds, refl, let P : List (List ℕ) → Type 0 = λ ws. SayAll ds (ws ++ rest) in subst P e all)
-said_behind (c ∷ cs) [] front rest (first, back, whole, says, more) e = absurd (nothing first (sym (ap (λ ws. ws ++ rest) whole ∙ append_assoc first back rest) ∙ e) says) where
-  nothing : (ws : List (List ℕ)) → ws ++ (back ++ rest) ≡ [] → Says c ws → ⊥
-  nothing [] empty is = says_some c is
-  nothing (w ∷ ws) empty is = cc
+said_behind (c ∷ cs) [] front rest (first, back, whole, says, more) e =
+    absurd (nothing first (sym (ap (λ ws. ws ++ rest) whole ∙ append_assoc first back rest) ∙ e) says) where
+      nothing : (ws : List (List ℕ)) → ws ++ (back ++ rest) ≡ [] → Says c ws → ⊥
+      nothing [] empty is = says_some c is
+      nothing (w ∷ ws) empty is = cc
 said_behind (c ∷ cs) (d ∷ ds) front rest (first, back, whole, says, more) (first', back', whole', says', more') =
     let same : first ++ (back ++ rest) ≡ first' ++ back' = sym (ap (λ ws. ws ++ rest) whole ∙ append_assoc first back rest) ∙ whole' in
     let one = first_one c d first (back ++ rest) first' back' says says' same in
@@ -71,7 +75,8 @@ stands_more o [] c = by (same_option c.option o) refl where
   by true e = rw e refl
   by false e = rw e refl
 stands_more o (d ∷ ds) c = by (same_option d.option o) refl (same_option c.option o) (stands_more o ds c) where
-  by : (b : Bool) → same_option d.option o ≡ b → (s : Bool) → stands o (ds ++ c ∷ []) ≡ (s || stands o ds) → stands o ((d ∷ ds) ++ c ∷ []) ≡ (s || stands o (d ∷ ds))
+  by : (b : Bool) → same_option d.option o ≡ b → (s : Bool) → stands o (ds ++ c ∷ []) ≡ (s || stands o ds)
+      → stands o ((d ∷ ds) ++ c ∷ []) ≡ (s || stands o (d ∷ ds))
   by true e true rest = rw e refl
   by true e false rest = rw e refl
   by false e s rest = rw e rest
@@ -97,7 +102,8 @@ pub record IsSaidBefore (offers : List OptionName) (words rest : List (List ℕ)
   pub among : All (IsAmong offers) settings
   pub seen_are : (o : OptionName) → is_seen seen o ≡ stands o settings
 
-none_seen : (o : OptionName) → is_seen (record { finite = false; depth = false; cert = false; core = false; workers = false; check = false; steps = false; progress = false }) o ≡ false
+none_seen : (o : OptionName)
+    → is_seen (record { finite = false; depth = false; cert = false; core = false; workers = false; check = false; steps = false; progress = false }) o ≡ false
 none_seen names.Finite = refl
 none_seen names.Depth = refl
 none_seen names.Cert = refl
@@ -107,15 +113,19 @@ none_seen names.Check = refl
 none_seen names.Steps = refl
 none_seen names.Progress = refl
 
-pub said_at_first : (offers : List OptionName) (words : List (List ℕ)) → IsSaidBefore offers words words (record { finite = false; depth = false; cert = false; core = false; workers = false; check = false; steps = false; progress = false })
-said_at_first offers words = record { front = []; whole = refl; settings = []; said = (refl, none_once); among = All-nil (IsAmong offers); seen_are = none_seen }
+pub said_at_first : (offers : List OptionName) (words : List (List ℕ)) → IsSaidBefore offers words words
+    (record { finite = false; depth = false; cert = false; core = false; workers = false; check = false; steps = false; progress = false })
+said_at_first offers words =
+    record { front = []; whole = refl; settings = []; said = (refl, none_once); among = All-nil (IsAmong offers); seen_are = none_seen }
 
-pub said_at_last : (offers : List OptionName) (words rest : List (List ℕ)) (seen : Seen) → IsSaidBefore offers words rest seen → rest ≡ [] → SomeAreSaid offers words
+pub said_at_last : (offers : List OptionName) (words rest : List (List ℕ)) (seen : Seen) → IsSaidBefore offers words rest seen
+    → rest ≡ [] → SomeAreSaid offers words
 said_at_last offers words rest seen h e =
     let same : words ≡ h.front = h.whole ∙ ap (λ ws. h.front ++ ws) e ∙ append-nil h.front in
     (h.settings, ((let P : List (List ℕ) → Type 0 = λ ws. SayAll h.settings ws in subst P (sym same) h.said.0), h.said.1, h.among))
 
-pub said_next : (offers : List OptionName) (words rest behind : List (List ℕ)) (seen : Seen) (option : OptionName) → IsSaidBefore offers words rest seen → SaysFirst rest option behind
+pub said_next : (offers : List OptionName) (words rest behind : List (List ℕ)) (seen : Seen) (option : OptionName) → IsSaidBefore offers words rest seen
+    → SaysFirst rest option behind
     → has_option offers option ≡ true → is_seen seen option ≡ false → IsSaidBefore offers words behind (with_seen seen option)
 said_next offers words rest behind seen option h first offered new =
     let c : Setting = record { option = option; number = first.number } in
@@ -123,7 +133,10 @@ said_next offers words rest behind seen option h first offered new =
       front = h.front ++ first.front;
       whole = h.whole ∙ ap (λ ws. h.front ++ ws) first.whole ∙ sym (append_assoc h.front first.front behind);
       settings = h.settings ++ c ∷ [];
-      said = (said_more h.settings c h.front first.front h.said.0 first.says, once_more h.settings c h.said.1 (not_standing option h.settings (sym (h.seen_are option) ∙ new)));
+      said = (
+        said_more h.settings c h.front first.front h.said.0 first.says,
+        once_more h.settings c h.said.1 (not_standing option h.settings (sym (h.seen_are option) ∙ new)),
+      );
       among = All-push (IsAmong offers) h.settings c h.among offered;
       seen_are = λ o. seen_more seen option o ∙ ap (λ t. same_option option o || t) (h.seen_are o) ∙ sym (stands_more o h.settings c);
     }
@@ -131,10 +144,13 @@ said_next offers words rest behind seen option h first offered new =
 -- ---- words that are not taken
 
 -- another reading of the words goes on behind those that were read
-behind_read : (offers : List OptionName) (words rest : List (List ℕ)) (seen : Seen) (h : IsSaidBefore offers words rest seen) (settings : List Setting) → SayAll settings words → (es : List Setting) × (settings ≡ h.settings ++ es) × SayAll es rest
-behind_read offers words rest seen h settings all = said_behind h.settings settings h.front rest h.said.0 (let P : List (List ℕ) → Type 0 = λ ws. SayAll settings ws in subst P h.whole all)
+behind_read : (offers : List OptionName) (words rest : List (List ℕ)) (seen : Seen) (h : IsSaidBefore offers words rest seen) (settings : List Setting)
+    → SayAll settings words → (es : List Setting) × (settings ≡ h.settings ++ es) × SayAll es rest
+behind_read offers words rest seen h settings all =
+    said_behind h.settings settings h.front rest h.said.0 (let P : List (List ℕ) → Type 0 = λ ws. SayAll settings ws in subst P h.whole all)
 
-pub none_behind : (offers : List OptionName) (words rest : List (List ℕ)) (seen : Seen) → IsSaidBefore offers words rest seen → rest ≢ [] → SaysNothing rest → NoneAreSaid offers words
+pub none_behind : (offers : List OptionName) (words rest : List (List ℕ)) (seen : Seen) → IsSaidBefore offers words rest seen → rest ≢ [] → SaysNothing rest
+    → NoneAreSaid offers words
 none_behind offers words rest seen h some nothing settings (all, once, among) =
     let r = behind_read offers words rest seen h settings all in stop r.0 r.2 where
       stop : (es : List Setting) → SayAll es rest → ⊥
@@ -161,7 +177,8 @@ all_behind : (P : Setting → Type 0) (cs es : List Setting) → All P (cs ++ es
 all_behind P [] es all = all
 all_behind P (c ∷ cs) es all = all_behind P cs es (All-tail P c (cs ++ es) all)
 
-pub other_behind : (offers : List OptionName) (words rest behind : List (List ℕ)) (seen : Seen) (option : OptionName) → IsSaidBefore offers words rest seen → SaysFirst rest option behind
+pub other_behind : (offers : List OptionName) (words rest behind : List (List ℕ)) (seen : Seen) (option : OptionName) → IsSaidBefore offers words rest seen
+    → SaysFirst rest option behind
     → has_option offers option ≡ false → NoneAreSaid offers words
 other_behind offers words rest behind seen option h first other settings (all, once, among) =
     let r = behind_read offers words rest seen h settings all in
@@ -169,7 +186,8 @@ other_behind offers words rest behind seen option h first other settings (all, o
     let there = all_behind (IsAmong offers) h.settings (n.next ∷ n.more) (subst (All (IsAmong offers)) (r.1 ∙ ap (λ es. h.settings ++ es) n.whole) among) in
     false_not_true (sym other ∙ ap (has_option offers) (sym n.is) ∙ All-head (IsAmong offers) n.next n.more there)
 
-pub repeated_behind : (offers : List OptionName) (words rest behind : List (List ℕ)) (seen : Seen) (option : OptionName) → IsSaidBefore offers words rest seen → SaysFirst rest option behind
+pub repeated_behind : (offers : List OptionName) (words rest behind : List (List ℕ)) (seen : Seen) (option : OptionName) → IsSaidBefore offers words rest seen
+    → SaysFirst rest option behind
     → is_seen seen option ≡ true → NoneAreSaid offers words
 repeated_behind offers words rest behind seen option h first there settings (all, once, among) =
     let r = behind_read offers words rest seen h settings all in
@@ -188,7 +206,8 @@ empty_says_nothing c [] behind says whole = says_some c says
 empty_says_nothing c (w ∷ ws) behind says whole = cc
 
 -- a first word, and the words behind it
-pub first_word : {X : Type 0} (bytes : X → List ℕ) (words : List X) (w : X) → 1 ≤ length words → w ≡ get_or words 0 w → map bytes words ≡ bytes w ∷ map bytes (take (length words - 1) (drop 1 words))
+pub first_word : {X : Type 0} (bytes : X → List ℕ) (words : List X) (w : X) → 1 ≤ length words → w ≡ get_or words 0 w
+    → map bytes words ≡ bytes w ∷ map bytes (take (length words - 1) (drop 1 words))
 first_word bytes [] w some is = absurd (omega (arith, some))
 first_word bytes (x ∷ xs) w some is =
     let whole : take (length (x ∷ xs) - 1) xs ≡ xs = take_all (length (x ∷ xs) - 1) xs (omega arith) in
@@ -198,7 +217,8 @@ joined_text : (word digits : List ℕ) → word ++ codes "=" ++ digits ≡ word 
 joined_text word digits = append_assoc word (codes "=") digits
 
 -- an option's word and number round = say the option
-pub joined_first : (words more : List (List ℕ)) (first word digits : List ℕ) (option : OptionName) → words ≡ first ∷ more → first ≡ word ++ 61 ∷ digits → AreRoundEquals word digits option → SaysFirst words option more
+pub joined_first : (words more : List (List ℕ)) (first word digits : List ℕ) (option : OptionName)
+    → words ≡ first ∷ more → first ≡ word ++ 61 ∷ digits → AreRoundEquals word digits option → SaysFirst words option more
 joined_first words more first word digits option whole is (named, (n, number)) = by (option_row option).number refl number where
   by : (range : Option Range) → (option_row option).number ≡ range → IsNumberOf range digits n → SaysFirst words option more
   by None e number = absurd number
@@ -210,10 +230,13 @@ joined_first words more first word digits option whole is (named, (n, number)) =
   }
 
 -- the number behind the first = is the option's
-joined_form : (option first digits : List ℕ) (more behind : List (List ℕ)) (range : Option Range) (number : Option ℕ) → has_equals option ≡ false → first ≡ option ++ 61 ∷ digits
+joined_form : (option first digits : List ℕ) (more behind : List (List ℕ)) (range : Option Range) (number : Option ℕ)
+    → has_equals option ≡ false → first ≡ option ++ 61 ∷ digits
     → Form option first more behind range number → (n : ℕ) × IsNumberOf range digits n
-joined_form option first digits more behind range number lacks is (alone named back) = absurd (not_joined option digits lacks (sym named ∙ is ∙ sym (joined_text option digits)))
-joined_form option first digits more behind range number lacks is (two r d n num named back) = absurd (not_joined option digits lacks (sym named ∙ is ∙ sym (joined_text option digits)))
+joined_form option first digits more behind range number lacks is (alone named back) =
+    absurd (not_joined option digits lacks (sym named ∙ is ∙ sym (joined_text option digits)))
+joined_form option first digits more behind range number lacks is (two r d n num named back) =
+    absurd (not_joined option digits lacks (sym named ∙ is ∙ sym (joined_text option digits)))
 joined_form option first digits more behind range number lacks is (one r d n num named back) =
     let same : d ≡ digits = same_behind (option ++ codes "=") d digits (sym named ∙ is ∙ sym (joined_text option digits)) in
     (n, subst (λ t. IsNumberIn r t n) same num)
@@ -223,11 +246,14 @@ pub joined_nothing : (words more : List (List ℕ)) (first word digits : List �
     → ((option : OptionName) → AreRoundEquals word digits option → ⊥) → SaysNothing words
 joined_nothing words more first word digits whole is lacks none c front behind says same =
     let f = form (name c) first (option_row c.option).number c.number front behind more says (sym same ∙ whole) in
-    let named : word ≡ name c = sym (ap before_equals (is ∙ sym (joined_text word digits)) ∙ before_joined word digits lacks) ∙ form_option c first more behind f in
-    none c.option (named, joined_form (name c) first digits more behind (option_row c.option).number c.number (no_equals c.option) (is ∙ ap (λ w. w ++ 61 ∷ digits) named) f)
+    let named : word ≡ name c =
+    sym (ap before_equals (is ∙ sym (joined_text word digits)) ∙ before_joined word digits lacks) ∙ form_option c first more behind f in
+    none c.option
+    (named, joined_form (name c) first digits more behind (option_row c.option).number c.number (no_equals c.option) (is ∙ ap (λ w. w ++ 61 ∷ digits) named) f)
 
 -- an option's word, and its number behind it, say the option
-pub apart_first : (words more behind : List (List ℕ)) (word : List ℕ) (option : OptionName) → words ≡ word ∷ more → IsApart word more option behind → SaysFirst words option behind
+pub apart_first : (words more behind : List (List ℕ)) (word : List ℕ) (option : OptionName) → words ≡ word ∷ more → IsApart word more option behind
+    → SaysFirst words option behind
 apart_first words more behind word option whole (named, goes) = by (option_row option).number refl goes where
   by : (range : Option Range) → (option_row option).number ≡ range → GoesOn range more behind → SaysFirst words option behind
   by None e same = record { number = None; front = word ∷ []; whole = whole ∙ ap (λ m. word ∷ m) same; says = rw e (ap (λ w. w ∷ []) named) }
@@ -238,15 +264,19 @@ apart_first words more behind word option whole (named, goes) = by (option_row o
     says = rw e (digits, number, inl (ap (λ w. w ∷ digits ∷ []) named));
   }
 
-apart_form : (option word : List ℕ) (more behind : List (List ℕ)) (range : Option Range) (number : Option ℕ) → has_equals word ≡ false → Form option word more behind range number → (word ≡ option) × GoesOn range more behind
+apart_form : (option word : List ℕ) (more behind : List (List ℕ)) (range : Option Range) (number : Option ℕ)
+    → has_equals word ≡ false → Form option word more behind range number → (word ≡ option) × GoesOn range more behind
 apart_form option word more behind range number lacks (alone named back) = (named, back)
 apart_form option word more behind range number lacks (two r digits n num named back) = (named, (digits, n, num, back))
-apart_form option word more behind range number lacks (one r digits n num named back) = absurd (false_not_true (sym lacks ∙ ap has_equals named ∙ joined_equals option digits))
+apart_form option word more behind range number lacks (one r digits n num named back) =
+    absurd (false_not_true (sym lacks ∙ ap has_equals named ∙ joined_equals option digits))
 
 -- the word is no option's whose number follows
-pub apart_nothing : (words more : List (List ℕ)) (word : List ℕ) → words ≡ word ∷ more → has_equals word ≡ false → ((option : OptionName) (behind : List (List ℕ)) → IsApart word more option behind → ⊥) → SaysNothing words
+pub apart_nothing : (words more : List (List ℕ)) (word : List ℕ)
+    → words ≡ word ∷ more → has_equals word ≡ false → ((option : OptionName) (behind : List (List ℕ)) → IsApart word more option behind → ⊥) → SaysNothing words
 apart_nothing words more word whole lacks none c front behind says same =
-    none c.option behind (apart_form (name c) word more behind (option_row c.option).number c.number lacks (form (name c) word (option_row c.option).number c.number front behind more says (sym same ∙ whole)))
+    none c.option behind (apart_form (name c) word more behind (option_row c.option).number c.number lacks
+    (form (name c) word (option_row c.option).number c.number front behind more says (sym same ∙ whole)))
 
 pub match_weaker : {X : Type 0} (o : Option X) (P P' : Type 0) (Q Q' : X → Type 0) → (P → P') → ((x : X) → Q x → Q' x) → MatchOption o P Q → MatchOption o P' Q'
 match_weaker None P P' Q Q' f g h = f h

@@ -6,7 +6,8 @@ use Rattle.command_words.specs.Asked.{IsDepth, AreWorkers, IsSteps}
 use Rattle.command_words.specs.Matching.{flag_text, IsNumberText}
 
 -- a flag is read from its text
-pub flag_read : (read said : Bool) (text : Option (List ℕ)) → (text ≡ Some (codes "true") → read ≡ true) → (text ≡ Some (codes "false") → read ≡ false) → text ≡ Some (flag_text said) → read ≡ said
+pub flag_read : (read said : Bool) (text : Option (List ℕ)) → (text ≡ Some (codes "true") → read ≡ true) → (text ≡ Some (codes "false") → read ≡ false)
+    → text ≡ Some (flag_text said) → read ≡ said
 flag_read read true text yes_read no_read is = yes_read is
 flag_read read false text yes_read no_read is = no_read is
 

@@ -6,7 +6,8 @@ use Rattle.command_words.specs.declared.options.Options.{Options}
 use Rattle.command_words.specs.declared.asked.Asked.{Asked}
 use Rattle.command_words.specs.declared.asked.Asked.TheVariants as asked
 use Rattle.command_words.specs.Table.{stop_of, command_row}
-use Rattle.command_words.specs.Words.{Setting, Solve, Check, Trace, Demo, Batch, System, Monitor, Depast, Asks, kind_of, depth_of, cert_of, core_of, workers_of, check_of, steps_of, progress_of}
+use Rattle.command_words.specs.Words.{Setting, Solve, Check, Trace, Demo, Batch, System, Monitor, Depast, Asks, kind_of, depth_of, cert_of, core_of, workers_of}
+use Rattle.command_words.specs.Words.{check_of, steps_of, progress_of}
 
 -- a depth that is asked for is at most 1,000
 abbrev pub IsDepth : Option ℕ → Type 0

@@ -8,7 +8,8 @@ use Rattle.command_words.specs.declared.options.Options.{Options}
 use Rattle.command_words.specs.declared.options.Seen.{Seen}
 use Rattle.command_words.specs.declared.asked.Asked.{Asked}
 use Rattle.command_words.specs.declared.asked.Asked.TheVariants as asked
-use Rattle.command_words.specs.Table.{CommandRow, option_row, option_word, same_option, solve_command, check_command, demo_command, batch_command, system_command}
+use Rattle.command_words.specs.Table.{CommandRow, option_row, option_word, same_option, solve_command, check_command, demo_command, batch_command}
+use Rattle.command_words.specs.Table.{system_command}
 use Rattle.command_words.specs.Words.{Setting, Command, IsNumberIn, IsNumberOf, Says, SayAll, Once, SaySettings, SayNumber, name_of, Follow}
 use Rattle.command_words.specs.Asked.{AreOptions, name_asked}
 

@@ -1,5 +1,6 @@
 -- The lists of words that are taken, and what they say.
-use Rattle.std.specs.Prelude.{◌≡◌, ◌≢◌, ◌≤◌, ◌⊎◌, ◌++◌, ℕ, List, [], ◌∷◌, length, codes, AllPairs, All, Option, Some, None, is_some, option_and_then, Bool, IsTrue, find, if◌then◌else◌}
+use Rattle.std.specs.Prelude.{◌≡◌, ◌≢◌, ◌≤◌, ◌⊎◌, ◌++◌, ℕ, List, [], ◌∷◌, length, codes, AllPairs, All, Option, Some, None, is_some, option_and_then, Bool}
+use Rattle.std.specs.Prelude.{IsTrue, find, if◌then◌else◌}
 use Rattle.std.specs.Str.Parse.{IsNumeral, digits_value}
 use Rattle.ltl_syntax.specs.declared.node.Kind.{Kind}
 use Rattle.ltl_syntax.specs.declared.node.Kind.TheVariants as kinds
@@ -8,7 +9,8 @@ use Rattle.command_words.specs.declared.table.OptionName.{OptionName}
 use Rattle.command_words.specs.declared.table.OptionName.TheVariants as names
 use Rattle.command_words.specs.declared.table.CommandName.{CommandName}
 use Rattle.command_words.specs.declared.table.CommandName.TheVariants as commands
-use Rattle.command_words.specs.Table.{CommandRow, Nothing, option_row, option_word, command_row, same_option, has_option, solve_command, check_command, demo_command, batch_command, system_command}
+use Rattle.command_words.specs.Table.{CommandRow, Nothing, option_row, option_word, command_row, same_option, has_option, solve_command, check_command}
+use Rattle.command_words.specs.Table.{demo_command, batch_command, system_command}
 
 -- what one option says: which it is, and its number where it has one
 pub record Setting : Type 0 where

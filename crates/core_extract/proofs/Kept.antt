@@ -13,10 +13,11 @@ module _ (f : Formula) where
 
   module _ (P : Places) where
     above_decided : (n : ℕ) → Dec ((m : ℕ) → IsTrue (P m) → IsUnder f n m → ⊥)
-    above_decided n = elim (first_or_none (λ m. IsTrue (P m) × IsTrue (is_under f n m)) (λ m. ×_decided (IsTrue_decided (P m)) (IsTrue_decided (is_under f n m))) n) [
-      | inl w ↦ no (λ h. h w.0 w.2.0 (under_true f n w.0 w.2.1))
-      | inr none ↦ yes (λ m p u. let x = u.0 in none m x (p, under_from f n m u))
-    ]
+    above_decided n =
+        elim (first_or_none (λ m. IsTrue (P m) × IsTrue (is_under f n m)) (λ m. ×_decided (IsTrue_decided (P m)) (IsTrue_decided (is_under f n m))) n) [
+          | inl w ↦ no (λ h. h w.0 w.2.0 (under_true f n w.0 w.2.1))
+          | inr none ↦ yes (λ m p u. let x = u.0 in none m x (p, under_from f n m u))
+        ]
 
     false_decided : (b : Bool) → Dec (IsFalse b)
     false_decided true = no (λ e. cc)
@@ -102,6 +103,7 @@ kept_few f P = count_few (is_kept f P) (nodes_in f)
 pub fewer_after : (f : Formula) (P : Places) (n : ℕ) → IsKept f P n → kept_count f (added f P n) < kept_count f P
 unfolding kept_count
 fewer_after f P n kept =
-    count_lt (is_kept f (added f P n)) (is_kept f P) (λ k e. is_kept-from f P k (kept_before f P n k (is_kept-true f (added f P n) k e))) (nodes_in f) n kept.there
+    count_lt (is_kept f (added f P n)) (is_kept f P) (λ k e. is_kept-from f P k (kept_before f P n k (is_kept-true f (added f P n) k e)))
+    (nodes_in f) n kept.there
     (elim (cases_Bool (is_kept f (added f P n) n)) [ inl e ↦ absurd (not_kept_after f P n (is_kept-true f (added f P n) n e)) | inr e ↦ e ])
     (is_kept-from f P n kept)

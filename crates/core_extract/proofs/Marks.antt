@@ -1,5 +1,6 @@
 -- Marks: how one is put in place of those under it, and which nodes stand at marked places.
-use Rattle.std.proofs.Common.{◌≡◌, ℕ, ◌+◌, ◌<◌, ◌≤◌, ◌⊎◌, inl, inr, subst, ap, arith, sym, refl, ◌∙◌, Bool, true, false, IsTrue, IsFalse, List, [], ◌∷◌, ◌++◌, length, get_or, set, Contains, All, replicate}
+use Rattle.std.proofs.Common.{◌≡◌, ℕ, ◌+◌, ◌<◌, ◌≤◌, ◌⊎◌, inl, inr, subst, ap, arith, sym, refl, ◌∙◌, Bool, true, false, IsTrue, IsFalse, List, [], ◌∷◌, ◌++◌}
+use Rattle.std.proofs.Common.{length, get_or, set, Contains, All, replicate}
 use Rattle.std.proofs.Math.ListN.{get_or-eq_default}
 use Rattle.std.proofs.lemmas.Bool.{cases_lt}
 use Rattle.std.proofs.lemmas.List.{get_or-set_same, get_or-set_other, get_or-replicate, length-replicate}
@@ -26,17 +27,21 @@ apart_low : (k first under : ℕ) → first < under → (k ≤ first) ⊎ (under
 apart_low k first under lt (inl le) e = omega arith
 apart_low k first under lt (inr le) e = omega arith
 
-pub cleared_more : (old new : List Bool) (first under : ℕ) → first < under → under < length new → AreCleared old new first under → AreCleared old (set new under false) first (under + 1)
+pub cleared_more : (old new : List Bool) (first under : ℕ) → first < under → under < length new → AreCleared old new first under
+    → AreCleared old (set new under false) first (under + 1)
 cleared_more old new first under lt within h = record {
   off = λ k low high. elim (cases_lt k under) [
     | inl before ↦ get_or-set_other new under k false false (λ e. omega arith) ∙ h.off k low before
-    | inr at ↦ let here : k ≡ under = omega arith in subst (λ m. get_or (set new under false) m false ≡ false) (sym here) (get_or-set_same new under false false within)
+    | inr at ↦ let here : k ≡ under = omega arith in
+        subst (λ m. get_or (set new under false) m false ≡ false) (sym here) (get_or-set_same new under false false within)
   ];
-  same = λ k side. get_or-set_other new under k false false (apart_low k first under lt side) ∙ h.same k (elim side [ inl le ↦ inl le | inr le ↦ inr (omega arith) ]);
+  same = λ k side. get_or-set_other new under k false false (apart_low k first under lt side)
+      ∙ h.same k (elim side [ inl le ↦ inl le | inr le ↦ inr (omega arith) ]);
 }
 
 module _ (task : Task) (is : IsTask task) where
-  pub mark_added : (old new : List Bool) (first under : ℕ) → first < length new → under ≡ first + get_or task.sizes.items first 0 → first < length task.order.items → AreCleared old new first under
+  pub mark_added : (old new : List Bool) (first under : ℕ) → first < length new → under ≡ first + get_or task.sizes.items first 0
+      → first < length task.order.items → AreCleared old new first under
       → AreSame (marked (set new first true)) (added (formula_of task) (marked old) first)
   mark_added old new first under within e low h =
       let size = is.sizes first low in
@@ -56,7 +61,8 @@ pub record AreNodes (order : List ℕ) (marks : List Bool) (place : ℕ) (number
 pub nodes_none : (order : List ℕ) (marks : List Bool) → AreNodes order marks 0 []
 nodes_none order marks = record { there = λ m (k, lt, e). absurd (omega arith); all = λ n lt p. absurd (omega arith) }
 
-pub nodes_on : (order : List ℕ) (marks : List Bool) (place : ℕ) (numbers : List ℕ) → AreNodes order marks place numbers → marked marks place ≡ false → AreNodes order marks (place + 1) numbers
+pub nodes_on : (order : List ℕ) (marks : List Bool) (place : ℕ) (numbers : List ℕ) → AreNodes order marks place numbers
+    → marked marks place ≡ false → AreNodes order marks (place + 1) numbers
 nodes_on order marks place numbers h e = record {
   there = λ m c. let w = h.there m c in let lt = w.1 in (w.0, omega arith, w.2, w.3);
   all = λ n lt p. elim (cases_lt n place) [
@@ -65,7 +71,8 @@ nodes_on order marks place numbers h e = record {
   ];
 }
 
-pub nodes_more : (order : List ℕ) (marks : List Bool) (place : ℕ) (numbers : List ℕ) → AreNodes order marks place numbers → marked marks place ≡ true → AreNodes order marks (place + 1) (numbers ++ get_or order place 0 ∷ [])
+pub nodes_more : (order : List ℕ) (marks : List Bool) (place : ℕ) (numbers : List ℕ) → AreNodes order marks place numbers
+    → marked marks place ≡ true → AreNodes order marks (place + 1) (numbers ++ get_or order place 0 ∷ [])
 nodes_more order marks place numbers h e = record {
   there = λ m c. elim (Contains-push_cases numbers (get_or order place 0) m c) [
     | inl old ↦ let w = h.there m old in let lt = w.1 in (w.0, omega arith, w.2, w.3)
@@ -73,12 +80,14 @@ nodes_more order marks place numbers h e = record {
   ];
   all = λ n lt p. elim (cases_lt n place) [
     | inl before ↦ Contains-append_left numbers (get_or order place 0 ∷ []) (get_or order n 0) (h.all n before p)
-    | inr at ↦ let here : place ≡ n = omega arith in subst (λ m. Contains (numbers ++ get_or order place 0 ∷ []) (get_or order m 0)) here (Contains-push numbers (get_or order place 0))
+    | inr at ↦ let here : place ≡ n = omega arith in
+        subst (λ m. Contains (numbers ++ get_or order place 0 ∷ []) (get_or order m 0)) here (Contains-push numbers (get_or order place 0))
   ];
 }
 
 module _ (task : Task) (is : IsTask task) where
-  pub nodes_places : (marks : List Bool) (numbers : List ℕ) → AreMarks task marks → AreNodes task.order.items marks (length marks) numbers → AreSame (places_of task.table.now task.root numbers) (marked marks)
+  pub nodes_places : (marks : List Bool) (numbers : List ℕ) → AreMarks task marks → AreNodes task.order.items marks (length marks) numbers
+      → AreSame (places_of task.table.now task.root numbers) (marked marks)
   nodes_places marks numbers am h =
       let all = places_all task is in
       let long = ap length is.order in
@@ -102,13 +111,16 @@ unmarked count n = elim (cases_lt n count) [
 -- ---- numbers below a bound, with one more
 
 pub within_more : (bound : ℕ) (xs ys : List ℕ) (x : ℕ) → All (λ n. n < bound) xs → x < bound → ys ≡ xs ++ x ∷ [] → All (λ n. n < bound) ys
-within_more bound xs ys x all lt is = subst (All (λ n. n < bound)) (sym is) (All-append (λ n. n < bound) xs (x ∷ []) all (All-cons (λ n. n < bound) x [] lt (All-nil (λ n. n < bound))))
+within_more bound xs ys x all lt is =
+    subst (All (λ n. n < bound)) (sym is) (All-append (λ n. n < bound) xs (x ∷ []) all (All-cons (λ n. n < bound) x [] lt (All-nil (λ n. n < bound))))
 
 -- ---- marks with one kept occurrence added
 
-pub added_marks : (task : Task) (is : IsTask task) (old new : List Bool) (place : ℕ) → AreMarks task old → IsKept (formula_of task) (marked old) place → length new ≡ length old
+pub added_marks : (task : Task) (is : IsTask task) (old new : List Bool) (place : ℕ) → AreMarks task old → IsKept (formula_of task) (marked old) place
+    → length new ≡ length old
     → AreSame (marked new) (added (formula_of task) (marked old) place) → AreMarks task new
 added_marks task is old new place am kept long same = record {
   long = long ∙ am.long;
-  apart = subst (AreApart (formula_of task)) (sym (one_set (marked new) (added (formula_of task) (marked old) place) same)) (apart_after (formula_of task) (marked old) place am.apart kept);
+  apart = subst (AreApart (formula_of task)) (sym (one_set (marked new) (added (formula_of task) (marked old) place) same))
+      (apart_after (formula_of task) (marked old) place am.apart kept);
 }

@@ -1,5 +1,6 @@
 -- How a pass goes on by groups of tests, and passes by passes.
-use Rattle.std.proofs.Common.{◌≡◌, ℕ, suc, ◌+◌, ◌<◌, ◌≤◌, inl, inr, subst, ap, arith, sym, refl, ◌∙◌, Bool, true, false, List, [], ◌∷◌, ◌++◌, length, get_or, Option, Some, None, IfSome, replicate}
+use Rattle.std.proofs.Common.{◌≡◌, ℕ, suc, ◌+◌, ◌<◌, ◌≤◌, inl, inr, subst, ap, arith, sym, refl, ◌∙◌, Bool, true, false, List, [], ◌∷◌, ◌++◌, length, get_or}
+use Rattle.std.proofs.Common.{Option, Some, None, IfSome, replicate}
 use Rattle.std.proofs.lemmas.Bool.{cases_lt}
 use Rattle.std.proofs.lemmas.List.{length-append, length-replicate}
 use Rattle.std.proofs.Math.ListN.{get_or-append}
@@ -14,7 +15,8 @@ use Rattle.core_extract.specs.declared.passing.Advance.TheVariants as advances
 use Rattle.ltl_syntax.specs.declared.node.Kind.{Kind}
 use Rattle.ltl_syntax.specs.Table.{Table, tree_at}
 use Rattle.core_extract.specs.Core.{IsTaken, IsLeft, IsWalk, IsPass, AreChanging, IsReached, IsCore, tableau}
-use Rattle.core_extract.specs.Testing.{IsTask, AreMarks, IsTested, AreTested, AreLeft, AreNext, IsFirstClosed, IsStep, IsSettled, IsPassed, formula_of, test_of, marked}
+use Rattle.core_extract.specs.Testing.{IsTask, AreMarks, IsTested, AreTested, AreLeft, AreNext, IsFirstClosed, IsStep, IsSettled, IsPassed, formula_of, test_of}
+use Rattle.core_extract.specs.Testing.{marked}
 use Rattle.core_extract.proofs.Kept.{kept_count}
 use Rattle.core_extract.proofs.Walks.{walk_none, walk_same, walk_on_idle, walk_on_taken_behind, taken_other, walk_falls}
 use Rattle.core_extract.proofs.Cores.{passes_more}
@@ -25,10 +27,12 @@ use Rattle.core_extract.proofs.Marks.{unmarked}
 
 module _ (f : Formula) (P : Places) (at : ℕ) where
   pub next_none : (places : List ℕ) → length places ≡ 0 → AreNext f P at at places
-  next_none places none = record { each = λ i lt. absurd (omega arith); all = λ k low high kept. absurd (omega arith); ascending = λ i j lt low. absurd (omega arith) }
+  next_none places none =
+      record { each = λ i lt. absurd (omega arith); all = λ k low high kept. absurd (omega arith); ascending = λ i j lt low. absurd (omega arith) }
 
   -- places that are not kept are passed over
-  pub next_past : (stop next : ℕ) (places : List ℕ) → AreNext f P at stop places → stop ≤ next → ((k : ℕ) → stop ≤ k → k < next → IsKept f P k → ⊥) → AreNext f P at next places
+  pub next_past : (stop next : ℕ) (places : List ℕ) → AreNext f P at stop places → stop ≤ next → ((k : ℕ) → stop ≤ k → k < next → IsKept f P k → ⊥)
+      → AreNext f P at next places
   next_past stop next places h le none = record {
     each = λ i lt. let w = h.each i lt in let high = w.1 in (w.0, omega arith, w.2);
     all = λ k low high kept. elim (cases_lt k stop) [
@@ -42,7 +46,8 @@ module _ (f : Formula) (P : Places) (at : ℕ) where
   pub next_more : (stop : ℕ) (places : List ℕ) → AreNext f P at stop places → at ≤ stop → IsKept f P stop → AreNext f P at (stop + 1) (places ++ stop ∷ [])
   next_more stop places h le kept = record {
     each = λ i lt. elim (cases_lt i (length places)) [
-      | inl before ↦ let e = old i before in let w = h.each i before in let high = w.1 in let low = w.0 in (omega arith, omega arith, subst (IsKept f P) (sym e) w.2)
+      | inl before ↦ let e = old i before in let w = h.each i before in let high = w.1 in let low = w.0 in
+          (omega arith, omega arith, subst (IsKept f P) (sym e) w.2)
       | inr last ↦ let e = new i (omega (arith, long)) in (omega arith, omega arith, subst (IsKept f P) (sym e) kept)
     ];
     all = λ k low high kept'. elim (cases_lt k stop) [
@@ -66,16 +71,19 @@ module _ (f : Formula) (P : Places) (at : ℕ) where
 -- ---- what a group of tests found
 
 -- one test more is Open
-pub one_open : (found : List Outcome) (index : ℕ) → get_or found index outcomes.NoMemory ≡ outcomes.Open → ((i : ℕ) → i < index → get_or found i outcomes.NoMemory ≡ outcomes.Open)
+pub one_open : (found : List Outcome) (index : ℕ)
+    → get_or found index outcomes.NoMemory ≡ outcomes.Open → ((i : ℕ) → i < index → get_or found i outcomes.NoMemory ≡ outcomes.Open)
     → (i : ℕ) → i < index + 1 → get_or found i outcomes.NoMemory ≡ outcomes.Open
 one_open found index e h i lt = elim (cases_lt i index) [
   | inl before ↦ h i before
   | inr here ↦ let same : i ≡ index = omega arith in ap (λ n. get_or found n outcomes.NoMemory) same ∙ e
 ]
 
-module _ (task : Task) (P : Places) (at stop : ℕ) (places : List ℕ) (found : List Outcome) (next : AreNext (formula_of task) P at stop places) (long : length found ≡ length places)
+module _ (task : Task) (P : Places) (at stop : ℕ) (places : List ℕ) (found : List Outcome) (next : AreNext (formula_of task) P at stop places)
+    (long : length found ≡ length places)
     (tested : (i : ℕ) (d : Outcome) → i < length places → IsTested task P (get_or places i 0) (get_or found i d)) where
-  open_at : (i : ℕ) → i < length places → get_or found i outcomes.NoMemory ≡ outcomes.Open → (k : ℕ) → get_or places i 0 ≡ k → IsLeft (test_of task) (formula_of task) P k
+  open_at : (i : ℕ) → i < length places → get_or found i outcomes.NoMemory ≡ outcomes.Open → (k : ℕ)
+      → get_or places i 0 ≡ k → IsLeft (test_of task) (formula_of task) P k
   open_at i lt e k here kept = subst (λ n. IsTested task P n outcomes.Open) here (subst (IsTested task P (get_or places i 0)) e (tested i outcomes.NoMemory lt))
 
   pub all_left : IsFirstClosed found None → AreLeft task P at stop
@@ -133,7 +141,8 @@ module _ (task : Task) (is : IsTask task) where
   unfolding IsGoing
   going_none S settled = (λ n. refl, refl)
 
-  pub last_within : (S P : Places) (at end settled : ℕ) (last : Option ℕ) → IsUnderWay task S P at → IsGoing task S P at end last settled → IfSome last (λ n. n ≤ length task.order.items)
+  pub last_within : (S P : Places) (at end settled : ℕ) (last : Option ℕ) → IsUnderWay task S P at → IsGoing task S P at end last settled
+      → IfSome last (λ n. n ≤ length task.order.items)
   unfolding IsGoing
   last_within S P at end settled None under h = tt
   last_within S P at end settled (Some n) under h = let w = under.within in let le = h.1 in omega arith
@@ -149,7 +158,8 @@ module _ (task : Task) (is : IsTask task) where
           clear = subst (λ X. IsClear f' X next) one clear;
         }
 
-    pub going_left : (end settled next : ℕ) (last : Option ℕ) → IsStep task P at (advances.Left next) Q → IsGoing task S P at end last settled → IsGoing task S Q next end last settled
+    pub going_left : (end settled next : ℕ) (last : Option ℕ) → IsStep task P at (advances.Left next) Q → IsGoing task S P at end last settled
+        → IsGoing task S Q next end last settled
     unfolding IsGoing
     going_left end settled next None (low, high, same, left, clear) h = ((λ n. h.0 n ∙ same n), h.1)
     going_left end settled next (Some n) (low, high, same, left, clear) h =
@@ -176,8 +186,10 @@ module _ (task : Task) (is : IsTask task) where
           let w = part_within f' place there in
           let e = step.4 in
           let same : AreSame (added f' P place) Q = λ n. sym (step.5 n) in
-          let walk = walk_same (test_of task) f' (place + size_at f' place) 0 S (added f' P place) Q (walk_on_taken_behind (test_of task) f' place S P to_place step.3) same in
-          let clear = subst (λ X. IsClear f' X (place + size_at f' place)) (one_set (added f' P place) Q same) (clear_after f' P place (kept_clear P place step.3.0)) in
+          let walk = walk_same (test_of task) f' (place + size_at f' place) 0 S (added f' P place) Q
+          (walk_on_taken_behind (test_of task) f' place S P to_place step.3) same in
+          let clear = subst (λ X. IsClear f' X (place + size_at f' place)) (one_set (added f' P place) Q same)
+          (clear_after f' P place (kept_clear P place step.3.0)) in
           record {
             within = omega arith;
             walk = subst (λ n. IsWalk (test_of task) f' n 0 S Q) (sym e) walk;
@@ -196,7 +208,8 @@ module _ (task : Task) (is : IsTask task) where
           )
 
   -- the end of a pass
-  pub passed : (S P : Places) (at end settled : ℕ) (last : Option ℕ) → IsUnderWay task S P at → IsGoing task S P at end last settled → end ≤ at → IsSettled task S settled → IsPassed task S last P
+  pub passed : (S P : Places) (at end settled : ℕ) (last : Option ℕ) → IsUnderWay task S P at → IsGoing task S P at end last settled
+      → end ≤ at → IsSettled task S settled → IsPassed task S last P
   unfolding IsGoing
   passed S P at end settled None under h le set =
       let all = places_all task is in
@@ -248,7 +261,8 @@ module _ (task : Task) (is : IsTask task) where
 
 -- ---- the next kept occurrences, marked or not
 
-module _ (task : Task) (is : IsTask task) (marks : List Bool) (am : AreMarks task marks) (at stop : ℕ) (places : List ℕ) (next : AreNext (formula_of task) (marked marks) at stop places)
+module _ (task : Task) (is : IsTask task) (marks : List Bool) (am : AreMarks task marks) (at stop : ℕ) (places : List ℕ)
+    (next : AreNext (formula_of task) (marked marks) at stop places)
     (clear : IsClear (formula_of task) (marked marks) stop) (on : at ≤ stop) (low : stop < length task.order.items) where
   -- behind a marked place the next ones are behind what is under it
   module _ (size : ℕ) (is_size : get_or task.sizes.items stop 0 ≡ size) (here : marked marks stop ≡ true) where
@@ -262,7 +276,8 @@ module _ (task : Task) (is : IsTask task) (marks : List Bool) (am : AreMarks tas
     ])
 
     pub clear_over : IsClear (formula_of task) (marked marks) (stop + size)
-    clear_over = subst (λ n. IsClear (formula_of task) (marked marks) (stop + n)) (sym same_size) (clear_behind (formula_of task) (marked marks) stop clear am.apart here)
+    clear_over = subst (λ n. IsClear (formula_of task) (marked marks) (stop + n)) (sym same_size)
+        (clear_behind (formula_of task) (marked marks) stop clear am.apart here)
 
     pub ends_within : stop + size ≤ length task.order.items
     ends_within = let w = size_within task is stop low in let e = is_size in omega arith
@@ -275,14 +290,16 @@ module _ (task : Task) (is : IsTask task) (marks : List Bool) (am : AreMarks tas
         next_more (formula_of task) (marked marks) at stop places next on (clear_kept (formula_of task) (marked marks) stop clear (omega arith) here)
 
     pub clear_next_to : IsClear (formula_of task) (marked marks) (stop + 1)
-    clear_next_to = let one : suc stop ≡ stop + 1 = omega arith in subst (IsClear (formula_of task) (marked marks)) one (clear_next (formula_of task) (marked marks) stop clear here)
+    clear_next_to = let one : suc stop ≡ stop + 1 = omega arith in
+        subst (IsClear (formula_of task) (marked marks)) one (clear_next (formula_of task) (marked marks) stop clear here)
 
 -- a group with an occurrence has gone on
 pub gone_on : (f : Formula) (P : Places) (at stop : ℕ) (places : List ℕ) → AreNext f P at stop places → 1 ≤ length places → at < stop
 gone_on f P at stop places next some = let w = next.each 0 (omega arith) in let a = w.0 in let b = w.1 in omega arith
 
 -- each of the next kept occurrences is kept
-pub all_kept : (f : Formula) (P : Places) (at stop : ℕ) (places : List ℕ) → AreNext f P at stop places → (i : ℕ) → i < length places → IsKept f P (get_or places i 0)
+pub all_kept : (f : Formula) (P : Places) (at stop : ℕ) (places : List ℕ) → AreNext f P at stop places → (i : ℕ) → i < length places
+    → IsKept f P (get_or places i 0)
 all_kept f P at stop places next i lt = (next.each i lt).2
 
 -- ---- a step of a pass
@@ -294,10 +311,18 @@ taken_on task P Q at next step =
     let a = step.1 in
     let e = step.4 in omega arith
 
-module _ (task : Task) (is : IsTask task) (marks : List Bool) (at stop : ℕ) (places : List ℕ) (found : List Outcome) (next : AreNext (formula_of task) (marked marks) at stop places)
+module _ (task : Task) (is : IsTask task) (marks : List Bool) (at stop : ℕ) (places : List ℕ) (found : List Outcome)
+    (next : AreNext (formula_of task) (marked marks) at stop places)
     (tested : AreTested task marks places found) where
-  pub step_left : at < stop → stop ≤ length task.order.items → IsClear (formula_of task) (marked marks) stop → IsFirstClosed found None → IsStep task (marked marks) at (advances.Left stop) (marked marks)
-  step_left on within clear first = (on, (let all = places_all task is in omega arith), λ n. refl, all_left task (marked marks) at stop places found next tested.long tested.each first, clear)
+  pub step_left : at < stop → stop ≤ length task.order.items → IsClear (formula_of task) (marked marks) stop → IsFirstClosed found None
+      → IsStep task (marked marks) at (advances.Left stop) (marked marks)
+  step_left on within clear first = (
+    on,
+    (let all = places_all task is in omega arith),
+    λ n. refl,
+    all_left task (marked marks) at stop places found next tested.long tested.each first,
+    clear,
+  )
 
   module _ (index : ℕ) (first : IsFirstClosed found (Some index)) where
     pub index_within : index < length places
@@ -305,12 +330,15 @@ module _ (task : Task) (is : IsTask task) (marks : List Bool) (at stop : ℕ) (p
 
     module _ (place : ℕ) (place_is : get_or places index 0 ≡ place) where
       pub place_taken : IsTaken (test_of task) (formula_of task) (marked marks) place
-      place_taken = subst (IsTaken (test_of task) (formula_of task) (marked marks)) place_is (closed_taken task (marked marks) at stop places found next tested.long tested.each index first)
+      place_taken = subst (IsTaken (test_of task) (formula_of task) (marked marks)) place_is
+          (closed_taken task (marked marks) at stop places found next tested.long tested.each index first)
 
       pub place_within : place < length task.order.items
       place_within = let all = places_all task is in let there = place_taken.0.there in omega arith
 
-      pub step_taken : (size : ℕ) (marks' : List Bool) → get_or task.sizes.items place 0 ≡ size → AreSame (marked marks') (added (formula_of task) (marked marks) place) → IsStep task (marked marks) at (advances.Taken (place + size)) (marked marks')
+      pub step_taken : (size : ℕ) (marks' : List Bool)
+          → get_or task.sizes.items place 0 ≡ size → AreSame (marked marks') (added (formula_of task) (marked marks) place)
+          → IsStep task (marked marks) at (advances.Taken (place + size)) (marked marks')
       step_taken size marks' size_is with_it = (
         place,
         (let w = (next.each index index_within).0 in omega arith),
@@ -322,9 +350,11 @@ module _ (task : Task) (is : IsTask task) (marks : List Bool) (at stop : ℕ) (p
 
 -- ---- the answer
 
-pub core_of : (task : Task) (t : Table) (root asked : ℕ) (kind : Kind) (g : Formula) (Q : Places) → task.table.now ≡ t → task.root ≡ root → task.kind ≡ kind → task.asked ≡ asked → IsReached (test_of task) (formula_of task) Q → g ≡ rep (formula_of task) Q
+pub core_of : (task : Task) (t : Table) (root asked : ℕ) (kind : Kind) (g : Formula) (Q : Places)
+    → task.table.now ≡ t → task.root ≡ root → task.kind ≡ kind → task.asked ≡ asked → IsReached (test_of task) (formula_of task) Q → g ≡ rep (formula_of task) Q
     → IsCore (tableau kind asked) (tree_at t root) g
 core_of task t root asked kind g Q same_table same_root same_kind same_asked reached e =
     let one : IsCore (tableau task.kind task.asked) (tree_at task.table.now task.root) g = (Q, reached, e) in
-    let two : IsCore (tableau task.kind task.asked) (tree_at t root) g = subst (λ r. IsCore (tableau task.kind task.asked) (tree_at t r) g) same_root (subst (λ (x : Table). IsCore (tableau task.kind task.asked) (tree_at x task.root) g) same_table one) in
+    let two : IsCore (tableau task.kind task.asked) (tree_at t root) g = subst (λ r. IsCore (tableau task.kind task.asked) (tree_at t r) g) same_root
+    (subst (λ (x : Table). IsCore (tableau task.kind task.asked) (tree_at x task.root) g) same_table one) in
     subst (λ n. IsCore (tableau kind n) (tree_at t root) g) same_asked (subst (λ k. IsCore (tableau k task.asked) (tree_at t root) g) same_kind two)

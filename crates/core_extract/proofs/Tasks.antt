@@ -21,15 +21,18 @@ size_small t is sizes number a x low long each lt e =
     let size = each a lt in
     let few = tree_few t is a (omega arith) in omega arith
 
-pub order_under : (t : Table) (root : ℕ) (order : List ℕ) (count : ℕ) → IsTable t.nodes t.names → root < length t.nodes → order ≡ order_at t root → count ≡ length t.nodes → All (λ number. number < count) order
+pub order_under : (t : Table) (root : ℕ) (order : List ℕ) (count : ℕ) → IsTable t.nodes t.names → root < length t.nodes → order ≡ order_at t root
+    → count ≡ length t.nodes → All (λ number. number < count) order
 order_under t root order count is lt same all k d low =
     let member : Contains (order_at t root) (get_or order k d) = subst (λ xs. Contains xs (get_or order k d)) same (Contains-get_or order k d low) in
     let i = order_low t is root lt (get_or order k d) member in omega arith
 
 module _ (task : Task) where
-  pub task_made : (by_node : List ℕ) → IsTable task.table.now.nodes task.table.now.names → task.root < length task.table.now.nodes → HasNoFresh (formula_of task)
+  pub task_made : (by_node : List ℕ) → IsTable task.table.now.nodes task.table.now.names → task.root < length task.table.now.nodes
+      → HasNoFresh (formula_of task)
       → task.order.items ≡ order_at task.table.now task.root
-      → length task.sizes.items ≡ length task.order.items → ((n : ℕ) → n < length task.order.items → get_or task.sizes.items n 0 ≡ get_or by_node (get_or task.order.items n 0) 0)
+      → length task.sizes.items ≡ length task.order.items
+      → ((n : ℕ) → n < length task.order.items → get_or task.sizes.items n 0 ≡ get_or by_node (get_or task.order.items n 0) 0)
       → ((k : ℕ) → k < length task.table.now.nodes → get_or by_node k 0 ≡ nodes_in (tree_at task.table.now k)) → task.asked ≤ 1000 → IsTask task
   task_made by_node is root given order long sizes nodes asked = record {
     table = is;
@@ -40,7 +43,8 @@ module _ (task : Task) where
     sizes = λ n lt.
         let all = ap length order in
         let here : get_or task.order.items n 0 ≡ node_at task.table.now task.root n = ap (λ xs. get_or xs n 0) order in
-        let low = order_low task.table.now is task.root root (node_at task.table.now task.root n) (Contains-get_or (order_at task.table.now task.root) n 0 (omega arith)) in
+        let low = order_low task.table.now is task.root root (node_at task.table.now task.root n)
+        (Contains-get_or (order_at task.table.now task.root) n 0 (omega arith)) in
         sizes n lt
         ∙ (ap (λ m. get_or by_node m 0) here
         ∙ (nodes (node_at task.table.now task.root n) (omega arith)
@@ -57,7 +61,8 @@ module _ (task : Task) where
     node_within n lt =
         let all = ap length is.order in
         let here : get_or task.order.items n 0 ≡ node_at task.table.now task.root n = ap (λ xs. get_or xs n 0) is.order in
-        let low = order_low task.table.now is.table task.root is.root (node_at task.table.now task.root n) (Contains-get_or (order_at task.table.now task.root) n 0 (omega arith)) in
+        let low = order_low task.table.now is.table task.root is.root (node_at task.table.now task.root n)
+        (Contains-get_or (order_at task.table.now task.root) n 0 (omega arith)) in
         let root = is.root in omega arith
 
     pub size_some : (n : ℕ) → n < length task.order.items → 1 ≤ get_or task.sizes.items n 0

@@ -52,7 +52,8 @@ module _ (T : Test) (f : Formula) where
   walk_on_idle at stop S P w le left =
       let here : at ≡ 0 + at = omega arith in
       let all : at + (stop - at) ≡ stop = omega arith in
-      let rest : Walk (stop - at) (0 + at) P P = subst (λ n. Walk (stop - at) n P P) here (walk_idle (stop - at) at P (λ k low high. left k low (omega arith))) in
+      let rest : Walk (stop - at) (0 + at) P P =
+      subst (λ n. Walk (stop - at) n P P) here (walk_idle (stop - at) at P (λ k low high. left k low (omega arith))) in
       subst (λ n. Walk n 0 S P) all (walk_then at (stop - at) 0 S P P w rest)
 
   -- places that are not kept
@@ -79,7 +80,8 @@ module _ (T : Test) (f : Formula) where
   pub walk_on_taken_behind : (at : ℕ) (S P : Places) → Walk at 0 S P → Taken P at → Walk (at + size_at f at) 0 S (added f P at)
   walk_on_taken_behind at S P w taken =
       let some = nodes_some (part_at f at) in
-      walk_on_past (suc at) (at + size_at f at) S (added f P at) (walk_on_taken at S P w taken) (omega arith) (λ k low high kept. kept.above at (added_self f P at) (low, high))
+      walk_on_past (suc at) (at + size_at f at) S (added f P at) (walk_on_taken at S P w taken) (omega arith)
+      (λ k low high kept. kept.above at (added_self f P at) (low, high))
 
   -- ---- what a walk keeps
 

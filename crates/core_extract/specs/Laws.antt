@@ -38,7 +38,8 @@ CoreHasNoTrace = (kind : Kind) (asked : ℕ) (f g : Formula) → IsRefuted kind 
 
 -- with one further kept occurrence replaced its verdict at the limit in force is SAT or UNDECIDED
 abbrev pub CoreIsLeast : Type 0
-CoreIsLeast = (kind : Kind) (asked : ℕ) (f : Formula) (Q : Places) (n : ℕ) → IsReached (tableau kind asked) f Q → IsKept f Q n → IsUnrefuted kind asked (rep f (added f Q n))
+CoreIsLeast = (kind : Kind) (asked : ℕ) (f : Formula) (Q : Places) (n : ℕ) → IsReached (tableau kind asked) f Q → IsKept f Q n
+    → IsUnrefuted kind asked (rep f (added f Q n))
 
 -- none of the replaced occurrences is under another
 abbrev pub CoreIsApart : Type 0

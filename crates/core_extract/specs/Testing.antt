@@ -79,7 +79,8 @@ IsFirstClosed found (Some n) = (n < length found) × (slice_index_or found n out
 
 -- a group of tests leaves all occurrences up to a place, or it takes one and goes on behind what is under it
 abbrev pub IsStep : Task → Places → ℕ → Advance → Places → Type 0
-IsStep task P at (advances.Left next) Q = (at < next) × (next ≤ nodes_in (formula_of task)) × AreSame P Q × AreLeft task P at next × IsClear (formula_of task) P next
+IsStep task P at (advances.Left next) Q =
+    (at < next) × (next ≤ nodes_in (formula_of task)) × AreSame P Q × AreLeft task P at next × IsClear (formula_of task) P next
 IsStep task P at (advances.Taken next) Q = (place : ℕ) × (at ≤ place) × AreLeft task P at place × IsTaken (test_of task) (formula_of task) P place
     × (next ≡ place + size_at (formula_of task) place) × AreSame Q (added (formula_of task) P place)
 

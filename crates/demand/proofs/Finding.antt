@@ -1,5 +1,6 @@
 -- What is found at the greatest number at which something is.
-use Rattle.std.proofs.Common.{◌≡◌, ℕ, zero, suc, ◌-◌, ◌<◌, Bool, true, false, IsTrue, IsFalse, List, [], ◌∷◌, ◌++◌, Contains, ◌⊎◌, inl, inr, refl, arith, ap, ap₂, subst, sym, ◌∙◌, Option, Some, None, if◌then◌else◌}
+use Rattle.std.proofs.Common.{◌≡◌, ℕ, zero, suc, ◌-◌, ◌<◌, Bool, true, false, IsTrue, IsFalse, List, [], ◌∷◌, ◌++◌, Contains, ◌⊎◌, inl, inr, refl, arith, ap}
+use Rattle.std.proofs.Common.{ap₂, subst, sym, ◌∙◌, Option, Some, None, if◌then◌else◌}
 use Rattle.std.proofs.lemmas.Bool.{cases_lt}
 use Rattle.std.proofs.lemmas.List.Elements.{Contains-append_cases}
 use Rattle.ltl_closure.proofs.Lists.{Contains-nil, Contains-cons_cases}

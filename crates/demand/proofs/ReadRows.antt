@@ -1,5 +1,6 @@
 -- The values that are read are those of the entries of a row, and the rows that are read stand in their order.
-use Rattle.std.proofs.Common.{◌≡◌, ℕ, zero, suc, ◌+◌, ◌<◌, Bool, inl, inr, refl, ap, ap₂, sym, ◌∙◌, arith, subst, List, [], ◌∷◌, ◌++◌, length, length-append, map, All, Contains}
+use Rattle.std.proofs.Common.{◌≡◌, ℕ, zero, suc, ◌+◌, ◌<◌, Bool, inl, inr, refl, ap, ap₂, sym, ◌∙◌, arith, subst, List, [], ◌∷◌, ◌++◌, length, length-append}
+use Rattle.std.proofs.Common.{map, All, Contains}
 use Rattle.std.proofs.lemmas.Bool.{cases_lt}
 use Rattle.std.proofs.lemmas.Simd.{map-map}
 use Rattle.ltl_syntax.specs.declared.node.Kind.{Kind}

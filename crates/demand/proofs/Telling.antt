@@ -1,5 +1,6 @@
 -- What tests on rows of values say of the run.
-use Rattle.std.proofs.Common.{◌≡◌, ℕ, zero, suc, ◌<◌, Bool, true, false, not, ◌&&◌, ◌||◌, IsTrue, IsFalse, inl, inr, refl, arith, ◌∙◌, sym, subst, List, [], ◌∷◌, length, map, Contains}
+use Rattle.std.proofs.Common.{◌≡◌, ℕ, zero, suc, ◌<◌, Bool, true, false, not, ◌&&◌, ◌||◌, IsTrue, IsFalse, inl, inr, refl, arith, ◌∙◌, sym, subst, List, []}
+use Rattle.std.proofs.Common.{◌∷◌, length, map, Contains}
 use Rattle.std.specs.Prelude.{nat_lt}
 use Rattle.std.proofs.lemmas.Bool.{or_cases, or_left, or_right, cases_lt, ltb-true, lt-ltb}
 use Rattle.std.proofs.lemmas.List.{get_or-map, length-map}

@@ -1,18 +1,21 @@
 -- A residue is at most twice as large as its formula, and the axioms are few enough for 32 bits.
-use Rattle.std.proofs.Common.{◌≡◌, ℕ, zero, suc, ◌+◌, ◌-◌, ◌*◌, ◌<◌, ◌≤◌, sym, subst, arith, inl, inr, lt-ltb, le-ltb, List, [], ◌∷◌, ◌++◌, length, length-append, slice_index_or}
+use Rattle.std.proofs.Common.{◌≡◌, ℕ, zero, suc, ◌+◌, ◌-◌, ◌*◌, ◌<◌, ◌≤◌, sym, subst, arith, inl, inr, lt-ltb, le-ltb, List, [], ◌∷◌, ◌++◌, length}
+use Rattle.std.proofs.Common.{length-append, slice_index_or}
 use Rattle.std.proofs.lemmas.Bool.{cases_lt, cond-true, cond-false}
 use Rattle.std.proofs.Math.Nat.{mul-le-mul_right}
 use Rattle.std.proofs.Math.ListN.{get_or-append}
 use Rattle.std.proofs.Math.Seq.{get_or-append_seam}
 use Rattle.ltl_syntax.specs.declared.node.UnaryOp.{UnaryOp}
 use Rattle.ltl_syntax.specs.declared.node.BinaryOp.{BinaryOp}
-use Rattle.ltl_syntax.specs.declared.node.UnaryOp.TheVariants.{Always, AlwaysIn, Eventually, EventuallyIn, Historically, HistoricallyIn, Next, NextTimes, Not, Once, OnceIn, WeakNext, WeakYesterday, Yesterday, YesterdayTimes}
+use Rattle.ltl_syntax.specs.declared.node.UnaryOp.TheVariants.{Always, AlwaysIn, Eventually, EventuallyIn, Historically, HistoricallyIn, Next, NextTimes, Not}
+use Rattle.ltl_syntax.specs.declared.node.UnaryOp.TheVariants.{Once, OnceIn, WeakNext, WeakYesterday, Yesterday, YesterdayTimes}
 use Rattle.ltl_syntax.specs.declared.node.BinaryOp.TheVariants.{And, Iff, Implies, Or, Release, Since, StrongRelease, Trigger, Until, WeakUntil}
 use Rattle.ltl_syntax.specs.Formula.{Formula, Const, Letter, Unary, Binary}
 use Rattle.ltl_syntax.specs.Size.{operator_size, formula_size}
 use Rattle.ltl_syntax.specs.Table.{Table, tree_at}
 use Rattle.depast.specs.declared.counts.Counts.{Counts}
-use Rattle.depast.specs.Counting.{step_size, range_size, residue_size, residue_size₁, residue_size₂, chain_size, axioms_size, axioms_size₁, axioms_size₂, IsCount, AreCounts, blank_count}
+use Rattle.depast.specs.Counting.{step_size, range_size, residue_size, residue_size₁, residue_size₂, chain_size, axioms_size, axioms_size₁, axioms_size₂}
+use Rattle.depast.specs.Counting.{IsCount, AreCounts, blank_count}
 
 step_small : (m r s : ℕ) → r ≤ 2 * s → step_size m r ≤ 2 * s + 1
 step_small zero r s h = omega arith
@@ -110,13 +113,15 @@ axioms_few (Binary op a b) h =
 
 -- ---- one node more is counted
 
-pub counts_more : (t : Table) (cs cs' : List Counts) (c : Counts) → cs' ≡ cs ++ c ∷ [] → AreCounts t cs → IsCount (tree_at t (length cs)) c → formula_size (tree_at t (length cs)) ≤ 16384 → AreCounts t cs'
+pub counts_more : (t : Table) (cs cs' : List Counts) (c : Counts) → cs' ≡ cs ++ c ∷ [] → AreCounts t cs → IsCount (tree_at t (length cs)) c
+    → formula_size (tree_at t (length cs)) ≤ 16384 → AreCounts t cs'
 counts_more t cs cs' c e are is few = subst (AreCounts t) (sym e) (record {
   each = λ i lt. elim (cases_lt i (length cs)) [
     | inl before ↦ subst (IsCount (tree_at t i)) (sym (get_or-append cs (c ∷ []) blank_count i before)) (are.each i before)
     | inr after ↦
         let here : length cs ≡ i = omega (arith, length-append cs (c ∷ [])) in
-        subst (λ j. IsCount (tree_at t j) (slice_index_or (cs ++ c ∷ []) j blank_count)) here (subst (IsCount (tree_at t (length cs))) (sym (get_or-append_seam cs c [] blank_count)) is)
+        subst (λ j. IsCount (tree_at t j) (slice_index_or (cs ++ c ∷ []) j blank_count)) here
+        (subst (IsCount (tree_at t (length cs))) (sym (get_or-append_seam cs c [] blank_count)) is)
   ];
   small = λ i lt. elim (cases_lt i (length cs)) [
     | inl before ↦ are.small i before

@@ -29,7 +29,8 @@ below_all t [] roots v = subst (AllBelow (length t.nodes)) (sym v) tt
 below_all t (f ∷ fs) roots v = subst (AllBelow (length t.nodes)) (sym v.2) (v.3.0, below_all t fs v.1 v.6)
 
 -- the node stands for g, over the roots that stay
-pub built_more : (t t' : Table) (node : Node) (g : Formula) (fs : List Formula) (rest roots' : List ℕ) → Pushes t node t' → AreBuilt t fs rest → NoChild node rest → made t.names (trees_of t) node ≡ g
+pub built_more : (t t' : Table) (node : Node) (g : Formula) (fs : List Formula) (rest roots' : List ℕ) → Pushes t node t' → AreBuilt t fs rest
+    → NoChild node rest → made t.names (trees_of t) node ≡ g
     → roots' ≡ length t.nodes ∷ rest → AreBuilt t' (g ∷ fs) roots'
 built_more t t' node g fs rest roots' p v none is e = (length t.nodes, rest, e, p.root, p.tree ∙ is, below_all t fs rest v, kept t t' node p fs rest v none)
 
@@ -63,9 +64,11 @@ no_child_unary op a (x ∷ xs) h = (not_equal a x h.0, no_child_unary op a xs h.
 
 no_child_binary : (op : BinaryOp) (a b : ℕ) (xs : List ℕ) → AllBelow a xs → a < b → NoChild (nodes.Binary op a b) xs
 no_child_binary op a b [] h lt = tt
-no_child_binary op a b (x ∷ xs) h lt = let x_low = h.0 in (neither (a == x) (b == x) (not_equal a x h.0) (not_equal b x (omega arith)), no_child_binary op a b xs h.1 lt)
+no_child_binary op a b (x ∷ xs) h lt = let x_low = h.0 in
+    (neither (a == x) (b == x) (not_equal a x h.0) (not_equal b x (omega arith)), no_child_binary op a b xs h.1 lt)
 
-pub unary_built : (l : Letters) (t t' : Table) (op : UnaryOp) (a : ℕ) (fs gs : List Formula) (roots rest roots' : List ℕ) → roots ≡ a ∷ rest → Pushes t (nodes.Unary op a) t' → roots' ≡ length t.nodes ∷ rest
+pub unary_built : (l : Letters) (t t' : Table) (op : UnaryOp) (a : ℕ) (fs gs : List Formula) (roots rest roots' : List ℕ)
+    → roots ≡ a ∷ rest → Pushes t (nodes.Unary op a) t' → roots' ≡ length t.nodes ∷ rest
     → AreBuilt t fs roots → Reads l (symbols.Unary op ∷ []) fs gs → AreBuilt t' gs roots'
 unary_built l t t' op a [] gs roots rest roots' e p on v h = absurd h
 unary_built l t t' op a (f ∷ fs) gs roots rest roots' e p on v h =
@@ -74,9 +77,11 @@ unary_built l t t' op a (f ∷ fs) gs roots rest roots' e p on v h =
     let built : AreBuilt t fs rest = subst (AreBuilt t fs) r v.6 in
     let low : AllBelow a rest = subst (λ m. AllBelow m rest) n (subst (AllBelow v.0) r v.5) in
     let tree : tree_at t a ≡ f = subst (λ m. tree_at t m ≡ f) n v.4 in
-    subst (λ hs. AreBuilt t' hs roots') h.1 (built_more t t' (nodes.Unary op a) (Unary op f) fs rest roots' p built (no_child_unary op a rest low) (ap (Unary op) tree) on)
+    subst (λ hs. AreBuilt t' hs roots') h.1
+    (built_more t t' (nodes.Unary op a) (Unary op f) fs rest roots' p built (no_child_unary op a rest low) (ap (Unary op) tree) on)
 
-pub binary_built : (l : Letters) (t t' : Table) (op : BinaryOp) (a b : ℕ) (fs gs : List Formula) (roots mid rest roots' : List ℕ) → roots ≡ b ∷ mid → mid ≡ a ∷ rest → Pushes t (nodes.Binary op a b) t' → roots' ≡ length t.nodes ∷ rest
+pub binary_built : (l : Letters) (t t' : Table) (op : BinaryOp) (a b : ℕ) (fs gs : List Formula) (roots mid rest roots' : List ℕ)
+    → roots ≡ b ∷ mid → mid ≡ a ∷ rest → Pushes t (nodes.Binary op a b) t' → roots' ≡ length t.nodes ∷ rest
     → AreBuilt t fs roots → Reads l (symbols.Binary op ∷ []) fs gs → AreBuilt t' gs roots'
 binary_built l t t' op a b [] gs roots mid rest roots' e e' p on v h = absurd h
 binary_built l t t' op a b (f ∷ []) gs roots mid rest roots' e e' p on v h = absurd h
@@ -92,11 +97,13 @@ binary_built l t t' op a b (g ∷ f ∷ fs) gs roots mid rest roots' e e' p on v
     let tree : tree_at t a ≡ f = subst (λ k. tree_at t k ≡ f) m u.4 in
     let tree' : tree_at t b ≡ g = subst (λ k. tree_at t k ≡ g) n v.4 in
     let is : Binary op (tree_at t a) (tree_at t b) ≡ Binary op f g = cc in
-    subst (λ hs. AreBuilt t' hs roots') h (built_more t t' (nodes.Binary op a b) (Binary op f g) fs rest roots' p built (no_child_binary op a b rest low lows.0) is on)
+    subst (λ hs. AreBuilt t' hs roots') h
+    (built_more t t' (nodes.Binary op a b) (Binary op f g) fs rest roots' p built (no_child_binary op a b rest low lows.0) is on)
 
 -- ---- what is asked of the next symbol
 
-pub may_put : (source t : Table) (most : ℕ) (x : Symbol) (xs : List Symbol) (fs gs : List Formula) (roots : List ℕ) → AreBuilt t fs roots → Reads (letters_by source most) (x ∷ xs) fs gs → MayPut source x t roots
+pub may_put : (source t : Table) (most : ℕ) (x : Symbol) (xs : List Symbol) (fs gs : List Formula) (roots : List ℕ) → AreBuilt t fs roots
+    → Reads (letters_by source most) (x ∷ xs) fs gs → MayPut source x t roots
 may_put source t most (symbols.Const b) xs fs gs roots v h = tt
 may_put source t most (symbols.Old n) xs fs gs roots v h = h.0
 may_put source t most (symbols.Fresh n) xs fs gs roots v h = tt
@@ -112,7 +119,8 @@ may_put source t most (symbols.Binary op) xs (g ∷ f ∷ fs) gs roots v h =
 
 -- ---- a name joins the table, and the trees stay
 
-pub named : (t t' : Table) (text : List ℕ) (number : ℕ) (fs : List Formula) (roots : List ℕ) → Names t text number t' → AreBuilt t fs roots → AreBuilt t' fs roots
+pub named : (t t' : Table) (text : List ℕ) (number : ℕ) (fs : List Formula) (roots : List ℕ) → Names t text number t' → AreBuilt t fs roots
+    → AreBuilt t' fs roots
 named t t' text number [] roots is v = v
 named t t' text number (f ∷ fs) roots is v = (
   v.0,
@@ -126,7 +134,8 @@ named t t' text number (f ∷ fs) roots is v = (
 
 -- ---- the last root
 
-pub last_built : (t : Table) (f : Formula) (roots rest : List ℕ) (root : ℕ) → AreBuilt t (f ∷ []) roots → roots ≡ root ∷ rest → IsRoot t root × (tree_at t root ≡ f)
+pub last_built : (t : Table) (f : Formula) (roots rest : List ℕ) (root : ℕ) → AreBuilt t (f ∷ []) roots
+    → roots ≡ root ∷ rest → IsRoot t root × (tree_at t root ≡ f)
 last_built t f roots rest root v e =
     let n : v.0 ≡ root = cc in
     (subst (IsRoot t) n v.3, subst (λ m. tree_at t m ≡ f) n v.4)

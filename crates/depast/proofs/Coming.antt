@@ -24,7 +24,8 @@ trees_joined t (nodes.Unary op a) rest = refl
 trees_joined t (nodes.Binary op a b) rest = refl
 
 -- what a node adds to the names
-taken_more : (t : Table) (node : Node) (rest : List ℕ) → taken_by (trees_at t (operands node ++ rest)) ≤ taken_by (trees_at t rest) + taken (made t.names (trees_of t) node)
+taken_more : (t : Table) (node : Node) (rest : List ℕ)
+    → taken_by (trees_at t (operands node ++ rest)) ≤ taken_by (trees_at t rest) + taken (made t.names (trees_of t) node)
 taken_more t (nodes.Const b) rest = omega arith
 taken_more t (nodes.Letter n) rest = omega arith
 taken_more t (nodes.Fresh n) rest = omega arith
@@ -52,14 +53,16 @@ in_table t number done order order' root ends e =
     let v : Ends t done (number ∷ order') root = subst (λ o. Ends t done o root) e ends in
     slice_get_within t.nodes number v.0 v.2.there
 
-pub comes : (t : Table) (number : ℕ) (node : Node) (done order order' : List ℕ) (root : ℕ) → Ends t done order root → order ≡ number ∷ order' → slice_get t.nodes number ≡ Some node → Comes t number node done order' root
+pub comes : (t : Table) (number : ℕ) (node : Node) (done order order' : List ℕ) (root : ℕ) → Ends t done order root
+    → order ≡ number ∷ order' → slice_get t.nodes number ≡ Some node → Comes t number node done order' root
 comes t number node done order order' root ends e at =
     let v : Ends t done (number ∷ order') root = subst (λ o. Ends t done o root) e ends in
     let both : Some v.0 ≡ Some node = sym v.2.there ∙ at in
     let one : v.0 ≡ node = cc in
     record { rest = v.1; is = subst (IsNode t number) one v.2; operands_done = subst (λ n. done ≡ operands n ++ v.1) one v.3; ends = v.4 }
 
-pub may_come : (t : Table) (number : ℕ) (node : Node) (rest order : List ℕ) (root : ℕ) (w : Writer) (l : Letters) → IsNode t number node → Ends t (number ∷ rest) order root → taken (tree_at t root) ≤ 16384
+pub may_come : (t : Table) (number : ℕ) (node : Node) (rest order : List ℕ) (root : ℕ) (w : Writer) (l : Letters) → IsNode t number node
+    → Ends t (number ∷ rest) order root → taken (tree_at t root) ≤ 16384
     → IsDoneBy l (trees_at t (operands node ++ rest)) w → MayCome node w
 may_come t number (nodes.Const b) rest order root w l is ends few done = tt
 may_come t number (nodes.Letter n) rest order root w l is ends few done = tt

@@ -3,11 +3,13 @@ use Rattle.std.proofs.Common.{◌≡◌, ℕ, zero, suc, ◌+◌, ◌-◌, ◌*�
 use Rattle.std.proofs.lemmas.Bool.{cases_lt, cond-true, cond-false}
 use Rattle.ltl_syntax.specs.declared.node.UnaryOp.{UnaryOp}
 use Rattle.ltl_syntax.specs.declared.node.BinaryOp.{BinaryOp}
-use Rattle.ltl_syntax.specs.declared.node.UnaryOp.TheVariants.{Always, AlwaysIn, Eventually, EventuallyIn, Historically, HistoricallyIn, Next, NextTimes, Not, Once, OnceIn, WeakNext, WeakYesterday, Yesterday, YesterdayTimes}
+use Rattle.ltl_syntax.specs.declared.node.UnaryOp.TheVariants.{Always, AlwaysIn, Eventually, EventuallyIn, Historically, HistoricallyIn, Next, NextTimes, Not}
+use Rattle.ltl_syntax.specs.declared.node.UnaryOp.TheVariants.{Once, OnceIn, WeakNext, WeakYesterday, Yesterday, YesterdayTimes}
 use Rattle.ltl_syntax.specs.declared.node.BinaryOp.TheVariants.{And, Iff, Implies, Or, Release, Since, StrongRelease, Trigger, Until, WeakUntil}
 use Rattle.ltl_syntax.specs.Formula.{Formula, Const, Letter, Unary, Binary}
 use Rattle.ltl_syntax.specs.Size.{formula_size}
-use Rattle.depast.specs.Depast.{residue, residue₁, residue₂, axioms, axioms₁, axioms₂, step_back, joined_back, back_axioms, conjoined, depast, letter_for, taken, yesterday_axiom, weak_yesterday_axiom}
+use Rattle.depast.specs.Depast.{residue, residue₁, residue₂, axioms, axioms₁, axioms₂, step_back, joined_back, back_axioms, conjoined, depast, letter_for}
+use Rattle.depast.specs.Depast.{taken, yesterday_axiom, weak_yesterday_axiom}
 use Rattle.depast.specs.Counting.{step_size, range_size, residue_size, residue_size₁, residue_size₂, chain_size, axioms_size, axioms_size₁, axioms_size₂}
 
 -- the sum of the sizes of formulas, each joined to what is before it
@@ -28,14 +30,16 @@ module _ (z : ℕ → Formula) (small : (k : ℕ) → formula_size (z k) ≡ 1) 
   step_sized k c zero = refl
   step_sized k c (suc m) = small (k + m)
 
-  joined_sized : (op : BinaryOp) (none : Bool) (k : ℕ) (c : Formula) (m n : ℕ) → formula_size (joined_back op none (step_back z k c) m (suc n)) ≡ step_size m (formula_size c) + 2 * n
+  joined_sized : (op : BinaryOp) (none : Bool) (k : ℕ) (c : Formula) (m n : ℕ)
+      → formula_size (joined_back op none (step_back z k c) m (suc n)) ≡ step_size m (formula_size c) + 2 * n
   joined_sized op none k c m zero = omega (arith, step_sized k c m)
   joined_sized op none k c m (suc n) =
       let e : m + suc n ≡ suc (m + n) = omega arith in
       let one : formula_size (step_back z k c (m + suc n)) ≡ 1 = ap (λ i. formula_size (step_back z k c i)) e ∙ small (k + (m + n)) in
       omega (arith, joined_sized op none k c m n, one)
 
-  range_sized : (op : BinaryOp) (none : Bool) (k : ℕ) (c : Formula) (m n : ℕ) → formula_size (joined_back op none (step_back z k c) m (suc n - m)) ≡ range_size m n (formula_size c)
+  range_sized : (op : BinaryOp) (none : Bool) (k : ℕ) (c : Formula) (m n : ℕ)
+      → formula_size (joined_back op none (step_back z k c) m (suc n - m)) ≡ range_size m n (formula_size c)
   range_sized op none k c m n = elim (cases_lt n m) [
     | inl empty ↦
         let e : suc n - m ≡ zero = omega arith in
@@ -80,10 +84,12 @@ module _ (z : ℕ → Formula) (small : (k : ℕ) → formula_size (z k) ≡ 1) 
   residue_sized n (Unary op a) = residue_sized₁ (n + taken a) op (residue z n a) ∙ ap (residue_size₁ op) (residue_sized n a)
   residue_sized n (Binary op a b) =
       residue_sized₂ (n + taken a + taken b) op (residue z n a) (residue z (n + taken a) b)
-      ∙ (ap (λ r. residue_size₂ op r (formula_size (residue z (n + taken a) b))) (residue_sized n a) ∙ ap (residue_size₂ op (residue_size a)) (residue_sized (n + taken a) b))
+      ∙ (ap (λ r. residue_size₂ op r (formula_size (residue z (n + taken a) b))) (residue_sized n a)
+      ∙ ap (residue_size₂ op (residue_size a)) (residue_sized (n + taken a) b))
 
   -- chains, of which an axiom takes so much beside twice its operand
-  chain_sized : (says : Formula → Formula → Formula) (each k : ℕ) (c : Formula) → ((a y : Formula) → formula_size y ≡ 1 → formula_size (says a y) + 1 ≡ each + 2 * formula_size a)
+  chain_sized : (says : Formula → Formula → Formula) (each k : ℕ) (c : Formula)
+      → ((a y : Formula) → formula_size y ≡ 1 → formula_size (says a y) + 1 ≡ each + 2 * formula_size a)
       → (n : ℕ) → said_size (back_axioms says z k c n) ≡ chain_size each n (formula_size c)
   chain_sized says each k c is zero = refl
   chain_sized says each k c is (suc zero) = let one = is c (z (k + zero)) (small (k + zero)) in omega (arith, one)
@@ -133,14 +139,17 @@ module _ (z : ℕ → Formula) (small : (k : ℕ) → formula_size (z k) ≡ 1) 
   axioms_sized n (Const b) = refl
   axioms_sized n (Letter p) = refl
   axioms_sized n (Unary op a) =
-      let own : said_size (axioms₁ z (n + taken a) op (residue z n a)) ≡ axioms_size₁ op (residue_size a) = axioms_sized₁ (n + taken a) op (residue z n a) ∙ ap (axioms_size₁ op) (residue_sized n a) in
+      let own : said_size (axioms₁ z (n + taken a) op (residue z n a)) ≡ axioms_size₁ op (residue_size a) =
+      axioms_sized₁ (n + taken a) op (residue z n a) ∙ ap (axioms_size₁ op) (residue_sized n a) in
       omega (arith, own, axioms_sized n a, said_size-append (axioms z n a) (axioms₁ z (n + taken a) op (residue z n a)))
   axioms_sized n (Binary op a b) =
       let c = residue z n a in
       let d = residue z (n + taken a) b in
-      let own : said_size (axioms₂ z (n + taken a + taken b) op (residue z n a) (residue z (n + taken a) b)) ≡ axioms_size₂ op (residue_size a) (residue_size b) =
+      let own : said_size (axioms₂ z (n + taken a + taken b) op (residue z n a) (residue z (n + taken a) b)) ≡ axioms_size₂ op (residue_size a)
+      (residue_size b) =
       axioms_sized₂ (n + taken a + taken b) op (residue z n a) (residue z (n + taken a) b)
-      ∙ (ap (λ r. axioms_size₂ op r (formula_size (residue z (n + taken a) b))) (residue_sized n a) ∙ ap (axioms_size₂ op (residue_size a)) (residue_sized (n + taken a) b)) in
+      ∙ (ap (λ r. axioms_size₂ op r (formula_size (residue z (n + taken a) b))) (residue_sized n a)
+      ∙ ap (axioms_size₂ op (residue_size a)) (residue_sized (n + taken a) b)) in
       omega (
         arith,
         own,
@@ -152,4 +161,9 @@ module _ (z : ℕ → Formula) (small : (k : ℕ) → formula_size (z k) ≡ 1) 
 
 pub size_counted : (f : Formula) → formula_size (depast f) ≡ residue_size f + axioms_size f
 size_counted f =
-    omega (arith, conjoined_size (residue (letter_for f) 0 f) (axioms (letter_for f) 0 f), residue_sized (letter_for f) (λ k. refl) 0 f, axioms_sized (letter_for f) (λ k. refl) 0 f)
+    omega (
+      arith,
+      conjoined_size (residue (letter_for f) 0 f) (axioms (letter_for f) 0 f),
+      residue_sized (letter_for f) (λ k. refl) 0 f,
+      axioms_sized (letter_for f) (λ k. refl) 0 f,
+    )

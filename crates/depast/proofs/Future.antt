@@ -3,10 +3,12 @@ use Rattle.std.proofs.Common.{ℕ, zero, suc, ◌+◌, ◌-◌, Bool, true, fals
 use Rattle.std.specs.Prelude.{⊤}
 use Rattle.ltl_syntax.specs.declared.node.UnaryOp.{UnaryOp}
 use Rattle.ltl_syntax.specs.declared.node.BinaryOp.{BinaryOp}
-use Rattle.ltl_syntax.specs.declared.node.UnaryOp.TheVariants.{Always, AlwaysIn, Eventually, EventuallyIn, Historically, HistoricallyIn, Next, NextTimes, Not, Once, OnceIn, WeakNext, WeakYesterday, Yesterday, YesterdayTimes}
+use Rattle.ltl_syntax.specs.declared.node.UnaryOp.TheVariants.{Always, AlwaysIn, Eventually, EventuallyIn, Historically, HistoricallyIn, Next, NextTimes, Not}
+use Rattle.ltl_syntax.specs.declared.node.UnaryOp.TheVariants.{Once, OnceIn, WeakNext, WeakYesterday, Yesterday, YesterdayTimes}
 use Rattle.ltl_syntax.specs.declared.node.BinaryOp.TheVariants.{And, Iff, Implies, Or, Release, Since, StrongRelease, Trigger, Until, WeakUntil}
 use Rattle.ltl_syntax.specs.Formula.{Formula, Const, Letter, Unary, Binary}
-use Rattle.depast.specs.Depast.{taken, step_back, joined_back, residue, residue₁, residue₂, yesterday_axiom, weak_yesterday_axiom, since_axiom, trigger_axiom, back_axioms, axioms, axioms₁, axioms₂, conjoined, letter_for, depast}
+use Rattle.depast.specs.Depast.{taken, step_back, joined_back, residue, residue₁, residue₂, yesterday_axiom, weak_yesterday_axiom, since_axiom, trigger_axiom}
+use Rattle.depast.specs.Depast.{back_axioms, axioms, axioms₁, axioms₂, conjoined, letter_for, depast}
 use Rattle.depast.specs.Future.{IsFuture, IsFuture₂}
 
 abbrev AreFuture : List Formula → Type 0
@@ -72,11 +74,14 @@ module _ (z : ℕ → Formula) (plain : (k : ℕ) → IsFuture (z k)) where
   residue_future (Const b) n = tt
   residue_future (Letter p) n = tt
   residue_future (Unary op a) n = residue₁_future op (n + taken a) (residue z n a) (residue_future a n)
-  residue_future (Binary op a b) n = residue₂_future op (n + taken a + taken b) (residue z n a) (residue z (n + taken a) b) (residue_future a n) (residue_future b (n + taken a))
+  residue_future (Binary op a b) n =
+      residue₂_future op (n + taken a + taken b) (residue z n a) (residue z (n + taken a) b) (residue_future a n) (residue_future b (n + taken a))
 
-  back_future : (says : Formula → Formula → Formula) → ((a : Formula) (k : ℕ) → IsFuture a → IsFuture (says a (z k))) → (k : ℕ) (c : Formula) → IsFuture c → (n : ℕ) → AreFuture (back_axioms says z k c n)
+  back_future : (says : Formula → Formula → Formula) → ((a : Formula) (k : ℕ) → IsFuture a → IsFuture (says a (z k))) → (k : ℕ) (c : Formula) → IsFuture c
+      → (n : ℕ) → AreFuture (back_axioms says z k c n)
   back_future says s k c h zero = tt
-  back_future says s k c h (suc n) = future_append (back_axioms says z k c n) (says (step_back z k c n) (z (k + n)) ∷ []) (back_future says s k c h n) (s (step_back z k c n) (k + n) (step_future k c h n), tt)
+  back_future says s k c h (suc n) = future_append (back_axioms says z k c n) (says (step_back z k c n) (z (k + n)) ∷ []) (back_future says s k c h n)
+      (s (step_back z k c n) (k + n) (step_future k c h n), tt)
 
   axioms₁_future : (op : UnaryOp) (k : ℕ) (c : Formula) → IsFuture c → AreFuture (axioms₁ z k op c)
   axioms₁_future Not k c h = tt
@@ -110,10 +115,13 @@ module _ (z : ℕ → Formula) (plain : (k : ℕ) → IsFuture (z k)) where
   axioms_future : (f : Formula) (n : ℕ) → AreFuture (axioms z n f)
   axioms_future (Const b) n = tt
   axioms_future (Letter p) n = tt
-  axioms_future (Unary op a) n = future_append (axioms z n a) (axioms₁ z (n + taken a) op (residue z n a)) (axioms_future a n) (axioms₁_future op (n + taken a) (residue z n a) (residue_future a n))
+  axioms_future (Unary op a) n = future_append (axioms z n a) (axioms₁ z (n + taken a) op (residue z n a)) (axioms_future a n)
+      (axioms₁_future op (n + taken a) (residue z n a) (residue_future a n))
   axioms_future (Binary op a b) n =
-      future_append (axioms z n a) (axioms z (n + taken a) b ++ axioms₂ z (n + taken a + taken b) op (residue z n a) (residue z (n + taken a) b)) (axioms_future a n)
-      (future_append (axioms z (n + taken a) b) (axioms₂ z (n + taken a + taken b) op (residue z n a) (residue z (n + taken a) b)) (axioms_future b (n + taken a))
+      future_append (axioms z n a) (axioms z (n + taken a) b ++ axioms₂ z (n + taken a + taken b) op (residue z n a) (residue z (n + taken a) b))
+      (axioms_future a n)
+      (future_append (axioms z (n + taken a) b) (axioms₂ z (n + taken a + taken b) op (residue z n a) (residue z (n + taken a) b))
+      (axioms_future b (n + taken a))
       (axioms₂_future op (n + taken a + taken b) (residue z n a) (residue z (n + taken a) b) (residue_future a n) (residue_future b (n + taken a))))
 
 conjoined_future : (xs : List Formula) (f : Formula) → IsFuture f → AreFuture xs → IsFuture (conjoined f xs)
@@ -121,4 +129,5 @@ conjoined_future [] f h k = h
 conjoined_future (x ∷ xs) f h k = conjoined_future xs (Binary And f x) (tt, h, k.0) k.1
 
 pub depast_future : (f : Formula) → IsFuture (depast f)
-depast_future f = conjoined_future (axioms (letter_for f) 0 f) (residue (letter_for f) 0 f) (residue_future (letter_for f) (λ k. tt) f 0) (axioms_future (letter_for f) (λ k. tt) f 0)
+depast_future f = conjoined_future (axioms (letter_for f) 0 f) (residue (letter_for f) 0 f) (residue_future (letter_for f) (λ k. tt) f 0)
+    (axioms_future (letter_for f) (λ k. tt) f 0)

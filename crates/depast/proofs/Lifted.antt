@@ -12,7 +12,8 @@ use Rattle.depast.specs.Lifting.{meanings, IsLifted, IsLowered}
 use Rattle.depast.specs.Laws.{IsPart}
 use Rattle.depast.proofs.Shapes.{first_place, shaped_trace, same_places}
 use Rattle.depast.proofs.Telling.{letter_old}
-use Rattle.depast.proofs.Residues.{LettersAgree, AreMeant, are_meant, length-meanings, stands, part_stands, residue_from, conjoined_from, conjoined_to, hold_each}
+use Rattle.depast.proofs.Residues.{LettersAgree, AreMeant, are_meant, length-meanings, stands, part_stands, residue_from, conjoined_from, conjoined_to}
+use Rattle.depast.proofs.Residues.{hold_each}
 
 module _ (f : Formula) (t u : Trace) (good : IsTrace t) (l : IsLifted f t u) where
   fine : IsTrace u
@@ -52,7 +53,8 @@ module _ (f : Formula) (t u : Trace) (good : IsTrace t) (l : IsLifted f t u) whe
       (s.to i (back i at), s.back i (back i at))
 
   pub lifted_axiom : (x : Formula) → Contains (axioms (letter_for f) 0 f) x → Satisfies u x
-  lifted_axiom x c = hold_each t u good fine at0 places (letter_for f) (axioms (letter_for f) 0 f) x (stands t u good fine at0 places (letter_for f) f 0 letters meant).1 c
+  lifted_axiom x c =
+      hold_each t u good fine at0 places (letter_for f) (axioms (letter_for f) 0 f) x (stands t u good fine at0 places (letter_for f) f 0 letters meant).1 c
 
   pub lifted_satisfies : Satisfies t f → Satisfies u (depast f)
   lifted_satisfies h =

@@ -1,5 +1,6 @@
 -- The states that are made of what is read are those of a lifted trace.
-use Rattle.std.proofs.Common.{◌≡◌, ℕ, ◌+◌, ◌-◌, ◌*◌, ◌%◌, ◌<◌, ◌≤◌, ◌^◌, ◌↔◌, inl, inr, refl, sym, ◌∙◌, ap, subst, arith, Bool, true, false, IsTrue, List, [], ◌∷◌, length, slice_index_or, lt-ltb, le-ltb, Contains}
+use Rattle.std.proofs.Common.{◌≡◌, ℕ, ◌+◌, ◌-◌, ◌*◌, ◌%◌, ◌<◌, ◌≤◌, ◌^◌, ◌↔◌, inl, inr, refl, sym, ◌∙◌, ap, subst, arith, Bool, true, false, IsTrue, List, []}
+use Rattle.std.proofs.Common.{◌∷◌, length, slice_index_or, lt-ltb, le-ltb, Contains}
 use Rattle.std.proofs.Math.Nat.{mod-lt, mul-le-mul_right}
 use Rattle.std.proofs.lemmas.Bool.{cases_lt, cond-true, cond-false}
 use Rattle.ltl_syntax.specs.Formula.{Name, Formula, Const, Letter, Unary, Binary, nodes_in}
@@ -37,9 +38,11 @@ meanings_taken f = let some : 0 < 1 = omega arith in length-meanings one_state o
 
 -- ---- a trace of states that tell a claim, where the claim repeats
 
-module _ (stem loop_part stem' loop_part' : List Names) (some : 0 < length loop_part) (n : ℕ) (long : length stem' ≡ n) (round : length loop_part' ≡ length loop_part) where
+module _ (stem loop_part stem' loop_part' : List Names) (some : 0 < length loop_part) (n : ℕ) (long : length stem' ≡ n)
+    (round : length loop_part' ≡ length loop_part) where
   told_by : (name : List ℕ) (A : Claim) → Repeats A (length loop_part) n → ((i : ℕ) → i < n → Contains (slice_index_or stem' i []) name ↔ A i)
-      → ((j : ℕ) → j < length loop_part → Contains (slice_index_or loop_part' j []) name ↔ A (n + j)) → (i : ℕ) → Contains (state_at (Infinite stem' loop_part') i) name ↔ A i
+      → ((j : ℕ) → j < length loop_part → Contains (slice_index_or loop_part' j []) name ↔ A (n + j)) → (i : ℕ)
+      → Contains (state_at (Infinite stem' loop_part') i) name ↔ A i
   told_by name A r early late i = elim (cases_lt i n) [
     | inl before ↦
         let e : state_at (Infinite stem' loop_part') i ≡ slice_index_or stem' i [] = cond-true _ _ _ (lt-ltb i (length stem') (omega arith)) in
@@ -55,7 +58,8 @@ module _ (stem loop_part stem' loop_part' : List Names) (some : 0 < length loop_
 
 -- ---- what is read
 
-module _ (t : Table) (root : ℕ) (u : Trace) (m : Meanings) (values : AreValues t root u m.values) (sources : AreSources t root m.sources.items (meanings (tree_at t root))) where
+module _ (t : Table) (root : ℕ) (u : Trace) (m : Meanings) (values : AreValues t root u m.values)
+    (sources : AreSources t root m.sources.items (meanings (tree_at t root))) where
   abbrev f : Formula
   f = tree_at t root
 
@@ -89,20 +93,23 @@ module _ (t : Table) (root : ℕ) (u : Trace) (m : Meanings) (values : AreValues
             let h = held_early (tree_at t (source k).node) (source k).back (source k).beyond i early in
             (λ x. says.1 (h.0 (sym e ∙ x)), λ x. e ∙ h.1 (says.0 x))
         | inr late ↦
-            let e : shown m.values (source k) i ≡ cell (row_at m.values (source k).node) (i - (source k).back) = cond-false _ _ _ (le-ltb i (source k).back late) in
+            let e : shown m.values (source k) i ≡ cell (row_at m.values (source k).node) (i - (source k).back) =
+            cond-false _ _ _ (le-ltb i (source k).back late) in
             let h = held_late (tree_at t (source k).node) (source k).back (source k).beyond i late in
             let right = (values (source k).node s.under).right (i - (source k).back) (omega arith) in
             (λ x. says.1 (h.0 (right.0 (sym e ∙ x))), λ x. e ∙ right.1 (h.1 (says.0 x)))
       ]
 
-  module _ (names : Names) (are : AreNewNames (tree_at t root) names) (same : (name : List ℕ) → Contains m.new name ↔ Contains names name) (few : taken (tree_at t root) ≤ 2 ^ 64) where
+  module _ (names : Names) (are : AreNewNames (tree_at t root) names) (same : (name : List ℕ) → Contains m.new name ↔ Contains names name)
+      (few : taken (tree_at t root) ≤ 2 ^ 64) where
     pub readable : (i : ℕ) → i < positions u f → AreReadable m names i
     readable i within = record {
       named = let a = sources_taken in let b = are.count in omega arith;
       rows = λ k lt. let r = row_long k lt in omega arith;
     }
 
-    pub old_told : (i : ℕ) (state : Names) → IsLiftedState m names (state_at u i) i state → (name : List ℕ) → IsOld (tree_at t root) name → Contains state name ↔ Contains (state_at u i) name
+    pub old_told : (i : ℕ) (state : Names) → IsLiftedState m names (state_at u i) i state → (name : List ℕ) → IsOld (tree_at t root) name
+        → Contains state name ↔ Contains (state_at u i) name
     old_told i state is name old = (
       λ c. elim ((is name).0 c) [
         | inl w ↦ w.0
@@ -130,31 +137,44 @@ module _ (t : Table) (root : ℕ) (u : Trace) (m : Meanings) (values : AreValues
 -- ---- lifted traces
 
 module _ (t : Table) (root : ℕ) (m : Meanings) (sources : AreSources t root m.sources.items (meanings (tree_at t root)))
-    (names : Names) (are : AreNewNames (tree_at t root) names) (same : (name : List ℕ) → Contains m.new name ↔ Contains names name) (few : taken (tree_at t root) ≤ 2 ^ 64) where
-  pub finite_read : (states states' : List Names) (n : ℕ) → AreValues t root (Finite states) m.values → n ≡ length states → AreLiftedStates m names (Finite states) 0 n states' → IsLifted (tree_at t root) (Finite states) (Finite states')
+    (names : Names) (are : AreNewNames (tree_at t root) names) (same : (name : List ℕ) → Contains m.new name ↔ Contains names name)
+    (few : taken (tree_at t root) ≤ 2 ^ 64) where
+  pub finite_read : (states states' : List Names) (n : ℕ) → AreValues t root (Finite states) m.values → n ≡ length states
+      → AreLiftedStates m names (Finite states) 0 n states' → IsLifted (tree_at t root) (Finite states) (Finite states')
   finite_read states states' n values e is = record {
     shape = is.long ∙ e;
     old_names = λ i at. old_told t root (Finite states) m values sources names are same few i (slice_index_or states' i []) (each i at);
     new_names = λ i at k lt. new_told t root (Finite states) m values sources names are same few i k (slice_index_or states' i []) (each i at) at lt;
   } where
     each : (i : ℕ) → i < length states → IsLiftedState m names (state_at (Finite states) i) i (slice_index_or states' i [])
-    each i at = let z : 0 + i ≡ i = omega arith in subst (λ j. IsLiftedState m names (state_at (Finite states) j) j (slice_index_or states' i [])) z (is.each i (omega arith))
+    each i at = let z : 0 + i ≡ i = omega arith in
+        subst (λ j. IsLiftedState m names (state_at (Finite states) j) j (slice_index_or states' i [])) z (is.each i (omega arith))
 
-  pub infinite_read : (stem loop_part stem' loop_part' : List Names) (n : ℕ) → 0 < length loop_part → AreValues t root (Infinite stem loop_part) m.values → n ≡ length stem + past_depth (tree_at t root) * length loop_part
-      → AreLiftedStates m names (Infinite stem loop_part) 0 n stem' → AreLiftedStates m names (Infinite stem loop_part) n (length loop_part) loop_part' → IsLifted (tree_at t root) (Infinite stem loop_part) (Infinite stem' loop_part')
+  pub infinite_read : (stem loop_part stem' loop_part' : List Names) (n : ℕ) → 0 < length loop_part → AreValues t root (Infinite stem loop_part) m.values
+      → n ≡ length stem + past_depth (tree_at t root) * length loop_part
+      → AreLiftedStates m names (Infinite stem loop_part) 0 n stem' → AreLiftedStates m names (Infinite stem loop_part) n (length loop_part) loop_part'
+      → IsLifted (tree_at t root) (Infinite stem loop_part) (Infinite stem' loop_part')
   infinite_read stem loop_part stem' loop_part' n some values e first later = record {
     shape = (first.long ∙ e, later.long);
-    old_names = λ i at name old. told_by stem loop_part stem' loop_part' some n first.long later.long name (λ j. Contains (state_at (Infinite stem loop_part) j) name)
-        (subst (Repeats (λ j. Contains (state_at (Infinite stem loop_part) j) name) (length loop_part)) (sym e) (Holds-repeats stem loop_part some (Letter (Name name)) (past_depth (tree_at t root)) (omega arith)))
+    old_names =
+        λ i at name old. told_by stem loop_part stem' loop_part' some n first.long later.long name (λ j. Contains (state_at (Infinite stem loop_part) j) name)
+        (subst (Repeats (λ j. Contains (state_at (Infinite stem loop_part) j) name) (length loop_part)) (sym e)
+        (Holds-repeats stem loop_part some (Letter (Name name)) (past_depth (tree_at t root)) (omega arith)))
         (λ j lt. old_told t root (Infinite stem loop_part) m values sources names are same few j (slice_index_or stem' j []) (early j lt) name old)
-        (λ j lt. old_told t root (Infinite stem loop_part) m values sources names are same few (n + j) (slice_index_or loop_part' j []) (later.each j lt) name old) i;
-    new_names = λ i at k lt. told_by stem loop_part stem' loop_part' some n first.long later.long (new_name (most_leading (tree_at t root)) k) (Holds (Infinite stem loop_part) (slice_index_or (meanings (tree_at t root)) k (Const false)))
-        (subst (Repeats (Holds (Infinite stem loop_part) (slice_index_or (meanings (tree_at t root)) k (Const false))) (length loop_part)) (sym e) (Holds-repeats stem loop_part some (slice_index_or (meanings (tree_at t root)) k (Const false)) (past_depth (tree_at t root)) (meaning_shallow (tree_at t root) k)))
+        (λ j lt. old_told t root (Infinite stem loop_part) m values sources names are same few (n + j) (slice_index_or loop_part' j [])
+        (later.each j lt) name old) i;
+    new_names = λ i at k lt. told_by stem loop_part stem' loop_part' some n first.long later.long (new_name (most_leading (tree_at t root)) k)
+        (Holds (Infinite stem loop_part) (slice_index_or (meanings (tree_at t root)) k (Const false)))
+        (subst (Repeats (Holds (Infinite stem loop_part) (slice_index_or (meanings (tree_at t root)) k (Const false))) (length loop_part))
+        (sym e) (Holds-repeats stem loop_part some (slice_index_or (meanings (tree_at t root)) k (Const false)) (past_depth (tree_at t root))
+        (meaning_shallow (tree_at t root) k)))
         (λ j low. new_told t root (Infinite stem loop_part) m values sources names are same few j k (slice_index_or stem' j []) (early j low) (omega arith) lt)
-        (λ j low. new_told t root (Infinite stem loop_part) m values sources names are same few (n + j) k (slice_index_or loop_part' j []) (later.each j low) (omega arith) lt) i;
+        (λ j low. new_told t root (Infinite stem loop_part) m values sources names are same few (n + j) k (slice_index_or loop_part' j []) (later.each j low)
+        (omega arith) lt) i;
   } where
     early : (i : ℕ) → i < n → IsLiftedState m names (state_at (Infinite stem loop_part) i) i (slice_index_or stem' i [])
-    early i lt = let z : 0 + i ≡ i = omega arith in subst (λ j. IsLiftedState m names (state_at (Infinite stem loop_part) j) j (slice_index_or stem' i [])) z (first.each i lt)
+    early i lt = let z : 0 + i ≡ i = omega arith in
+        subst (λ j. IsLiftedState m names (state_at (Infinite stem loop_part) j) j (slice_index_or stem' i [])) z (first.each i lt)
 
 -- ---- how many positions there are
 

@@ -2,11 +2,13 @@
 use Rattle.std.proofs.Common.{◌≡◌, ℕ, zero, suc, ◌+◌, ◌≤◌, ◌<◌, refl, arith, List, [], ◌∷◌, ◌++◌, length, length-append}
 use Rattle.ltl_syntax.specs.declared.node.UnaryOp.{UnaryOp}
 use Rattle.ltl_syntax.specs.declared.node.BinaryOp.{BinaryOp}
-use Rattle.ltl_syntax.specs.declared.node.UnaryOp.TheVariants.{Always, AlwaysIn, Eventually, EventuallyIn, Historically, HistoricallyIn, Next, NextTimes, Not, Once, OnceIn, WeakNext, WeakYesterday, Yesterday, YesterdayTimes}
+use Rattle.ltl_syntax.specs.declared.node.UnaryOp.TheVariants.{Always, AlwaysIn, Eventually, EventuallyIn, Historically, HistoricallyIn, Next, NextTimes, Not}
+use Rattle.ltl_syntax.specs.declared.node.UnaryOp.TheVariants.{Once, OnceIn, WeakNext, WeakYesterday, Yesterday, YesterdayTimes}
 use Rattle.ltl_syntax.specs.declared.node.BinaryOp.TheVariants.{And, Iff, Implies, Or, Release, Since, StrongRelease, Trigger, Until, WeakUntil}
 use Rattle.ltl_syntax.specs.Formula.{Formula, Const, Letter, Unary, Binary}
 use Rattle.ltl_syntax.specs.Size.{formula_size}
-use Rattle.depast.specs.Depast.{taken, taken₁, taken₂, residue, yesterday_axiom, weak_yesterday_axiom, back_axioms, step_back, axioms, axioms₁, axioms₂, conjoined, letter_for, depast}
+use Rattle.depast.specs.Depast.{taken, taken₁, taken₂, residue, yesterday_axiom, weak_yesterday_axiom, back_axioms, step_back, axioms, axioms₁, axioms₂}
+use Rattle.depast.specs.Depast.{conjoined, letter_for, depast}
 use Rattle.depast.specs.Laws.{HasFewNames}
 
 module _ (z : ℕ → Formula) where
@@ -49,7 +51,8 @@ module _ (z : ℕ → Formula) where
   length-axioms (Letter p) n = refl
   length-axioms (Unary op a) n =
       let xs = axioms₁ z (n + taken a) op (residue z n a) in
-      omega (arith, length-axioms a n, length-axioms₁ op (n + taken a) (residue z n a), length-append (axioms z n a) (axioms₁ z (n + taken a) op (residue z n a)))
+      omega
+      (arith, length-axioms a n, length-axioms₁ op (n + taken a) (residue z n a), length-append (axioms z n a) (axioms₁ z (n + taken a) op (residue z n a)))
   length-axioms (Binary op a b) n =
       let c = residue z n a in
       let d = residue z (n + taken a) b in
@@ -74,7 +77,8 @@ some_size (Binary op a b) = omega arith
 
 pub names_counted : (f : Formula) → taken f < formula_size (depast f)
 names_counted f =
-    omega (arith, joined_size (axioms (letter_for f) 0 f) (residue (letter_for f) 0 f), length-axioms (letter_for f) f 0, some_size (residue (letter_for f) 0 f))
+    omega
+    (arith, joined_size (axioms (letter_for f) 0 f) (residue (letter_for f) 0 f), length-axioms (letter_for f) f 0, some_size (residue (letter_for f) 0 f))
 
 pub few_where_small : (f : Formula) → formula_size (depast f) ≤ 16384 → HasFewNames f
 few_where_small f h = omega (arith, names_counted f)

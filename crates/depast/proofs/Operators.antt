@@ -2,13 +2,15 @@
 use Rattle.std.proofs.Common.{◌≡◌, ℕ, refl, []}
 use Rattle.ltl_syntax.specs.declared.node.UnaryOp.{UnaryOp}
 use Rattle.ltl_syntax.specs.declared.node.BinaryOp.{BinaryOp}
-use Rattle.ltl_syntax.specs.declared.node.UnaryOp.TheVariants.{Always, AlwaysIn, Eventually, EventuallyIn, Historically, HistoricallyIn, Next, NextTimes, Not, Once, OnceIn, WeakNext, WeakYesterday, Yesterday, YesterdayTimes}
+use Rattle.ltl_syntax.specs.declared.node.UnaryOp.TheVariants.{Always, AlwaysIn, Eventually, EventuallyIn, Historically, HistoricallyIn, Next, NextTimes, Not}
+use Rattle.ltl_syntax.specs.declared.node.UnaryOp.TheVariants.{Once, OnceIn, WeakNext, WeakYesterday, Yesterday, YesterdayTimes}
 use Rattle.ltl_syntax.specs.declared.node.BinaryOp.TheVariants.{And, Iff, Implies, Or, Release, Since, StrongRelease, Trigger, Until, WeakUntil}
 use Rattle.ltl_syntax.specs.Formula.{Formula, Unary, Binary}
 use Rattle.depast.specs.Depast.{taken₂, residue₁, residue₂, axioms₂}
 use Rattle.depast.specs.Future.{IsFuture₁, IsFuture₂}
 
-pub kept_by : (op : UnaryOp) → (op ≡ Yesterday → ⊥) → (op ≡ WeakYesterday → ⊥) → (op ≡ Once → ⊥) → (op ≡ Historically → ⊥) → ((n : ℕ) → op ≡ YesterdayTimes n → ⊥)
+pub kept_by : (op : UnaryOp) → (op ≡ Yesterday → ⊥) → (op ≡ WeakYesterday → ⊥) → (op ≡ Once → ⊥) → (op ≡ Historically → ⊥)
+    → ((n : ℕ) → op ≡ YesterdayTimes n → ⊥)
     → ((m n : ℕ) → op ≡ OnceIn m n → ⊥) → ((m n : ℕ) → op ≡ HistoricallyIn m n → ⊥) → IsFuture₁ op
 kept_by Not a b c d e f g = tt
 kept_by Next a b c d e f g = tt

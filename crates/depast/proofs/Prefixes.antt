@@ -18,5 +18,6 @@ pub last_one : (n m : ℕ) → n ≡ m → underscores n ++ 95 ∷ 112 ∷ [] �
 last_one n m e = on_end n (112 ∷ []) ∙ ap (λ k. underscores (suc k) ++ 112 ∷ []) e
 
 -- with a number behind it, the prefix is a name
-pub name_is : (most number : ℕ) (prefix name : List ℕ) → prefix ≡ underscores (suc most) ++ 112 ∷ [] → name ≡ prefix ++ decimal number → name ≡ new_name most number
+pub name_is : (most number : ℕ) (prefix name : List ℕ) → prefix ≡ underscores (suc most) ++ 112 ∷ [] → name ≡ prefix ++ decimal number
+    → name ≡ new_name most number
 name_is most number prefix name e f = f ∙ (ap (λ xs. xs ++ decimal number) e ∙ append_assoc (underscores (suc most)) (112 ∷ []) (decimal number))

@@ -1,5 +1,6 @@
 -- Each trace is lifted to one of its kind, and each is lowered to one.
-use Rattle.std.proofs.Common.{◌≡◌, ℕ, zero, suc, ◌+◌, ◌-◌, ◌*◌, ◌/◌, ◌%◌, ◌^◌, ◌<◌, ◌≤◌, inl, inr, ◌↔◌, refl, sym, ◌∙◌, ap, subst, arith, false, List, [], ◌∷◌, length, map, slice_index_or, le-ltb, lt-ltb, Contains}
+use Rattle.std.proofs.Common.{◌≡◌, ℕ, zero, suc, ◌+◌, ◌-◌, ◌*◌, ◌/◌, ◌%◌, ◌^◌, ◌<◌, ◌≤◌, inl, inr, ◌↔◌, refl, sym, ◌∙◌, ap, subst, arith, false, List, [], ◌∷◌}
+use Rattle.std.proofs.Common.{length, map, slice_index_or, le-ltb, lt-ltb, Contains}
 use Rattle.std.specs.List.{range_with_len}
 use Rattle.std.proofs.lemmas.List.FromFn.{get_or-map-range_with_len, length-map-range_with_len}
 use Rattle.std.proofs.lemmas.Bool.{cases_lt, cond-true, cond-false}
@@ -74,14 +75,18 @@ module _ (f : Formula) where
   length-states_of s a n = length-map-range_with_len s a n
 
   module _ (few : taken f ≤ 2 ^ 64) where
-    finite_lifted : (states : List Names) (good : 0 < length states) → IsLifted f (Finite states) (Finite (states_of (lifted_state (Finite states) good) 0 (length states)))
+    finite_lifted : (states : List Names) (good : 0 < length states)
+        → IsLifted f (Finite states) (Finite (states_of (lifted_state (Finite states) good) 0 (length states)))
     finite_lifted states good =
         let s : ℕ → Names = lifted_state (Finite states) good in
         record {
           shape = length-states_of (lifted_state (Finite states) good) 0 (length states);
-          old_names = λ i at name old. let e : slice_index_or (states_of (lifted_state (Finite states) good) 0 (length states)) i [] ≡ lifted_state (Finite states) good i = state_of (lifted_state (Finite states) good) 0 (length states) i at ∙ ap (lifted_state (Finite states) good) (omega arith) in
+          old_names = λ i at name old.
+              let e : slice_index_or (states_of (lifted_state (Finite states) good) 0 (length states)) i [] ≡ lifted_state (Finite states) good i =
+              state_of (lifted_state (Finite states) good) 0 (length states) i at ∙ ap (lifted_state (Finite states) good) (omega arith) in
               subst (λ x. Contains x name ↔ Contains (slice_index_or states i []) name) (sym e) (lifted_old (Finite states) good i name old);
-          new_names = λ i at k lt. let e : slice_index_or (states_of (lifted_state (Finite states) good) 0 (length states)) i [] ≡ lifted_state (Finite states) good i = state_of (lifted_state (Finite states) good) 0 (length states) i at ∙ ap (lifted_state (Finite states) good) (omega arith) in
+          new_names = λ i at k lt. let e : slice_index_or (states_of (lifted_state (Finite states) good) 0 (length states)) i [] ≡ lifted_state (Finite states)
+              good i = state_of (lifted_state (Finite states) good) 0 (length states) i at ∙ ap (lifted_state (Finite states) good) (omega arith) in
               subst (λ x. Contains x (new_name (most_leading f) k) ↔ Holds (Finite states) (meaning k) i) (sym e) (lifted_new (Finite states) good few i k lt);
         }
 
@@ -127,8 +132,10 @@ module _ (f : Formula) where
       infinite_lifted : IsLifted f (Infinite stem loop_part) u
       infinite_lifted = record {
         shape = (length-states_of s 0 n, length-states_of s n p);
-        old_names = λ i at name old. told name (λ j. Contains (state_at (Infinite stem loop_part) j) name) (Holds-repeats stem loop_part some (Letter (Name name)) (past_depth f) (omega arith)) (λ j. lifted_old (Infinite stem loop_part) some j name old) i;
-        new_names = λ i at k lt. told (new_name (most_leading f) k) (Holds (Infinite stem loop_part) (meaning k)) (Holds-repeats stem loop_part some (meaning k) (past_depth f) (meaning_shallow f k)) (λ j. lifted_new (Infinite stem loop_part) some few j k lt) i;
+        old_names = λ i at name old. told name (λ j. Contains (state_at (Infinite stem loop_part) j) name)
+            (Holds-repeats stem loop_part some (Letter (Name name)) (past_depth f) (omega arith)) (λ j. lifted_old (Infinite stem loop_part) some j name old) i;
+        new_names = λ i at k lt. told (new_name (most_leading f) k) (Holds (Infinite stem loop_part) (meaning k))
+            (Holds-repeats stem loop_part some (meaning k) (past_depth f) (meaning_shallow f k)) (λ j. lifted_new (Infinite stem loop_part) some few j k lt) i;
       }
 
     pub lifted : (t : Trace) (kind : Kind) → IsTrace t → IsOfKind t kind → (u : Trace) × IsTrace u × IsOfKind u kind × IsLifted f t u
@@ -150,10 +157,12 @@ module _ (f : Formula) where
   finite_lowered states = record {
     shape = length-states_of (lowered_state (Finite states)) 0 (length states);
     old_names = λ i at name old.
-        subst (λ x. Contains x name ↔ Contains (slice_index_or states i []) name) (sym (state_of (lowered_state (Finite states)) 0 (length states) i at ∙ ap (lowered_state (Finite states)) (omega arith)))
+        subst (λ x. Contains x name ↔ Contains (slice_index_or states i []) name)
+        (sym (state_of (lowered_state (Finite states)) 0 (length states) i at ∙ ap (lowered_state (Finite states)) (omega arith)))
         (λ h. (kept_from f (slice_index_or states i []) name h).0, λ h. kept_has f (slice_index_or states i []) name h old);
     new_names = λ i at k lt h.
-        (kept_from f (slice_index_or states i []) (new_name (most_leading f) k) (subst (λ x. Contains x (new_name (most_leading f) k)) (state_of (lowered_state (Finite states)) 0 (length states) i at ∙ ap (lowered_state (Finite states)) (omega arith)) h)).1 k lt refl;
+        (kept_from f (slice_index_or states i []) (new_name (most_leading f) k) (subst (λ x. Contains x (new_name (most_leading f) k))
+        (state_of (lowered_state (Finite states)) 0 (length states) i at ∙ ap (lowered_state (Finite states)) (omega arith)) h)).1 k lt refl;
   }
 
   module _ (stem loop_part : List Names) (some : 0 < length loop_part) where
@@ -175,7 +184,8 @@ module _ (f : Formula) where
         let m = length-low loop_part in
         elim (cases_lt i (length stem)) [
           | inl lt ↦
-              cond-true _ _ _ (lt-ltb i (length (low stem)) (omega arith)) ∙ (low_at stem i lt ∙ ap (kept f) (sym (cond-true _ _ _ (lt-ltb i (length stem) lt))))
+              cond-true _ _ _ (lt-ltb i (length (low stem)) (omega arith))
+              ∙ (low_at stem i lt ∙ ap (kept f) (sym (cond-true _ _ _ (lt-ltb i (length stem) lt))))
           | inr ge ↦
               cond-false _ _ _ (le-ltb i (length (low stem)) (omega arith))
               ∙ (ap (λ x. slice_index_or (low loop_part) ((i - x) % length (low loop_part)) []) l
@@ -190,7 +200,8 @@ module _ (f : Formula) where
       old_names = λ i at name old.
           subst (λ x. Contains x name ↔ Contains (state_at (Infinite stem loop_part) i) name) (sym (low_state i))
           (λ h. (kept_from f (state_at (Infinite stem loop_part) i) name h).0, λ h. kept_has f (state_at (Infinite stem loop_part) i) name h old);
-      new_names = λ i at k lt h. (kept_from f (state_at (Infinite stem loop_part) i) (new_name (most_leading f) k) (subst (λ x. Contains x (new_name (most_leading f) k)) (low_state i) h)).1 k lt refl;
+      new_names = λ i at k lt h. (kept_from f (state_at (Infinite stem loop_part) i) (new_name (most_leading f) k)
+          (subst (λ x. Contains x (new_name (most_leading f) k)) (low_state i) h)).1 k lt refl;
     }
 
   pub lowered : (u : Trace) (kind : Kind) → IsTrace u → IsOfKind u kind → (t : Trace) × IsTrace t × IsOfKind t kind × IsLowered f u t

@@ -1,26 +1,33 @@
 -- Where each new name is its past formula, residues hold where the parts did, and the axioms hold. Where the axioms hold, so it is.
-use Rattle.std.proofs.Common.{◌≡◌, ℕ, zero, suc, ◌+◌, ◌-◌, ◌<◌, ◌≤◌, ◌⊎◌, inl, inr, arith, refl, subst, true, false, List, [], ◌∷◌, ◌++◌, length, length-append, Contains, slice_index_or}
+use Rattle.std.proofs.Common.{◌≡◌, ℕ, zero, suc, ◌+◌, ◌-◌, ◌<◌, ◌≤◌, ◌⊎◌, inl, inr, arith, refl, subst, true, false, List, [], ◌∷◌, ◌++◌, length, length-append}
+use Rattle.std.proofs.Common.{Contains, slice_index_or}
 use Rattle.std.specs.Prelude.{⊤}
 use Rattle.std.proofs.lemmas.Bool.{cases_lt}
 use Rattle.ltl_syntax.specs.declared.node.UnaryOp.{UnaryOp}
 use Rattle.ltl_syntax.specs.declared.node.BinaryOp.{BinaryOp}
-use Rattle.ltl_syntax.specs.declared.node.UnaryOp.TheVariants.{Always, AlwaysIn, Eventually, EventuallyIn, Historically, HistoricallyIn, Next, NextTimes, Not, Once, OnceIn, WeakNext, WeakYesterday, Yesterday, YesterdayTimes}
+use Rattle.ltl_syntax.specs.declared.node.UnaryOp.TheVariants.{Always, AlwaysIn, Eventually, EventuallyIn, Historically, HistoricallyIn, Next, NextTimes, Not}
+use Rattle.ltl_syntax.specs.declared.node.UnaryOp.TheVariants.{Once, OnceIn, WeakNext, WeakYesterday, Yesterday, YesterdayTimes}
 use Rattle.ltl_syntax.specs.declared.node.BinaryOp.TheVariants.{And, Iff, Implies, Or, Release, Since, StrongRelease, Trigger, Until, WeakUntil}
 use Rattle.ltl_syntax.specs.Formula.{Atom, Formula, Const, Letter, Unary, Binary}
 use Rattle.ltl_word.specs.declared.trace.Trace.{Trace}
 use Rattle.ltl_word.specs.Trace.{IsTrace, IsPosition}
-use Rattle.ltl_word.specs.Claims.{Claim, Always', Never, AtNext, AtWeakNext, IsUntil, IsReleased, AtYesterday, AtWeakYesterday, AtNextTimes, IsEventuallyIn, IsAlwaysIn, IsOnceIn, IsHistoricallyIn}
+use Rattle.ltl_word.specs.Claims.{Claim, Always', Never, AtNext, AtWeakNext, IsUntil, IsReleased, AtYesterday, AtWeakYesterday, AtNextTimes, IsEventuallyIn}
+use Rattle.ltl_word.specs.Claims.{IsAlwaysIn, IsOnceIn, IsHistoricallyIn}
 use Rattle.ltl_word.specs.Holds.{Holds}
 use Rattle.ltl_word.specs.Propositional.{HasLetter}
 use Rattle.ltl_word.proofs.Decided.{Holds_decided, position_below}
-use Rattle.ltl_word.proofs.Agreement.{IsRange, Same, Same-self, Same-then, Same-turned, Same-not, Same-and, Same-or, Same-implies, Same-iff, Same-until, Same-released, Same-next, Same-weak_next, Same-since, Same-triggered, Same-yesterday, Same-weak_yesterday}
-use Rattle.ltl_word.proofs.Bounded.{Same-eventually_in, Same-always_in, Same-times, Same-yesterdays, here_once, once_here, here_historically, historically_here, once_earlier, earlier_once, historically_earlier, earlier_historically}
-use Rattle.depast.specs.Depast.{taken, taken₁, conjoined, step_back, joined_back, residue, residue₁, residue₂, yesterday_axiom, weak_yesterday_axiom, back_axioms, axioms, axioms₁, axioms₂}
+use Rattle.ltl_word.proofs.Agreement.{IsRange, Same, Same-self, Same-then, Same-turned, Same-not, Same-and, Same-or, Same-implies, Same-iff, Same-until}
+use Rattle.ltl_word.proofs.Agreement.{Same-released, Same-next, Same-weak_next, Same-since, Same-triggered, Same-yesterday, Same-weak_yesterday}
+use Rattle.ltl_word.proofs.Bounded.{Same-eventually_in, Same-always_in, Same-times, Same-yesterdays, here_once, once_here, here_historically, historically_here}
+use Rattle.ltl_word.proofs.Bounded.{once_earlier, earlier_once, historically_earlier, earlier_historically}
+use Rattle.depast.specs.Depast.{taken, taken₁, conjoined, step_back, joined_back, residue, residue₁, residue₂, yesterday_axiom, weak_yesterday_axiom}
+use Rattle.depast.specs.Depast.{back_axioms, axioms, axioms₁, axioms₂}
 use Rattle.depast.specs.Lifting.{counted, meanings, meanings₁, meanings₂}
 use Rattle.depast.specs.Laws.{IsPart}
 use Rattle.depast.proofs.Lists.{Contains-nil, Contains-cons_cases}
 use Rattle.depast.specs.Future.{IsFuture₁, IsFuture₂}
-use Rattle.depast.proofs.Ranges.{SomeStep, EachStep, once_steps, steps_once, historically_steps, steps_historically, no_step, one_step, step_one, last_step, step_last, each_one, one_each, each_last, last_each}
+use Rattle.depast.proofs.Ranges.{SomeStep, EachStep, once_steps, steps_once, historically_steps, steps_historically, no_step, one_step, step_one, last_step}
+use Rattle.depast.proofs.Ranges.{step_last, each_one, one_each, each_last, last_each}
 use Rattle.depast.proofs.Axioms.{yesterday_is, yesterday_has, weak_yesterday_is, weak_yesterday_has, since_is, since_has, trigger_is, trigger_has}
 
 -- u is a trace with the positions of t
@@ -58,7 +65,8 @@ module _ (t u : Trace) (good : IsTrace t) (fine : IsTrace u) (at0 : IsPosition u
   future₁ Once c a f s = absurd f
   future₁ Historically c a f s = absurd f
   future₁ (NextTimes n) c a f s =
-      turn _ (λ R. AtNextTimes R n (T a)) (Same-then _ _ _ (Same-times n (U c) P) (Same-then _ _ _ (Same-eventually_in range n n _ _ s) (Same-turned _ _ (Same-times n (T a) P))))
+      turn _ (λ R. AtNextTimes R n (T a))
+      (Same-then _ _ _ (Same-times n (U c) P) (Same-then _ _ _ (Same-eventually_in range n n _ _ s) (Same-turned _ _ (Same-times n (T a) P))))
   future₁ (YesterdayTimes n) c a f s = absurd f
   future₁ (EventuallyIn m n) c a f s = turn _ (λ R. IsEventuallyIn R m n (T a)) (Same-eventually_in range m n _ _ s)
   future₁ (AlwaysIn m n) c a f s = turn _ (λ R. IsAlwaysIn R m n (T a)) (Same-always_in range m n _ _ s)
@@ -81,7 +89,8 @@ module _ (t u : Trace) (good : IsTrace t) (fine : IsTrace u) (at0 : IsPosition u
   module _ (w : ℕ → Formula) (C : ℕ → Claim) (m : ℕ) where
     some_joined : (n : ℕ) → ((j : ℕ) → m ≤ j → j < m + n → Same P (U (w j)) (C j)) → Same P (U (joined_back Or false w m n)) (SomeStep C m n)
     some_joined zero h = record { to = λ i q x. absurd (cc); back = λ i q x. absurd (no_step C m i x) }
-    some_joined (suc zero) h = let s = h m (omega arith) (omega arith) in record { to = λ i q x. step_one C m i (s.to i q x); back = λ i q x. s.back i q (one_step C m i x) }
+    some_joined (suc zero) h = let s = h m (omega arith) (omega arith) in
+        record { to = λ i q x. step_one C m i (s.to i q x); back = λ i q x. s.back i q (one_step C m i x) }
     some_joined (suc (suc n)) h =
         let r = some_joined (suc n) (λ j low high. h j low (omega arith)) in
         let s = h (m + suc n) (omega arith) (omega arith) in
@@ -89,7 +98,8 @@ module _ (t u : Trace) (good : IsTrace t) (fine : IsTrace u) (at0 : IsPosition u
 
     each_joined : (n : ℕ) → ((j : ℕ) → m ≤ j → j < m + n → Same P (U (w j)) (C j)) → Same P (U (joined_back And true w m n)) (EachStep C m n)
     each_joined zero h = record { to = λ i q x j low high. absurd (omega arith); back = λ i q x. refl }
-    each_joined (suc zero) h = let s = h m (omega arith) (omega arith) in record { to = λ i q x. one_each C m i (s.to i q x); back = λ i q x. s.back i q (each_one C m i x) }
+    each_joined (suc zero) h = let s = h m (omega arith) (omega arith) in
+        record { to = λ i q x. one_each C m i (s.to i q x); back = λ i q x. s.back i q (each_one C m i x) }
     each_joined (suc (suc n)) h =
         let r = each_joined (suc n) (λ j low high. h j low (omega arith)) in
         let s = h (m + suc n) (omega arith) (omega arith) in
@@ -118,10 +128,13 @@ module _ (t u : Trace) (good : IsTrace t) (fine : IsTrace u) (at0 : IsPosition u
       weak_back₀ = Same-then _ _ _ s (record { to = λ i q x. here_historically (T a) i x; back = λ i q x. historically_here (T a) i x })
 
       back_more : (n : ℕ) (d : Formula) → Same P (U d) (IsOnceIn n n (T a)) → Same P (AtYesterday (U d)) (IsOnceIn (suc n) (suc n) (T a))
-      back_more n d r = Same-then _ _ _ (Same-yesterday range _ _ r) (record { to = λ i q x. earlier_once (T a) n n i x; back = λ i q x. once_earlier (T a) n n i x })
+      back_more n d r =
+          Same-then _ _ _ (Same-yesterday range _ _ r) (record { to = λ i q x. earlier_once (T a) n n i x; back = λ i q x. once_earlier (T a) n n i x })
 
-      weak_back_more : (n : ℕ) (d : Formula) → Same P (U d) (IsHistoricallyIn n n (T a)) → Same P (AtWeakYesterday (U d)) (IsHistoricallyIn (suc n) (suc n) (T a))
-      weak_back_more n d r = Same-then _ _ _ (Same-weak_yesterday range _ _ r) (record { to = λ i q x. earlier_historically (T a) n n i x; back = λ i q x. historically_earlier (T a) n n i x })
+      weak_back_more : (n : ℕ) (d : Formula) → Same P (U d) (IsHistoricallyIn n n (T a))
+          → Same P (AtWeakYesterday (U d)) (IsHistoricallyIn (suc n) (suc n) (T a))
+      weak_back_more n d r = Same-then _ _ _ (Same-weak_yesterday range _ _ r)
+          (record { to = λ i q x. earlier_historically (T a) n n i x; back = λ i q x. historically_earlier (T a) n n i x })
 
       back_from : (n : ℕ) → AllHold (back_axioms yesterday_axiom z k c n) → Same P (U (step_back z k c n)) (IsOnceIn n n (T a))
       back_from zero h = back₀
@@ -133,7 +146,8 @@ module _ (t u : Trace) (good : IsTrace t) (fine : IsTrace u) (at0 : IsPosition u
       weak_back_from zero h = weak_back₀
       weak_back_from (suc n) h =
           let r = hold_split (back_axioms weak_yesterday_axiom z k c n) (weak_yesterday_axiom (step_back z k c n) (z (k + n)) ∷ []) h in
-          Same-then _ _ _ (weak_yesterday_is P (position_below u) (U (step_back z k c n)) (U (z (k + n))) r.1.0) (weak_back_more n (step_back z k c n) (weak_back_from n r.0))
+          Same-then _ _ _ (weak_yesterday_is P (position_below u) (U (step_back z k c n)) (U (z (k + n))) r.1.0)
+          (weak_back_more n (step_back z k c n) (weak_back_from n r.0))
 
       -- the axioms of fewer steps
       fewer : (says : Formula → Formula → Formula) (n j : ℕ) → j ≤ n → AllHold (back_axioms says z k c n) → AllHold (back_axioms says z k c j)
@@ -143,12 +157,15 @@ module _ (t u : Trace) (good : IsTrace t) (fine : IsTrace u) (at0 : IsPosition u
         | inr ge ↦ fewer says n j ge (hold_split (back_axioms says z k c n) (says (step_back z k c n) (z (k + n)) ∷ []) h).0
       ]
 
-      joined_once : (m n : ℕ) → ((j : ℕ) → j ≤ n → Same P (U (step_back z k c j)) (IsOnceIn j j (T a))) → Same P (U (joined_back Or false (step_back z k c) m (suc n - m))) (IsOnceIn m n (T a))
+      joined_once : (m n : ℕ) → ((j : ℕ) → j ≤ n → Same P (U (step_back z k c j)) (IsOnceIn j j (T a)))
+          → Same P (U (joined_back Or false (step_back z k c) m (suc n - m))) (IsOnceIn m n (T a))
       joined_once m n h = Same-then _ _ _ (some_joined (step_back z k c) (λ j. IsOnceIn j j (T a)) m (suc n - m) (λ j low high. h j (omega arith)))
           (record { to = λ i q x. steps_once (T a) m n i x; back = λ i q x. once_steps (T a) m n i x })
 
-      joined_historically : (m n : ℕ) → ((j : ℕ) → j ≤ n → Same P (U (step_back z k c j)) (IsHistoricallyIn j j (T a))) → Same P (U (joined_back And true (step_back z k c) m (suc n - m))) (IsHistoricallyIn m n (T a))
-      joined_historically m n h = Same-then _ _ _ (each_joined (step_back z k c) (λ j. IsHistoricallyIn j j (T a)) m (suc n - m) (λ j low high. h j (omega arith)))
+      joined_historically : (m n : ℕ) → ((j : ℕ) → j ≤ n → Same P (U (step_back z k c j)) (IsHistoricallyIn j j (T a)))
+          → Same P (U (joined_back And true (step_back z k c) m (suc n - m))) (IsHistoricallyIn m n (T a))
+      joined_historically m n h =
+          Same-then _ _ _ (each_joined (step_back z k c) (λ j. IsHistoricallyIn j j (T a)) m (suc n - m) (λ j low high. h j (omega arith)))
           (record { to = λ i q x. steps_historically (T a) m n i x; back = λ i q x. historically_steps (T a) m n i x })
 
     -- an operator's residue, where its axioms hold
@@ -161,7 +178,8 @@ module _ (t u : Trace) (good : IsTrace t) (fine : IsTrace u) (at0 : IsPosition u
     from₁ Yesterday k c a s h = Same-then _ _ _ (yesterday_is P (position_below u) (U c) (U (z k)) h.0) (Same-yesterday range _ _ s)
     from₁ WeakYesterday k c a s h = Same-then _ _ _ (weak_yesterday_is P (position_below u) (U c) (U (z k)) h.0) (Same-weak_yesterday range _ _ s)
     from₁ Once k c a s h = Same-then _ _ _ (since_is P (position_below u) (U (Const true)) (U c) (U (z k)) h.0) (Same-since range _ _ _ _ Same-true s)
-    from₁ Historically k c a s h = Same-then _ _ _ (trigger_is P (position_below u) (U (Const false)) (U c) (U (z k)) (Holds_decided u fine (Const false)) h.0) (Same-triggered range _ _ _ _ Same-false s)
+    from₁ Historically k c a s h = Same-then _ _ _ (trigger_is P (position_below u) (U (Const false)) (U c) (U (z k)) (Holds_decided u fine (Const false)) h.0)
+        (Same-triggered range _ _ _ _ Same-false s)
     from₁ (NextTimes n) k c a s h = future₁ (NextTimes n) c a tt s
     from₁ (YesterdayTimes n) k c a s h = Same-then _ _ _ (back_from k c a s n h) (Same-turned _ _ (Same-yesterdays n (T a)))
     from₁ (EventuallyIn m n) k c a s h = future₁ (EventuallyIn m n) c a tt s
@@ -169,7 +187,8 @@ module _ (t u : Trace) (good : IsTrace t) (fine : IsTrace u) (at0 : IsPosition u
     from₁ (OnceIn m n) k c a s h = joined_once k c a s m n (λ j le. back_from k c a s j (fewer k c a s yesterday_axiom n j le h))
     from₁ (HistoricallyIn m n) k c a s h = joined_historically k c a s m n (λ j le. weak_back_from k c a s j (fewer k c a s weak_yesterday_axiom n j le h))
 
-    from₂ : (op : BinaryOp) (k : ℕ) (c d a b : Formula) → Same P (U c) (T a) → Same P (U d) (T b) → AllHold (axioms₂ z k op c d) → Same P (U (residue₂ z k op c d)) (T (Binary op a b))
+    from₂ : (op : BinaryOp) (k : ℕ) (c d a b : Formula) → Same P (U c) (T a) → Same P (U d) (T b) → AllHold (axioms₂ z k op c d)
+        → Same P (U (residue₂ z k op c d)) (T (Binary op a b))
     from₂ And k c d a b r s h = future₂ And c d a b tt r s
     from₂ Or k c d a b r s h = future₂ Or c d a b tt r s
     from₂ Implies k c d a b r s h = future₂ Implies c d a b tt r s
@@ -179,7 +198,8 @@ module _ (t u : Trace) (good : IsTrace t) (fine : IsTrace u) (at0 : IsPosition u
     from₂ WeakUntil k c d a b r s h = future₂ WeakUntil c d a b tt r s
     from₂ StrongRelease k c d a b r s h = future₂ StrongRelease c d a b tt r s
     from₂ Since k c d a b r s h = Same-then _ _ _ (since_is P (position_below u) (U c) (U d) (U (z k)) h.0) (Same-since range _ _ _ _ r s)
-    from₂ Trigger k c d a b r s h = Same-then _ _ _ (trigger_is P (position_below u) (U c) (U d) (U (z k)) (Holds_decided u fine c) h.0) (Same-triggered range _ _ _ _ r s)
+    from₂ Trigger k c d a b r s h =
+        Same-then _ _ _ (trigger_is P (position_below u) (U c) (U d) (U (z k)) (Holds_decided u fine c) h.0) (Same-triggered range _ _ _ _ r s)
 
     -- the letters of the formula hold where they did
     abbrev pub LettersAgree : Formula → Type 0
@@ -195,7 +215,8 @@ module _ (t u : Trace) (good : IsTrace t) (fine : IsTrace u) (at0 : IsPosition u
     residue_from (Binary op a b) n l h =
         let w = hold_split (axioms z n a) (axioms z (n + taken a) b ++ axioms₂ z (n + taken a + taken b) op (residue z n a) (residue z (n + taken a) b)) h in
         let v = hold_split (axioms z (n + taken a) b) (axioms₂ z (n + taken a + taken b) op (residue z n a) (residue z (n + taken a) b)) w.1 in
-        from₂ op (n + taken a + taken b) (residue z n a) (residue z (n + taken a) b) a b (residue_from a n (λ p i. l p (inl i)) w.0) (residue_from b (n + taken a) (λ p i. l p (inr i)) v.0) v.1
+        from₂ op (n + taken a + taken b) (residue z n a) (residue z (n + taken a) b) a b (residue_from a n (λ p i. l p (inl i)) w.0)
+        (residue_from b (n + taken a) (λ p i. l p (inr i)) v.0) v.1
 
     -- the letters from number k on are these formulas
     abbrev pub AreMeant : ℕ → List Formula → Type 0
@@ -236,43 +257,77 @@ module _ (t u : Trace) (good : IsTrace t) (fine : IsTrace u) (at0 : IsPosition u
 
       back_hold : (n : ℕ) → ((j : ℕ) → j < n → Same P (U (z (k + j))) (IsOnceIn (suc j) (suc j) (T a))) → AllHold (back_axioms yesterday_axiom z k c n)
       back_hold zero h = tt
-      back_hold (suc n) h = hold_append (back_axioms yesterday_axiom z k c n) (yesterday_axiom (step_back z k c n) (z (k + n)) ∷ []) (back_hold n (λ j lt. h j (omega arith))) (
-        yesterday_has P (position_below u) (U (step_back z k c n)) (U (z (k + n))) (Holds_decided u fine (step_back z k c n))
-            (Same-then _ _ _ (h n (omega arith)) (Same-turned _ _ (back_more k c a s n (step_back z k c n) (back_meant n (λ j lt. h j (omega arith)))))) at0,
-        tt,
-      )
+      back_hold (suc n) h =
+          hold_append (back_axioms yesterday_axiom z k c n) (yesterday_axiom (step_back z k c n) (z (k + n)) ∷ []) (back_hold n (λ j lt. h j (omega arith))) (
+            yesterday_has P (position_below u) (U (step_back z k c n)) (U (z (k + n))) (Holds_decided u fine (step_back z k c n))
+                (Same-then _ _ _ (h n (omega arith)) (Same-turned _ _ (back_more k c a s n (step_back z k c n) (back_meant n (λ j lt. h j (omega arith))))))
+                at0,
+            tt,
+          )
 
-      weak_back_meant : (n : ℕ) → ((j : ℕ) → j < n → Same P (U (z (k + j))) (IsHistoricallyIn (suc j) (suc j) (T a))) → Same P (U (step_back z k c n)) (IsHistoricallyIn n n (T a))
+      weak_back_meant : (n : ℕ) → ((j : ℕ) → j < n → Same P (U (z (k + j))) (IsHistoricallyIn (suc j) (suc j) (T a)))
+          → Same P (U (step_back z k c n)) (IsHistoricallyIn n n (T a))
       weak_back_meant zero h = weak_back₀ k c a s
       weak_back_meant (suc n) h = h n (omega arith)
 
-      weak_back_hold : (n : ℕ) → ((j : ℕ) → j < n → Same P (U (z (k + j))) (IsHistoricallyIn (suc j) (suc j) (T a))) → AllHold (back_axioms weak_yesterday_axiom z k c n)
+      weak_back_hold : (n : ℕ) → ((j : ℕ) → j < n → Same P (U (z (k + j))) (IsHistoricallyIn (suc j) (suc j) (T a)))
+          → AllHold (back_axioms weak_yesterday_axiom z k c n)
       weak_back_hold zero h = tt
-      weak_back_hold (suc n) h = hold_append (back_axioms weak_yesterday_axiom z k c n) (weak_yesterday_axiom (step_back z k c n) (z (k + n)) ∷ []) (weak_back_hold n (λ j lt. h j (omega arith))) (
-        weak_yesterday_has P (position_below u) (U (step_back z k c n)) (U (z (k + n))) (Holds_decided u fine (step_back z k c n))
-            (Same-then _ _ _ (h n (omega arith)) (Same-turned _ _ (weak_back_more k c a s n (step_back z k c n) (weak_back_meant n (λ j lt. h j (omega arith)))))) at0,
-        tt,
-      )
+      weak_back_hold (suc n) h = hold_append (back_axioms weak_yesterday_axiom z k c n) (weak_yesterday_axiom (step_back z k c n) (z (k + n)) ∷ [])
+          (weak_back_hold n (λ j lt. h j (omega arith))) (
+            weak_yesterday_has P (position_below u) (U (step_back z k c n)) (U (z (k + n))) (Holds_decided u fine (step_back z k c n))
+                (Same-then _ _ _ (h n (omega arith))
+                (Same-turned _ _ (weak_back_more k c a s n (step_back z k c n) (weak_back_meant n (λ j lt. h j (omega arith)))))) at0,
+            tt,
+          )
 
       -- the letters of a chain, read as claims
-      once_meant : (n : ℕ) → AreMeant k (counted (λ m. Unary (YesterdayTimes m) a) n) → (j : ℕ) → j < n → Same P (U (z (k + j))) (IsOnceIn (suc j) (suc j) (T a))
+      once_meant : (n : ℕ) → AreMeant k (counted (λ m. Unary (YesterdayTimes m) a) n) → (j : ℕ)
+          → j < n → Same P (U (z (k + j))) (IsOnceIn (suc j) (suc j) (T a))
       once_meant n h j lt = Same-then _ _ _ (meant_at k (λ m. Unary (YesterdayTimes m) a) n h j lt) (Same-yesterdays (suc j) (T a))
 
-      historically_meant : (n : ℕ) → AreMeant k (counted (λ m. Unary (HistoricallyIn m m) a) n) → (j : ℕ) → j < n → Same P (U (z (k + j))) (IsHistoricallyIn (suc j) (suc j) (T a))
+      historically_meant : (n : ℕ) → AreMeant k (counted (λ m. Unary (HistoricallyIn m m) a) n) → (j : ℕ)
+          → j < n → Same P (U (z (k + j))) (IsHistoricallyIn (suc j) (suc j) (T a))
       historically_meant n h j lt = meant_at k (λ m. Unary (HistoricallyIn m m) a) n h j lt
 
-    stands₁ : (op : UnaryOp) (k : ℕ) (c a : Formula) → Same P (U c) (T a) → AreMeant k (meanings₁ op a) → Stands (residue₁ z k op c) (axioms₁ z k op c) (Unary op a)
+    stands₁ : (op : UnaryOp) (k : ℕ) (c a : Formula) → Same P (U c) (T a) → AreMeant k (meanings₁ op a)
+        → Stands (residue₁ z k op c) (axioms₁ z k op c) (Unary op a)
     stands₁ Not k c a s h = (future₁ Not c a tt s, tt)
     stands₁ Next k c a s h = (future₁ Next c a tt s, tt)
     stands₁ WeakNext k c a s h = (future₁ WeakNext c a tt s, tt)
     stands₁ Eventually k c a s h = (future₁ Eventually c a tt s, tt)
     stands₁ Always k c a s h = (future₁ Always c a tt s, tt)
-    stands₁ Yesterday k c a s h = (h.0, (yesterday_has P (position_below u) (U c) (U (z k)) (Holds_decided u fine c) (Same-then _ _ _ h.0 (Same-turned _ _ (Same-yesterday range _ _ s))) at0, tt))
-    stands₁ WeakYesterday k c a s h = (h.0, (weak_yesterday_has P (position_below u) (U c) (U (z k)) (Holds_decided u fine c) (Same-then _ _ _ h.0 (Same-turned _ _ (Same-weak_yesterday range _ _ s))) at0, tt))
-    stands₁ Once k c a s h =
-        (h.0, (since_has P (position_below u) (U (Const true)) (U c) (U (z k)) (Holds_decided u fine (z k)) (Same-then _ _ _ h.0 (Same-turned _ _ (Same-since range _ _ _ _ Same-true s))) at0, tt))
-    stands₁ Historically k c a s h =
-        (h.0, (trigger_has P (position_below u) (U (Const false)) (U c) (U (z k)) (Holds_decided u fine (Const false)) (Holds_decided u fine (z k)) (Same-then _ _ _ h.0 (Same-turned _ _ (Same-triggered range _ _ _ _ Same-false s))) at0, tt))
+    stands₁ Yesterday k c a s h = (
+      h.0,
+      (
+        yesterday_has P (position_below u) (U c) (U (z k)) (Holds_decided u fine c) (Same-then _ _ _ h.0 (Same-turned _ _ (Same-yesterday range _ _ s))) at0,
+        tt,
+      ),
+    )
+    stands₁ WeakYesterday k c a s h = (
+      h.0,
+      (
+        weak_yesterday_has P (position_below u) (U c) (U (z k)) (Holds_decided u fine c)
+            (Same-then _ _ _ h.0 (Same-turned _ _ (Same-weak_yesterday range _ _ s))) at0,
+        tt,
+      ),
+    )
+    stands₁ Once k c a s h = (
+      h.0,
+      (
+        since_has P (position_below u) (U (Const true)) (U c) (U (z k)) (Holds_decided u fine (z k))
+            (Same-then _ _ _ h.0 (Same-turned _ _ (Same-since range _ _ _ _ Same-true s))) at0,
+        tt,
+      ),
+    )
+    stands₁ Historically k c a s h = (
+      h.0,
+      (
+        trigger_has P (position_below u) (U (Const false)) (U c) (U (z k)) (Holds_decided u fine (Const false)) (Holds_decided u fine (z k))
+            (Same-then _ _ _ h.0 (Same-turned _ _ (Same-triggered range _ _ _ _ Same-false s))) at0,
+        tt,
+      ),
+    )
     stands₁ (NextTimes n) k c a s h = (future₁ (NextTimes n) c a tt s, tt)
     stands₁ (YesterdayTimes n) k c a s h =
         let m = once_meant k c a s n h in
@@ -286,7 +341,8 @@ module _ (t u : Trace) (good : IsTrace t) (fine : IsTrace u) (at0 : IsPosition u
         let l = historically_meant k c a s n h in
         (joined_historically k c a s m n (λ j le. weak_back_meant k c a s j (λ i lt. l i (omega arith))), weak_back_hold k c a s n l)
 
-    stands₂ : (op : BinaryOp) (k : ℕ) (c d a b : Formula) → Same P (U c) (T a) → Same P (U d) (T b) → AreMeant k (meanings₂ op a b) → Stands (residue₂ z k op c d) (axioms₂ z k op c d) (Binary op a b)
+    stands₂ : (op : BinaryOp) (k : ℕ) (c d a b : Formula) → Same P (U c) (T a) → Same P (U d) (T b) → AreMeant k (meanings₂ op a b)
+        → Stands (residue₂ z k op c d) (axioms₂ z k op c d) (Binary op a b)
     stands₂ And k c d a b r s h = (future₂ And c d a b tt r s, tt)
     stands₂ Or k c d a b r s h = (future₂ Or c d a b tt r s, tt)
     stands₂ Implies k c d a b r s h = (future₂ Implies c d a b tt r s, tt)
@@ -295,10 +351,22 @@ module _ (t u : Trace) (good : IsTrace t) (fine : IsTrace u) (at0 : IsPosition u
     stands₂ Release k c d a b r s h = (future₂ Release c d a b tt r s, tt)
     stands₂ WeakUntil k c d a b r s h = (future₂ WeakUntil c d a b tt r s, tt)
     stands₂ StrongRelease k c d a b r s h = (future₂ StrongRelease c d a b tt r s, tt)
-    stands₂ Since k c d a b r s h =
-        (h.0, (since_has P (position_below u) (U c) (U d) (U (z k)) (Holds_decided u fine (z k)) (Same-then _ _ _ h.0 (Same-turned _ _ (Same-since range _ _ _ _ r s))) at0, tt))
-    stands₂ Trigger k c d a b r s h =
-        (h.0, (trigger_has P (position_below u) (U c) (U d) (U (z k)) (Holds_decided u fine c) (Holds_decided u fine (z k)) (Same-then _ _ _ h.0 (Same-turned _ _ (Same-triggered range _ _ _ _ r s))) at0, tt))
+    stands₂ Since k c d a b r s h = (
+      h.0,
+      (
+        since_has P (position_below u) (U c) (U d) (U (z k)) (Holds_decided u fine (z k))
+            (Same-then _ _ _ h.0 (Same-turned _ _ (Same-since range _ _ _ _ r s))) at0,
+        tt,
+      ),
+    )
+    stands₂ Trigger k c d a b r s h = (
+      h.0,
+      (
+        trigger_has P (position_below u) (U c) (U d) (U (z k)) (Holds_decided u fine c) (Holds_decided u fine (z k))
+            (Same-then _ _ _ h.0 (Same-turned _ _ (Same-triggered range _ _ _ _ r s))) at0,
+        tt,
+      ),
+    )
 
     -- where the letters are what they mean, residues hold where the parts do, and each axiom holds
     pub length-meanings : (f : Formula) → length (meanings f) ≡ taken f
@@ -321,16 +389,36 @@ module _ (t u : Trace) (good : IsTrace t) (fine : IsTrace u) (at0 : IsPosition u
       length-meanings₁ (AlwaysIn m n) a = refl
       length-meanings₁ (OnceIn m n) a = length-counted (λ m. Unary (YesterdayTimes m) a) n
       length-meanings₁ (HistoricallyIn m n) a = length-counted (λ m. Unary (HistoricallyIn m m) a) n
-    length-meanings (Binary And a b) = omega (arith, length-meanings a, length-meanings b, length-append (meanings a) (meanings b ++ []), length-append (meanings b) [])
-    length-meanings (Binary Or a b) = omega (arith, length-meanings a, length-meanings b, length-append (meanings a) (meanings b ++ []), length-append (meanings b) [])
-    length-meanings (Binary Implies a b) = omega (arith, length-meanings a, length-meanings b, length-append (meanings a) (meanings b ++ []), length-append (meanings b) [])
-    length-meanings (Binary Iff a b) = omega (arith, length-meanings a, length-meanings b, length-append (meanings a) (meanings b ++ []), length-append (meanings b) [])
-    length-meanings (Binary Until a b) = omega (arith, length-meanings a, length-meanings b, length-append (meanings a) (meanings b ++ []), length-append (meanings b) [])
-    length-meanings (Binary Release a b) = omega (arith, length-meanings a, length-meanings b, length-append (meanings a) (meanings b ++ []), length-append (meanings b) [])
-    length-meanings (Binary WeakUntil a b) = omega (arith, length-meanings a, length-meanings b, length-append (meanings a) (meanings b ++ []), length-append (meanings b) [])
-    length-meanings (Binary StrongRelease a b) = omega (arith, length-meanings a, length-meanings b, length-append (meanings a) (meanings b ++ []), length-append (meanings b) [])
-    length-meanings (Binary Since a b) = omega (arith, length-meanings a, length-meanings b, length-append (meanings a) (meanings b ++ Binary Since a b ∷ []), length-append (meanings b) (Binary Since a b ∷ []))
-    length-meanings (Binary Trigger a b) = omega (arith, length-meanings a, length-meanings b, length-append (meanings a) (meanings b ++ Binary Trigger a b ∷ []), length-append (meanings b) (Binary Trigger a b ∷ []))
+    length-meanings (Binary And a b) =
+        omega (arith, length-meanings a, length-meanings b, length-append (meanings a) (meanings b ++ []), length-append (meanings b) [])
+    length-meanings (Binary Or a b) =
+        omega (arith, length-meanings a, length-meanings b, length-append (meanings a) (meanings b ++ []), length-append (meanings b) [])
+    length-meanings (Binary Implies a b) =
+        omega (arith, length-meanings a, length-meanings b, length-append (meanings a) (meanings b ++ []), length-append (meanings b) [])
+    length-meanings (Binary Iff a b) =
+        omega (arith, length-meanings a, length-meanings b, length-append (meanings a) (meanings b ++ []), length-append (meanings b) [])
+    length-meanings (Binary Until a b) =
+        omega (arith, length-meanings a, length-meanings b, length-append (meanings a) (meanings b ++ []), length-append (meanings b) [])
+    length-meanings (Binary Release a b) =
+        omega (arith, length-meanings a, length-meanings b, length-append (meanings a) (meanings b ++ []), length-append (meanings b) [])
+    length-meanings (Binary WeakUntil a b) =
+        omega (arith, length-meanings a, length-meanings b, length-append (meanings a) (meanings b ++ []), length-append (meanings b) [])
+    length-meanings (Binary StrongRelease a b) =
+        omega (arith, length-meanings a, length-meanings b, length-append (meanings a) (meanings b ++ []), length-append (meanings b) [])
+    length-meanings (Binary Since a b) = omega (
+      arith,
+      length-meanings a,
+      length-meanings b,
+      length-append (meanings a) (meanings b ++ Binary Since a b ∷ []),
+      length-append (meanings b) (Binary Since a b ∷ []),
+    )
+    length-meanings (Binary Trigger a b) = omega (
+      arith,
+      length-meanings a,
+      length-meanings b,
+      length-append (meanings a) (meanings b ++ Binary Trigger a b ∷ []),
+      length-append (meanings b) (Binary Trigger a b ∷ []),
+    )
 
     -- the meanings of an operator's operands, and its own
     one_meant : (n : ℕ) (op : UnaryOp) (a : Formula) → AreMeant n (meanings (Unary op a)) → AreMeant n (meanings a) × AreMeant (n + taken a) (meanings₁ op a)
@@ -338,10 +426,12 @@ module _ (t u : Trace) (good : IsTrace t) (fine : IsTrace u) (at0 : IsPosition u
         let r = meant_split n (meanings a) (meanings₁ op a) h in
         (r.0, subst (λ k. AreMeant (n + k) (meanings₁ op a)) (length-meanings a) r.1)
 
-    two_meant : (n : ℕ) (op : BinaryOp) (a b : Formula) → AreMeant n (meanings (Binary op a b)) → AreMeant n (meanings a) × AreMeant (n + taken a) (meanings b) × AreMeant (n + taken a + taken b) (meanings₂ op a b)
+    two_meant : (n : ℕ) (op : BinaryOp) (a b : Formula) → AreMeant n (meanings (Binary op a b))
+        → AreMeant n (meanings a) × AreMeant (n + taken a) (meanings b) × AreMeant (n + taken a + taken b) (meanings₂ op a b)
     two_meant n op a b h =
         let r = meant_split n (meanings a) (meanings b ++ meanings₂ op a b) h in
-        let q : AreMeant (n + taken a) (meanings b ++ meanings₂ op a b) = subst (λ k. AreMeant (n + k) (meanings b ++ meanings₂ op a b)) (length-meanings a) r.1 in
+        let q : AreMeant (n + taken a) (meanings b ++ meanings₂ op a b) =
+        subst (λ k. AreMeant (n + k) (meanings b ++ meanings₂ op a b)) (length-meanings a) r.1 in
         let v = meant_split (n + taken a) (meanings b) (meanings₂ op a b) q in
         (r.0, v.0, subst (λ k. AreMeant (n + taken a + k) (meanings₂ op a b)) (length-meanings b) v.1)
 
@@ -384,7 +474,8 @@ module _ (t u : Trace) (good : IsTrace t) (fine : IsTrace u) (at0 : IsPosition u
     are_meant k [] h = tt
     are_meant k (x ∷ xs) h = (
       let e : k + 0 ≡ k = omega arith in subst (λ j. Same P (U (z j)) (T x)) e (h 0 (omega arith)),
-      are_meant (suc k) xs (λ j lt. let e : k + suc j ≡ suc k + j = omega arith in subst (λ i. Same P (U (z i)) (T (slice_index_or xs j (Const false)))) e (h (suc j) (omega arith))),
+      are_meant (suc k) xs (λ j lt. let e : k + suc j ≡ suc k + j = omega arith in
+          subst (λ i. Same P (U (z i)) (T (slice_index_or xs j (Const false)))) e (h (suc j) (omega arith))),
     )
 
     -- a part's residue holds where the part does

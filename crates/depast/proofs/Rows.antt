@@ -20,14 +20,16 @@ reads_on l (symbols.Binary op ∷ xs) ys (b ∷ []) s t e h = absurd e
 reads_on l (symbols.Binary op ∷ xs) ys (b ∷ a ∷ r) s t e h = reads_on l xs ys (Binary op a b ∷ r) s t e h
 
 -- the row of a formula behind a row
-pub writes_on : (l : Letters) (xs ys new : List Symbol) (r s : List Formula) (f : Formula) → new ≡ xs ++ ys → Reads l xs r s → Writes l ys f → Reads l new r (f ∷ s)
+pub writes_on : (l : Letters) (xs ys new : List Symbol) (r s : List Formula) (f : Formula) → new ≡ xs ++ ys → Reads l xs r s → Writes l ys f
+    → Reads l new r (f ∷ s)
 writes_on l xs ys new r s f is h w = subst (λ zs. Reads l zs r (f ∷ s)) (sym is) (reads_on l xs ys r s (f ∷ s) h (w s))
 
 pub reads_more : (l : Letters) (xs ys new : List Symbol) (r s t : List Formula) → new ≡ xs ++ ys → Reads l xs r s → Reads l ys s t → Reads l new r t
 reads_more l xs ys new r s t is h w = subst (λ zs. Reads l zs r t) (sym is) (reads_on l xs ys r s t h w)
 
 -- the first symbol of a row, and the rest
-pub split_reads : (l : Letters) (x : Symbol) (xs : List Symbol) (s r : List Formula) → Reads l (x ∷ xs) s r → (m : List Formula) × Reads l (x ∷ []) s m × Reads l xs m r
+pub split_reads : (l : Letters) (x : Symbol) (xs : List Symbol) (s r : List Formula) → Reads l (x ∷ xs) s r
+    → (m : List Formula) × Reads l (x ∷ []) s m × Reads l xs m r
 split_reads l (symbols.Const b) xs s r h = (Const b ∷ s, refl, h)
 split_reads l (symbols.Old n) xs s r h = (l.old n ∷ s, (h.0, refl), h.1)
 split_reads l (symbols.Fresh n) xs s r h = (Letter (Fresh n) ∷ s, refl, h)
@@ -42,8 +44,10 @@ abbrev pub blank : Symbol
 blank = symbols.Const false
 
 -- at a place of a row
-pub reads_at : (l : Letters) (row : List Symbol) (i : ℕ) (s r : List Formula) → i < length row → Reads l (drop i row) s r → Reads l (get_or row i blank ∷ drop (i + 1) row) s r
-reads_at l row i s r lt h = let e : suc i ≡ i + 1 = omega arith in subst (λ xs. Reads l xs s r) (drop-cons row i blank lt ∙ ap (λ n. get_or row i blank ∷ drop n row) e) h
+pub reads_at : (l : Letters) (row : List Symbol) (i : ℕ) (s r : List Formula) → i < length row → Reads l (drop i row) s r
+    → Reads l (get_or row i blank ∷ drop (i + 1) row) s r
+reads_at l row i s r lt h = let e : suc i ≡ i + 1 = omega arith in
+    subst (λ xs. Reads l xs s r) (drop-cons row i blank lt ∙ ap (λ n. get_or row i blank ∷ drop n row) e) h
 
 pub reads_none : (l : Letters) (row : List Symbol) (i : ℕ) (s r : List Formula) → length row ≤ i → Reads l (drop i row) s r → s ≡ r
 reads_none l row i s r le h = subst (λ xs. Reads l xs s r) (drop_of_length-le row le) h

@@ -3,7 +3,8 @@ use Rattle.std.proofs.Common.{ℕ, zero, suc, ◌+◌, ◌<◌, ◌≤◌, max, 
 use Rattle.std.specs.Prelude.{⊤}
 use Rattle.ltl_syntax.specs.declared.node.UnaryOp.{UnaryOp}
 use Rattle.ltl_syntax.specs.declared.node.BinaryOp.{BinaryOp}
-use Rattle.ltl_syntax.specs.declared.node.UnaryOp.TheVariants.{Always, AlwaysIn, Eventually, EventuallyIn, Historically, HistoricallyIn, Next, NextTimes, Not, Once, OnceIn, WeakNext, WeakYesterday, Yesterday, YesterdayTimes}
+use Rattle.ltl_syntax.specs.declared.node.UnaryOp.TheVariants.{Always, AlwaysIn, Eventually, EventuallyIn, Historically, HistoricallyIn, Next, NextTimes, Not}
+use Rattle.ltl_syntax.specs.declared.node.UnaryOp.TheVariants.{Once, OnceIn, WeakNext, WeakYesterday, Yesterday, YesterdayTimes}
 use Rattle.ltl_syntax.specs.declared.node.BinaryOp.TheVariants.{And, Iff, Implies, Or, Release, Since, StrongRelease, Trigger, Until, WeakUntil}
 use Rattle.ltl_syntax.specs.Formula.{Formula, Const, Letter, Unary, Binary}
 use Rattle.ltl_word.specs.Depth.{past_depth}
@@ -86,11 +87,14 @@ deeper₂ Trigger a b = omega arith
 shallow : (f : Formula) → AreShallow (past_depth f) (meanings f)
 shallow (Const b) = tt
 shallow (Letter p) = tt
-shallow (Unary op a) = shallow_append (past_depth (Unary op a)) (meanings a) (meanings₁ op a) (shallow_more (past_depth a) (past_depth (Unary op a)) (deeper₁ op a) (meanings a) (shallow a)) (shallow₁ op a)
+shallow (Unary op a) = shallow_append (past_depth (Unary op a)) (meanings a) (meanings₁ op a)
+    (shallow_more (past_depth a) (past_depth (Unary op a)) (deeper₁ op a) (meanings a) (shallow a)) (shallow₁ op a)
 shallow (Binary op a b) =
     let d = deeper₂ op a b in
-    shallow_append (past_depth (Binary op a b)) (meanings a) (meanings b ++ meanings₂ op a b) (shallow_more (past_depth a) (past_depth (Binary op a b)) (omega arith) (meanings a) (shallow a))
-    (shallow_append (past_depth (Binary op a b)) (meanings b) (meanings₂ op a b) (shallow_more (past_depth b) (past_depth (Binary op a b)) (omega arith) (meanings b) (shallow b)) (shallow₂ op a b))
+    shallow_append (past_depth (Binary op a b)) (meanings a) (meanings b ++ meanings₂ op a b)
+    (shallow_more (past_depth a) (past_depth (Binary op a b)) (omega arith) (meanings a) (shallow a))
+    (shallow_append (past_depth (Binary op a b)) (meanings b) (meanings₂ op a b)
+    (shallow_more (past_depth b) (past_depth (Binary op a b)) (omega arith) (meanings b) (shallow b)) (shallow₂ op a b))
 
 shallow_at : (h : ℕ) (xs : List Formula) (k : ℕ) → AreShallow h xs → past_depth (slice_index_or xs k (Const false)) ≤ h
 shallow_at h [] k a = omega arith

@@ -1,5 +1,6 @@
 -- A state with the names of the sources that are true, one source after the other.
-use Rattle.std.proofs.Common.{◌≡◌, ℕ, ◌+◌, ◌<◌, ◌↔◌, ◌⊎◌, inl, inr, sym, ◌∙◌, ap, subst, arith, Bool, false, IsTrue, List, [], ◌∷◌, ◌++◌, length, length-append, slice_index_or, Contains}
+use Rattle.std.proofs.Common.{◌≡◌, ℕ, ◌+◌, ◌<◌, ◌↔◌, ◌⊎◌, inl, inr, sym, ◌∙◌, ap, subst, arith, Bool, false, IsTrue, List, [], ◌∷◌, ◌++◌, length, length-append}
+use Rattle.std.proofs.Common.{slice_index_or, Contains}
 use Rattle.std.proofs.Math.ListN.{get_or-append}
 use Rattle.std.proofs.Math.Seq.{get_or-append_seam}
 use Rattle.std.proofs.lemmas.Bool.{cases_lt}
@@ -39,7 +40,8 @@ module _ (m : Meanings) (names old : Names) (i : ℕ) where
   one_of : (x name : List ℕ) → Contains (x ∷ []) name → x ≡ name
   one_of x name c = elim (Contains-cons_cases x [] name c) [ inl e ↦ e | inr r ↦ absurd (Contains-nil name r) ]
 
-  pub one_shown : (n : ℕ) (items items' : Names) (x : List ℕ) → Told n items → items' ≡ items ++ x ∷ [] → x ≡ slice_index_or names n [] → IsTrue (value n) → Told (n + 1) items'
+  pub one_shown : (n : ℕ) (items items' : Names) (x : List ℕ) → Told n items → items' ≡ items ++ x ∷ [] → x ≡ slice_index_or names n [] → IsTrue (value n)
+      → Told (n + 1) items'
   one_shown n items items' x told e is true_there = subst (Told (n + 1)) (sym e) (λ name. (
     λ c. elim (Contains-append_cases items (x ∷ []) name c) [
       | inl l ↦ elim ((told name).0 l) [ inl w ↦ inl w | inr w ↦ inr (more n name w) ]
@@ -66,7 +68,8 @@ module _ (m : Meanings) (names old : Names) (i : ℕ) where
     ],
   )
 
-  pub all_shown : (n : ℕ) (items state : Names) → Told n items → n ≡ length m.sources.items → ((name : List ℕ) → Contains state name ↔ Contains items name) → IsLiftedState m names old i state
+  pub all_shown : (n : ℕ) (items state : Names) → Told n items → n ≡ length m.sources.items → ((name : List ℕ) → Contains state name ↔ Contains items name)
+      → IsLiftedState m names old i state
   all_shown n items state told e same =
       let whole : Told (length m.sources.items) items = subst (λ k. Told k items) e told in
       λ name. (λ c. (whole name).0 ((same name).0 c), λ s. (same name).1 ((whole name).1 s))
@@ -77,7 +80,8 @@ module _ (m : Meanings) (names : Names) (t : Trace) (first : ℕ) where
   abbrev IsStateAt : ℕ → Names → Type 0
   IsStateAt i state = IsLiftedState m names (state_at t (first + i)) (first + i) state
 
-  pub lifted_more : (states states' : List Names) (state : Names) (position : ℕ) → states' ≡ states ++ state ∷ [] → first + length states ≡ position → ((i : ℕ) → i < length states → IsStateAt i (slice_index_or states i []))
+  pub lifted_more : (states states' : List Names) (state : Names) (position : ℕ)
+      → states' ≡ states ++ state ∷ [] → first + length states ≡ position → ((i : ℕ) → i < length states → IsStateAt i (slice_index_or states i []))
       → IsLiftedState m names (state_at t position) position state → (i : ℕ) → i < length states' → IsStateAt i (slice_index_or states' i [])
   lifted_more states states' state position e at each is i lt =
       subst (λ xs. IsStateAt i (slice_index_or xs i [])) (sym e) (elim (cases_lt i (length states)) [
@@ -85,5 +89,6 @@ module _ (m : Meanings) (names : Names) (t : Trace) (first : ℕ) where
         | inr after ↦
             let here : length states ≡ i = let l = ap length e in let k = length-append states (state ∷ []) in omega arith in
             subst (λ k. IsStateAt k (slice_index_or (states ++ state ∷ []) k [])) here
-            (subst (IsStateAt (length states)) (sym (get_or-append_seam states state [] [])) (subst (λ p. IsLiftedState m names (state_at t p) p state) (sym at) is))
+            (subst (IsStateAt (length states)) (sym (get_or-append_seam states state [] []))
+            (subst (λ p. IsLiftedState m names (state_at t p) p state) (sym at) is))
       ])

@@ -1,5 +1,6 @@
 -- Where the truth of what new names stand for is read.
-use Rattle.std.proofs.Common.{◌≡◌, ℕ, zero, suc, ◌+◌, ◌-◌, ◌<◌, ◌≤◌, ◌↔◌, refl, sym, ◌∙◌, ap, subst, arith, Bool, true, false, ◌==◌, List, [], ◌∷◌, ◌++◌, length, slice_index_or, append_assoc, eq-eqb}
+use Rattle.std.proofs.Common.{◌≡◌, ℕ, zero, suc, ◌+◌, ◌-◌, ◌<◌, ◌≤◌, ◌↔◌, refl, sym, ◌∙◌, ap, subst, arith, Bool, true, false, ◌==◌, List, [], ◌∷◌, ◌++◌}
+use Rattle.std.proofs.Common.{length, slice_index_or, append_assoc, eq-eqb}
 use Rattle.std.specs.Prelude.{⊤}
 use Rattle.std.proofs.lemmas.Bool.{or_left, or_right}
 use Rattle.ltl_syntax.specs.declared.node.UnaryOp.{UnaryOp}
@@ -18,7 +19,8 @@ use Rattle.depast.specs.Writing.{trees_at}
 
 -- ---- rows of sources
 
-pub sources_push : (t : Table) (root : ℕ) (ss : List Source) (gs : List Formula) (s : Source) (g : Formula) → AreSources t root ss gs → IsSource t root s g → AreSources t root (ss ++ s ∷ []) (gs ++ g ∷ [])
+pub sources_push : (t : Table) (root : ℕ) (ss : List Source) (gs : List Formula) (s : Source) (g : Formula) → AreSources t root ss gs → IsSource t root s g
+    → AreSources t root (ss ++ s ∷ []) (gs ++ g ∷ [])
 sources_push t root [] [] s g are is = (is, tt)
 sources_push t root [] (h ∷ gs) s g are is = absurd are
 sources_push t root (r ∷ ss) [] s g are is = absurd are
@@ -30,7 +32,8 @@ as_many t root [] (h ∷ gs) are = absurd are
 as_many t root (r ∷ ss) [] are = absurd are
 as_many t root (r ∷ ss) (h ∷ gs) are = ap suc (as_many t root ss gs are.1)
 
-pub source_at : (t : Table) (root : ℕ) (ss : List Source) (gs : List Formula) (k : ℕ) → AreSources t root ss gs → k < length ss → IsSource t root (slice_index_or ss k blank_source) (slice_index_or gs k (Const false))
+pub source_at : (t : Table) (root : ℕ) (ss : List Source) (gs : List Formula) (k : ℕ) → AreSources t root ss gs → k < length ss
+    → IsSource t root (slice_index_or ss k blank_source) (slice_index_or gs k (Const false))
 source_at t root [] [] k are lt = absurd (omega arith)
 source_at t root [] (h ∷ gs) k are lt = absurd are
 source_at t root (r ∷ ss) [] k are lt = absurd are
@@ -39,10 +42,12 @@ source_at t root (r ∷ ss) (h ∷ gs) (suc k) are lt = source_at t root ss gs k
 
 -- ---- one source
 
-pub here_source : (t : Table) (root number : ℕ) → IsUnder t root number → IsSource t root (record { node = number; back = 0; beyond = false }) (tree_at t number)
+pub here_source : (t : Table) (root number : ℕ) → IsUnder t root number
+    → IsSource t root (record { node = number; back = 0; beyond = false }) (tree_at t number)
 here_source t root number under = record {
   under = under;
-  says = λ u i. let e : i - 0 ≡ i = omega arith in (λ h. (omega arith, subst (Holds u (tree_at t number)) (sym e) h), λ w. subst (Holds u (tree_at t number)) e w.1);
+  says = λ u i. let e : i - 0 ≡ i = omega arith in
+      (λ h. (omega arith, subst (Holds u (tree_at t number)) (sym e) h), λ w. subst (Holds u (tree_at t number)) e w.1);
 }
 
 back_says : (A : Claim) (m i : ℕ) → AtYesterdayTimes m A i ↔ ((m ≤ i) × A (i - m))
@@ -57,11 +62,13 @@ weakly_says A m i = (
   λ h j low high. let e : i - m ≡ j = omega arith in subst A e (h (omega arith)),
 )
 
-pub behind_source : (t : Table) (root a m : ℕ) (beyond : Bool) → IsUnder t root a → IsSource t root (record { node = a; back = m; beyond = beyond }) (behind beyond m (tree_at t a))
+pub behind_source : (t : Table) (root a m : ℕ) (beyond : Bool) → IsUnder t root a
+    → IsSource t root (record { node = a; back = m; beyond = beyond }) (behind beyond m (tree_at t a))
 behind_source t root a m true under = record { under = under; says = λ u i. weakly_says (Holds u (tree_at t a)) m i }
 behind_source t root a m false under = record { under = under; says = λ u i. back_says (Holds u (tree_at t a)) m i }
 
-pub counted_more : (t : Table) (root : ℕ) (ss ss' : List Source) (gs : List Formula) (g : ℕ → Formula) (n : ℕ) (s : Source) → AreSources t root ss (gs ++ counted g n) → ss' ≡ ss ++ s ∷ [] → IsSource t root s (g (n + 1))
+pub counted_more : (t : Table) (root : ℕ) (ss ss' : List Source) (gs : List Formula) (g : ℕ → Formula) (n : ℕ) (s : Source)
+    → AreSources t root ss (gs ++ counted g n) → ss' ≡ ss ++ s ∷ [] → IsSource t root s (g (n + 1))
     → AreSources t root ss' (gs ++ counted g (n + 1))
 counted_more t root ss ss' gs g n s are e is =
     let one : suc n ≡ n + 1 = omega arith in
@@ -79,7 +86,8 @@ AllUnder t root (x ∷ xs) = IsUnder t root x × AllUnder t root xs
 pub under_one : (t : Table) (root number : ℕ) (op : UnaryOp) (a : ℕ) → IsUnder t root number → IsNode t number (nodes.Unary op a) → IsUnder t root a
 under_one t root number op a under is = Below number a (nodes.Unary op a) under is.there (eq-eqb a a refl)
 
-operands_under : (t : Table) (root number : ℕ) (node : Node) (rest : List ℕ) → IsUnder t root number → IsNode t number node → AllUnder t root rest → AllUnder t root (operands node ++ rest)
+operands_under : (t : Table) (root number : ℕ) (node : Node) (rest : List ℕ) → IsUnder t root number → IsNode t number node → AllUnder t root rest
+    → AllUnder t root (operands node ++ rest)
 unfolding AllUnder
 operands_under t root number (nodes.Const b) rest under is all = all
 operands_under t root number (nodes.Letter n) rest under is all = all
@@ -106,7 +114,8 @@ first_under t root order number rest ends = (all_under t root order (number ∷ 
 pub own_added : (t : Table) (number : ℕ) (node : Node) (rest : List ℕ) → tree_at t number ≡ made t.names (trees_of t) node
     → meanings_by (trees_at t (operands node ++ rest)) ++ own_meanings t node ≡ meanings_by (trees_at t (number ∷ rest))
 own_added t number node rest e = by node ∙ ap (λ f. meanings_by (trees_at t rest) ++ meanings f) (sym e) where
-  by : (node : Node) → meanings_by (trees_at t (operands node ++ rest)) ++ own_meanings t node ≡ meanings_by (trees_at t rest) ++ meanings (made t.names (trees_of t) node)
+  by : (node : Node)
+      → meanings_by (trees_at t (operands node ++ rest)) ++ own_meanings t node ≡ meanings_by (trees_at t rest) ++ meanings (made t.names (trees_of t) node)
   by (nodes.Const b) = refl
   by (nodes.Letter n) = refl
   by (nodes.Fresh n) = refl

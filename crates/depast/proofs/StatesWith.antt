@@ -20,7 +20,8 @@ module _ (f : Formula) where
   kept [] = []
   kept (name ∷ rest) = keep_if name (old_decided f name) (kept rest)
 
-  keep_cases : (x : List ℕ) (d : Dec (IsOld f x)) (rest : Names) (name : List ℕ) → Contains (keep_if x d rest) name → ((x ≡ name) × IsOld f x) ⊎ Contains rest name
+  keep_cases : (x : List ℕ) (d : Dec (IsOld f x)) (rest : Names) (name : List ℕ) → Contains (keep_if x d rest) name
+      → ((x ≡ name) × IsOld f x) ⊎ Contains rest name
   unfolding keep_if
   keep_cases x (yes old) rest name h = elim (Contains-cons_cases x rest name h) [ inl e ↦ inl (e, old) | inr r ↦ inr r ]
   keep_cases x (no new) rest name h = inr h
@@ -91,7 +92,8 @@ module _ (f : Formula) where
     unfolding added
     added_has zero k lt m = absurd (omega arith)
     added_has (suc n) k lt m = elim (in_front n k lt) [
-      | inl e ↦ subst (λ j. Contains (add_if (d n) (new_name (most_leading f) n) (added n)) (new_name (most_leading f) j)) e (add_here (d n) (new_name (most_leading f) n) (added n) (subst M (sym e) m))
+      | inl e ↦ subst (λ j. Contains (add_if (d n) (new_name (most_leading f) n) (added n)) (new_name (most_leading f) j)) e
+          (add_here (d n) (new_name (most_leading f) n) (added n) (subst M (sym e) m))
       | inr below ↦ add_there (d n) (new_name (most_leading f) n) (added n) (new_name (most_leading f) k) (added_has n k below m)
     ]
 
@@ -114,7 +116,8 @@ module _ (f : Formula) where
     with_new few names k lt = (
       λ h. elim (Contains-append_cases (kept names) (added (taken f)) (new_name (most_leading f) k) h) [
         | inl w ↦ absurd ((kept_from names (new_name (most_leading f) k) w).1 k lt refl)
-        | inr w ↦ let v = added_from (taken f) (new_name (most_leading f) k) w in subst M (one_number (most_leading f) v.0 k (omega arith) (omega arith) v.2) v.3
+        | inr w ↦ let v = added_from (taken f) (new_name (most_leading f) k) w in
+            subst M (one_number (most_leading f) v.0 k (omega arith) (omega arith) v.2) v.3
       ],
       λ m. Contains-append_right (kept names) (added (taken f)) (new_name (most_leading f) k) (added_has (taken f) k lt m),
     )

@@ -1,5 +1,6 @@
 -- No tree of a table is larger than the table: the sizes of the trees that are under no other add up to the sizes of the nodes.
-use Rattle.std.proofs.Common.{◌≡◌, ◌≢◌, ℕ, zero, suc, ◌+◌, ◌-◌, ◌<◌, ◌≤◌, refl, sym, ◌∙◌, ap, subst, arith, inl, inr, Bool, true, false, ◌==◌, ◌||◌, cond, IsTrue, List, length, drop, length-drop, slice_get, Some, get_or}
+use Rattle.std.proofs.Common.{◌≡◌, ◌≢◌, ℕ, zero, suc, ◌+◌, ◌-◌, ◌<◌, ◌≤◌, refl, sym, ◌∙◌, ap, subst, arith, inl, inr, Bool, true, false, ◌==◌, ◌||◌, cond}
+use Rattle.std.proofs.Common.{IsTrue, List, length, drop, length-drop, slice_get, Some, get_or}
 use Rattle.std.specs.List.{count_by}
 use Rattle.std.proofs.Math.Seq.{drop-cons}
 use Rattle.std.proofs.lemmas.Bool.{cases_lt, eq-eqb}
@@ -31,7 +32,8 @@ one_counted p xs i d low has =
     let whole = sum_by-take-drop (λ x. cond (p x) 1 0) xs (i + 1) in
     omega (arith, first, whole)
 
-two_at : {X : Type 0} (p : X → Bool) (xs : List X) (i j : ℕ) (d : X) → i < j → j < length xs → p (get_or xs i d) ≡ true → p (get_or xs j d) ≡ true → 2 ≤ count_by p xs
+two_at : {X : Type 0} (p : X → Bool) (xs : List X) (i j : ℕ) (d : X) → i < j → j < length xs
+    → p (get_or xs i d) ≡ true → p (get_or xs j d) ≡ true → 2 ≤ count_by p xs
 two_at p xs i j d low within hi hj =
     let first = count_by_more_yes p xs i d (omega arith) hi in
     let whole = sum_by-take-drop (λ x. cond (p x) 1 0) xs (i + 1) in
@@ -132,20 +134,23 @@ module _ (t : Table) (single : (number : ℕ) → count_by (has_child number) t.
   child_before k m le (nodes.Letter n) fine = refl
   child_before k m le (nodes.Fresh n) fine = refl
   child_before k m le (nodes.Unary op a) fine = not_equal a m (λ e. omega (arith, fine))
-  child_before k m le (nodes.Binary op a b) fine = or_neither (a == m) (b == m) (not_equal a m (λ e. omega (arith, fine.0))) (not_equal b m (λ e. omega (arith, fine.1)))
+  child_before k m le (nodes.Binary op a b) fine =
+      or_neither (a == m) (b == m) (not_equal a m (λ e. omega (arith, fine.0))) (not_equal b m (λ e. omega (arith, fine.1)))
 
   unused : (k m : ℕ) → k ≤ m + 1 → Seen t k → used k m ≡ false
   unused zero m le seen = refl
   unused (suc k) m le seen =
       let s = seen k (omega arith) in
       let e = get_or_from_slice_get t.nodes k s.node none s.there in
-      or_neither (used k m) (has_child m (node_at k)) (unused k m (omega arith) (λ j h. seen j (omega arith))) (ap (has_child m) e ∙ child_before k m (omega arith) s.node s.below)
+      or_neither (used k m) (has_child m (node_at k)) (unused k m (omega arith) (λ j h. seen j (omega arith)))
+      (ap (has_child m) e ∙ child_before k m (omega arith) s.node s.below)
 
   -- a child of a node is no child of one before it
   fresh : (j k c : ℕ) → j ≤ k → k < length t.nodes → has_child c (node_at k) ≡ true → used j c ≡ false
   fresh zero k c le low has = refl
   fresh (suc j) k c le low has = or_neither (used j c) (has_child c (node_at j)) (fresh j k c (omega arith) low has)
-      (not_true (has_child c (node_at j)) (λ is. let two = two_at (has_child c) t.nodes j k none (omega arith) low is has in let one = single c in absurd (omega arith)))
+      (not_true (has_child c (node_at j))
+      (λ is. let two = two_at (has_child c) t.nodes j k none (omega arith) low is has in let one = single c in absurd (omega arith)))
 
   module _ (k : ℕ) (low : k < length t.nodes) where
     leaf : ((i : ℕ) → used (suc k) i ≡ (used k i || false)) → weight k ≡ 1 → weighed weight (used (suc k)) k + 1 ≡ weighed weight (used k) k + weight k
@@ -172,7 +177,8 @@ module _ (t : Table) (single : (number : ℕ) → count_by (has_child number) t.
         (λ i n. ap (λ v. used k i || v) (not_equal a i n) ∙ or_false (used k i)) in
         let free : between b ≡ false = or_neither (used k b) (a == b) (fresh k k b (omega arith) low has_b) (not_equal a b (λ same. fine.2 (sym same))) in
         let second = weighed_more weight between (used (suc k)) b k fine.1 free (or_right (used k b) (has_child b (node_at k)) has_b)
-        (λ i n. ap (λ x. used k i || has_child i x) e ∙ (ap (λ v. used k i || ((a == i) || v)) (not_equal b i n) ∙ ap (λ v. used k i || v) (or_false (a == i)))) in
+        (λ i n. ap (λ x. used k i || has_child i x) e
+        ∙ (ap (λ v. used k i || ((a == i) || v)) (not_equal b i n) ∙ ap (λ v. used k i || v) (or_false (a == i)))) in
         omega (arith, weighs, first, second)
 
   -- the sizes of the first trees, those of what is used in them, and those of the first nodes

@@ -24,10 +24,13 @@ fewer_of t (nodes.Fresh n) rest = omega arith
 fewer_of t (nodes.Unary op a) rest = omega arith
 fewer_of t (nodes.Binary op a b) rest = omega arith
 
-pub fewer : (t : Table) (number : ℕ) (node : Node) (rest : List ℕ) → tree_at t number ≡ made t.names (trees_of t) node → nodes_on t (operands node ++ rest) < nodes_on t (number ∷ rest)
-fewer t number node rest e = let f = fewer_of t node rest in let n : nodes_in (tree_at t number) ≡ nodes_in (made t.names (trees_of t) node) = ap nodes_in e in omega arith
+pub fewer : (t : Table) (number : ℕ) (node : Node) (rest : List ℕ) → tree_at t number ≡ made t.names (trees_of t) node
+    → nodes_on t (operands node ++ rest) < nodes_on t (number ∷ rest)
+fewer t number node rest e = let f = fewer_of t node rest in
+    let n : nodes_in (tree_at t number) ≡ nodes_in (made t.names (trees_of t) node) = ap nodes_in e in omega arith
 
-pub still_there : (t : Table) (number : ℕ) (node : Node) (rest : List ℕ) → number < length t.nodes → IsFine (length t.names) number node → AreThere t rest → AreThere t (operands node ++ rest)
+pub still_there : (t : Table) (number : ℕ) (node : Node) (rest : List ℕ) → number < length t.nodes → IsFine (length t.names) number node → AreThere t rest
+    → AreThere t (operands node ++ rest)
 still_there t number (nodes.Const b) rest low fine all = all
 still_there t number (nodes.Letter n) rest low fine all = all
 still_there t number (nodes.Fresh n) rest low fine all = all

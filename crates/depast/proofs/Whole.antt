@@ -17,16 +17,19 @@ use Rattle.depast.proofs.Counted.{size_counted}
 use Rattle.depast.proofs.Numbering.{names_counted}
 use Rattle.depast.proofs.Rows.{reads_more}
 
-pub whole_reads : (t : Table) (most : ℕ) (f : Formula) (w : Writer) (row : List Symbol) → ((l : Letters) → MeansNames l t → IsDoneBy l (f ∷ []) w) → most ≡ most_leading f → row ≡ w.row.items ++ w.axioms.items
+pub whole_reads : (t : Table) (most : ℕ) (f : Formula) (w : Writer) (row : List Symbol) → ((l : Letters) → MeansNames l t → IsDoneBy l (f ∷ []) w)
+    → most ≡ most_leading f → row ≡ w.row.items ++ w.axioms.items
     → Reads (letters_by t most) row [] (depast f ∷ [])
 whole_reads t most f w row done e is =
     let l = letters_by t (most_leading f) in
     let d = done (letters_by t (most_leading f)) (record { many_are = refl; each = λ n. refl }) in
     let v = d.laid in
     let back : w.row.items ≡ v.1 = v.3 ∙ ap (λ xs. xs ++ v.1) v.6.0 in
-    let first : Reads (letters_by t (most_leading f)) w.row.items [] (residue (letter_for f) 0 f ∷ []) = subst (λ xs. Reads (letters_by t (most_leading f)) xs [] (residue (letter_for f) 0 f ∷ [])) (sym back) (v.5 []) in
+    let first : Reads (letters_by t (most_leading f)) w.row.items [] (residue (letter_for f) 0 f ∷ []) =
+    subst (λ xs. Reads (letters_by t (most_leading f)) xs [] (residue (letter_for f) 0 f ∷ [])) (sym back) (v.5 []) in
     subst (λ m. Reads (letters_by t m) row [] (depast f ∷ [])) (sym e)
-    (reads_more (letters_by t (most_leading f)) w.row.items w.axioms.items row [] (residue (letter_for f) 0 f ∷ []) (depast f ∷ []) is first (d.said_is (residue (letter_for f) 0 f)))
+    (reads_more (letters_by t (most_leading f)) w.row.items w.axioms.items row [] (residue (letter_for f) 0 f ∷ []) (depast f ∷ []) is first
+    (d.said_is (residue (letter_for f) 0 f)))
 
 pub names_taken : (t : Table) (f : Formula) (w : Writer) → ((l : Letters) → MeansNames l t → IsDoneBy l (f ∷ []) w) → w.next ≡ taken f
 names_taken t f w done = let d = done (letters_by t (most_leading f)) (record { many_are = refl; each = λ n. refl }) in omega (arith, d.next_is)

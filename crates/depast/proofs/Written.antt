@@ -1,5 +1,6 @@
 -- What a writer has written where one node more is done.
-use Rattle.std.proofs.Common.{◌≡◌, ℕ, ◌+◌, ◌-◌, refl, sym, ◌∙◌, ap, subst, arith, List, [], ◌∷◌, ◌++◌, length, length-append, take, drop, append_assoc, Option, Some, None, MatchOption}
+use Rattle.std.proofs.Common.{◌≡◌, ℕ, ◌+◌, ◌-◌, refl, sym, ◌∙◌, ap, subst, arith, List, [], ◌∷◌, ◌++◌, length, length-append, take, drop, append_assoc, Option}
+use Rattle.std.proofs.Common.{Some, None, MatchOption}
 use Rattle.std.proofs.Math.Seq.{drop-append_seam, take-append_seam, take-length}
 use Rattle.ltl_syntax.specs.declared.node.UnaryOp.{UnaryOp}
 use Rattle.ltl_syntax.specs.declared.node.BinaryOp.{BinaryOp}
@@ -21,7 +22,8 @@ tail_is xs front back i e at =
     let n : length xs - i ≡ length back = omega (arith, ap length e, length-append front back) in
     ap (λ m. take m (drop i xs)) n ∙ (ap (take (length back)) d ∙ take-length back)
 
-middle_is : (xs front mid back : List Symbol) (i j : ℕ) → xs ≡ front ++ (mid ++ back) → i ≡ length front → j ≡ length (front ++ mid) → take (j - i) (drop i xs) ≡ mid
+middle_is : (xs front mid back : List Symbol) (i j : ℕ) → xs ≡ front ++ (mid ++ back) → i ≡ length front → j ≡ length (front ++ mid)
+    → take (j - i) (drop i xs) ≡ mid
 middle_is xs front mid back i j e at to =
     let d : drop i xs ≡ mid ++ back = ap (λ n. drop n xs) at ∙ (ap (drop (length front)) e ∙ drop-append_seam front (mid ++ back)) in
     let n : j - i ≡ length mid = omega (arith, length-append front mid) in
@@ -39,7 +41,8 @@ conjoined-append f (x ∷ xs) ys = conjoined-append (Binary And f x) xs ys
 pub has_one : (l : Letters) (f : Formula) (fs : List Formula) (row : List Symbol) (starts : List ℕ) → AreLaid l (f ∷ fs) row starts → HasOne starts (length row)
 has_one l f fs row starts v = subst (λ s. HasOne s (length row)) (sym v.4) (omega (arith, ap length v.3, length-append v.0 v.1))
 
-pub has_two : (l : Letters) (f g : Formula) (fs : List Formula) (row : List Symbol) (starts : List ℕ) → AreLaid l (g ∷ f ∷ fs) row starts → HasTwo starts (length row)
+pub has_two : (l : Letters) (f g : Formula) (fs : List Formula) (row : List Symbol) (starts : List ℕ) → AreLaid l (g ∷ f ∷ fs) row starts
+    → HasTwo starts (length row)
 has_two l f g fs row starts v =
     let u = v.6 in
     subst (λ s. HasTwo s (length row)) (sym v.4) (subst (λ s. HasTwo (length v.0 ∷ s) (length row)) (sym u.4)
@@ -53,15 +56,18 @@ module _ (l : Letters) (op : UnaryOp) (f : Formula) (fs : List Formula) where
 
   pub unary_done : (row row' slice : List Symbol) (starts rest : List ℕ) (start : ℕ) (said said' : List Symbol) (next next' : ℕ)
       → IsDone l (f ∷ fs) row starts said next → starts ≡ start ∷ rest → slice ≡ row
-      → ((c g : Formula) (r s : List Formula) → Writes l (take (length slice - start) (drop start slice)) c → Reads l said r (g ∷ s) → Reads l said' r (conjoined g (axioms₁ l.new next op c) ∷ s))
-      → ((c : Formula) (front back : List Symbol) → row ≡ front ++ back → start ≡ length front → Writes l back c → (new : List Symbol) × (row' ≡ front ++ new) × Writes l new (residue₁ l.new next op c))
+      → ((c g : Formula) (r s : List Formula) → Writes l (take (length slice - start) (drop start slice)) c → Reads l said r (g ∷ s)
+      → Reads l said' r (conjoined g (axioms₁ l.new next op c) ∷ s))
+      → ((c : Formula) (front back : List Symbol) → row ≡ front ++ back → start ≡ length front → Writes l back c → (new : List Symbol) × (row' ≡ front ++ new)
+      × Writes l new (residue₁ l.new next op c))
       → next' ≡ next + taken₁ op → IsDone l (Unary op f ∷ fs) row' starts said' next'
   unary_done row row' slice starts rest start said said' next next' done top whole says puts more =
       let v = done.laid in
       let at : start ≡ length v.0 = cc in
       let n : next ≡ taken_by fs + taken f = done.next_is in
       let p = puts c₁ v.0 v.1 v.3 at v.5 in
-      let w : Writes l (take (length slice - start) (drop start slice)) c₁ = subst (λ xs. Writes l xs c₁) (sym (tail_is slice v.0 v.1 start (whole ∙ v.3) at)) v.5 in
+      let w : Writes l (take (length slice - start) (drop start slice)) c₁ =
+      subst (λ xs. Writes l xs c₁) (sym (tail_is slice v.0 v.1 start (whole ∙ v.3) at)) v.5 in
       let z = l.new in
       record {
         laid = (v.0, p.0, v.2, p.1, v.4, subst (λ m. Writes l p.0 (residue₁ l.new m op c₁)) n p.2, v.6);
@@ -107,7 +113,8 @@ module _ (l : Letters) (op : BinaryOp) (a b : Formula) (fs : List Formula) where
       ∙ append_assoc (axioms_by l.new fs) (axioms l.new (taken_by fs) a) (axioms l.new (taken_by fs + taken a) b ++ xs))
 
   pub binary_done : (row row' : List Symbol) (starts starts' : List ℕ) (second : ℕ) (said : List Symbol) (next : ℕ)
-      → IsDone l (b ∷ a ∷ fs) row starts said next → starts ≡ second ∷ starts' → row' ≡ row ++ symbols.Binary op ∷ [] → IsPlain₂ op → IsDone l (Binary op a b ∷ fs) row' starts' said next
+      → IsDone l (b ∷ a ∷ fs) row starts said next → starts ≡ second ∷ starts' → row' ≡ row ++ symbols.Binary op ∷ [] → IsPlain₂ op
+      → IsDone l (Binary op a b ∷ fs) row' starts' said next
   binary_done row row' starts starts' second said next done top pushed plain =
       let v = done.laid in
       let u = v.6 in
@@ -122,18 +129,22 @@ module _ (l : Letters) (op : BinaryOp) (a b : Formula) (fs : List Formula) where
           pushed ∙ (ap (λ xs. xs ++ symbols.Binary op ∷ []) whole ∙ append_assoc u.0 (u.1 ++ v.1) (symbols.Binary op ∷ [])),
           kept ∙ u.4,
           λ s. subst (λ h. Reads l ((u.1 ++ v.1) ++ symbols.Binary op ∷ []) s (h ∷ s)) (sym (plain.residue_is l.new k₂ c₂ d₂))
-              (reads_on l (u.1 ++ v.1) (symbols.Binary op ∷ []) s (d₂ ∷ c₂ ∷ s) (Binary op c₂ d₂ ∷ s) (reads_on l u.1 v.1 s (c₂ ∷ s) (d₂ ∷ c₂ ∷ s) (u.5 s) (v.5 (c₂ ∷ s))) refl),
+              (reads_on l (u.1 ++ v.1) (symbols.Binary op ∷ []) s (d₂ ∷ c₂ ∷ s) (Binary op c₂ d₂ ∷ s)
+              (reads_on l u.1 v.1 s (c₂ ∷ s) (d₂ ∷ c₂ ∷ s) (u.5 s) (v.5 (c₂ ∷ s))) refl),
           u.6,
         );
         said_is = λ g. subst (λ h. Reads l said (g ∷ []) (h ∷ []))
-            (all_said g [] ∙ ap (λ xs. conjoined g (axioms_by l.new fs ++ (axioms l.new (taken_by fs) a ++ (axioms l.new (taken_by fs + taken a) b ++ xs)))) (sym (plain.axioms_none l.new k₂ c₂ d₂)))
+            (all_said g [] ∙ ap (λ xs. conjoined g (axioms_by l.new fs ++ (axioms l.new (taken_by fs) a ++ (axioms l.new (taken_by fs + taken a) b ++ xs))))
+            (sym (plain.axioms_none l.new k₂ c₂ d₂)))
             (done.said_is g);
         next_is = omega (arith, done.next_is, plain.taken_none);
       }
 
-  pub past_done : (x : Formula → Formula → Formula → Formula) (row row' slice slice' : List Symbol) (starts starts' rest : List ℕ) (first second : ℕ) (said said' : List Symbol) (next : ℕ)
+  pub past_done : (x : Formula → Formula → Formula → Formula) (row row' slice slice' : List Symbol) (starts starts' rest : List ℕ) (first second : ℕ)
+      (said said' : List Symbol) (next : ℕ)
       → IsDone l (b ∷ a ∷ fs) row starts said next → starts ≡ second ∷ starts' → starts' ≡ first ∷ rest → slice ≡ row → slice' ≡ row
-      → ((c d g : Formula) (r s : List Formula) → Writes l (take (second - first) (drop first slice)) c → Writes l (take (length slice' - second) (drop second slice')) d → Reads l said r (g ∷ s)
+      → ((c d g : Formula) (r s : List Formula) → Writes l (take (second - first) (drop first slice)) c
+      → Writes l (take (length slice' - second) (drop second slice')) d → Reads l said r (g ∷ s)
       → Reads l said' r (Binary And g (x c d (l.new next)) ∷ s))
       → ((front back : List Symbol) → row ≡ front ++ back → first ≡ length front → row' ≡ front ++ symbols.New next ∷ [])
       → IsPast₂ op x → IsDone l (Binary op a b ∷ fs) row' starts' said' (next + 1)
@@ -146,8 +157,10 @@ module _ (l : Letters) (op : BinaryOp) (a b : Formula) (fs : List Formula) where
       let at₃ : second ≡ length (u.0 ++ u.1) = at₂ ∙ ap length u.3 in
       let joined : row ≡ u.0 ++ (u.1 ++ v.1) = rejoined row u.0 u.1 v.1 v.0 v.3 u.3 in
       let n : next ≡ k₂ = done.next_is in
-      let w₁ : Writes l (take (second - first) (drop first slice)) c₂ = subst (λ xs. Writes l xs c₂) (sym (middle_is slice u.0 u.1 v.1 first second (whole ∙ joined) at₁ at₃)) u.5 in
-      let w₂ : Writes l (take (length slice' - second) (drop second slice')) d₂ = subst (λ xs. Writes l xs d₂) (sym (tail_is slice' v.0 v.1 second (whole' ∙ v.3) at₂)) v.5 in
+      let w₁ : Writes l (take (second - first) (drop first slice)) c₂ =
+      subst (λ xs. Writes l xs c₂) (sym (middle_is slice u.0 u.1 v.1 first second (whole ∙ joined) at₁ at₃)) u.5 in
+      let w₂ : Writes l (take (length slice' - second) (drop second slice')) d₂ =
+      subst (λ xs. Writes l xs d₂) (sym (tail_is slice' v.0 v.1 second (whole' ∙ v.3) at₂)) v.5 in
       record {
         laid = (
           u.0,
@@ -161,12 +174,14 @@ module _ (l : Letters) (op : BinaryOp) (a b : Formula) (fs : List Formula) where
         said_is = λ g. subst (λ h. Reads l said' (g ∷ []) (h ∷ []))
             (ap (λ m. conjoined (conjoined g (axioms_by l.new (b ∷ a ∷ fs))) (x c₂ d₂ (l.new m) ∷ [])) n
             ∙ (all_said g (x c₂ d₂ (l.new k₂) ∷ [])
-            ∙ ap (λ xs. conjoined g (axioms_by l.new fs ++ (axioms l.new (taken_by fs) a ++ (axioms l.new (taken_by fs + taken a) b ++ xs)))) (sym (past.axioms_one l.new k₂ c₂ d₂))))
+            ∙ ap (λ xs. conjoined g (axioms_by l.new fs ++ (axioms l.new (taken_by fs) a ++ (axioms l.new (taken_by fs + taken a) b ++ xs))))
+            (sym (past.axioms_one l.new k₂ c₂ d₂))))
             (says c₂ d₂ (conjoined g (axioms_by l.new (b ∷ a ∷ fs))) (g ∷ []) [] w₁ w₂ (done.said_is g));
         next_is = omega (arith, done.next_is, past.taken_one);
       }
 
 -- what is left where one start is taken off
-pub start_off : (popped : Option ℕ) (starts starts' : List ℕ) (n : ℕ) → MatchOption popped ((starts ≡ []) × (starts' ≡ [])) (λ start. starts ≡ start ∷ starts') → HasTwo starts n → (start : ℕ) × (starts ≡ start ∷ starts')
+pub start_off : (popped : Option ℕ) (starts starts' : List ℕ) (n : ℕ) → MatchOption popped ((starts ≡ []) × (starts' ≡ [])) (λ start. starts ≡ start ∷ starts')
+    → HasTwo starts n → (start : ℕ) × (starts ≡ start ∷ starts')
 start_off None starts starts' n off two = absurd (subst (λ s. HasTwo s n) off.0 two)
 start_off (Some start) starts starts' n off two = (start, off)

@@ -20,7 +20,8 @@ AllBelow n (x ∷ xs) = (x < n) × AllBelow n xs
 -- the roots stand for the formulas, the last of them first, and each has a greater number than those below it
 abbrev pub AreBuilt : Table → List Formula → List ℕ → Type 0
 AreBuilt t [] roots = roots ≡ []
-AreBuilt t (f ∷ fs) roots = (number : ℕ) × (rest : List ℕ) × (roots ≡ number ∷ rest) × IsRoot t number × (tree_at t number ≡ f) × AllBelow number rest × AreBuilt t fs rest
+AreBuilt t (f ∷ fs) roots =
+    (number : ℕ) × (rest : List ℕ) × (roots ≡ number ∷ rest) × IsRoot t number × (tree_at t number ≡ f) × AllBelow number rest × AreBuilt t fs rest
 
 -- the roots that the symbol takes are there
 abbrev pub MayPut : Table → Symbol → Table → List ℕ → Type 0

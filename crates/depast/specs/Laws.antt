@@ -50,7 +50,8 @@ AxiomsHold = (f x : Formula) (t u : Trace) → IsTrace t → IsLifted f t u → 
 
 -- each trace is lifted to one of its kind
 abbrev pub TracesAreLifted : Type 0
-TracesAreLifted = (f : Formula) (t : Trace) (kind : Kind) → HasFewNames f → IsTrace t → IsOfKind t kind → (u : Trace) × IsTrace u × IsOfKind u kind × IsLifted f t u
+TracesAreLifted =
+    (f : Formula) (t : Trace) (kind : Kind) → HasFewNames f → IsTrace t → IsOfKind t kind → (u : Trace) × IsTrace u × IsOfKind u kind × IsLifted f t u
 
 -- a lifted trace of one that satisfies f satisfies the formula without past
 abbrev pub LiftedSatisfy : Type 0

@@ -2,7 +2,8 @@
 use Rattle.std.specs.Prelude.{◌≡◌, ◌≢◌, ℕ, zero, suc, ◌+◌, ◌*◌, ◌<◌, ◌↔◌, false, List, [], ◌∷◌, ◌++◌, length, slice_index_or, Contains}
 use Rattle.ltl_syntax.specs.declared.node.UnaryOp.{UnaryOp}
 use Rattle.ltl_syntax.specs.declared.node.BinaryOp.{BinaryOp}
-use Rattle.ltl_syntax.specs.declared.node.UnaryOp.TheVariants.{Always, AlwaysIn, Eventually, EventuallyIn, Historically, HistoricallyIn, Next, NextTimes, Not, Once, OnceIn, WeakNext, WeakYesterday, Yesterday, YesterdayTimes}
+use Rattle.ltl_syntax.specs.declared.node.UnaryOp.TheVariants.{Always, AlwaysIn, Eventually, EventuallyIn, Historically, HistoricallyIn, Next, NextTimes, Not}
+use Rattle.ltl_syntax.specs.declared.node.UnaryOp.TheVariants.{Once, OnceIn, WeakNext, WeakYesterday, Yesterday, YesterdayTimes}
 use Rattle.ltl_syntax.specs.declared.node.BinaryOp.TheVariants.{And, Iff, Implies, Or, Release, Since, StrongRelease, Trigger, Until, WeakUntil}
 use Rattle.ltl_syntax.specs.Formula.{Formula, Const, Letter, Unary, Binary}
 use Rattle.ltl_word.specs.declared.trace.Trace.{Trace}
@@ -61,7 +62,8 @@ IsOld f name = (k : ℕ) → k < taken f → name ≢ new_name (most_leading f) 
 
 -- a lifted trace has its stem longer by h loops
 abbrev pub HasLiftedShape : ℕ → Trace → Trace → Type 0
-HasLiftedShape h (Infinite stem loop_part) (Infinite stem' loop_part') = (length stem' ≡ length stem + h * length loop_part) × (length loop_part' ≡ length loop_part)
+HasLiftedShape h (Infinite stem loop_part) (Infinite stem' loop_part') =
+    (length stem' ≡ length stem + h * length loop_part) × (length loop_part' ≡ length loop_part)
 HasLiftedShape h (Finite states) (Finite states') = length states' ≡ length states
 HasLiftedShape h (Infinite stem loop_part) (Finite states') = ⊥
 HasLiftedShape h (Finite states) (Infinite stem' loop_part') = ⊥
@@ -70,7 +72,8 @@ HasLiftedShape h (Finite states) (Infinite stem' loop_part') = ⊥
 pub record IsLifted (f : Formula) (t u : Trace) : Type 0 where
   pub shape : HasLiftedShape (past_depth f) t u
   pub old_names : (i : ℕ) → IsPosition t i → (name : List ℕ) → IsOld f name → Contains (state_at u i) name ↔ Contains (state_at t i) name
-  pub new_names : (i : ℕ) → IsPosition t i → (k : ℕ) → k < taken f → Contains (state_at u i) (new_name (most_leading f) k) ↔ Holds t (slice_index_or (meanings f) k (Const false)) i
+  pub new_names : (i : ℕ) → IsPosition t i → (k : ℕ) → k < taken f
+      → Contains (state_at u i) (new_name (most_leading f) k) ↔ Holds t (slice_index_or (meanings f) k (Const false)) i
 
 -- a lowered trace has the same shape, the same old names, and no new one
 pub record IsLowered (f : Formula) (u t : Trace) : Type 0 where

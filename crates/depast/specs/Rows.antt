@@ -18,7 +18,8 @@ z₁ = new_letter 0 1
 
 -- (z & (!z & G ((p & wX z) | (!p & wX !z)))) with one new name z
 abbrev pub says_yesterday : Formula → Formula → Formula
-says_yesterday a z = Binary And (Unary Not z) (Unary Always (Binary Or (Binary And a (Unary WeakNext z)) (Binary And (Unary Not a) (Unary WeakNext (Unary Not z)))))
+says_yesterday a z =
+    Binary And (Unary Not z) (Unary Always (Binary Or (Binary And a (Unary WeakNext z)) (Binary And (Unary Not a) (Unary WeakNext (Unary Not z)))))
 
 pub record WorkedRemovals : Type 0 where
   -- one underscore more than the names of the formula

@@ -1,5 +1,6 @@
 -- Where the truth of what a new name stands for is read: a formula of the table, a number of positions back.
-use Rattle.std.specs.Prelude.{◌≡◌, ℕ, ◌+◌, ◌-◌, ◌<◌, ◌≤◌, ◌↔◌, ◌⊎◌, Bool, true, false, nat_lt, if◌then◌else◌, IsTrue, List, [], ◌∷◌, ◌++◌, length, slice_index_or, Contains, ⊤}
+use Rattle.std.specs.Prelude.{◌≡◌, ℕ, ◌+◌, ◌-◌, ◌<◌, ◌≤◌, ◌↔◌, ◌⊎◌, Bool, true, false, nat_lt, if◌then◌else◌, IsTrue, List, [], ◌∷◌, ◌++◌, length}
+use Rattle.std.specs.Prelude.{slice_index_or, Contains, ⊤}
 use Rattle.ltl_syntax.specs.declared.node.Node.{Node}
 use Rattle.ltl_syntax.specs.declared.node.Node.TheVariants as nodes
 use Rattle.ltl_syntax.specs.declared.node.UnaryOp.TheVariants.{YesterdayTimes, HistoricallyIn}
@@ -68,7 +69,8 @@ IsShown m names i n name = (k : ℕ) × (k < n) × (name ≡ slice_index_or name
 
 -- the state has the old names of another and the new names that are true
 abbrev pub IsLiftedState : Meanings → Names → Names → ℕ → Names → Type 0
-IsLiftedState m names old i state = (name : List ℕ) → Contains state name ↔ ((Contains old name × (Contains m.new name → ⊥)) ⊎ IsShown m names i (length m.sources.items) name)
+IsLiftedState m names old i state =
+    (name : List ℕ) → Contains state name ↔ ((Contains old name × (Contains m.new name → ⊥)) ⊎ IsShown m names i (length m.sources.items) name)
 
 -- and so each state from a position on
 pub record AreLiftedStates (m : Meanings) (names : Names) (t : Trace) (first count : ℕ) (states : List Names) : Type 0 where

@@ -1,5 +1,6 @@
 -- Clauses under their names in a list, and hinted steps by these names.
-use Rattle.std.proofs.Common.{◌≡◌, ℕ, zero, suc, ◌-◌, inl, inr, refl, sym, ◌∙◌, subst, arith, List, [], ◌∷◌, ◌++◌, length, length-append, map, get_or, slice_get, All, Contains, Some}
+use Rattle.std.proofs.Common.{◌≡◌, ℕ, zero, suc, ◌-◌, inl, inr, refl, sym, ◌∙◌, subst, arith, List, [], ◌∷◌, ◌++◌, length, length-append, map, get_or}
+use Rattle.std.proofs.Common.{slice_get, All, Contains, Some}
 use Rattle.std.proofs.lemmas.Bool.{cases_lt}
 use Rattle.std.proofs.lemmas.List.{get_or_append_left, get_or_at}
 use Rattle.std.proofs.lemmas.Option.{get_or_from_slice_get, slice_get_within, slice_get-get_or}
@@ -20,16 +21,19 @@ numbered_more list more zero clause is = cc
 numbered_more list more (suc n) clause is = slice_get_append list more n clause is
 
 pub named_of : (list inputs : List (List Literal)) (names : List ℕ) → AreNamed list inputs names → All (Contains list) inputs
-named_of list inputs names are k d lt = numbered_member list (get_or names k 0) (get_or inputs k d) (are.each k (get_or inputs k d) (slice_get-get_or inputs k d lt))
+named_of list inputs names are k d lt =
+    numbered_member list (get_or names k 0) (get_or inputs k d) (are.each k (get_or inputs k d) (slice_get-get_or inputs k d lt))
 
 pub named_grow : (list more inputs : List (List Literal)) (names : List ℕ) → AreNamed list inputs names → AreNamed (list ++ more) inputs names
-named_grow list more inputs names are = record { count = are.count; each = λ i clause is. numbered_more list more (get_or names i 0) clause (are.each i clause is) }
+named_grow list more inputs names are =
+    record { count = are.count; each = λ i clause is. numbered_more list more (get_or names i 0) clause (are.each i clause is) }
 
 slice_get_last : {X : Type 0} (xs : List X) (x : X) → slice_get (xs ++ x ∷ []) (length xs) ≡ Some x
 slice_get_last [] x = refl
 slice_get_last (y ∷ xs) x = slice_get_last xs x
 
-pub named_add : (list inputs : List (List Literal)) (names : List ℕ) (name : ℕ) (clause : List Literal) → AreNamed list inputs names → numbered list name ≡ Some clause
+pub named_add : (list inputs : List (List Literal)) (names : List ℕ) (name : ℕ) (clause : List Literal) → AreNamed list inputs names
+    → numbered list name ≡ Some clause
     → AreNamed list (inputs ++ clause ∷ []) (names ++ name ∷ [])
 named_add list inputs names name clause are at =
     let n = are.count in record {
@@ -53,10 +57,12 @@ module _ (list inputs lines : List (List Literal)) (names : List ℕ) (greatest 
   carried : (hint : Hint) → IsCarried inputs lines list lines greatest (renamed names) hint
   carried (Clause zero) = record { clause = λ clause is. cc; line = λ n e. absurd (cc) }
   carried (Clause (suc i)) = record {
-    clause = λ clause is. let back : suc i - 1 ≡ i = omega arith in subst (λ m. numbered list (get_or names m 0) ≡ Some clause) (sym back) (are.each i clause is);
+    clause = λ clause is. let back : suc i - 1 ≡ i = omega arith in
+        subst (λ m. numbered list (get_or names m 0) ≡ Some clause) (sym back) (are.each i clause is);
     line = λ n e. absurd (cc);
   }
   carried (Line m) = record { clause = λ clause is. is; line = λ n e. (m, refl) }
 
-  pub named_step : (clause : List Literal) (hints : List Hint) → IsHintedStep inputs lines greatest clause hints → IsHintedStep list lines greatest clause (map (renamed names) hints)
+  pub named_step : (clause : List Literal) (hints : List Hint) → IsHintedStep inputs lines greatest clause hints
+      → IsHintedStep list lines greatest clause (map (renamed names) hints)
   named_step clause hints step = step_renamed inputs lines list lines greatest (renamed names) clause hints (λ hint c. carried hint) step

@@ -14,7 +14,8 @@ StepsFollow = (list : List (List Literal)) (d : DerivationValue) → AreSteps li
 
 -- a hint that names a line names an earlier one
 abbrev pub HintsAreEarlier : Type 0
-HintsAreEarlier = (list : List (List Literal)) (d : DerivationValue) → AreSteps list d → (k m : ℕ) → k < length d.lines → Contains (slice_index_or d.hints k []) (Line m)
+HintsAreEarlier =
+    (list : List (List Literal)) (d : DerivationValue) → AreSteps list d → (k m : ℕ) → k < length d.lines → Contains (slice_index_or d.hints k []) (Line m)
     → (0 < m) × (m ≤ k)
 
 -- where the inputs of a log are clauses of a list, its lines are steps over the list
@@ -35,5 +36,6 @@ NamedGrow = (list more inputs : List (List Literal)) (names : List ℕ) → AreN
 
 -- and where a clause of the list is put in under its number
 abbrev pub NamedAdd : Type 0
-NamedAdd = (list inputs : List (List Literal)) (names : List ℕ) (name : ℕ) (clause : List Literal) → AreNamed list inputs names → numbered list name ≡ Some clause
+NamedAdd =
+    (list inputs : List (List Literal)) (names : List ℕ) (name : ℕ) (clause : List Literal) → AreNamed list inputs names → numbered list name ≡ Some clause
     → AreNamed list (inputs ++ clause ∷ []) (names ++ name ∷ [])

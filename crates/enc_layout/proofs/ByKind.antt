@@ -4,7 +4,8 @@ use Rattle.ltl_syntax.specs.declared.node.Kind.{Kind}
 use Rattle.ltl_syntax.specs.declared.node.Kind.TheVariants as Kinds
 use Rattle.std.proofs.lemmas.Bool.{cases_lt}
 use Rattle.enc_layout.proofs.Numbers.{length-all_letters}
-use Rattle.enc_layout.specs.Letters.{below, step_letters, Counts, EmptyAt, Repeated, Seen, LoopTo, Fulfilled, New, count_before, count_before_pair, own_count, pair_count, letters_through, number_of, IsLetter}
+use Rattle.enc_layout.specs.Letters.{below, step_letters, Counts, EmptyAt, Repeated, Seen, LoopTo, Fulfilled, New, count_before, count_before_pair, own_count}
+use Rattle.enc_layout.specs.Letters.{pair_count, letters_through, number_of, IsLetter}
 
 pub empty_number : (kind : Kind) (c : Counts) (d i : ℕ) → IsLetter kind c d (EmptyAt i) → number_of kind c (EmptyAt i) ≡ count_before kind c i + 3
 empty_number Kinds.Infinite c d i h = refl
@@ -14,7 +15,8 @@ pub repeated_number : (kind : Kind) (c : Counts) (d i : ℕ) → IsLetter kind c
 repeated_number Kinds.Infinite c d i h = refl
 repeated_number Kinds.Finite c d i h = absurd h
 
-pub seen_number : (kind : Kind) (c : Counts) (d i m : ℕ) → IsLetter kind c d (Seen i m) → number_of kind c (Seen i m) ≡ count_before kind c i + 4 + c.entries + m
+pub seen_number : (kind : Kind) (c : Counts) (d i m : ℕ) → IsLetter kind c d (Seen i m)
+    → number_of kind c (Seen i m) ≡ count_before kind c i + 4 + c.entries + m
 seen_number Kinds.Infinite c d i m h = refl
 seen_number Kinds.Finite c d i m h = absurd h
 
@@ -22,11 +24,13 @@ pub loop_number : (kind : Kind) (c : Counts) (d l i : ℕ) → IsLetter kind c d
 loop_number Kinds.Infinite c d l i h = refl
 loop_number Kinds.Finite c d l i h = absurd h
 
-pub fulfilled_number : (kind : Kind) (c : Counts) (d l i m : ℕ) → IsLetter kind c d (Fulfilled l i m) → number_of kind c (Fulfilled l i m) ≡ count_before_pair kind c l i + 2 + c.places + m
+pub fulfilled_number : (kind : Kind) (c : Counts) (d l i m : ℕ) → IsLetter kind c d (Fulfilled l i m)
+    → number_of kind c (Fulfilled l i m) ≡ count_before_pair kind c l i + 2 + c.places + m
 fulfilled_number Kinds.Infinite c d l i m h = refl
 fulfilled_number Kinds.Finite c d l i m h = absurd h
 
-pub new_number : (kind : Kind) (c : Counts) (d l i m : ℕ) → IsLetter kind c d (New l i m) → number_of kind c (New l i m) ≡ count_before_pair kind c l i + 2 + c.places + c.eventualities + m
+pub new_number : (kind : Kind) (c : Counts) (d l i m : ℕ) → IsLetter kind c d (New l i m)
+    → number_of kind c (New l i m) ≡ count_before_pair kind c l i + 2 + c.places + c.eventualities + m
 new_number Kinds.Infinite c d l i m h = refl
 new_number Kinds.Finite c d l i m h = absurd h
 

@@ -1,5 +1,6 @@
 -- The entries of a carry, and what clauses of a few letters say.
-use Rattle.std.proofs.Common.{◌≡◌, ℕ, zero, suc, ◌<◌, Bool, true, false, not, ◌||◌, IsTrue, IsFalse, ◌⊎◌, inl, inr, refl, arith, ◌∙◌, ap, ap₂, sym, subst, List, [], ◌∷◌, ◌++◌, length, map, get_or, Contains}
+use Rattle.std.proofs.Common.{◌≡◌, ℕ, zero, suc, ◌<◌, Bool, true, false, not, ◌||◌, IsTrue, IsFalse, ◌⊎◌, inl, inr, refl, arith, ◌∙◌, ap, ap₂, sym, subst, List}
+use Rattle.std.proofs.Common.{[], ◌∷◌, ◌++◌, length, map, get_or, Contains}
 use Rattle.std.proofs.lemmas.Bool.{or_cases, or_left, or_right, cases_lt}
 use Rattle.std.proofs.lemmas.List.{get_or_default}
 use Rattle.std.proofs.lemmas.List.Elements.{Contains-append_left, Contains-append_right, Contains-append_cases}
@@ -111,7 +112,8 @@ module _ (v : Meaning → Bool) where
   pub some_below : (n : ℕ) (g : ℕ → Meaning) → IsTrue (clause_true v (below n (λ k. Plus (g k) ∷ []))) → (k : ℕ) × (k < n) × IsTrue (v (g k))
   some_below zero g h = cc
   some_below (suc n) g h =
-      elim (or_cases (clause_true v (below n (λ k. Plus (g k) ∷ []))) (v (g n) || false) (sym (clause_true-append (below n (λ k. Plus (g k) ∷ [])) (Plus (g n) ∷ [])) ∙ h)) [
+      elim (or_cases (clause_true v (below n (λ k. Plus (g k) ∷ []))) (v (g n) || false)
+      (sym (clause_true-append (below n (λ k. Plus (g k) ∷ [])) (Plus (g n) ∷ [])) ∙ h)) [
         | inl before ↦ let w = some_below n g before in (w.0, omega (arith, w.1), w.2)
         | inr here ↦ (n, omega arith, alone (v (g n)) here)
       ]

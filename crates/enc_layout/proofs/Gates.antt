@@ -2,7 +2,8 @@
 use Rattle.std.proofs.Common.{◌≡◌, ℕ, Bool, true, false, not, ◌&&◌, ◌||◌, IsTrue, refl, arith, ◌∙◌, sym, subst, ap₂, List, ◌∷◌, Contains}
 use Rattle.std.specs.List.{AllByRecursion as Each}
 use Rattle.ltl_syntax.specs.Formula.{Formula}
-use Rattle.ltl_closure.specs.Norm.{Norm, NConst, NLetter, NNotLetter, NAnd, NOr, NNext, NWeakNext, NYesterday, NWeakYesterday, NUntil, NRelease, NSince, NTrigger}
+use Rattle.ltl_closure.specs.Norm.{Norm, NConst, NLetter, NNotLetter, NAnd, NOr, NNext, NWeakNext, NYesterday, NWeakYesterday, NUntil, NRelease, NSince}
+use Rattle.ltl_closure.specs.Norm.{NTrigger}
 use Rattle.ltl_closure.specs.Closure.{closure}
 use Rattle.ltl_closure.specs.Run.{RunState, val}
 use Rattle.ltl_closure.proofs.Lists.{Contains-here, Contains-there}
@@ -15,10 +16,12 @@ use Rattle.enc_layout.proofs.Each.{flat_map-Each}
 abbrev pub IsTrueClause : (Meaning → Bool) → Clause → Type 0
 IsTrueClause v c = IsTrue (clause_true v c)
 
-strong : (g a b r : Bool) → IsTrue (g || (not b || false)) → IsTrue (g || (not a || (not r || false))) → IsTrue (not g || (b || (a || false))) → IsTrue (not g || (b || (r || false))) → g ≡ (b || a && r)
+strong : (g a b r : Bool) → IsTrue (g || (not b || false)) → IsTrue (g || (not a || (not r || false))) → IsTrue (not g || (b || (a || false)))
+    → IsTrue (not g || (b || (r || false))) → g ≡ (b || a && r)
 strong g a b r h1 h2 h3 h4 = grind arith
 
-weak : (g a b r : Bool) → IsTrue (not g || (b || false)) → IsTrue (not g || (a || (r || false))) → IsTrue (g || (not b || (not a || false))) → IsTrue (g || (not b || (not r || false))) → g ≡ (b && (a || r))
+weak : (g a b r : Bool) → IsTrue (not g || (b || false)) → IsTrue (not g || (a || (r || false))) → IsTrue (g || (not b || (not a || false)))
+    → IsTrue (g || (not b || (not r || false))) → g ≡ (b && (a || r))
 weak g a b r h1 h2 h3 h4 = grind arith
 
 both : (g a b : Bool) → IsTrue (not g || (a || false)) → IsTrue (not g || (b || false)) → IsTrue (g || (not a || (not b || false))) → g ≡ (a && b)
@@ -71,16 +74,20 @@ module _ (f : Formula) (i : ℕ) (v : Meaning → Bool) (holds : Each (IsTrueCla
   gate_value (NUntil a b) m =
       let h = at (NUntil a b) m in
       strong _ (state_of a) (state_of b) (state_of (NNext (NUntil a b))) h.0 h.1.0 h.1.1.0 h.1.1.1.0
-      ∙ ap₂ (λ x y. y || x && state_of (NNext (NUntil a b))) (gate_value a (first_child f a (NUntil a b) _ refl m)) (gate_value b (second_child f a b (NUntil a b) _ refl m))
+      ∙ ap₂ (λ x y. y || x && state_of (NNext (NUntil a b))) (gate_value a (first_child f a (NUntil a b) _ refl m))
+      (gate_value b (second_child f a b (NUntil a b) _ refl m))
   gate_value (NSince a b) m =
       let h = at (NSince a b) m in
       strong _ (state_of a) (state_of b) (state_of (NYesterday (NSince a b))) h.0 h.1.0 h.1.1.0 h.1.1.1.0
-      ∙ ap₂ (λ x y. y || x && state_of (NYesterday (NSince a b))) (gate_value a (first_child f a (NSince a b) _ refl m)) (gate_value b (second_child f a b (NSince a b) _ refl m))
+      ∙ ap₂ (λ x y. y || x && state_of (NYesterday (NSince a b))) (gate_value a (first_child f a (NSince a b) _ refl m))
+      (gate_value b (second_child f a b (NSince a b) _ refl m))
   gate_value (NRelease a b) m =
       let h = at (NRelease a b) m in
       weak _ (state_of a) (state_of b) (state_of (NWeakNext (NRelease a b))) h.0 h.1.0 h.1.1.0 h.1.1.1.0
-      ∙ ap₂ (λ x y. y && (x || state_of (NWeakNext (NRelease a b)))) (gate_value a (first_child f a (NRelease a b) _ refl m)) (gate_value b (second_child f a b (NRelease a b) _ refl m))
+      ∙ ap₂ (λ x y. y && (x || state_of (NWeakNext (NRelease a b)))) (gate_value a (first_child f a (NRelease a b) _ refl m))
+      (gate_value b (second_child f a b (NRelease a b) _ refl m))
   gate_value (NTrigger a b) m =
       let h = at (NTrigger a b) m in
       weak _ (state_of a) (state_of b) (state_of (NWeakYesterday (NTrigger a b))) h.0 h.1.0 h.1.1.0 h.1.1.1.0
-      ∙ ap₂ (λ x y. y && (x || state_of (NWeakYesterday (NTrigger a b)))) (gate_value a (first_child f a (NTrigger a b) _ refl m)) (gate_value b (second_child f a b (NTrigger a b) _ refl m))
+      ∙ ap₂ (λ x y. y && (x || state_of (NWeakYesterday (NTrigger a b)))) (gate_value a (first_child f a (NTrigger a b) _ refl m))
+      (gate_value b (second_child f a b (NTrigger a b) _ refl m))

@@ -78,12 +78,14 @@ module _ (f : Formula) (r : States) (k : ℕ) (accepted final : Bool) where
   decided (Here i) = dec_le i k
   decided (Accepted i) = ×_decided (IsTrue_decided accepted) (number_decided i k)
   decided (EmptyAt i) = all_decided (λ e. IsFalse (r i e)) (λ e. IsFalse_decided (r i e)) (nexts f)
-  decided (Repeated i) = elim (first_or_none (λ l. carry f (r l) ≡ carry f (r i)) (λ l. carry_decided f (r l) (r i)) i) [ inl w ↦ yes w | inr none ↦ no (λ w. none w.0 w.1 w.2) ]
+  decided (Repeated i) =
+      elim (first_or_none (λ l. carry f (r l) ≡ carry f (r i)) (λ l. carry_decided f (r l) (r i)) i) [ inl w ↦ yes w | inr none ↦ no (λ w. none w.0 w.1 w.2) ]
   decided (EntryAt i t) = IsTrue_decided (val (r i) (entry_at f t))
   decided (Seen i m) = seen_decided f r i (eventuality f (less_one m))
   decided (Equal l i) = carry_decided f (r l) (r i)
   decided (LoopTo l i) = ×_decided (carry_decided f (r l) (r i))
-      (all_decided (λ e. IsTrue (is_pending (r i) e) → IsFulfilledIn r l i e) (λ e. →_decided (IsTrue_decided (is_pending (r i) e)) (fulfilled_decided r l i e)) (eventualities f))
+      (all_decided (λ e. IsTrue (is_pending (r i) e) → IsFulfilledIn r l i e) (λ e. →_decided (IsTrue_decided (is_pending (r i) e)) (fulfilled_decided r l i e))
+      (eventualities f))
   decided (Differs l i q) = ¬_decided (same_decided (val (r l) (carried_at f q)) (val (r i) (carried_at f q)))
   decided (Fulfilled l i m) = fulfilled_decided r l i (eventuality f (less_one m))
   decided (New j i m) = new_decided j i (eventuality f (less_one m))

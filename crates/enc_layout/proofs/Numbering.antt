@@ -7,7 +7,8 @@ use Rattle.ltl_syntax.specs.Formula.{Formula}
 use Rattle.cnf_base.specs.declared.literal.Literal.{Literal as Signed}
 use Rattle.cnf_base.specs.Meaning.{Satisfies, literal_value, clause_value}
 use Rattle.enc_layout.specs.Letters.{Meaning, Unpruned, all_letters, letters_through, IsLetter}
-use Rattle.enc_layout.specs.Clauses.{Literal, Plus, Minus, Clause, literal_true, clause_true, counts, clauses_through, number_in, signed, signed_clauses, clause_list}
+use Rattle.enc_layout.specs.Clauses.{Literal, Plus, Minus, Clause, literal_true, clause_true, counts, clauses_through, number_in, signed, signed_clauses}
+use Rattle.enc_layout.specs.Clauses.{clause_list}
 use Rattle.enc_layout.proofs.Gates.{IsTrueClause}
 use Rattle.enc_layout.proofs.Meanings.{less_one}
 use Rattle.enc_layout.proofs.Numbers.{number_is, number_within}
@@ -70,20 +71,26 @@ module _ (f : Formula) (kind : Kind) (d : ℕ) (v : Meaning → Bool) where
   numbered_true h = numbers_true f kind to_number d (clauses_at (clauses_through f kind d) (within f kind d) h)
 
 -- every letter of the list is from 1 to the letters through the depth
-letter_range : (f : Formula) (kind : Kind) (d : ℕ) (l : Literal) → IsKnown f kind d l → (0 < (signed f kind l).letter.0) × ((signed f kind l).letter.0 ≤ letters_through kind (counts f) d)
+letter_range : (f : Formula) (kind : Kind) (d : ℕ) (l : Literal) → IsKnown f kind d l
+    → (0 < (signed f kind l).letter.0) × ((signed f kind l).letter.0 ≤ letters_through kind (counts f) d)
 letter_range f kind d (Plus p) h = number_within kind (counts f) d p h
 letter_range f kind d (Minus p) h = number_within kind (counts f) d p h
 
 abbrev InRange : ℕ → Signed → Type 0
 InRange n l = (0 < l.letter.0) × (l.letter.0 ≤ n)
 
-literals_range : (f : Formula) (kind : Kind) (d : ℕ) (c : Clause) → AreKnown f kind d c → Each (InRange (letters_through kind (counts f) d)) (map (signed f kind) c)
+literals_range : (f : Formula) (kind : Kind) (d : ℕ) (c : Clause) → AreKnown f kind d c
+    → Each (InRange (letters_through kind (counts f) d)) (map (signed f kind) c)
 literals_range f kind d [] h = tt
 literals_range f kind d (l ∷ ls) h = (letter_range f kind d l h.0, literals_range f kind d ls h.1)
 
-clauses_range : (f : Formula) (kind : Kind) (d : ℕ) (cs : List Clause) → Each (AreKnown f kind d) cs → Each (λ c. All (InRange (letters_through kind (counts f) d)) c) (signed_clauses f kind cs)
+clauses_range : (f : Formula) (kind : Kind) (d : ℕ) (cs : List Clause) → Each (AreKnown f kind d) cs
+    → Each (λ c. All (InRange (letters_through kind (counts f) d)) c) (signed_clauses f kind cs)
 clauses_range f kind d [] h = tt
-clauses_range f kind d (c ∷ cs) h = (All-from_recursion (InRange (letters_through kind (counts f) d)) (map (signed f kind) c) (literals_range f kind d c h.0), clauses_range f kind d cs h.1)
+clauses_range f kind d (c ∷ cs) h =
+    (All-from_recursion (InRange (letters_through kind (counts f) d)) (map (signed f kind) c) (literals_range f kind d c h.0), clauses_range f kind d cs h.1)
 
-pub list_range : (f : Formula) (kind : Kind) (d : ℕ) → All (λ c. All (λ l. (0 < l.letter.0) × (l.letter.0 ≤ letters_through kind (counts f) d)) c) (clause_list f kind d)
-list_range f kind d = All-from_recursion (λ c. All (InRange (letters_through kind (counts f) d)) c) (clause_list f kind d) (clauses_range f kind d (clauses_through f kind d) (within f kind d))
+pub list_range : (f : Formula) (kind : Kind) (d : ℕ)
+    → All (λ c. All (λ l. (0 < l.letter.0) × (l.letter.0 ≤ letters_through kind (counts f) d)) c) (clause_list f kind d)
+list_range f kind d = All-from_recursion (λ c. All (InRange (letters_through kind (counts f) d)) c) (clause_list f kind d)
+    (clauses_range f kind d (clauses_through f kind d) (within f kind d))

@@ -1,10 +1,13 @@
 -- A letter's number is its place in the list of letters.
-use Rattle.std.proofs.Common.{◌≡◌, ℕ, zero, suc, ◌+◌, ◌-◌, ◌*◌, ◌/◌, ◌<◌, ◌≤◌, inl, inr, subst, ap, arith, sym, refl, ◌∙◌, List, [], ◌∷◌, ◌++◌, length, get_or, length-append, get_or-append-add}
+use Rattle.std.proofs.Common.{◌≡◌, ℕ, zero, suc, ◌+◌, ◌-◌, ◌*◌, ◌/◌, ◌<◌, ◌≤◌, inl, inr, subst, ap, arith, sym, refl, ◌∙◌, List, [], ◌∷◌, ◌++◌, length, get_or}
+use Rattle.std.proofs.Common.{length-append, get_or-append-add}
 use Rattle.std.proofs.lemmas.Bool.{cases_lt}
 use Rattle.std.proofs.lemmas.List.{get_or_append_left}
 use Rattle.ltl_syntax.specs.declared.node.Kind.{Kind}
 use Rattle.ltl_syntax.specs.declared.node.Kind.TheVariants as Kinds
-use Rattle.enc_layout.specs.Letters.{Meaning, Unpruned, Here, Accepted, EmptyAt, Repeated, EntryAt, Seen, Equal, LoopTo, Differs, Fulfilled, New, Counts, below, numbered, own_letters, pair_letters, step_letters, all_letters, own_count, pair_count, letters_through, count_before, count_before_pair, number_of, IsLetter}
+use Rattle.enc_layout.specs.Letters.{Meaning, Unpruned, Here, Accepted, EmptyAt, Repeated, EntryAt, Seen, Equal, LoopTo, Differs, Fulfilled, New, Counts, below}
+use Rattle.enc_layout.specs.Letters.{numbered, own_letters, pair_letters, step_letters, all_letters, own_count, pair_count, letters_through, count_before}
+use Rattle.enc_layout.specs.Letters.{count_before_pair, number_of, IsLetter}
 
 -- the list has the part at k
 pub record IsAt (xs : List Meaning) (k : ℕ) (p : Meaning) : Type 0 where
@@ -21,7 +24,8 @@ at_left : (xs ys : List Meaning) (k : ℕ) (p : Meaning) → IsAt xs k p → IsA
 at_left xs ys k p a = let i = a.inside in record { inside = omega (arith, length-append xs ys); is = λ d. get_or_append_left xs ys d k a.inside ∙ a.is d }
 
 at_right : (xs ys : List Meaning) (n k : ℕ) (p : Meaning) → length xs ≡ n → IsAt ys k p → IsAt (xs ++ ys) (n + k) p
-at_right xs ys n k p e a = let i = a.inside in record { inside = omega (arith, length-append xs ys); is = λ d. ap (λ m. get_or (xs ++ ys) (m + k) d) (sym e) ∙ (get_or-append-add xs ys k d ∙ a.is d) }
+at_right xs ys n k p e a = let i = a.inside in
+    record { inside = omega (arith, length-append xs ys); is = λ d. ap (λ m. get_or (xs ++ ys) (m + k) d) (sym e) ∙ (get_or-append-add xs ys k d ∙ a.is d) }
 
 at_place : (xs : List Meaning) (j k : ℕ) (p : Meaning) → j ≡ k → IsAt xs j p → IsAt xs k p
 at_place xs j k p e a = subst (λ n. IsAt xs n p) e a
@@ -51,7 +55,8 @@ at_numbered n t g a b =
     let e : suc (t - 1) ≡ t = omega arith in
     let size = length-numbered (t - 1) g in
     subst (λ m. IsAt (numbered n g) (t - 1) (g m)) e
-    (at_place (numbered n g) (length (numbered (t - 1) g) + 0) (t - 1) _ (omega arith) (at_below n (λ k. g (suc k) ∷ []) (t - 1) 0 _ (omega arith) (at_here _ [])))
+    (at_place (numbered n g) (length (numbered (t - 1) g) + 0) (t - 1) _ (omega arith)
+    (at_below n (λ k. g (suc k) ∷ []) (t - 1) 0 _ (omega arith) (at_here _ [])))
 
 -- the pairs of states below n
 square_more : (n : ℕ) → suc n * (suc n - 1) ≡ n * (n - 1) + n * 2
@@ -122,7 +127,8 @@ module _ (kind : Kind) (c : Counts) where
   in_pair d i l k p le lt a =
       let own = length-own kind c i in
       let pairs = length-pairs i l in
-      at_place (all_letters kind c d) (count_before kind c i + (own_count kind c + (length (below l (pair_letters kind c i)) + k))) (count_before_pair kind c l i + k) p (omega arith)
+      at_place (all_letters kind c d) (count_before kind c i + (own_count kind c + (length (below l (pair_letters kind c i)) + k)))
+      (count_before_pair kind c l i + k) p (omega arith)
       (at_step d i _ p le (at_right (own_letters kind c i) (below i (pair_letters kind c i)) (own_count kind c) _ p own
       (at_below i (pair_letters kind c i) l k p lt a)))
 
@@ -130,47 +136,61 @@ module _ (kind : Kind) (c : Counts) where
 abbrev pub StandsAt : Kind → Counts → ℕ → Meaning → Type 0
 StandsAt kind c d p = (k : ℕ) × (suc k ≡ number_of kind c p) × IsAt (all_letters kind c d) k p
 
-in_four : (c : Counts) (i k : ℕ) (p : Meaning) → IsAt (numbered c.entries (EntryAt i) ++ numbered c.eventualities (Seen i)) k p → IsAt (own_letters Kinds.Infinite c i) (suc (suc (suc (suc k)))) p
+in_four : (c : Counts) (i k : ℕ) (p : Meaning) → IsAt (numbered c.entries (EntryAt i) ++ numbered c.eventualities (Seen i)) k p
+    → IsAt (own_letters Kinds.Infinite c i) (suc (suc (suc (suc k)))) p
 in_four c i k p a = at_there _ _ _ p (at_there _ _ _ p (at_there _ _ _ p (at_there _ _ _ p a)))
 
-in_two : (c : Counts) (i l k : ℕ) (p : Meaning) → IsAt (numbered c.places (Differs l i) ++ (numbered c.eventualities (Fulfilled l i) ++ numbered c.eventualities (New l i))) k p → IsAt (pair_letters Kinds.Infinite c i l) (suc (suc k)) p
+in_two : (c : Counts) (i l k : ℕ) (p : Meaning)
+    → IsAt (numbered c.places (Differs l i) ++ (numbered c.eventualities (Fulfilled l i) ++ numbered c.eventualities (New l i))) k p
+    → IsAt (pair_letters Kinds.Infinite c i l) (suc (suc k)) p
 in_two c i l k p a = at_there _ _ _ p (at_there _ _ _ p a)
 
 -- the number of a letter is its place
 pub number_is : (kind : Kind) (c : Counts) (d : ℕ) (p : Meaning) → IsLetter kind c d p → StandsAt kind c d p
 number_is kind c d Unpruned h = (0, refl, at_here Unpruned _)
 number_is Kinds.Infinite c d (Here i) h = (count_before Kinds.Infinite c i + 0, omega arith, in_own Kinds.Infinite c d i 0 _ h (at_here _ _))
-number_is Kinds.Infinite c d (Accepted i) h = (count_before Kinds.Infinite c i + 1, omega arith, in_own Kinds.Infinite c d i 1 _ h (at_there _ _ 0 _ (at_here _ _)))
-number_is Kinds.Infinite c d (EmptyAt i) h = (count_before Kinds.Infinite c i + 2, omega arith, in_own Kinds.Infinite c d i 2 _ h (at_there _ _ 1 _ (at_there _ _ 0 _ (at_here _ _))))
-number_is Kinds.Infinite c d (Repeated i) h = (count_before Kinds.Infinite c i + 3, omega arith, in_own Kinds.Infinite c d i 3 _ h (at_there _ _ 2 _ (at_there _ _ 1 _ (at_there _ _ 0 _ (at_here _ _)))))
+number_is Kinds.Infinite c d (Accepted i) h =
+    (count_before Kinds.Infinite c i + 1, omega arith, in_own Kinds.Infinite c d i 1 _ h (at_there _ _ 0 _ (at_here _ _)))
+number_is Kinds.Infinite c d (EmptyAt i) h =
+    (count_before Kinds.Infinite c i + 2, omega arith, in_own Kinds.Infinite c d i 2 _ h (at_there _ _ 1 _ (at_there _ _ 0 _ (at_here _ _))))
+number_is Kinds.Infinite c d (Repeated i) h =
+    (count_before Kinds.Infinite c i + 3, omega arith, in_own Kinds.Infinite c d i 3 _ h (at_there _ _ 2 _ (at_there _ _ 1 _ (at_there _ _ 0 _ (at_here _ _)))))
 number_is Kinds.Infinite c d (EntryAt i t) h = (
   count_before Kinds.Infinite c i + suc (suc (suc (suc (t - 1)))),
   omega arith,
-  in_own Kinds.Infinite c d i _ _ h.0 (in_four c i (t - 1) _ (at_left (numbered c.entries (EntryAt i)) _ (t - 1) _ (at_numbered c.entries t (EntryAt i) h.1 h.2))),
+  in_own Kinds.Infinite c d i _ _ h.0
+      (in_four c i (t - 1) _ (at_left (numbered c.entries (EntryAt i)) _ (t - 1) _ (at_numbered c.entries t (EntryAt i) h.1 h.2))),
 )
 number_is Kinds.Infinite c d (Seen i m) h = (
   count_before Kinds.Infinite c i + suc (suc (suc (suc (c.entries + (m - 1))))),
   omega arith,
-  in_own Kinds.Infinite c d i _ _ h.0 (in_four c i _ _ (at_right (numbered c.entries (EntryAt i)) (numbered c.eventualities (Seen i)) c.entries (m - 1) _ (length-numbered c.entries (EntryAt i)) (at_numbered c.eventualities m (Seen i) h.1 h.2))),
+  in_own Kinds.Infinite c d i _ _ h.0 (in_four c i _ _ (at_right (numbered c.entries (EntryAt i)) (numbered c.eventualities (Seen i)) c.entries (m - 1) _
+      (length-numbered c.entries (EntryAt i)) (at_numbered c.eventualities m (Seen i) h.1 h.2))),
 )
 number_is Kinds.Infinite c d (Equal l i) h = (count_before_pair Kinds.Infinite c l i + 0, omega arith, in_pair Kinds.Infinite c d i l 0 _ h.0 h.1 (at_here _ _))
-number_is Kinds.Infinite c d (LoopTo l i) h = (count_before_pair Kinds.Infinite c l i + 1, omega arith, in_pair Kinds.Infinite c d i l 1 _ h.0 h.1 (at_there _ _ 0 _ (at_here _ _)))
+number_is Kinds.Infinite c d (LoopTo l i) h =
+    (count_before_pair Kinds.Infinite c l i + 1, omega arith, in_pair Kinds.Infinite c d i l 1 _ h.0 h.1 (at_there _ _ 0 _ (at_here _ _)))
 number_is Kinds.Infinite c d (Differs l i q) h = (
   count_before_pair Kinds.Infinite c l i + suc (suc (q - 1)),
   omega arith,
-  in_pair Kinds.Infinite c d i l _ _ h.0 h.1 (in_two c i l (q - 1) _ (at_left (numbered c.places (Differs l i)) (numbered c.eventualities (Fulfilled l i) ++ numbered c.eventualities (New l i)) (q - 1) _ (at_numbered c.places q (Differs l i) h.2 h.3))),
+  in_pair Kinds.Infinite c d i l _ _ h.0 h.1 (in_two c i l (q - 1) _ (at_left (numbered c.places (Differs l i))
+      (numbered c.eventualities (Fulfilled l i) ++ numbered c.eventualities (New l i)) (q - 1) _ (at_numbered c.places q (Differs l i) h.2 h.3))),
 )
 number_is Kinds.Infinite c d (Fulfilled l i m) h = (
   count_before_pair Kinds.Infinite c l i + suc (suc (c.places + (m - 1))),
   omega arith,
-  in_pair Kinds.Infinite c d i l _ _ h.0 h.1 (in_two c i l _ _ (at_right (numbered c.places (Differs l i)) (numbered c.eventualities (Fulfilled l i) ++ numbered c.eventualities (New l i)) c.places (m - 1) _ (length-numbered c.places (Differs l i))
-      (at_left (numbered c.eventualities (Fulfilled l i)) (numbered c.eventualities (New l i)) (m - 1) _ (at_numbered c.eventualities m (Fulfilled l i) h.2 h.3)))),
+  in_pair Kinds.Infinite c d i l _ _ h.0 h.1 (in_two c i l _ _ (at_right (numbered c.places (Differs l i))
+      (numbered c.eventualities (Fulfilled l i) ++ numbered c.eventualities (New l i)) c.places (m - 1) _ (length-numbered c.places (Differs l i))
+      (at_left (numbered c.eventualities (Fulfilled l i)) (numbered c.eventualities (New l i)) (m - 1) _
+      (at_numbered c.eventualities m (Fulfilled l i) h.2 h.3)))),
 )
 number_is Kinds.Infinite c d (New l i m) h = (
   count_before_pair Kinds.Infinite c l i + suc (suc (c.places + (c.eventualities + (m - 1)))),
   omega arith,
-  in_pair Kinds.Infinite c d i l _ _ h.0 h.1 (in_two c i l _ _ (at_right (numbered c.places (Differs l i)) (numbered c.eventualities (Fulfilled l i) ++ numbered c.eventualities (New l i)) c.places _ _ (length-numbered c.places (Differs l i))
-      (at_right (numbered c.eventualities (Fulfilled l i)) (numbered c.eventualities (New l i)) c.eventualities (m - 1) _ (length-numbered c.eventualities (Fulfilled l i)) (at_numbered c.eventualities m (New l i) h.2 h.3)))),
+  in_pair Kinds.Infinite c d i l _ _ h.0 h.1 (in_two c i l _ _ (at_right (numbered c.places (Differs l i))
+      (numbered c.eventualities (Fulfilled l i) ++ numbered c.eventualities (New l i)) c.places _ _ (length-numbered c.places (Differs l i))
+      (at_right (numbered c.eventualities (Fulfilled l i)) (numbered c.eventualities (New l i)) c.eventualities (m - 1) _
+      (length-numbered c.eventualities (Fulfilled l i)) (at_numbered c.eventualities m (New l i) h.2 h.3)))),
 )
 number_is Kinds.Finite c d (Here i) h = (count_before Kinds.Finite c i + 0, omega arith, in_own Kinds.Finite c d i 0 _ h (at_here _ _))
 number_is Kinds.Finite c d (Accepted i) h = (count_before Kinds.Finite c i + 1, omega arith, in_own Kinds.Finite c d i 1 _ h (at_there _ _ 0 _ (at_here _ _)))
@@ -192,7 +212,8 @@ number_is Kinds.Finite c d (LoopTo l i) h = absurd h
 number_is Kinds.Finite c d (Fulfilled l i m) h = absurd h
 number_is Kinds.Finite c d (New l i m) h = absurd h
 
-pub number_within : (kind : Kind) (c : Counts) (d : ℕ) (p : Meaning) → IsLetter kind c d p → (0 < number_of kind c p) × (number_of kind c p ≤ letters_through kind c d)
+pub number_within : (kind : Kind) (c : Counts) (d : ℕ) (p : Meaning) → IsLetter kind c d p
+    → (0 < number_of kind c p) × (number_of kind c p ≤ letters_through kind c d)
 number_within kind c d p h =
     let s = number_is kind c d p h in
     let k = s.0 in

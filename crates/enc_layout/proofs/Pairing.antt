@@ -26,16 +26,18 @@ pub carry_decided : (f : Formula) (s u : RunState) → Dec (carry f s ≡ carry 
 carry_decided f s u = List-discrete Bool-discrete (carry f s) (carry f u)
 
 pub fulfilled_decided : (r : States) (l i : ℕ) (e : Norm) → Dec (IsFulfilledIn r l i e)
-fulfilled_decided r l i e = elim (first_or_none (λ j. (l < j) × IsTrue (is_fulfilled (r j) e)) (λ j. ×_decided (dec_lt l j) (IsTrue_decided (is_fulfilled (r j) e))) (suc i)) [
-  | inl w ↦ yes (w.0, w.2.0, omega arith, w.2.1)
-  | inr none ↦ no (λ w. none w.0 (omega arith) (w.1, w.3))
-]
+fulfilled_decided r l i e =
+    elim (first_or_none (λ j. (l < j) × IsTrue (is_fulfilled (r j) e)) (λ j. ×_decided (dec_lt l j) (IsTrue_decided (is_fulfilled (r j) e))) (suc i)) [
+      | inl w ↦ yes (w.0, w.2.0, omega arith, w.2.1)
+      | inr none ↦ no (λ w. none w.0 (omega arith) (w.1, w.3))
+    ]
 
 pub seen_decided : (f : Formula) (r : States) (i : ℕ) (e : Norm) → Dec (IsSeen f r i e)
-seen_decided f r i e = elim (first_or_none (λ l. (carry f (r l) ≡ carry f (r i)) × IsFulfilledIn r l i e) (λ l. ×_decided (carry_decided f (r l) (r i)) (fulfilled_decided r l i e)) i) [
-  | inl w ↦ yes (w.0, w.1, w.2.0, w.2.1)
-  | inr none ↦ no (λ w. none w.0 w.1 (w.2, w.3))
-]
+seen_decided f r i e = elim (first_or_none (λ l. (carry f (r l) ≡ carry f (r i)) × IsFulfilledIn r l i e)
+    (λ l. ×_decided (carry_decided f (r l) (r i)) (fulfilled_decided r l i e)) i) [
+      | inl w ↦ yes (w.0, w.1, w.2.0, w.2.1)
+      | inr none ↦ no (λ w. none w.0 w.1 (w.2, w.3))
+    ]
 
 pub pair_from_triple : (f : Formula) (r : States) (i : ℕ) → IsPrunedAt f r i Kinds.Infinite → (j : ℕ) × (j < i) × PairPrunes f r j i
 pair_from_triple f r i (Triple l j a b one two pruned) =

@@ -20,31 +20,37 @@ use Rattle.enc_layout.proofs.Within.{entry}
 use Rattle.enc_layout.proofs.Numbering.{by_number, letters_true, to_number, same_at, numbered_true}
 
 module _ (f : Formula) where
-  pub run_from : (kind : Kind) (d k : ℕ) (v : ℕ → Bool) → k ≤ d → Satisfies v (clause_list f kind d) → v (number_in f kind (Here k)) ≡ true → IsRun f k (states_of f kind v)
+  pub run_from : (kind : Kind) (d k : ℕ) (v : ℕ → Bool) → k ≤ d → Satisfies v (clause_list f kind d)
+      → v (number_in f kind (Here k)) ≡ true → IsRun f k (states_of f kind v)
   run_from kind d k v le h here = reads_run f kind d (by_number f kind v) (letters_true f kind v d h) k le here
 
-  pub accepted_from : (kind : Kind) (d k : ℕ) (v : ℕ → Bool) → k ≤ d → Satisfies v (clause_list f kind d) → v (number_in f kind (Accepted k)) ≡ true → IsAccepted f (states_of f kind v) k kind
+  pub accepted_from : (kind : Kind) (d k : ℕ) (v : ℕ → Bool) → k ≤ d → Satisfies v (clause_list f kind d)
+      → v (number_in f kind (Accepted k)) ≡ true → IsAccepted f (states_of f kind v) k kind
   accepted_from Kinds.Infinite d k v le h acc = reads_accepted f d (by_number f Kinds.Infinite v) (letters_true f Kinds.Infinite v d h) k le acc
   accepted_from Kinds.Finite d k v le h acc = End (reads_ended f d (by_number f Kinds.Finite v) (letters_true f Kinds.Finite v d h) k le acc)
 
   -- and what accepts it
-  pub loop_from : (kind : Kind) (d k l : ℕ) (v : ℕ → Bool) → kind ≡ Kinds.Infinite → k ≤ d → l < k → Satisfies v (clause_list f kind d) → v (number_in f kind (LoopTo l k)) ≡ true
+  pub loop_from : (kind : Kind) (d k l : ℕ) (v : ℕ → Bool) → kind ≡ Kinds.Infinite → k ≤ d → l < k → Satisfies v (clause_list f kind d)
+      → v (number_in f kind (LoopTo l k)) ≡ true
       → (carry f (states_of f kind v l) ≡ carry f (states_of f kind v k))
       × ((e : Norm) → Contains (eventualities f) e → IsTrue (is_pending (states_of f kind v k) e) → IsFulfilledIn (states_of f kind v) l k e)
   loop_from Kinds.Infinite d k l v e le lt h to = reads_loop f d (by_number f Kinds.Infinite v) (letters_true f Kinds.Infinite v d h) k l le lt to
   loop_from Kinds.Finite d k l v e le lt h to = cc
 
-  pub empty_from : (kind : Kind) (d k : ℕ) (v : ℕ → Bool) → kind ≡ Kinds.Infinite → k ≤ d → Satisfies v (clause_list f kind d) → v (number_in f kind (Accepted k)) ≡ true
+  pub empty_from : (kind : Kind) (d k : ℕ) (v : ℕ → Bool) → kind ≡ Kinds.Infinite → k ≤ d → Satisfies v (clause_list f kind d)
+      → v (number_in f kind (Accepted k)) ≡ true
       → ((l : ℕ) → l < k → v (number_in f kind (LoopTo l k)) ≡ false) → (e : Norm) → Contains (nexts f) e → IsFalse (states_of f kind v k e)
   empty_from Kinds.Infinite d k v e le h acc none = reads_empty f d (by_number f Kinds.Infinite v) (letters_true f Kinds.Infinite v d h) k le acc none
   empty_from Kinds.Finite d k v e le h acc none = cc
 
-  pub end_from : (kind : Kind) (d k : ℕ) (v : ℕ → Bool) → kind ≡ Kinds.Finite → k ≤ d → Satisfies v (clause_list f kind d) → v (number_in f kind (Accepted k)) ≡ true
+  pub end_from : (kind : Kind) (d k : ℕ) (v : ℕ → Bool) → kind ≡ Kinds.Finite → k ≤ d → Satisfies v (clause_list f kind d)
+      → v (number_in f kind (Accepted k)) ≡ true
       → (a : Norm) → Contains (closure f) (NNext a) → IsFalse (states_of f kind v k (NNext a))
   end_from Kinds.Finite d k v e le h acc = reads_ended f d (by_number f Kinds.Finite v) (letters_true f Kinds.Finite v d h) k le acc
   end_from Kinds.Infinite d k v e le h acc = cc
 
-  pub unpruned_from : (kind : Kind) (k : ℕ) (v : ℕ → Bool) → Satisfies v (clause_list f kind k) → v (number_in f kind Unpruned) ≡ true → IsUnpruned f (states_of f kind v) k kind
+  pub unpruned_from : (kind : Kind) (k : ℕ) (v : ℕ → Bool) → Satisfies v (clause_list f kind k)
+      → v (number_in f kind Unpruned) ≡ true → IsUnpruned f (states_of f kind v) k kind
   unpruned_from Kinds.Infinite k v h final i le = reads_unpruned f k (by_number f Kinds.Infinite v) (letters_true f Kinds.Infinite v k h) final i le
   unpruned_from Kinds.Finite k v h final i le = reads_distinct f k (by_number f Kinds.Finite v) (letters_true f Kinds.Finite v k h) final i le
 
@@ -58,7 +64,8 @@ module _ (f : Formula) where
 
     assignment_true : Satisfies assignment (clause_list f kind d)
     unfolding assignment parts
-    assignment_true = numbered_true f kind d (written f r k accepted final) (writes f r k accepted final (written f r k accepted final) (written_means f r k accepted final) (means_written f r k accepted final) kind d run acc unpruned)
+    assignment_true = numbered_true f kind d (written f r k accepted final) (writes f r k accepted final (written f r k accepted final)
+        (written_means f r k accepted final) (means_written f r k accepted final) kind d run acc unpruned)
 
     assignment_here : assignment (number_in f kind (Here k)) ≡ true
     unfolding assignment parts
@@ -91,7 +98,8 @@ module _ (f : Formula) where
   )
 
   pub accepted_to : (kind : Kind) (d k : ℕ) (r : States) → k ≤ d → IsRun f k r → IsAccepted f r k kind
-      → (v : ℕ → Bool) × Satisfies v (clause_list f kind d) × (v (number_in f kind (Here k)) ≡ true) × (v (number_in f kind (Accepted k)) ≡ true) × Shows f kind v k r
+      → (v : ℕ → Bool) × Satisfies v
+      (clause_list f kind d) × (v (number_in f kind (Here k)) ≡ true) × (v (number_in f kind (Accepted k)) ≡ true) × Shows f kind v k r
   accepted_to kind d k r le run acc = (
     assignment kind d k r true false le run (λ e. acc) (λ i il e p. never e),
     assignment_true kind d k r true false le run (λ e. acc) (λ i il e p. never e),
@@ -101,7 +109,8 @@ module _ (f : Formula) where
   )
 
   pub unpruned_to : (kind : Kind) (k : ℕ) (r : States) → IsRun f k r → IsUnpruned f r k kind
-      → (v : ℕ → Bool) × Satisfies v (clause_list f kind k) × (v (number_in f kind (Here k)) ≡ true) × (v (number_in f kind Unpruned) ≡ true) × Shows f kind v k r
+      → (v : ℕ → Bool) × Satisfies v
+      (clause_list f kind k) × (v (number_in f kind (Here k)) ≡ true) × (v (number_in f kind Unpruned) ≡ true) × Shows f kind v k r
   unpruned_to kind k r run none =
       let le : k ≤ k = omega arith in (
         assignment kind k k r false true le run (λ e. never e) (λ i il e p. none i il p),

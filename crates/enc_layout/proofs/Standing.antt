@@ -3,7 +3,8 @@ use Rattle.std.proofs.Common.{◌≡◌, ℕ, ◌-◌, ◌<◌, arith, refl, tru
 use Rattle.std.proofs.lemmas.List.{get_or_default}
 use Rattle.std.proofs.lemmas.List.Elements.{Contains-get_or}
 use Rattle.ltl_syntax.specs.Formula.{Formula, Name, Fresh}
-use Rattle.ltl_closure.specs.Norm.{Norm, NConst, NLetter, NNotLetter, NAnd, NOr, NNext, NWeakNext, NYesterday, NWeakYesterday, NUntil, NRelease, NSince, NTrigger, pos_of}
+use Rattle.ltl_closure.specs.Norm.{Norm, NConst, NLetter, NNotLetter, NAnd, NOr, NNext, NWeakNext, NYesterday, NWeakYesterday, NUntil, NRelease, NSince}
+use Rattle.ltl_closure.specs.Norm.{NTrigger, pos_of}
 use Rattle.ltl_closure.specs.Closure.{closure, nexts, yesterdays}
 use Rattle.ltl_closure.specs.Entries.{place_in, numbers_of, StandsFor, AreEntries, ClosureValue, IsNumber, entry_at}
 use Rattle.ltl_closure.specs.declared.entry.Entry.{Entry}
@@ -42,10 +43,14 @@ module _ (names : List (List ℕ)) (f : Formula) where
   entry_inside (NWeakNext a) x m s = subst (IsInside w) (sym s) (one a (NWeakNext a) [] refl m)
   entry_inside (NYesterday a) x m s = subst (IsInside w) (sym s) (one a (NYesterday a) [] refl m)
   entry_inside (NWeakYesterday a) x m s = subst (IsInside w) (sym s) (one a (NWeakYesterday a) [] refl m)
-  entry_inside (NUntil a b) x m s = subst (IsInside w) (sym s) (one a (NUntil a b) _ refl m, (two a b (NUntil a b) _ refl m, three a b (NNext (NUntil a b)) (NUntil a b) refl m))
-  entry_inside (NRelease a b) x m s = subst (IsInside w) (sym s) (one a (NRelease a b) _ refl m, (two a b (NRelease a b) _ refl m, three a b (NWeakNext (NRelease a b)) (NRelease a b) refl m))
-  entry_inside (NSince a b) x m s = subst (IsInside w) (sym s) (one a (NSince a b) _ refl m, (two a b (NSince a b) _ refl m, three a b (NYesterday (NSince a b)) (NSince a b) refl m))
-  entry_inside (NTrigger a b) x m s = subst (IsInside w) (sym s) (one a (NTrigger a b) _ refl m, (two a b (NTrigger a b) _ refl m, three a b (NWeakYesterday (NTrigger a b)) (NTrigger a b) refl m))
+  entry_inside (NUntil a b) x m s =
+      subst (IsInside w) (sym s) (one a (NUntil a b) _ refl m, (two a b (NUntil a b) _ refl m, three a b (NNext (NUntil a b)) (NUntil a b) refl m))
+  entry_inside (NRelease a b) x m s =
+      subst (IsInside w) (sym s) (one a (NRelease a b) _ refl m, (two a b (NRelease a b) _ refl m, three a b (NWeakNext (NRelease a b)) (NRelease a b) refl m))
+  entry_inside (NSince a b) x m s =
+      subst (IsInside w) (sym s) (one a (NSince a b) _ refl m, (two a b (NSince a b) _ refl m, three a b (NYesterday (NSince a b)) (NSince a b) refl m))
+  entry_inside (NTrigger a b) x m s = subst (IsInside w) (sym s)
+      (one a (NTrigger a b) _ refl m, (two a b (NTrigger a b) _ refl m, three a b (NWeakYesterday (NTrigger a b)) (NTrigger a b) refl m))
 
   module _ (entries : List Entry) (are : AreEntries names f entries) where
     pub entries_inside : All (IsInside (length (closure f))) entries
@@ -75,7 +80,8 @@ module _ (layout : LayoutValue) (c : ClosureValue) (own : layout ≡ layout_of c
   pub one_known : (t : ℕ) → IsNumber (length (closure c.formula)) t → IsNumber layout.counts.entries t
   one_known t known = subst (λ n. IsNumber n t) (sym entries_count) known
 
-  pub one_inside : (entries : List Entry) → AreEntries c.names c.formula entries → (t : ℕ) → IsNumber (length (closure c.formula)) t → (x : Entry) → x ≡ entry_at entries t
+  pub one_inside : (entries : List Entry) → AreEntries c.names c.formula entries → (t : ℕ) → IsNumber (length (closure c.formula)) t → (x : Entry)
+      → x ≡ entry_at entries t
       → IsInside layout.counts.entries x
   one_inside entries are t known x is =
       let lt : t - 1 < length entries = omega (arith, known.0, known.1, are.long) in
@@ -87,7 +93,8 @@ module _ (layout : LayoutValue) (c : ClosureValue) (own : layout ≡ layout_of c
 
   pub yesterdays_all : (numbers : List ℕ) → numbers ≡ numbers_of c.formula (yesterdays c.formula) → All (IsNumber layout.counts.entries) numbers
   yesterdays_all numbers is =
-      subst (λ n. All (IsNumber n) numbers) (sym entries_count) (subst (λ z. All (IsNumber (length (closure c.formula))) z) (sym is) (yesterdays_known c.formula))
+      subst (λ n. All (IsNumber n) numbers) (sym entries_count)
+      (subst (λ z. All (IsNumber (length (closure c.formula))) z) (sym is) (yesterdays_known c.formula))
 
   pub root_known : (number : ℕ) → number ≡ place_in (closure c.formula) (pos_of c.formula) → IsNumber layout.counts.entries number
   root_known number is = subst (λ n. IsNumber n number) (sym entries_count) (subst (IsNumber (length (closure c.formula))) (sym is) (root_number c.formula))

@@ -7,7 +7,8 @@ use Rattle.std.proofs.lemmas.List.Elements.{Contains-get_or}
 use Rattle.ltl_syntax.specs.declared.node.Kind.{Kind}
 use Rattle.ltl_syntax.specs.declared.node.Kind.TheVariants as Kinds
 use Rattle.ltl_syntax.specs.Formula.{Formula}
-use Rattle.ltl_closure.specs.Norm.{Norm, NConst, NLetter, NNotLetter, NAnd, NOr, NNext, NWeakNext, NYesterday, NWeakYesterday, NUntil, NRelease, NSince, NTrigger, pos_of}
+use Rattle.ltl_closure.specs.Norm.{Norm, NConst, NLetter, NNotLetter, NAnd, NOr, NNext, NWeakNext, NYesterday, NWeakYesterday, NUntil, NRelease, NSince}
+use Rattle.ltl_closure.specs.Norm.{NTrigger, pos_of}
 use Rattle.ltl_closure.specs.Closure.{closure, nexts, yesterdays, eventualities, argument}
 use Rattle.ltl_closure.specs.Run.{request_of, right_of}
 use Rattle.ltl_closure.proofs.Lists.{Contains-from_filter}
@@ -15,7 +16,10 @@ use Rattle.ltl_closure.proofs.Entries.{closure_root}
 use Rattle.ltl_closure.proofs.Places.{place_from_one, place_within}
 use Rattle.ltl_closure.proofs.Known.{next_in, yesterday_in, eventuality_in}
 use Rattle.enc_layout.specs.Letters.{Meaning, Unpruned, Here, Accepted, EmptyAt, Seen, Equal, LoopTo, Differs, Fulfilled, New, below, IsLetter}
-use Rattle.enc_layout.specs.Clauses.{Literal, Clause, Plus, Minus, counts, letter_of, carried, eventuality, chain_part, gates_part, gate, start, next_clauses, before_clauses, links_part, place_clauses, equal_clause, fulfilled_clauses, loop_clause, closing_clauses, pair_clauses, pairs_part, accepted_clause, is_strong_next, acceptance_part, seen_clauses, new_clauses, pruned_clause, pruning_part, step_clauses, clauses_through}
+use Rattle.enc_layout.specs.Clauses.{Literal, Clause, Plus, Minus, counts, letter_of, carried, eventuality, chain_part, gates_part, gate, start, next_clauses}
+use Rattle.enc_layout.specs.Clauses.{before_clauses, links_part, place_clauses, equal_clause, fulfilled_clauses, loop_clause, closing_clauses, pair_clauses}
+use Rattle.enc_layout.specs.Clauses.{pairs_part, accepted_clause, is_strong_next, acceptance_part, seen_clauses, new_clauses, pruned_clause, pruning_part}
+use Rattle.enc_layout.specs.Clauses.{step_clauses, clauses_through}
 use Rattle.enc_layout.proofs.Each.{Each-append, Each-below, Each-flat_map, Each-map}
 use Rattle.enc_layout.proofs.Gates.{first_child, second_child}
 use Rattle.enc_layout.proofs.Carries.{argument_in, right_in, carried_in}
@@ -95,14 +99,16 @@ module _ (f : Formula) (kind : Kind) (d : ℕ) where
   within_start e m = tt
 
   two_steps : (j : ℕ) → suc j ≤ d → (i l : ℕ) → i ≤ d → l ≤ d → (e : Norm) → Contains (closure f) e
-      → Each AreKnown ((Minus (Here (suc j)) ∷ Minus (letter_of f i e) ∷ Plus (letter_of f l (argument e)) ∷ []) ∷ (Minus (Here (suc j)) ∷ Plus (letter_of f i e) ∷ Minus (letter_of f l (argument e)) ∷ []) ∷ [])
+      → Each AreKnown ((Minus (Here (suc j)) ∷ Minus (letter_of f i e) ∷ Plus (letter_of f l (argument e)) ∷ [])
+      ∷ (Minus (Here (suc j)) ∷ Plus (letter_of f i e) ∷ Minus (letter_of f l (argument e)) ∷ []) ∷ [])
   two_steps j le i l il ll e m =
       let x = entry i il e m in
       let y = entry l ll (argument e) (argument_in f e m) in
       ((le, (x, (y, tt))), ((le, (x, (y, tt))), tt))
 
   within_c : (i : ℕ) → i ≤ d → Each AreKnown (links_part f i)
-  within_c zero le = ((le, (entry 0 le (pos_of f) (closure_root f), tt)), Each-flat_map AreKnown (start f) (yesterdays f) (λ e m. within_start e (yesterday_in f e m)))
+  within_c zero le =
+      ((le, (entry 0 le (pos_of f) (closure_root f), tt)), Each-flat_map AreKnown (start f) (yesterdays f) (λ e m. within_start e (yesterday_in f e m)))
   within_c (suc j) le =
       Each-append AreKnown (flat_map (next_clauses f j) (nexts f)) (flat_map (before_clauses f j) (yesterdays f))
       (Each-flat_map AreKnown (next_clauses f j) (nexts f) (λ e m. two_steps j le j (suc j) (omega arith) le e (next_in f e m)))
@@ -128,10 +134,12 @@ module _ (f : Formula) (d : ℕ) where
   Known c = AreKnown f Kinds.Infinite d c
 
   right_entry : (i m : ℕ) → i ≤ d → m < length (eventualities f) → IsLetter Kinds.Infinite (counts f) d (letter_of f i (right_of (eventuality f m)))
-  right_entry i m le some = entry f Kinds.Infinite d i le (right_of (eventuality f m)) (right_in f (eventuality f m) (eventuality_in f (eventuality f m) (Contains-get_or (eventualities f) m (NConst false) some)))
+  right_entry i m le some = entry f Kinds.Infinite d i le (right_of (eventuality f m))
+      (right_in f (eventuality f m) (eventuality_in f (eventuality f m) (Contains-get_or (eventualities f) m (NConst false) some)))
 
   request_entry : (i m : ℕ) → i ≤ d → m < length (eventualities f) → IsLetter Kinds.Infinite (counts f) d (letter_of f i (request_of (eventuality f m)))
-  request_entry i m le some = entry f Kinds.Infinite d i le (request_of (eventuality f m)) (request_in f (eventuality f m) (Contains-get_or (eventualities f) m (NConst false) some))
+  request_entry i m le some =
+      entry f Kinds.Infinite d i le (request_of (eventuality f m)) (request_in f (eventuality f m) (Contains-get_or (eventualities f) m (NConst false) some))
 
   of_pair : (l i m : ℕ) → i ≤ d → l < i → m < length (eventualities f) → IsLetter Kinds.Infinite (counts f) d (Fulfilled l i (suc m))
   of_pair l i m le lt some = (le, lt, omega arith, omega arith)
@@ -150,9 +158,21 @@ module _ (f : Formula) (d : ℕ) where
 
   within_closing : (i l : ℕ) → i ≤ d → l < i → Each Known (closing_clauses f Kinds.Infinite i l)
   within_closing i l le lt =
-      Each-append Known (below (length (eventualities f)) (fulfilled_clauses f i l)) ((Minus (LoopTo l i) ∷ Plus (Equal l i) ∷ []) ∷ below (length (eventualities f)) (λ m. loop_clause f i l m ∷ []))
-      (Each-below Known (length (eventualities f)) (fulfilled_clauses f i l) (within_fulfilled i l le lt))
-      (((le, lt), ((le, lt), tt)), Each-below Known (length (eventualities f)) (λ m. loop_clause f i l m ∷ []) (λ m some. (((le, lt), (request_entry i m le some, (of_pair l i m le lt some, tt))), tt)))
+      Each-append Known (below (length (eventualities f)) (fulfilled_clauses f i l))
+      ((Minus (LoopTo l i) ∷ Plus (Equal l i) ∷ []) ∷ below (length (eventualities f)) (λ m. loop_clause f i l m ∷ []))
+      (Each-below Known (length (eventualities f)) (fulfilled_clauses f i l) (within_fulfilled i l le lt)) (
+        ((le, lt), ((le, lt), tt)),
+        Each-below Known (length (eventualities f)) (λ m. loop_clause f i l m ∷ []) (λ m some. (
+          (
+            (
+              le,
+              lt,
+            ),
+            (request_entry i m le some, (of_pair l i m le lt some, tt)),
+          ),
+          tt,
+        )),
+      )
 
   within_seen : (i l : ℕ) → i ≤ d → l < i → Each Known (seen_clauses f i l)
   within_seen i l le lt = (
@@ -167,8 +187,19 @@ module _ (f : Formula) (d : ℕ) where
       ((n, (request_entry i m le some, tt)), ((n, (of_pair j i m le lt some, tt)), ((n, (of_seen j m (omega arith) some, tt)), tt)))
 
   within_pruned : (i j : ℕ) → i ≤ d → j < i → Known (pruned_clause f i j)
-  within_pruned i j le lt =
-      (tt, ((le, lt), (omega arith, Each-below (IsKnown f Kinds.Infinite d) (length (eventualities f)) (λ m. Plus (New j i (suc m)) ∷ []) (λ m some. (of_pair j i m le lt some, tt)))))
+  within_pruned i j le lt = (
+    tt,
+    (
+      (le, lt),
+      (
+        omega arith,
+        Each-below (IsKnown f Kinds.Infinite d) (length (eventualities f)) (λ m. Plus (New j i (suc m)) ∷ []) (λ m some. (
+          of_pair j i m le lt some,
+          tt,
+        )),
+      ),
+    ),
+  )
 
   within_accepted : (i : ℕ) → i ≤ d → Known (accepted_clause i)
   within_accepted i le = (le, (le, Each-below (IsKnown f Kinds.Infinite d) i (λ l. Plus (LoopTo l i) ∷ []) (λ l lt. ((le, lt), tt))))
@@ -184,20 +215,31 @@ within_d f kind d i le = Each-below (AreKnown f kind d) i (pair_clauses f kind i
     (within_equal f kind d i l le lt, within_closings f kind d i l le lt))
 
 within_e : (f : Formula) (kind : Kind) (d i : ℕ) → i ≤ d → Each (AreKnown f kind d) (acceptance_part f kind i)
-within_e f Kinds.Infinite d i le =
-    (within_accepted f d i le, Each-map (AreKnown f Kinds.Infinite d) (λ t. Minus (EmptyAt i) ∷ Minus (letter_of f i t) ∷ []) (nexts f) (λ e m. (le, (entry f Kinds.Infinite d i le e (next_in f e m), tt))))
+within_e f Kinds.Infinite d i le = (
+  within_accepted f d i le,
+  Each-map (AreKnown f Kinds.Infinite d) (λ t. Minus (EmptyAt i) ∷ Minus (letter_of f i t) ∷ []) (nexts f) (λ e m. (
+    le,
+    (
+      entry f Kinds.Infinite d i le e (next_in f e m),
+      tt,
+    ),
+  )),
+)
 within_e f Kinds.Finite d i le =
-    Each-map (AreKnown f Kinds.Finite d) (λ t. Minus (Accepted i) ∷ Minus (letter_of f i t) ∷ []) (filter is_strong_next (closure f)) (λ e m. (le, (entry f Kinds.Finite d i le e (Contains-from_filter is_strong_next (closure f) e m).0, tt)))
+    Each-map (AreKnown f Kinds.Finite d) (λ t. Minus (Accepted i) ∷ Minus (letter_of f i t) ∷ []) (filter is_strong_next (closure f))
+    (λ e m. (le, (entry f Kinds.Finite d i le e (Contains-from_filter is_strong_next (closure f) e m).0, tt)))
 
 within_f : (f : Formula) (kind : Kind) (d i : ℕ) → i ≤ d → Each (AreKnown f kind d) (pruning_part f kind i)
 within_f f Kinds.Infinite d i le =
-    Each-append (AreKnown f Kinds.Infinite d) (below i (seen_clauses f i)) (below i (λ j. below (length (eventualities f)) (new_clauses f i j) ++ pruned_clause f i j ∷ []))
+    Each-append (AreKnown f Kinds.Infinite d) (below i (seen_clauses f i))
+    (below i (λ j. below (length (eventualities f)) (new_clauses f i j) ++ pruned_clause f i j ∷ []))
     (Each-below (AreKnown f Kinds.Infinite d) i (seen_clauses f i) (λ l lt. within_seen f d i l le lt))
     (Each-below (AreKnown f Kinds.Infinite d) i (λ j. below (length (eventualities f)) (new_clauses f i j) ++ pruned_clause f i j ∷ []) (λ j lt.
     Each-append (AreKnown f Kinds.Infinite d) (below (length (eventualities f)) (new_clauses f i j)) (pruned_clause f i j ∷ [])
     (Each-below (AreKnown f Kinds.Infinite d) (length (eventualities f)) (new_clauses f i j) (within_new f d i j le lt))
     (within_pruned f d i j le lt, tt)))
-within_f f Kinds.Finite d i le = Each-below (AreKnown f Kinds.Finite d) i (λ j. (Minus Unpruned ∷ Minus (Equal j i) ∷ []) ∷ []) (λ j lt. ((tt, ((le, lt), tt)), tt))
+within_f f Kinds.Finite d i le =
+    Each-below (AreKnown f Kinds.Finite d) i (λ j. (Minus Unpruned ∷ Minus (Equal j i) ∷ []) ∷ []) (λ j lt. ((tt, ((le, lt), tt)), tt))
 
 pub within : (f : Formula) (kind : Kind) (d : ℕ) → Each (AreKnown f kind d) (clauses_through f kind d)
 within f kind d = Each-below (AreKnown f kind d) (suc d) (step_clauses f kind) (λ i lt.

@@ -8,7 +8,8 @@ use Rattle.cnf_base.specs.Meaning.{Satisfies}
 use Rattle.ltl_closure.specs.Norm.{Norm, NNext}
 use Rattle.ltl_closure.specs.Closure.{closure, nexts, eventualities}
 use Rattle.ltl_closure.specs.Run.{States, IsRun, IsAccepted, IsUnpruned, HasRun, HasAccepted, HasUnpruned, carry, is_pending, IsFulfilledIn}
-use Rattle.enc_layout.specs.Letters.{Meaning, Unpruned, Here, Accepted, LoopTo, Counts, LayoutValue, AreFew, IsLetter, all_letters, letters_through, Fits, number_of}
+use Rattle.enc_layout.specs.Letters.{Meaning, Unpruned, Here, Accepted, LoopTo, Counts, LayoutValue, AreFew, IsLetter, all_letters, letters_through, Fits}
+use Rattle.enc_layout.specs.Letters.{number_of}
 use Rattle.enc_layout.specs.Clauses.{counts, number_in, state_clauses, loop_clauses, prune_clauses, step_clauses, signed_clauses, clause_list}
 use Rattle.enc_layout.specs.Assigned.{states_of, Shows, AreSatisfiable, run_question, accepted_question, unpruned_question}
 
@@ -31,7 +32,8 @@ LowerDepthsFit = (layout : LayoutValue) (k d : ℕ) → k ≤ d → Fits layout 
 
 -- every letter of the list is one of the letters through its depth
 abbrev pub LettersAreKnown : Type 0
-LettersAreKnown = (f : Formula) (kind : Kind) (d : ℕ) → All (All (λ l. (0 < l.letter.0) × (l.letter.0 ≤ letters_through kind (counts f) d))) (clause_list f kind d)
+LettersAreKnown =
+    (f : Formula) (kind : Kind) (d : ℕ) → All (All (λ l. (0 < l.letter.0) × (l.letter.0 ≤ letters_through kind (counts f) d))) (clause_list f kind d)
 
 -- the list through depth 0 has the clauses of step 0
 abbrev pub ListsBegin : Type 0
@@ -57,21 +59,25 @@ abbrev pub AssignmentsAccept : Type 0
 AssignmentsAccept = (f : Formula) (kind : Kind) (d k : ℕ) (v : ℕ → Bool) → k ≤ d → Satisfies v (clause_list f kind d) → v (number_in f kind (Accepted k)) ≡ true
     → IsAccepted f (states_of f kind v) k kind
 
--- for infinite traces, where the letter of the loop from state k to l is true, they have one carry, and each eventuality that is pending at k is fulfilled after l
+-- for infinite traces, where the letter of the loop from state k to l is true, they have one carry, and each eventuality that is pending at
+-- k is fulfilled after l
 abbrev pub AssignmentsLoop : Type 0
-AssignmentsLoop = (f : Formula) (kind : Kind) (d k l : ℕ) (v : ℕ → Bool) → kind ≡ Kinds.Infinite → k ≤ d → l < k → Satisfies v (clause_list f kind d) → v (number_in f kind (LoopTo l k)) ≡ true
+AssignmentsLoop = (f : Formula) (kind : Kind) (d k l : ℕ) (v : ℕ → Bool) → kind ≡ Kinds.Infinite → k ≤ d → l < k → Satisfies v (clause_list f kind d)
+    → v (number_in f kind (LoopTo l k)) ≡ true
     → (carry f (states_of f kind v l) ≡ carry f (states_of f kind v k))
     × ((e : Norm) → Contains (eventualities f) e → IsTrue (is_pending (states_of f kind v k) e) → IsFulfilledIn (states_of f kind v) l k e)
 
 -- where the letter of acceptance is true and that of no loop from state k, no next request is true there
 abbrev pub AssignmentsEmpty : Type 0
-AssignmentsEmpty = (f : Formula) (kind : Kind) (d k : ℕ) (v : ℕ → Bool) → kind ≡ Kinds.Infinite → k ≤ d → Satisfies v (clause_list f kind d) → v (number_in f kind (Accepted k)) ≡ true
+AssignmentsEmpty = (f : Formula) (kind : Kind) (d k : ℕ) (v : ℕ → Bool) → kind ≡ Kinds.Infinite → k ≤ d → Satisfies v (clause_list f kind d)
+    → v (number_in f kind (Accepted k)) ≡ true
     → ((l : ℕ) → l < k → v (number_in f kind (LoopTo l k)) ≡ false)
     → (e : Norm) → Contains (nexts f) e → IsFalse (states_of f kind v k e)
 
 -- for finite traces, where the letter of acceptance is true, no strong next request is true at state k
 abbrev pub AssignmentsEnd : Type 0
-AssignmentsEnd = (f : Formula) (kind : Kind) (d k : ℕ) (v : ℕ → Bool) → kind ≡ Kinds.Finite → k ≤ d → Satisfies v (clause_list f kind d) → v (number_in f kind (Accepted k)) ≡ true
+AssignmentsEnd = (f : Formula) (kind : Kind) (d k : ℕ) (v : ℕ → Bool) → kind ≡ Kinds.Finite → k ≤ d → Satisfies v (clause_list f kind d)
+    → v (number_in f kind (Accepted k)) ≡ true
     → (a : Norm) → Contains (closure f) (NNext a) → IsFalse (states_of f kind v k (NNext a))
 
 -- where the list through k and letter 1 are true, that run is pruned nowhere
@@ -87,7 +93,8 @@ RunsAreAssigned = (f : Formula) (kind : Kind) (d k : ℕ) (r : States) → k ≤
 -- each accepted run
 abbrev pub AcceptedRunsAreAssigned : Type 0
 AcceptedRunsAreAssigned = (f : Formula) (kind : Kind) (d k : ℕ) (r : States) → k ≤ d → IsRun f k r → IsAccepted f r k kind
-    → (v : ℕ → Bool) × Satisfies v (clause_list f kind d) × (v (number_in f kind (Here k)) ≡ true) × (v (number_in f kind (Accepted k)) ≡ true) × Shows f kind v k r
+    → (v : ℕ → Bool) × Satisfies v
+    (clause_list f kind d) × (v (number_in f kind (Here k)) ≡ true) × (v (number_in f kind (Accepted k)) ≡ true) × Shows f kind v k r
 
 -- each run that is pruned nowhere
 abbrev pub UnprunedRunsAreAssigned : Type 0
@@ -99,7 +106,8 @@ abbrev pub RunQuestionsAnswer : Type 0
 RunQuestionsAnswer = (f : Formula) (kind : Kind) (d k : ℕ) → k ≤ d → HasRun f k ↔ AreSatisfiable (clause_list f kind d) (run_question f kind k)
 
 abbrev pub AcceptedQuestionsAnswer : Type 0
-AcceptedQuestionsAnswer = (f : Formula) (kind : Kind) (d k : ℕ) → k ≤ d → HasAccepted f kind k ↔ AreSatisfiable (clause_list f kind d) (accepted_question f kind k)
+AcceptedQuestionsAnswer =
+    (f : Formula) (kind : Kind) (d k : ℕ) → k ≤ d → HasAccepted f kind k ↔ AreSatisfiable (clause_list f kind d) (accepted_question f kind k)
 
 abbrev pub UnprunedQuestionsAnswer : Type 0
 UnprunedQuestionsAnswer = (f : Formula) (kind : Kind) (k : ℕ) → HasUnpruned f kind k ↔ AreSatisfiable (clause_list f kind k) (unpruned_question f kind k)

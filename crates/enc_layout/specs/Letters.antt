@@ -49,7 +49,8 @@ own_letters Kinds.Finite c i = Here i ∷ Accepted i ∷ numbered c.entries (Ent
 
 -- the letters of the pair l, i
 abbrev pub pair_letters : Kind → Counts → ℕ → ℕ → List Meaning
-pair_letters Kinds.Infinite c i l = Equal l i ∷ LoopTo l i ∷ (numbered c.places (Differs l i) ++ (numbered c.eventualities (Fulfilled l i) ++ numbered c.eventualities (New l i)))
+pair_letters Kinds.Infinite c i l =
+    Equal l i ∷ LoopTo l i ∷ (numbered c.places (Differs l i) ++ (numbered c.eventualities (Fulfilled l i) ++ numbered c.eventualities (New l i)))
 pair_letters Kinds.Finite c i l = Equal l i ∷ numbered c.places (Differs l i)
 
 -- the letters of step i: its own, and then those of its pairs with each earlier step

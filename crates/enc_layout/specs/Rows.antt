@@ -53,7 +53,8 @@ joined f (g ∷ gs) = joined (Binary And f g) gs
 abbrev pub ring_of_four : Formula
 ring_of_four =
     joined (place 0)
-    (goes 0 1 ∷ goes 1 2 ∷ goes 2 3 ∷ goes 3 0 ∷ comes 0 ∷ comes 1 ∷ comes 2 ∷ comes 3 ∷ apart 0 1 ∷ apart 0 2 ∷ apart 0 3 ∷ apart 1 2 ∷ apart 1 3 ∷ apart 2 3 ∷ [])
+    (goes 0 1 ∷ goes 1 2 ∷ goes 2 3 ∷ goes 3 0 ∷ comes 0 ∷ comes 1 ∷ comes 2 ∷ comes 3 ∷ apart 0 1 ∷ apart 0 2 ∷ apart 0 3 ∷ apart 1 2
+    ∷ apart 1 3 ∷ apart 2 3 ∷ [])
 
 abbrev pub ring_of_two : Formula
 ring_of_two = joined (place 0) (goes 0 1 ∷ goes 1 0 ∷ comes 0 ∷ comes 1 ∷ apart 0 1 ∷ [])

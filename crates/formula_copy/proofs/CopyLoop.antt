@@ -1,5 +1,6 @@
 -- The loop that copies marked nodes in the order of their numbers: one node, marked or not, and what it comes to.
-use Rattle.std.proofs.Common.{◌≡◌, ◌≢◌, ℕ, suc, ◌+◌, ◌<◌, ◌≤◌, ◌⊎◌, ◌↔◌, inl, inr, ◌&&◌, ltb, cond, Bool, true, false, IsTrue, IsFalse, List, [], ◌∷◌, ◌++◌, length, get_or, slice_get, Some, refl, sym, ap, subst, ◌∙◌, arith, add-one}
+use Rattle.std.proofs.Common.{◌≡◌, ◌≢◌, ℕ, suc, ◌+◌, ◌<◌, ◌≤◌, ◌⊎◌, ◌↔◌, inl, inr, ◌&&◌, ltb, cond, Bool, true, false, IsTrue, IsFalse, List, [], ◌∷◌, ◌++◌}
+use Rattle.std.proofs.Common.{length, get_or, slice_get, Some, refl, sym, ap, subst, ◌∙◌, arith, add-one}
 use Rattle.std.proofs.lemmas.Bool.Decides.{nat_tests}
 use Rattle.std.proofs.lemmas.Option.{get_or_from_slice_get}
 use Rattle.std.proofs.lemmas.List.{get_or_read}
@@ -10,7 +11,8 @@ use Rattle.ltl_syntax.specs.declared.node.Node.TheVariants as nodes
 use Rattle.ltl_syntax.specs.Size.{sizes, node_size, formula_size, HasOrder}
 use Rattle.ltl_syntax.specs.Table.{Table, tree_at, IsRoot, MayFollow, Pushes}
 use Rattle.formula_copy.specs.Under.{Marks, sum_below, size_at, marked_size, AreUnder}
-use Rattle.formula_copy.specs.Copy.{Numbers, numbers_in, done, moved, IsMoved, IsCopyOfNode, StandsOnRoots, IsCopied, IsCopyOf, IsNode, IsNext, IsSingle, HasGrown}
+use Rattle.formula_copy.specs.Copy.{Numbers, numbers_in, done, moved, IsMoved, IsCopyOfNode, StandsOnRoots, IsCopied, IsCopyOf, IsNode, IsNext, IsSingle}
+use Rattle.formula_copy.specs.Copy.{HasGrown}
 use Rattle.formula_copy.proofs.Pushed.{pushed_size, pushed_length}
 use Rattle.formula_copy.proofs.Sums.{equal_or_not, sum_grows}
 use Rattle.formula_copy.proofs.CopySteps.{child_below, stands, may_follow, names_stay, goes_on, ends}
@@ -54,7 +56,8 @@ done_more M k n at = (
 )
 
 -- the loop's facts at the same nodes and numbers
-same_copied : (s old t : Table) (D D' : Marks) (new new' : Numbers) → ((n : ℕ) → IsTrue (D' n) ↔ IsTrue (D n)) → ((n : ℕ) → IsTrue (D n) → new' n ≡ new n) → IsCopied s D new old t → IsCopied s D' new' old t
+same_copied : (s old t : Table) (D D' : Marks) (new new' : Numbers) → ((n : ℕ) → IsTrue (D' n) ↔ IsTrue (D n)) → ((n : ℕ) → IsTrue (D n) → new' n ≡ new n)
+    → IsCopied s D new old t → IsCopied s D' new' old t
 same_copied s old t D D' new new' same e w = record {
   size = w.size;
   there = λ j d. let h = w.there j ((same j).0 d) in let q = e j ((same j).0 d) in omega (arith, h, q);
@@ -80,7 +83,8 @@ module _ (s old t : Table) (root k : ℕ) (M : Marks) (list : List ℕ) (under :
   pub skipped : (number : ℕ) (next : List ℕ) → M k ≡ false → length list ≡ k → next ≡ list ++ number ∷ [] → IsCopied s (done M (k + 1)) (numbers_in next) old t
   skipped number next none count e =
       subst (λ l. IsCopied s (done M (k + 1)) (numbers_in l) old t) (sym e)
-      (rw (add-one k) (same_copied s old t (done M k) (done M (suc k)) (numbers_in list) (numbers_in (list ++ number ∷ [])) same (λ n d. old_number list k number count n (done_is M k n d).0) w))
+      (rw (add-one k) (same_copied s old t (done M k) (done M (suc k)) (numbers_in list) (numbers_in (list ++ number ∷ [])) same
+      (λ n d. old_number list k number count n (done_is M k n d).0) w))
     where
       not_k : (n : ℕ) → IsTrue (M n) → n ≢ k
       not_k n h eq = let f : M n ≡ false = ap M eq ∙ none in absurd (cc)
@@ -101,19 +105,22 @@ module _ (s old t : Table) (root k : ℕ) (M : Marks) (list : List ℕ) (under :
     pub stands_on : StandsOnRoots t (numbers_in list) node
     stands_on = stands s old t (done M k) (numbers_in list) w k k node single is next_node
 
-    pub copied_on : (t' : Table) (number : ℕ) (next : List ℕ) → IsCopyOfNode s (numbers_in list) node t t' number → length list ≡ k → next ≡ list ++ number ∷ [] → IsCopied s (done M (k + 1)) (numbers_in next) old t'
+    pub copied_on : (t' : Table) (number : ℕ) (next : List ℕ) → IsCopyOfNode s (numbers_in list) node t t' number
+        → length list ≡ k → next ≡ list ++ number ∷ [] → IsCopied s (done M (k + 1)) (numbers_in next) old t'
     copied_on t' number next copy count e =
         let kept = names_stay s old t (done M k) (numbers_in list) w copy.middle copy.keeps in
         let long : length copy.middle.nodes ≡ length t.nodes = ap length copy.keeps.nodes in
         subst (λ l. IsCopied s (done M (k + 1)) (numbers_in l) old t') (sym e)
-        (rw (add-one k) (goes_on s old copy.middle (done M k) (numbers_in list) kept k copy.letter t' (done M (suc k)) (numbers_in (list ++ number ∷ [])) node single is next_node copy.named copy.pushed record {
+        (rw (add-one k) (goes_on s old copy.middle (done M k) (numbers_in list) kept k copy.letter t' (done M (suc k)) (numbers_in (list ++ number ∷ []))
+        node single is next_node copy.named copy.pushed record {
           done = λ n. done_more M k n at;
           here = new_number list k number count ∙ (copy.number_is ∙ sym long);
           others = λ n d. old_number list k number count n (done_is M k n d).0;
         }))
 
 -- the copied root
-pub copied : (s old t : Table) (root k number : ℕ) (M : Marks) (list : List ℕ) → AreUnder s root M → suc root ≤ k → length list ≡ k → number ≡ get_or list root number → IsCopied s (done M k) (numbers_in list) old t → IsCopyOf s root old t number
+pub copied : (s old t : Table) (root k number : ℕ) (M : Marks) (list : List ℕ) → AreUnder s root M
+    → suc root ≤ k → length list ≡ k → number ≡ get_or list root number → IsCopied s (done M k) (numbers_in list) old t → IsCopyOf s root old t number
 copied s old t root k number M list under high count read w =
     let d = is_done M k root (omega arith) under.root_in in
     let e = ends s old t (done M k) (numbers_in list) root w d (λ n h. under.top n (done_is M k n h).1) in
@@ -142,7 +149,8 @@ may_put s t t' new node copy roots order m = subst (MayFollow t') (sym m.is) (ma
 pub moved_size : (s t t' : Table) (new : Numbers) (node copy : Node) → IsMoved s new node t t' copy → node_size copy ≡ node_size node
 moved_size s t t' new node copy m = ap node_size m.is ∙ same_size new m.letter node
 
-pub grown_node : (s t t' t'' : Table) (new : Numbers) (node copy : Node) → IsMoved s new node t t' copy → length t.names ≤ length t.nodes → Pushes t' copy t'' → HasGrown t t'' (node_size node)
+pub grown_node : (s t t' t'' : Table) (new : Numbers) (node copy : Node) → IsMoved s new node t t' copy → length t.names ≤ length t.nodes → Pushes t' copy t''
+    → HasGrown t t'' (node_size node)
 grown_node s t t' t'' new node copy m few p =
     let long : length t'.nodes ≡ length t.nodes = ap length m.keeps.nodes in
     let size : sizes t'.nodes ≡ sizes t.nodes = ap sizes m.keeps.nodes in
@@ -156,15 +164,21 @@ module _ (s : Table) (root k : ℕ) (M : Marks) where
   here_size : (node : Node) → slice_get s.nodes k ≡ Some node → M k ≡ true → marked_size s M k ≡ node_size node
   here_size node is at = ap (λ b. cond b (size_at s k) 0) at ∙ ap node_size (get_or_from_slice_get s.nodes k node (nodes.Const false) is)
 
-  pub grown_on : (old t t' : Table) (node : Node) → slice_get s.nodes k ≡ Some node → M k ≡ true → HasGrown old t (sum_below (marked_size s M) k) → HasGrown t t' (node_size node) → HasGrown old t' (sum_below (marked_size s M) (k + 1))
-  grown_on old t t' node is at before more = rw (add-one k) (let r : HasGrown old t' (sum_below (marked_size s M) (suc k)) = record { sizes = omega (arith, before.sizes, more.sizes, here_size node is at); names = more.names } in r)
+  pub grown_on : (old t t' : Table) (node : Node) → slice_get s.nodes k ≡ Some node → M k ≡ true → HasGrown old t (sum_below (marked_size s M) k)
+      → HasGrown t t' (node_size node) → HasGrown old t' (sum_below (marked_size s M) (k + 1))
+  grown_on old t t' node is at before more = rw (add-one k) (let r : HasGrown old t' (sum_below (marked_size s M) (suc k)) = record {
+    sizes = omega (arith, before.sizes, more.sizes, here_size node is at);
+    names = more.names;
+  } in r)
 
   pub grown_skip : (old t : Table) → M k ≡ false → HasGrown old t (sum_below (marked_size s M) k) → HasGrown old t (sum_below (marked_size s M) (k + 1))
   grown_skip old t none before =
       let zero_size : marked_size s M k ≡ 0 = ap (λ b. cond b (size_at s k) 0) none in
-      rw (add-one k) (let r : HasGrown old t (sum_below (marked_size s M) (suc k)) = record { sizes = omega (arith, before.sizes, zero_size); names = before.names } in r)
+      rw (add-one k)
+      (let r : HasGrown old t (sum_below (marked_size s M) (suc k)) = record { sizes = omega (arith, before.sizes, zero_size); names = before.names } in r)
 
-  pub room_for : (old t : Table) (node : Node) (size : ℕ) → AreUnder s root M → k < suc root → slice_get s.nodes k ≡ Some node → M k ≡ true → size ≡ formula_size (tree_at s root) → sizes old.nodes + size ≤ 16384
+  pub room_for : (old t : Table) (node : Node) (size : ℕ) → AreUnder s root M → k < suc root → slice_get s.nodes k ≡ Some node
+      → M k ≡ true → size ≡ formula_size (tree_at s root) → sizes old.nodes + size ≤ 16384
       → HasGrown old t (sum_below (marked_size s M) k) → sizes t.nodes + node_size node ≤ 16384
   room_for old t node size under low is at e room before =
       let part = sum_grows (marked_size s M) (suc k) (suc root) low in

@@ -1,5 +1,6 @@
 -- The steps of the loop that copies marked nodes: what was copied stays so with each node more, and the copy of the root is a root.
-use Rattle.std.proofs.Common.{◌≡◌, ℕ, suc, ◌+◌, ◌-◌, ◌<◌, ◌≤◌, ◌⊎◌, inl, inr, ◌||◌, eqb, Bool, true, false, IsTrue, IsFalse, cond, List, [], ◌∷◌, length, get_or, slice_get, Some, drop, length-drop, refl, sym, ap, ap₂, subst, ◌∙◌, arith, length-append}
+use Rattle.std.proofs.Common.{◌≡◌, ℕ, suc, ◌+◌, ◌-◌, ◌<◌, ◌≤◌, ◌⊎◌, inl, inr, ◌||◌, eqb, Bool, true, false, IsTrue, IsFalse, cond, List, [], ◌∷◌, length}
+use Rattle.std.proofs.Common.{get_or, slice_get, Some, drop, length-drop, refl, sym, ap, ap₂, subst, ◌∙◌, arith, length-append}
 use Rattle.std.specs.List.{count_by, list_any}
 use Rattle.std.proofs.lemmas.Bool.{cases_lt, eqb-true, eqb-false}
 use Rattle.std.proofs.lemmas.Option.{get_or_from_slice_get, slice_get_within}
@@ -22,7 +23,8 @@ one_counted p xs i d low has =
     let whole = sum_by-take-drop (λ x. cond (p x) 1 0) xs (i + 1) in
     omega (arith, first, whole)
 
-two_at : {X : Type 0} (p : X → Bool) (xs : List X) (i j : ℕ) (d : X) → i < j → j < length xs → p (get_or xs i d) ≡ true → p (get_or xs j d) ≡ true → 2 ≤ count_by p xs
+two_at : {X : Type 0} (p : X → Bool) (xs : List X) (i j : ℕ) (d : X) → i < j → j < length xs
+    → p (get_or xs i d) ≡ true → p (get_or xs j d) ≡ true → 2 ≤ count_by p xs
 two_at p xs i j d low within hi hj =
     let first = count_by_more_yes p xs i d (omega arith) hi in
     let whole = sum_by-take-drop (λ x. cond (p x) 1 0) xs (i + 1) in
@@ -31,7 +33,8 @@ two_at p xs i j d low within hi hj =
     let second = one_counted p (drop (i + 1) xs) (j - (i + 1)) d (omega (arith, length-drop (i + 1) xs)) (ap p there ∙ hj) in
     omega (arith, first, whole, second)
 
-pub two_counted : {X : Type 0} (p : X → Bool) (xs : List X) (i j : ℕ) (x y : X) → i < j → slice_get xs i ≡ Some x → slice_get xs j ≡ Some y → p x ≡ true → p y ≡ true → 2 ≤ count_by p xs
+pub two_counted : {X : Type 0} (p : X → Bool) (xs : List X) (i j : ℕ) (x y : X) → i < j → slice_get xs i ≡ Some x → slice_get xs j ≡ Some y
+    → p x ≡ true → p y ≡ true → 2 ≤ count_by p xs
 two_counted p xs i j x y low gx gy px py =
     two_at p xs i j x low (slice_get_within xs j y gy) (ap p (get_or_from_slice_get xs i x x gx) ∙ px) (ap p (get_or_from_slice_get xs j y x gy) ∙ py)
 
@@ -84,12 +87,14 @@ root_kept : (t t' : Table) (n : ℕ) → KeepsTrees t t' → IsRoot t n → IsRo
 root_kept t t' n keeps r = subst (λ (ns : List Node). (n < length ns) × (list_any (has_child n) ns ≡ false)) (sym keeps.nodes) r
 
 -- a node over roots may follow, once its letter has a name
-pub may_follow : (s t t' : Table) (new : Numbers) (letter : ℕ) (node : Node) → StandsOnRoots t new node → HasOrder node → IsNamed s t' letter node → KeepsTrees t t' → MayFollow t' (moved new letter node)
+pub may_follow : (s t t' : Table) (new : Numbers) (letter : ℕ) (node : Node) → StandsOnRoots t new node → HasOrder node → IsNamed s t' letter node
+    → KeepsTrees t t' → MayFollow t' (moved new letter node)
 may_follow s t t' new letter (nodes.Const b) roots order named keeps = tt
 may_follow s t t' new letter (nodes.Letter n) roots order named keeps = named.0
 may_follow s t t' new letter (nodes.Fresh n) roots order named keeps = tt
 may_follow s t t' new letter (nodes.Unary op a) roots order named keeps = (root_kept t t' (new a) keeps roots, order)
-may_follow s t t' new letter (nodes.Binary op a b) roots order named keeps = (root_kept t t' (new a) keeps roots.0, root_kept t t' (new b) keeps roots.1, roots.2)
+may_follow s t t' new letter (nodes.Binary op a b) roots order named keeps =
+    (root_kept t t' (new a) keeps roots.0, root_kept t t' (new b) keeps roots.1, roots.2)
 
 module _ (s old t : Table) (D : Marks) (new : Numbers) (w : IsCopied s D new old t) where
   module _ (k letter : ℕ) where
@@ -151,9 +156,11 @@ module _ (s old t : Table) (D : Marks) (new : Numbers) (w : IsCopied s D new old
     same_made (nodes.Fresh n) next named = refl
     same_made (nodes.Unary op a) next named = ap (Unary op) (w.tree a (next.children a (eqb-same a)))
     same_made (nodes.Binary op a b) next named =
-        ap₂ (Binary op) (w.tree a (next.children a (or_left_true (eqb a a) (eqb b a) (eqb-same a)))) (w.tree b (next.children b (or_right_true (eqb a b) (eqb b b) (eqb-same b))))
+        ap₂ (Binary op) (w.tree a (next.children a (or_left_true (eqb a a) (eqb b a) (eqb-same a))))
+        (w.tree b (next.children b (or_right_true (eqb a b) (eqb b b) (eqb-same b))))
 
-    module _ (t' : Table) (D' : Marks) (new' : Numbers) (node : Node) (single : IsSingle s) (is : IsNode s k node) (next : IsNext D k node) (named : IsNamed s t letter node) (p : Pushes t (moved new letter node) t')
+    module _ (t' : Table) (D' : Marks) (new' : Numbers) (node : Node) (single : IsSingle s) (is : IsNode s k node) (next : IsNext D k node)
+        (named : IsNamed s t letter node) (p : Pushes t (moved new letter node) t')
         (more : IsMore D new k (length t.nodes) D' new') where
       grown : length t'.nodes ≡ suc (length t.nodes)
       grown = ap length p.nodes ∙ omega (arith, length-append t.nodes (moved new letter node ∷ []))
@@ -186,7 +193,8 @@ module _ (s old t : Table) (D : Marks) (new : Numbers) (w : IsCopied s D new old
             | inr ej ↦ absurd (ne (ei ∙ sym ej))
           ]
         ];
-        tree = at_each (λ j n. tree_at t' n ≡ tree_at s j) (λ j dj. p.others (new j) (w.there j dj) ∙ w.tree j dj) (p.tree ∙ (same_made node next named ∙ sym is.tree));
+        tree = at_each (λ j n. tree_at t' n ≡ tree_at s j) (λ j dj. p.others (new j) (w.there j dj) ∙ w.tree j dj)
+            (p.tree ∙ (same_made node next named ∙ sym is.tree));
         root = at_each (λ j n. IsUnused s D' j → IsRoot t' n)
             (λ j dj un. p.roots (new j) (w.root j dj (fewer j un)) (stays_unused node j next dj (last_unused j un)))
             (λ un. p.root);
@@ -229,8 +237,10 @@ starts s t D new none = record {
     never : (j : ℕ) → IsTrue (D j) → ⊥
     never j dj = let f = none j in cc
 
-pub ends : (s old t : Table) (D : Marks) (new : Numbers) (root : ℕ) → IsCopied s D new old t → IsTrue (D root) → ((n : ℕ) → IsTrue (D n) → n ≤ root) → IsRoot t (new root) × (tree_at t (new root) ≡ tree_at s root)
+pub ends : (s old t : Table) (D : Marks) (new : Numbers) (root : ℕ) → IsCopied s D new old t → IsTrue (D root) → ((n : ℕ) → IsTrue (D n) → n ≤ root)
+    → IsRoot t (new root) × (tree_at t (new root) ≡ tree_at s root)
 ends s old t D new root w done low = (w.root root done unused, w.tree root done)
   where
     unused : IsUnused s D root
-    unused i node di at = elim (true_or_false (has_child root node)) [ inl yes' ↦ let under = w.below root i node di at yes' in let over = low i di in absurd (omega arith) | inr no' ↦ no' ]
+    unused i node di at = elim (true_or_false (has_child root node))
+        [ inl yes' ↦ let under = w.below root i node di at yes' in let over = low i di in absurd (omega arith) | inr no' ↦ no' ]

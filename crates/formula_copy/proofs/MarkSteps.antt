@@ -1,5 +1,6 @@
 -- The steps of the walk that marks what stands under a root, from the root down.
-use Rattle.std.proofs.Common.{◌≡◌, ◌≢◌, ℕ, zero, suc, ◌+◌, ◌<◌, ◌≤◌, ◌⊎◌, inl, inr, ◌||◌, eqb, ltb, Bool, true, false, IsTrue, cond, List, length, get_or, set, replicate, add-one, slice_get, refl, sym, ap, ap₂, subst, ◌∙◌, arith}
+use Rattle.std.proofs.Common.{◌≡◌, ◌≢◌, ℕ, zero, suc, ◌+◌, ◌<◌, ◌≤◌, ◌⊎◌, inl, inr, ◌||◌, eqb, ltb, Bool, true, false, IsTrue, cond, List, length, get_or, set}
+use Rattle.std.proofs.Common.{replicate, add-one, slice_get, refl, sym, ap, ap₂, subst, ◌∙◌, arith}
 use Rattle.std.proofs.lemmas.Bool.{cases_lt, eqb-true}
 use Rattle.std.proofs.lemmas.Bool.Decides.{nat_tests}
 use Rattle.std.proofs.lemmas.List.{get_or-replicate, get_or_past, length-replicate, get_or-set_same, get_or-set_other}
@@ -38,7 +39,8 @@ put_sum w j v k lt =
     omega (arith, e, h)
 
 -- a weight that changes, and that of one number which had none
-sum_unary : (w v : ℕ → ℕ) (k a root nk fa : ℕ) → k < root → a < k → w a ≡ 0 → v k ≡ nk → v a ≡ fa → ((n : ℕ) → n ≢ k → n ≢ a → v n ≡ w n) → w k ≡ nk + fa → sum_below v root ≡ sum_below w root
+sum_unary : (w v : ℕ → ℕ) (k a root nk fa : ℕ) → k < root → a < k → w a ≡ 0 → v k ≡ nk → v a ≡ fa → ((n : ℕ) → n ≢ k → n ≢ a → v n ≡ w n)
+    → w k ≡ nk + fa → sum_below v root ≡ sum_below w root
 sum_unary w v k a root nk fa high low none here there others is =
     let one = put_sum w k nk root high in
     let same : put w k nk a ≡ w a = put_else w k nk a (λ e. omega arith) in
@@ -49,13 +51,15 @@ sum_unary w v k a root nk fa high low none here there others is =
     step n ne (inl e) = ap v e ∙ (here ∙ (sym (put_here w k nk) ∙ ap (put w k nk) (sym e)))
     step n ne (inr e) = others n e ne ∙ sym (put_else w k nk n e)
 
-sum_binary : (w v : ℕ → ℕ) (k a b root nk fa fb : ℕ) → k < root → a < k → b < k → a ≢ b → w a ≡ 0 → w b ≡ 0 → v k ≡ nk → v a ≡ fa → v b ≡ fb → ((n : ℕ) → n ≢ k → n ≢ a → n ≢ b → v n ≡ w n) → w k ≡ nk + fa + fb
+sum_binary : (w v : ℕ → ℕ) (k a b root nk fa fb : ℕ)
+    → k < root → a < k → b < k → a ≢ b → w a ≡ 0 → w b ≡ 0 → v k ≡ nk → v a ≡ fa → v b ≡ fb → ((n : ℕ) → n ≢ k → n ≢ a → n ≢ b → v n ≡ w n) → w k ≡ nk + fa + fb
     → sum_below v root ≡ sum_below w root
 sum_binary w v k a b root nk fa fb high low low' apart none none' here there there' others is =
     let one = put_sum w k (nk + fb) root high in
     let two = put_sum (put w k (nk + fb)) a fa root (omega arith) in
     let free : put w k (nk + fb) a ≡ w a = put_else w k (nk + fb) a (λ e. omega arith) in
-    let rest = sum_unary (put (put w k (nk + fb)) a fa) v k b root nk fb high low' (mid_none (put_else w k (nk + fb) b (λ e. omega arith))) here there' (λ n nk' nb. step n nk' nb (equal_or_not n a)) mid_k in
+    let rest = sum_unary (put (put w k (nk + fb)) a fa) v k b root nk fb high low' (mid_none (put_else w k (nk + fb) b (λ e. omega arith))) here there'
+    (λ n nk' nb. step n nk' nb (equal_or_not n a)) mid_k in
     omega (arith, one, two, free, rest, none, is)
   where
     mid_k : put (put w k (nk + fb)) a fa k ≡ nk + fb
@@ -116,7 +120,10 @@ module _ (t : Table) where
   pub marks_start : (root : ℕ) (flags : List Bool) → flags ≡ replicate (root + 1) false → AreMarkedFrom t root (root + 1) (marked (set flags root true))
   marks_start root flags e =
       let long : length flags ≡ root + 1 = ap length e ∙ length-replicate (root + 1) false in
-      rw (add-one root) (starts root (marked (set flags root true)) (get_or-set_same flags root true false (omega (arith, long))) (λ n ne. get_or-set_other flags root n true false ne ∙ none n))
+      rw (add-one root) (starts root (marked (set flags root true)) (get_or-set_same flags root true false (omega (
+        arith,
+        long,
+      ))) (λ n ne. get_or-set_other flags root n true false ne ∙ none n))
     where
       none : (n : ℕ) → get_or flags n false ≡ false
       none n = ap (λ xs. get_or xs n false) e ∙ elim (cases_lt n (root + 1)) [
@@ -153,7 +160,8 @@ module _ (t : Table) where
         same n (inl e) = let f : M n ≡ false = ap M e ∙ none in down_none M k n f ∙ sym (down_none M (suc k) n f)
         same n (inr ne) = down_same M M k n refl ne
 
-    module _ (M' : Marks) (node : Node) (single : IsSingle t) (here : M k ≡ true) (is : IsNode t k node) (adds : (i : ℕ) → M' i ≡ (M i || has_child i node)) where
+    module _ (M' : Marks) (node : Node) (single : IsSingle t) (here : M k ≡ true) (is : IsNode t k node)
+        (adds : (i : ℕ) → M' i ≡ (M i || has_child i node)) where
       low : k ≤ root
       low = w.top k here
 
@@ -175,7 +183,8 @@ module _ (t : Table) where
         | inr no' ↦ no'
         | inl yes' ↦ elim (w.needed a yes') [
           | inl e ↦ let lt = child_low a child in let le = low in absurd (omega (arith, lt, le, e))
-          | inr p ↦ let two = two_counted (has_child a) t.nodes k p.0 node p.1 (omega (arith, p.2)) is.is p.4 child p.5 in let one = single a in absurd (omega (arith, two, one))
+          | inr p ↦ let two = two_counted (has_child a) t.nodes k p.0 node p.1 (omega (arith, p.2)) is.is p.4 child p.5 in let one = single a in
+              absurd (omega (arith, two, one))
         ]
       ]
 
@@ -187,7 +196,8 @@ module _ (t : Table) where
           or_false false = refl
 
       here_size : size_down_to t M' k k ≡ node_size node
-      here_size = down_node M' k k (omega arith) ∙ (ap (λ b. cond b (size_at t k) 0) (stays k here) ∙ ap node_size (get_or_from_slice_get t.nodes k node (nodes.Const false) is.is))
+      here_size = down_node M' k k (omega arith)
+          ∙ (ap (λ b. cond b (size_at t k) 0) (stays k here) ∙ ap node_size (get_or_from_slice_get t.nodes k node (nodes.Const false) is.is))
 
       here_tree : size_down_to t M (suc k) k ≡ formula_size (made t.names (trees_of t) node)
       here_tree = down_tree M (suc k) k here (omega arith) ∙ ap formula_size is.tree
@@ -203,20 +213,25 @@ module _ (t : Table) where
           same n (inl e) = subst (λ m. size_down_to t M' k m ≡ size_down_to t M (suc k) m) (sym e) (here_size ∙ sym (here_tree ∙ size))
           same n (inr ne) = down_same M M' k n (kept n (none n)) ne
 
-      with_one : (a : ℕ) → has_child a node ≡ true → ((m : ℕ) → m ≢ a → has_child m node ≡ false) → formula_size (made t.names (trees_of t) node) ≡ node_size node + formula_size (tree_at t a) → Kept
+      with_one : (a : ℕ) → has_child a node ≡ true → ((m : ℕ) → m ≢ a → has_child m node ≡ false)
+          → formula_size (made t.names (trees_of t) node) ≡ node_size node + formula_size (tree_at t a) → Kept
       unfolding Kept
       with_one a child others size =
           let le = low in
-          sum_unary (size_down_to t M (suc k)) (size_down_to t M' k) k a (suc root) (node_size node) (formula_size (tree_at t a)) (omega (arith, le)) (child_low a child)
-          (down_none M (suc k) a (child_new a child)) here_size (down_tree M' k a (marks a child) (child_low a child)) (λ n nk na. down_same M M' k n (kept n (others n na)) nk) (here_tree ∙ size)
+          sum_unary (size_down_to t M (suc k)) (size_down_to t M' k) k a (suc root) (node_size node) (formula_size (tree_at t a)) (omega (arith, le))
+          (child_low a child)
+          (down_none M (suc k) a (child_new a child)) here_size (down_tree M' k a (marks a child) (child_low a child))
+          (λ n nk na. down_same M M' k n (kept n (others n na)) nk) (here_tree ∙ size)
 
       with_two : (a b : ℕ) → a ≢ b → has_child a node ≡ true → has_child b node ≡ true → ((m : ℕ) → m ≢ a → m ≢ b → has_child m node ≡ false)
           → formula_size (made t.names (trees_of t) node) ≡ node_size node + formula_size (tree_at t a) + formula_size (tree_at t b) → Kept
       unfolding Kept
       with_two a b apart left right others size =
           let le = low in
-          sum_binary (size_down_to t M (suc k)) (size_down_to t M' k) k a b (suc root) (node_size node) (formula_size (tree_at t a)) (formula_size (tree_at t b)) (omega (arith, le)) (child_low a left) (child_low b right) apart
-          (down_none M (suc k) a (child_new a left)) (down_none M (suc k) b (child_new b right)) here_size (down_tree M' k a (marks a left) (child_low a left)) (down_tree M' k b (marks b right) (child_low b right))
+          sum_binary (size_down_to t M (suc k)) (size_down_to t M' k) k a b (suc root) (node_size node) (formula_size (tree_at t a))
+          (formula_size (tree_at t b)) (omega (arith, le)) (child_low a left) (child_low b right) apart
+          (down_none M (suc k) a (child_new a left)) (down_none M (suc k) b (child_new b right)) here_size (down_tree M' k a (marks a left) (child_low a left))
+          (down_tree M' k b (marks b right) (child_low b right))
           (λ n nk na nb. down_same M M' k n (kept n (others n na nb)) nk) (here_tree ∙ size)
 
       size_by : (n : Node) → node ≡ n → Kept
@@ -231,7 +246,8 @@ module _ (t : Table) where
           let made_size = ap (λ x. formula_size (made t.names (trees_of t) x)) e in
           let own = ap node_size e in
           let fine = subst (IsFine (length t.names) k) e is.fine in
-          with_two a b fine.2 (ap (has_child a) e ∙ or_left_true (eqb a a) (eqb b a) (eqb-same a)) (ap (has_child b) e ∙ or_right_true (eqb a b) (eqb b b) (eqb-same b))
+          with_two a b fine.2 (ap (has_child a) e ∙ or_left_true (eqb a a) (eqb b a) (eqb-same a))
+          (ap (has_child b) e ∙ or_right_true (eqb a b) (eqb b b) (eqb-same b))
           (λ m na nb. ap (has_child m) e ∙ both_false (eqb a m) (eqb b m) (unequal a m (λ d. na (sym d))) (unequal b m (λ d. nb (sym d))))
           (omega (arith, made_size, own))
 

@@ -28,5 +28,6 @@ HasFormulaFault text (wrong.Nodes count) = IsShort text × HasManyNodes text cou
 -- the text is read as an accepted formula, of which the table has the nodes and no others, or it has a fault
 abbrev pub IsFormulaReading : List ℕ → Reading → Type 0
 IsFormulaReading text (readings.Formula table root) =
-    (root < length table.nodes) × IsAccepted text (tree_at table root) × (length table.nodes ≡ nodes_in (tree_at table root)) × (sizes table.nodes ≡ formula_size (tree_at table root))
+    (root < length table.nodes) × IsAccepted text (tree_at table root) × (length table.nodes ≡ nodes_in (tree_at table root))
+    × (sizes table.nodes ≡ formula_size (tree_at table root))
 IsFormulaReading text (readings.Refused fault) = HasFormulaFault text fault

@@ -1,5 +1,6 @@
 -- The walk that marks the nodes under a root, and counts them.
-use Rattle.std.proofs.Common.{◌≡◌, ◌≢◌, ℕ, zero, suc, ◌+◌, ◌<◌, ◌≤◌, Bool, true, false, List, length, get_or, drop, length-drop, ◌-◌, slice_get, Some, inl, inr, refl, sym, ◌∙◌, ap, cond, subst, arith}
+use Rattle.std.proofs.Common.{◌≡◌, ◌≢◌, ℕ, zero, suc, ◌+◌, ◌<◌, ◌≤◌, Bool, true, false, List, length, get_or, drop, length-drop, ◌-◌, slice_get, Some, inl, inr}
+use Rattle.std.proofs.Common.{refl, sym, ◌∙◌, ap, cond, subst, arith}
 use Rattle.std.specs.List.{count_by}
 use Rattle.std.proofs.lemmas.Bool.{cases_lt}
 use Rattle.std.proofs.lemmas.Option.{get_or_from_slice_get, slice_get_within}
@@ -13,7 +14,8 @@ one_counted p xs i d low has =
     let whole = sum_by-take-drop (λ x. cond (p x) 1 0) xs (i + 1) in
     omega (arith, first, whole)
 
-two_at : {X : Type 0} (p : X → Bool) (xs : List X) (i j : ℕ) (d : X) → i < j → j < length xs → p (get_or xs i d) ≡ true → p (get_or xs j d) ≡ true → 2 ≤ count_by p xs
+two_at : {X : Type 0} (p : X → Bool) (xs : List X) (i j : ℕ) (d : X) → i < j → j < length xs
+    → p (get_or xs i d) ≡ true → p (get_or xs j d) ≡ true → 2 ≤ count_by p xs
 two_at p xs i j d low within hi hj =
     let first = count_by_more_yes p xs i d (omega arith) hi in
     let whole = sum_by-take-drop (λ x. cond (p x) 1 0) xs (i + 1) in
@@ -22,7 +24,8 @@ two_at p xs i j d low within hi hj =
     let second = one_counted p (drop (i + 1) xs) (j - (i + 1)) d (omega (arith, length-drop (i + 1) xs)) (ap p there ∙ hj) in
     omega (arith, first, whole, second)
 
-pub two_counted : {X : Type 0} (p : X → Bool) (xs : List X) (i j : ℕ) (x y : X) → i < j → slice_get xs i ≡ Some x → slice_get xs j ≡ Some y → p x ≡ true → p y ≡ true → 2 ≤ count_by p xs
+pub two_counted : {X : Type 0} (p : X → Bool) (xs : List X) (i j : ℕ) (x y : X) → i < j → slice_get xs i ≡ Some x → slice_get xs j ≡ Some y
+    → p x ≡ true → p y ≡ true → 2 ≤ count_by p xs
 two_counted p xs i j x y low gx gy px py =
     two_at p xs i j x low (slice_get_within xs j y gy) (ap p (get_or_from_slice_get xs i x x gx) ∙ px) (ap p (get_or_from_slice_get xs j y x gy) ∙ py)
 
@@ -46,7 +49,8 @@ pending_none w f (suc k) none =
     omega (arith, before, here)
 
 -- one number more
-pub pending_more : (w : ℕ → ℕ) (f g : ℕ → Bool) (a k : ℕ) → a < k → f a ≡ false → g a ≡ true → ((i : ℕ) → i ≢ a → g i ≡ f i) → pending w g k ≡ pending w f k + w a
+pub pending_more : (w : ℕ → ℕ) (f g : ℕ → Bool) (a k : ℕ) → a < k → f a ≡ false → g a ≡ true → ((i : ℕ) → i ≢ a → g i ≡ f i)
+    → pending w g k ≡ pending w f k + w a
 pending_more w f g a zero low was is others = absurd (omega arith)
 pending_more w f g a (suc k) low was is others = elim (cases_lt a k) [
   | inl within ↦

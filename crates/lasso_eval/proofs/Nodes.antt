@@ -1,5 +1,6 @@
 -- A node and its children.
-use Rattle.std.proofs.Common.{◌≡◌, ℕ, ◌<◌, ◌≤◌, ◌||◌, ◌==◌, Bool, true, false, List, [], length, slice_index_or, IsTrue, Contains, ◌↔◌, refl, sym, ◌∙◌, subst, arith}
+use Rattle.std.proofs.Common.{◌≡◌, ℕ, ◌<◌, ◌≤◌, ◌||◌, ◌==◌, Bool, true, false, List, [], length, slice_index_or, IsTrue, Contains, ◌↔◌, refl, sym, ◌∙◌, subst}
+use Rattle.std.proofs.Common.{arith}
 use Rattle.std.proofs.lemmas.List.{get_or_default}
 use Rattle.ltl_syntax.specs.Formula.{Name, Letter}
 use Rattle.ltl_syntax.specs.declared.node.UnaryOp.{UnaryOp}
@@ -14,7 +15,8 @@ use Rattle.lasso_eval.specs.Cells.{columns, loop_start}
 use Rattle.lasso_eval.specs.Rows.{cell, row_at, Tells}
 use Rattle.lasso_eval.specs.Extent.{IsExtent}
 
-pub child_row : (rows : List (List Bool)) (a : ℕ) (read row : List Bool) → a < length rows → row ≡ read → read ≡ slice_index_or rows a read → row ≡ row_at rows a
+pub child_row : (rows : List (List Bool)) (a : ℕ) (read row : List Bool) → a < length rows → row ≡ read → read ≡ slice_index_or rows a read
+    → row ≡ row_at rows a
 child_row rows a read row low same is = same ∙ is ∙ get_or_default rows a read [] low
 
 start_at_most : (t : Trace) (depth : ℕ) → loop_start t depth ≤ columns t depth

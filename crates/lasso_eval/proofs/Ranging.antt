@@ -1,5 +1,6 @@
 -- The row of each bounded operator says where its formula holds.
-use Rattle.std.proofs.Common.{◌≡◌, ℕ, zero, suc, ◌+◌, ◌-◌, ◌*◌, ◌/◌, ◌%◌, ◌<◌, Bool, true, false, not, List, length, IsTrue, ◌⊎◌, inl, inr, ◌↔◌, refl, sym, ◌∙◌, subst, arith}
+use Rattle.std.proofs.Common.{◌≡◌, ℕ, zero, suc, ◌+◌, ◌-◌, ◌*◌, ◌/◌, ◌%◌, ◌<◌, Bool, true, false, not, List, length, IsTrue, ◌⊎◌, inl, inr, ◌↔◌, refl, sym, ◌∙◌}
+use Rattle.std.proofs.Common.{subst, arith}
 use Rattle.std.proofs.Common.{le-ltb}
 use Rattle.std.proofs.lemmas.Bool.{cases_lt, cond-true, cond-false, lt-ltb}
 use Rattle.std.proofs.Math.Nat.{mod-add-div', mod-lt}
@@ -66,7 +67,8 @@ module _ (A : Claim) (a : List Bool) (n : ℕ) (told : IsRow n A a) where
           record {
             there = tt;
             tells = (λ t. subst A e (rounds_later A p start ra c r (one.0 t)), λ x. one.1 (rounds_earlier A p start ra c r (subst A (sym e) x)));
-            shown = λ sought. cond-false _ _ _ (le-ltb j (length a) (omega (arith, told.count, high))) ∙ cond-true _ _ _ (lt-ltb start (length a) (omega (arith, some)));
+            shown = λ sought. cond-false _ _ _ (le-ltb j (length a) (omega (arith, told.count, high)))
+                ∙ cond-true _ _ _ (lt-ltb start (length a) (omega (arith, some)));
           },
         )
   ]
@@ -81,7 +83,8 @@ module _ (A : Claim) (a : List Bool) (n : ℕ) (told : IsRow n A a) where
     )
     | inr high ↦ inr (
       λ at. absurd (omega (arith, at, w.1, high)),
-      λ sought. cond-false _ _ _ (le-ltb j (length a) (omega (arith, told.count, high))) ∙ cond-false _ _ _ (le-ltb start (length a) (omega (arith, told.count, w.0))),
+      λ sought. cond-false _ _ _ (le-ltb j (length a) (omega (arith, told.count, high)))
+          ∙ cond-false _ _ _ (le-ltb start (length a) (omega (arith, told.count, w.0))),
     )
   ]
 
@@ -117,14 +120,16 @@ module _ (A : Claim) (a : List Bool) (n : ℕ) (told : IsRow n A a) where
     either false tells s = inr s
 
   module _ (first last i : ℕ) where
-    pub eventually_in_told : (t : Trace) (start : ℕ) → Turns t n start A → (v : Bool) → IsTrue v ↔ IsEventuallyIn Always' first last (λ j. IsTrue (shows true a start j)) i
+    pub eventually_in_told : (t : Trace) (start : ℕ) → Turns t n start A → (v : Bool)
+        → IsTrue v ↔ IsEventuallyIn Always' first last (λ j. IsTrue (shows true a start j)) i
         → IsTrue v ↔ IsEventuallyIn (IsPosition t) first last A i
     eventually_in_told t start turns v tells = (
       λ e. let w = tells.0 e in let x = found t start turns w.0 w.4 in (w.0, w.1, w.2, x.0, x.1),
       λ w. tells.1 (w.0, w.1, w.2, tt, finds t start turns w.0 w.3 w.4),
     )
 
-    pub always_in_told : (t : Trace) (start : ℕ) → Turns t n start A → (v : Bool) → IsTrue (not v) ↔ IsEventuallyIn Always' first last (λ j. IsTrue (shows false a start j)) i
+    pub always_in_told : (t : Trace) (start : ℕ) → Turns t n start A → (v : Bool)
+        → IsTrue (not v) ↔ IsEventuallyIn Always' first last (λ j. IsTrue (shows false a start j)) i
         → IsTrue v ↔ IsAlwaysIn (IsPosition t) first last A i
     always_in_told t start turns true tells = (
       λ e j low high at. elim (hit_or_missed t start turns j at) [ inl x ↦ x | inr s ↦ let f = tells.1 (j, low, high, tt, s) in absurd (cc) ],
@@ -141,7 +146,8 @@ module _ (A : Claim) (a : List Bool) (n : ℕ) (told : IsRow n A a) where
       λ w. tells.1 (w.0, w.1, w.2, (told.right w.0 (omega (arith, w.1, low))).1 w.3),
     )
 
-    pub historically_in_told : i < n → (v : Bool) → IsTrue (not v) ↔ IsOnceIn first last (λ j. IsTrue (not (cell a j))) i → IsTrue v ↔ IsHistoricallyIn first last A i
+    pub historically_in_told : i < n → (v : Bool) → IsTrue (not v) ↔ IsOnceIn first last (λ j. IsTrue (not (cell a j))) i
+        → IsTrue v ↔ IsHistoricallyIn first last A i
     historically_in_told low true tells = (
       λ e j from to. told_or (cell a j) (told.right j (omega (arith, from, low))) (λ s. let f = tells.1 (j, from, to, s) in cc),
       λ f. refl,
@@ -159,7 +165,8 @@ module _ (A : Claim) (a : List Bool) (n : ℕ) (told : IsRow n A a) where
 
 -- the row has the value where the window ahead has it, and where the window behind has it
 abbrev pub IsLaterRow : Bool → ℕ → ℕ → List Bool → ℕ → List Bool → Type 0
-IsLaterRow sought first last a start row = (i : ℕ) → i < length a → IsTrue (same sought (cell row i)) ↔ IsEventuallyIn Always' first last (λ j. IsTrue (shows sought a start j)) i
+IsLaterRow sought first last a start row =
+    (i : ℕ) → i < length a → IsTrue (same sought (cell row i)) ↔ IsEventuallyIn Always' first last (λ j. IsTrue (shows sought a start j)) i
 
 abbrev pub IsEarlierRow : Bool → ℕ → ℕ → List Bool → List Bool → Type 0
 IsEarlierRow sought first last a row = (i : ℕ) → i < length a → IsTrue (same sought (cell row i)) ↔ IsOnceIn first last (λ j. IsTrue (same sought (cell a j))) i
@@ -168,13 +175,15 @@ module _ (first last : ℕ) (a row : List Bool) (start : ℕ) (count : length ro
   pub eventually_in_follows : IsLaterRow true first last a start row → FollowsOne (EventuallyIn first last) a start row
   eventually_in_follows each t depth f good at deep told = record {
     count = count ∙ told.count;
-    right = λ i h. eventually_in_told (Holds t f) a (columns t depth) told first last i t start (Holds-turns t good depth (columns t depth) start f refl at deep) (cell row i) (each i (omega (arith, told.count, h)));
+    right = λ i h. eventually_in_told (Holds t f) a (columns t depth) told first last i t start
+        (Holds-turns t good depth (columns t depth) start f refl at deep) (cell row i) (each i (omega (arith, told.count, h)));
   }
 
   pub always_in_follows : IsLaterRow false first last a start row → FollowsOne (AlwaysIn first last) a start row
   always_in_follows each t depth f good at deep told = record {
     count = count ∙ told.count;
-    right = λ i h. always_in_told (Holds t f) a (columns t depth) told first last i t start (Holds-turns t good depth (columns t depth) start f refl at deep) (cell row i) (each i (omega (arith, told.count, h)));
+    right = λ i h. always_in_told (Holds t f) a (columns t depth) told first last i t start (Holds-turns t good depth (columns t depth) start f refl at deep)
+        (cell row i) (each i (omega (arith, told.count, h)));
   }
 
   pub once_in_follows : IsEarlierRow true first last a row → FollowsOne (OnceIn first last) a start row
@@ -194,7 +203,8 @@ module _ (times : ℕ) (a row : List Bool) (start : ℕ) (count : length row ≡
   next_times_follows each t depth f good at deep told = record {
     count = count ∙ told.count;
     right = λ i h.
-        let w = eventually_in_told (Holds t f) a (columns t depth) told times times i t start (Holds-turns t good depth (columns t depth) start f refl at deep) (cell row i) (each i (omega (arith, told.count, h))) in
+        let w = eventually_in_told (Holds t f) a (columns t depth) told times times i t start (Holds-turns t good depth (columns t depth) start f refl at deep)
+        (cell row i) (each i (omega (arith, told.count, h))) in
         (λ e. in_times (Holds t f) times i (IsPosition t) (w.0 e), λ x. w.1 (times_in (Holds t f) times i (IsPosition t) x));
   }
 

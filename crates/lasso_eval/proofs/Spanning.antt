@@ -61,7 +61,8 @@ module _ (span : Span) (a b : List Bool) (x y : ℕ → Bool) (X Y : Claim) (n :
   release_within rule = release_swept Within within_closed (λ i h. h) rule true (λ e at. absurd (omega arith), λ w. refl)
 
   -- from the value before a position to the one at it
-  since_step : IsUntilRule span a b x y → (i : ℕ) → i < n → IsTrue (swept_before span a b i) ↔ AtYesterday (IsSince X Y) i → IsTrue (swept_before span a b (suc i)) ↔ IsSince X Y i
+  since_step : IsUntilRule span a b x y → (i : ℕ) → i < n → IsTrue (swept_before span a b i) ↔ AtYesterday (IsSince X Y) i
+      → IsTrue (swept_before span a b (suc i)) ↔ IsSince X Y i
   since_step rule i low before =
       let told = or_tells (y i) (x i && swept_before span a b i) (ty i low) (and_tells (x i) (swept_before span a b i) (tx i low) before) in
       subst (λ r. IsTrue r ↔ IsSince X Y i) (sym (rule i (swept_before span a b i))) (λ t. since_in X Y i (told.0 t), λ s. told.1 (since_out X Y i s))
@@ -77,10 +78,12 @@ module _ (span : Span) (a b : List Bool) (x y : ℕ → Bool) (X Y : Claim) (n :
   pub since_swept : IsUntilRule span a b x y → beyond span ≡ false → (i : ℕ) → i < n → IsTrue (swept_before span a b (suc i)) ↔ IsSince X Y i
   since_swept rule none i low = since_step rule i low (since_before rule none i (omega arith))
 
-  trigger_step : IsReleaseRule span a b x y → (i : ℕ) → i < n → IsTrue (swept_before span a b i) ↔ AtWeakYesterday (IsTriggered X Y) i → IsTrue (swept_before span a b (suc i)) ↔ IsTriggered X Y i
+  trigger_step : IsReleaseRule span a b x y → (i : ℕ) → i < n → IsTrue (swept_before span a b i) ↔ AtWeakYesterday (IsTriggered X Y) i
+      → IsTrue (swept_before span a b (suc i)) ↔ IsTriggered X Y i
   trigger_step rule i low before =
       let told = and_tells (y i) (x i || swept_before span a b i) (ty i low) (or_tells (x i) (swept_before span a b i) (tx i low) before) in
-      subst (λ r. IsTrue r ↔ IsTriggered X Y i) (sym (rule i (swept_before span a b i))) (λ t. trigger_in X Y i (told.0 t), λ s. told.1 (trigger_out X Y i (told_decided (x i) (tx i low)) s))
+      subst (λ r. IsTrue r ↔ IsTriggered X Y i) (sym (rule i (swept_before span a b i)))
+      (λ t. trigger_in X Y i (told.0 t), λ s. told.1 (trigger_out X Y i (told_decided (x i) (tx i low)) s))
 
   trigger_before : IsReleaseRule span a b x y → beyond span ≡ true → (i : ℕ) → i ≤ n → IsTrue (swept_before span a b i) ↔ AtWeakYesterday (IsTriggered X Y) i
   trigger_before rule all zero le = (λ e j h. absurd (omega (arith, h)), λ w. all)

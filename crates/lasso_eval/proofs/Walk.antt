@@ -1,5 +1,6 @@
 -- What holds of the marks and their number where the walk has come down to a node.
-use Rattle.std.proofs.Common.{◌≡◌, ◌≢◌, ℕ, suc, ◌+◌, ◌<◌, ◌≤◌, Bool, true, false, ◌||◌, ◌==◌, List, length, max, replicate, set, slice_get, Some, IsTrue, ◌⊎◌, inl, inr, refl, sym, ◌∙◌, ap, cond, subst, arith}
+use Rattle.std.proofs.Common.{◌≡◌, ◌≢◌, ℕ, suc, ◌+◌, ◌<◌, ◌≤◌, Bool, true, false, ◌||◌, ◌==◌, List, length, max, replicate, set, slice_get, Some, IsTrue, ◌⊎◌}
+use Rattle.std.proofs.Common.{inl, inr, refl, sym, ◌∙◌, ap, cond, subst, arith}
 use Rattle.std.specs.List.{count_by}
 use Rattle.std.proofs.lemmas.List.{get_or-set_same, get_or-set_other, length-set, get_or-replicate, length-replicate}
 use Rattle.std.proofs.Math.ListN.{get_or-eq_default}
@@ -11,7 +12,8 @@ use Rattle.ltl_syntax.specs.Table.{Table, tree_at, trees_of, made, has_child, Is
 use Rattle.ltl_syntax.specs.Formula.{Formula, Unary, Binary, nodes_in}
 use Rattle.ltl_syntax.specs.declared.node.UnaryOp.{UnaryOp}
 use Rattle.ltl_syntax.specs.declared.node.BinaryOp.{BinaryOp}
-use Rattle.ltl_syntax.specs.declared.node.UnaryOp.TheVariants.{Always, AlwaysIn, Eventually, EventuallyIn, Historically, HistoricallyIn, Next, NextTimes, Not, Once, OnceIn, WeakNext, WeakYesterday, Yesterday, YesterdayTimes}
+use Rattle.ltl_syntax.specs.declared.node.UnaryOp.TheVariants.{Always, AlwaysIn, Eventually, EventuallyIn, Historically, HistoricallyIn, Next, NextTimes, Not}
+use Rattle.ltl_syntax.specs.declared.node.UnaryOp.TheVariants.{Once, OnceIn, WeakNext, WeakYesterday, Yesterday, YesterdayTimes}
 use Rattle.ltl_syntax.specs.declared.node.BinaryOp.TheVariants.{And, Iff, Implies, Or, Release, Since, StrongRelease, Trigger, Until, WeakUntil}
 use Rattle.ltl_word.specs.Depth.{past_depth}
 use Rattle.lasso_eval.specs.Rows.{cell}
@@ -30,12 +32,14 @@ pub record IsMarking (t : Table) (root k : ℕ) (marks : List Bool) (count : ℕ
   pub top : IsTrue (cell marks root)
   pub sound : (m : ℕ) → IsTrue (cell marks m) → IsUnder t root m
   pub closed : (p m : ℕ) (node : Node) → k ≤ p → IsTrue (cell marks p) → slice_get t.nodes p ≡ Some node → IsTrue (has_child m node) → IsTrue (cell marks m)
-  pub parented : (m : ℕ) → m < k → IsTrue (cell marks m) → (m ≡ root) ⊎ ((p : ℕ) × (node : Node) × (k ≤ p) × (slice_get t.nodes p ≡ Some node) × IsTrue (has_child m node))
+  pub parented : (m : ℕ) → m < k → IsTrue (cell marks m)
+      → (m ≡ root) ⊎ ((p : ℕ) × (node : Node) × (k ≤ p) × (slice_get t.nodes p ≡ Some node) × IsTrue (has_child m node))
   pub shallow : (m : ℕ) → IsTrue (cell marks m) → past_depth (tree_at t m) ≤ past_depth (tree_at t root)
   pub counted : count + pending (weight t) (cell marks) k ≡ nodes_in (tree_at t root)
 
 -- a node that is not marked changes nothing
-pub passed : (t : Table) (root k : ℕ) (marks : List Bool) (count : ℕ) → IsMarking t root (suc k) marks count → cell marks k ≡ false → IsMarking t root k marks count
+pub passed : (t : Table) (root k : ℕ) (marks : List Bool) (count : ℕ) → IsMarking t root (suc k) marks count
+    → cell marks k ≡ false → IsMarking t root k marks count
 passed t root k marks count is unmarked = record {
   count_is = is.count_is;
   within = omega (arith, is.within);
@@ -55,7 +59,8 @@ passed t root k marks count is unmarked = record {
 }
 
 -- in a table where no node is the child of two, a node that is met has children without marks
-pub fresh : (t : Table) (root k : ℕ) (marks : List Bool) (count : ℕ) (node : Node) (child : ℕ) → IsMarking t root (suc k) marks count → ((number : ℕ) → count_by (has_child number) t.nodes ≤ 1)
+pub fresh : (t : Table) (root k : ℕ) (marks : List Bool) (count : ℕ) (node : Node) (child : ℕ) → IsMarking t root (suc k) marks count
+    → ((number : ℕ) → count_by (has_child number) t.nodes ≤ 1)
     → slice_get t.nodes k ≡ Some node → IsTrue (has_child child node) → child < k → cell marks child ≡ false
 fresh t root k marks count node child is single at has low = by_cases (cell marks child) refl where
   by_cases : (b : Bool) → cell marks child ≡ b → cell marks child ≡ false
@@ -70,7 +75,8 @@ fresh t root k marks count node child is single at has low = by_cases (cell mark
 -- what is marked is what is under the root, once the walk has come to its end
 pub marked_all : (t : Table) (root : ℕ) (marks : List Bool) (count : ℕ) → IsMarking t root 0 marks count → (m : ℕ) → IsUnder t root m → IsTrue (cell marks m)
 marked_all t root marks count is m (Here number e) = subst (λ n. IsTrue (cell marks n)) (sym e) is.top
-marked_all t root marks count is m (Below parent number node under at child) = is.closed parent number node (omega arith) (marked_all t root marks count is parent under) at child
+marked_all t root marks count is m (Below parent number node under at child) =
+    is.closed parent number node (omega arith) (marked_all t root marks count is parent under) at child
 
 or_left : (x y : Bool) → IsTrue x → IsTrue (x || y)
 or_left true y e = refl
@@ -112,7 +118,8 @@ module _ (t : Table) (k : ℕ) (marks : List Bool) where
   Step : Node → List Bool → Type 0
   Step node new = (i : ℕ) → cell new i ≡ (cell marks i || has_child i node)
 
-  leaf : (node : Node) (new : List Bool) → weight t k ≡ 1 → ((i : ℕ) → cell new i ≡ (cell marks i || false)) → pending (weight t) (cell new) k + 1 ≡ pending (weight t) (cell marks) k + weight t k
+  leaf : (node : Node) (new : List Bool) → weight t k ≡ 1 → ((i : ℕ) → cell new i ≡ (cell marks i || false))
+      → pending (weight t) (cell new) k + 1 ≡ pending (weight t) (cell marks) k + weight t k
   leaf node new one each =
       let same = pending_same (weight t) (cell new) (cell marks) k (λ i h. each i ∙ or_false (cell marks i)) in
       omega (arith, same, one)
@@ -125,16 +132,20 @@ module _ (t : Table) (k : ℕ) (marks : List Bool) where
   step_counted (nodes.Fresh n) new fine tree unmarked each = leaf (nodes.Fresh n) new (ap nodes_in tree) each
   step_counted (nodes.Unary op a) new fine tree unmarked each =
       let weighs : weight t k ≡ weight t a + 1 = ap nodes_in tree in
-      let more = pending_more (weight t) (cell marks) (cell new) a k fine (unmarked a fine (equal_self a)) (each a ∙ or_right (cell marks a) (a == a) (equal_self a))
+      let more = pending_more (weight t) (cell marks) (cell new) a k fine (unmarked a fine (equal_self a))
+      (each a ∙ or_right (cell marks a) (a == a) (equal_self a))
       (λ i n. each i ∙ ap (λ b. cell marks i || b) (not_equal a i n) ∙ or_false (cell marks i)) in
       omega (arith, weighs, more)
   step_counted (nodes.Binary op a b) new fine tree unmarked each =
       let weighs : weight t k ≡ weight t a + weight t b + 1 = ap nodes_in tree in
       let between : ℕ → Bool = λ i. cell marks i || (a == i) in
-      let first = pending_more (weight t) (cell marks) between a k fine.0 (unmarked a fine.0 (or_left (a == a) (b == a) (equal_self a))) (or_right (cell marks a) (a == a) (equal_self a))
+      let first = pending_more (weight t) (cell marks) between a k fine.0 (unmarked a fine.0 (or_left (a == a) (b == a) (equal_self a)))
+      (or_right (cell marks a) (a == a) (equal_self a))
       (λ i n. ap (λ v. cell marks i || v) (not_equal a i n) ∙ or_false (cell marks i)) in
-      let free : between b ≡ false = ap (λ v. v || (a == b)) (unmarked b fine.1 (or_right (a == b) (b == b) (equal_self b))) ∙ not_equal a b (λ e. fine.2 (sym e)) in
-      let second = pending_more (weight t) between (cell new) b k fine.1 free (each b ∙ or_right (cell marks b) ((a == b) || (b == b)) (or_right (a == b) (b == b) (equal_self b)))
+      let free : between b ≡ false =
+      ap (λ v. v || (a == b)) (unmarked b fine.1 (or_right (a == b) (b == b) (equal_self b))) ∙ not_equal a b (λ e. fine.2 (sym e)) in
+      let second = pending_more (weight t) between (cell new) b k fine.1 free
+      (each b ∙ or_right (cell marks b) ((a == b) || (b == b)) (or_right (a == b) (b == b) (equal_self b)))
       (λ i n. each i ∙ ap (λ v. cell marks i || ((a == i) || v)) (not_equal b i n) ∙ ap (λ v. cell marks i || v) (or_false (a == i))) in
       omega (arith, weighs, first, second)
 
@@ -168,7 +179,8 @@ deeper_two StrongRelease f g = omega arith
 deeper_two Since f g = omega arith
 deeper_two Trigger f g = omega arith
 
-child_shallow : (t : Table) (node : Node) (child : ℕ) → IsTrue (has_child child node) → past_depth (tree_at t child) ≤ past_depth (made t.names (trees_of t) node)
+child_shallow : (t : Table) (node : Node) (child : ℕ) → IsTrue (has_child child node)
+    → past_depth (tree_at t child) ≤ past_depth (made t.names (trees_of t) node)
 child_shallow t (nodes.Const b) child has = absurd (cc)
 child_shallow t (nodes.Letter n) child has = absurd (cc)
 child_shallow t (nodes.Fresh n) child has = absurd (cc)
@@ -176,12 +188,15 @@ child_shallow t (nodes.Unary op a) child has =
     let same : past_depth (tree_at t a) ≡ past_depth (tree_at t child) = ap (λ n. past_depth (tree_at t n)) (equal_from a child has) in
     omega (arith, deeper_one op (tree_at t a), same)
 child_shallow t (nodes.Binary op a b) child has = elim (or_cases (a == child) (b == child) has) [
-  | inl e ↦ let same : past_depth (tree_at t a) ≡ past_depth (tree_at t child) = ap (λ n. past_depth (tree_at t n)) (equal_from a child e) in omega (arith, deeper_two op (tree_at t a) (tree_at t b), same)
-  | inr e ↦ let same : past_depth (tree_at t b) ≡ past_depth (tree_at t child) = ap (λ n. past_depth (tree_at t n)) (equal_from b child e) in omega (arith, deeper_two op (tree_at t a) (tree_at t b), same)
+  | inl e ↦ let same : past_depth (tree_at t a) ≡ past_depth (tree_at t child) = ap (λ n. past_depth (tree_at t n)) (equal_from a child e) in
+      omega (arith, deeper_two op (tree_at t a) (tree_at t b), same)
+  | inr e ↦ let same : past_depth (tree_at t b) ≡ past_depth (tree_at t child) = ap (λ n. past_depth (tree_at t n)) (equal_from b child e) in
+      omega (arith, deeper_two op (tree_at t a) (tree_at t b), same)
 ]
 
 -- a node that is marked marks its children
-pub stepped : (t : Table) (root k : ℕ) (marks new : List Bool) (count : ℕ) (node : Node) → IsMarking t root (suc k) marks count → cell marks k ≡ true → ((number : ℕ) → count_by (has_child number) t.nodes ≤ 1)
+pub stepped : (t : Table) (root k : ℕ) (marks new : List Bool) (count : ℕ) (node : Node) → IsMarking t root (suc k) marks count
+    → cell marks k ≡ true → ((number : ℕ) → count_by (has_child number) t.nodes ≤ 1)
     → slice_get t.nodes k ≡ Some node → IsFine (length t.names) k node → tree_at t k ≡ made t.names (trees_of t) node
     → length new ≡ length marks → ((i : ℕ) → cell new i ≡ (cell marks i || has_child i node)) → IsMarking t root k new (count + 1)
 stepped t root k marks new count node is marked single at fine tree long each = record {
@@ -235,11 +250,13 @@ marked_within marks m e = elim (cases_lt m (length marks)) [
 ]
 
 -- where the root alone is marked
-pub begun : (t : Table) (root : ℕ) (marks : List Bool) → length marks ≡ root + 1 → ((i : ℕ) → cell marks i ≡ false) → IsMarking t root (root + 1) (set marks root true) 0
+pub begun : (t : Table) (root : ℕ) (marks : List Bool) → length marks ≡ root + 1 → ((i : ℕ) → cell marks i ≡ false)
+    → IsMarking t root (root + 1) (set marks root true) 0
 begun t root marks long none =
     let at_root : cell (set marks root true) root ≡ true = get_or-set_same marks root true false (omega (arith, long)) in
     let elsewhere : (i : ℕ) → i ≢ root → cell (set marks root true) i ≡ false = λ i n. get_or-set_other marks root i true false n ∙ none i in
-    let only : (i : ℕ) → IsTrue (cell (set marks root true) i) → i ≡ root = λ i e. elim (eqb_tells i root) [ inl w ↦ w.1 | inr w ↦ let f = elsewhere i w.1 in absurd (cc) ] in
+    let only : (i : ℕ) → IsTrue (cell (set marks root true) i) → i ≡ root =
+    λ i e. elim (eqb_tells i root) [ inl w ↦ w.1 | inr w ↦ let f = elsewhere i w.1 in absurd (cc) ] in
     let e : root + 1 ≡ suc root = omega arith in
     record {
       count_is = length-set marks root true ∙ long;

@@ -1,5 +1,6 @@
 -- Places kept along a row say what the windows hold.
-use Rattle.std.proofs.Common.{◌≡◌, ℕ, zero, suc, ◌+◌, ◌-◌, ◌%◌, ◌<◌, ◌≤◌, Bool, true, false, List, length, Option, Some, None, if◌then◌else◌, IsTrue, inl, inr, ◌↔◌, refl, sym, ◌∙◌, ap, subst, ltb, arith}
+use Rattle.std.proofs.Common.{◌≡◌, ℕ, zero, suc, ◌+◌, ◌-◌, ◌%◌, ◌<◌, ◌≤◌, Bool, true, false, List, length, Option, Some, None, if◌then◌else◌, IsTrue, inl, inr}
+use Rattle.std.proofs.Common.{◌↔◌, refl, sym, ◌∙◌, ap, subst, ltb, arith}
 use Rattle.std.proofs.Common.{le-ltb}
 use Rattle.std.proofs.lemmas.Bool.{cases_lt, cond-false}
 use Rattle.std.proofs.Math.Nat.{add-mod_right}
@@ -14,7 +15,8 @@ same_twice false false = refl
 
 module _ (S : Claim) where
   -- one place more at the near end
-  pub nearest_step : (k : ℕ) (shown : Bool) (nearest : Option ℕ) → IsTrue shown ↔ S k → IsNearest S (suc k) nearest → IsNearest S k (if shown then Some k else nearest)
+  pub nearest_step : (k : ℕ) (shown : Bool) (nearest : Option ℕ) → IsTrue shown ↔ S k → IsNearest S (suc k) nearest
+      → IsNearest S k (if shown then Some k else nearest)
   nearest_step k true nearest tells is = (omega arith, tells.0 refl, λ j low high s. absurd (omega arith))
   nearest_step k false None tells is = λ j low s. elim (cases_lt k j) [
     | inl after ↦ is j (omega arith) s
@@ -29,7 +31,8 @@ module _ (S : Claim) where
     ],
   )
 
-  pub latest_step : (k : ℕ) (shown : Bool) (latest : Option ℕ) → IsTrue shown ↔ S k → IsLatest S k latest → IsLatest S (suc k) (if shown then Some k else latest)
+  pub latest_step : (k : ℕ) (shown : Bool) (latest : Option ℕ) → IsTrue shown ↔ S k → IsLatest S k latest
+      → IsLatest S (suc k) (if shown then Some k else latest)
   latest_step k true latest tells is = (omega arith, tells.0 refl, λ j low high s. absurd (omega arith))
   latest_step k false None tells is = λ j high s. elim (cases_lt j k) [
     | inl before ↦ is j before s
@@ -51,14 +54,17 @@ module _ (S : Claim) where
     | inl early ↦ unchanged shown tells (let e : i - first ≡ i + 1 - first = omega arith in subst (λ k. IsLatest S k latest) e is) early
     | inr there ↦
         let e : suc (i - first) ≡ i + 1 - first = omega arith in
-        subst (λ k. IsLatest S k (if shown then Some (i - first) else latest)) e (latest_step (i - first) shown latest (λ t. (tells.0 t).1, λ s. tells.1 (there, s)) is)
+        subst (λ k. IsLatest S k (if shown then Some (i - first) else latest)) e
+        (latest_step (i - first) shown latest (λ t. (tells.0 t).1, λ s. tells.1 (there, s)) is)
   ] where
-    unchanged : (b : Bool) → IsTrue b ↔ ((first ≤ i) × S (i - first)) → IsLatest S (i + 1 - first) latest → i < first → IsLatest S (i + 1 - first) (if b then Some (i - first) else latest)
+    unchanged : (b : Bool) → IsTrue b ↔ ((first ≤ i) × S (i - first)) → IsLatest S (i + 1 - first) latest
+        → i < first → IsLatest S (i + 1 - first) (if b then Some (i - first) else latest)
     unchanged true says was early = absurd (omega (arith, (says.0 refl).0))
     unchanged false says was early = was
 
   -- the nearest place tells of the whole window
-  pub nearest_tells : (first last i : ℕ) (nearest : Option ℕ) → IsNearest S (i + first) nearest → IsAtMost nearest (i + last) ↔ IsEventuallyIn Always' first last S i
+  pub nearest_tells : (first last i : ℕ) (nearest : Option ℕ) → IsNearest S (i + first) nearest
+      → IsAtMost nearest (i + last) ↔ IsEventuallyIn Always' first last S i
   nearest_tells first last i None is = (λ never. absurd never, λ w. is w.0 w.1 w.4)
   nearest_tells first last i (Some place) is = (
     λ le. (place, is.0, le, tt, is.1),
@@ -79,7 +85,8 @@ module _ (S : Claim) where
   )
 
   -- where what is there comes already before an end, nothing is lost by looking no farther
-  pub nearest_wide : (low high : ℕ) (nearest : Option ℕ) → ((j : ℕ) → low ≤ j → S j → (k : ℕ) × (low ≤ k) × (k < high) × S k) → IsNearest (λ j. (j < high) × S j) low nearest → IsNearest S low nearest
+  pub nearest_wide : (low high : ℕ) (nearest : Option ℕ) → ((j : ℕ) → low ≤ j → S j → (k : ℕ) × (low ≤ k) × (k < high) × S k)
+      → IsNearest (λ j. (j < high) × S j) low nearest → IsNearest S low nearest
   nearest_wide low high None sooner is = λ j from s. let w = sooner j from s in is w.0 w.1 (w.2, w.3)
   nearest_wide low high (Some place) sooner is = (is.0, is.1.1, λ j from before s. is.2 j from before (omega (arith, is.1.0), s))
 
@@ -99,17 +106,20 @@ module _ (sought : Bool) (a : List Bool) (start : ℕ) where
   shows_nothing i none behind = cond-false _ _ _ (le-ltb i (length a) behind) ∙ cond-false _ _ _ (le-ltb start (length a) none)
 
   -- what comes at all comes within one round
-  pub shows_sooner : (low : ℕ) → start ≤ length a → length a ≤ low → (j : ℕ) → low ≤ j → IsTrue (shows sought a start j) → (k : ℕ) × (low ≤ k) × (k < low + (length a - start)) × IsTrue (shows sought a start k)
+  pub shows_sooner : (low : ℕ) → start ≤ length a → length a ≤ low → (j : ℕ) → low ≤ j → IsTrue (shows sought a start j)
+      → (k : ℕ) × (low ≤ k) × (k < low + (length a - start)) × IsTrue (shows sought a start k)
   shows_sooner low within behind j from shown = elim (cases_lt start (length a)) [
     | inr none ↦ let f : shows sought a start j ≡ false = shows_nothing j none (omega arith) in absurd (cc)
     | inl looped ↦ by_rounds looped j j (omega arith) from shown
   ] where
-    by_rounds : start < length a → (fuel i : ℕ) → i ≤ fuel → low ≤ i → IsTrue (shows sought a start i) → (k : ℕ) × (low ≤ k) × (k < low + (length a - start)) × IsTrue (shows sought a start k)
+    by_rounds : start < length a → (fuel i : ℕ) → i ≤ fuel → low ≤ i → IsTrue (shows sought a start i)
+        → (k : ℕ) × (low ≤ k) × (k < low + (length a - start)) × IsTrue (shows sought a start k)
     by_rounds looped zero i le up s = (i, up, omega arith, s)
     by_rounds looped (suc fuel) i le up s = elim (cases_lt i (low + (length a - start))) [
       | inl near ↦ (i, up, near, s)
       | inr far ↦
           let p = length a - start in
           let e : i ≡ (i - p) + p = omega arith in
-          by_rounds looped fuel (i - p) (omega arith) (omega arith) (sym (shows_round (i - p) looped (omega arith)) ∙ ap (λ n. shows sought a start n) (sym e) ∙ s)
+          by_rounds looped fuel (i - p) (omega arith) (omega arith)
+          (sym (shows_round (i - p) looped (omega arith)) ∙ ap (λ n. shows sought a start n) (sym e) ∙ s)
     ]

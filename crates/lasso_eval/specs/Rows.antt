@@ -27,4 +27,5 @@ row_at rows number = slice_index_or rows number []
 
 -- the row of each node under the root says where its formula holds
 abbrev pub AreValues : Table → ℕ → Trace → List (List Bool) → Type 0
-AreValues table root t rows = (number : ℕ) → IsUnder table root number → IsRow (positions t (tree_at table root)) (Holds t (tree_at table number)) (row_at rows number)
+AreValues table root t rows =
+    (number : ℕ) → IsUnder table root number → IsRow (positions t (tree_at table root)) (Holds t (tree_at table number)) (row_at rows number)

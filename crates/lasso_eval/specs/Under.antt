@@ -7,7 +7,8 @@ use Rattle.ltl_syntax.specs.Table.{Table, has_child}
 -- the root is under itself, and so is each child of a node that is
 pub data IsUnder (t : Table) (root : ℕ) : ℕ → Type 0 where
   Here : (number : ℕ) → number ≡ root → IsUnder t root number
-  Below : (parent number : ℕ) (node : Node) → IsUnder t root parent → slice_get t.nodes parent ≡ Some node → IsTrue (has_child number node) → IsUnder t root number
+  Below : (parent number : ℕ) (node : Node) → IsUnder t root parent → slice_get t.nodes parent ≡ Some node → IsTrue (has_child number node)
+      → IsUnder t root number
 
 -- the node's children stand before this place
 abbrev pub HasChildrenBelow : ℕ → Node → Type 0

@@ -1,5 +1,6 @@
 -- The literals of a line are made false, one by one.
-use Rattle.std.proofs.Common.{◌≡◌, ◌↔◌, ℕ, zero, suc, ◌<◌, inl, inr, true, false, List, [], ◌∷◌, ◌++◌, length, set, All, Contains, refl, sym, ap, ◌∙◌, subst, arith, append_assoc}
+use Rattle.std.proofs.Common.{◌≡◌, ◌↔◌, ℕ, zero, suc, ◌<◌, inl, inr, true, false, List, [], ◌∷◌, ◌++◌, length, set, All, Contains, refl, sym, ap, ◌∙◌, subst}
+use Rattle.std.proofs.Common.{arith, append_assoc}
 use Rattle.std.proofs.lemmas.List.{append-nil}
 use Rattle.std.proofs.lemmas.List.Elements.{All-push, All-nil, All-contains, Contains-append_left, Contains-append_right, Contains-push, Contains-push_cases}
 use Rattle.cnf_base.specs.declared.literal.Literal.{Literal}
@@ -31,7 +32,8 @@ moved : (whole done old : List Literal) (l : Literal) (new : List Literal) → w
 moved whole done old l new cut e = cut ∙ ap (λ xs. done ++ xs) e ∙ sym (append_assoc done (l ∷ []) new)
 
 -- the literal is false already
-pub assumes_again : (greatest : ℕ) (whole old : List Literal) (l : Literal) (new : List Literal) (values : List Truth) → IsAssuming greatest whole old values → old ≡ l ∷ new → IsKnown greatest l
+pub assumes_again : (greatest : ℕ) (whole old : List Literal) (l : Literal) (new : List Literal) (values : List Truth) → IsAssuming greatest whole old values
+    → old ≡ l ∷ new → IsKnown greatest l
     → value_of values l ≡ False → IsAssuming greatest whole new values
 assumes_again greatest whole old l new values is e known false' = record {
   done = is.done ++ l ∷ [];
@@ -39,12 +41,14 @@ assumes_again greatest whole old l new values is e known false' = record {
   known = All-push (IsKnown greatest) is.done l is.known known;
   same = λ k. (
     λ c. Contains-append_left is.done (l ∷ []) k ((is.same k).0 c),
-    λ c. elim (Contains-push_cases is.done l k c) [ inl before ↦ (is.same k).1 before | inr at ↦ subst (λ x. Contains (falses_in values) x) at (false_from values l false') ],
+    λ c. elim (Contains-push_cases is.done l k c)
+        [ inl before ↦ (is.same k).1 before | inr at ↦ subst (λ x. Contains (falses_in values) x) at (false_from values l false') ],
   );
 }
 
 -- the literal becomes false
-pub assumes_more : (greatest : ℕ) (whole old : List Literal) (l : Literal) (new : List Literal) (values : List Truth) → IsAssuming greatest whole old values → old ≡ l ∷ new → IsKnown greatest l
+pub assumes_more : (greatest : ℕ) (whole old : List Literal) (l : Literal) (new : List Literal) (values : List Truth) → IsAssuming greatest whole old values
+    → old ≡ l ∷ new → IsKnown greatest l
     → l.letter.0 < length values → value_of values l ≡ Unset → IsAssuming greatest whole new (set values l.letter.0 (false_of l.negated))
 assumes_more greatest whole old l new values is e known low unset = record {
   done = is.done ++ l ∷ [];
@@ -64,16 +68,22 @@ assumes_more greatest whole old l new values is e known low unset = record {
     cases_cons k (suc i, low', at) = Contains-append_left is.done (l ∷ []) k ((is.same k).0 (i, omega (arith, low'), at))
 
 -- the letter is not known, or the opposite was there
-pub assumes_unknown : (greatest : ℕ) (whole old : List Literal) (l : Literal) (new : List Literal) (values next : List Truth) → IsAssuming greatest whole old values → old ≡ l ∷ new → ¬ IsKnown greatest l
+pub assumes_unknown : (greatest : ℕ) (whole old : List Literal) (l : Literal) (new : List Literal) (values next : List Truth)
+    → IsAssuming greatest whole old values → old ≡ l ∷ new → ¬ IsKnown greatest l
     → IsAssumed greatest whole (falses_in next) false
-assumes_unknown greatest whole old l new values next is e unknown = λ both. unknown (All-contains (IsKnown greatest) whole l both.0 (first_there whole is.done old l new is.cut e))
+assumes_unknown greatest whole old l new values next is e unknown =
+    λ both. unknown (All-contains (IsKnown greatest) whole l both.0 (first_there whole is.done old l new is.cut e))
 
-pub assumes_pair : (greatest : ℕ) (whole old : List Literal) (l : Literal) (new : List Literal) (values next : List Truth) → IsAssuming greatest whole old values → old ≡ l ∷ new → value_of values l ≡ True
+pub assumes_pair : (greatest : ℕ) (whole old : List Literal) (l : Literal) (new : List Literal) (values next : List Truth)
+    → IsAssuming greatest whole old values → old ≡ l ∷ new → value_of values l ≡ True
     → IsAssumed greatest whole (falses_in next) false
 assumes_pair greatest whole old l new values next is e true' = λ both.
-    both.1 l (first_there whole is.done old l new is.cut e) (subst (λ xs. Contains xs (opposite l)) (sym is.cut) (Contains-append_left is.done old (opposite l) ((is.same (opposite l)).0 (true_is values l true'))))
+    both.1 l (first_there whole is.done old l new is.cut e)
+    (subst (λ xs. Contains xs (opposite l)) (sym is.cut) (Contains-append_left is.done old (opposite l) ((is.same (opposite l)).0 (true_is values l true'))))
 
-pub assumes_all : (greatest : ℕ) (whole rest : List Literal) (values : List Truth) → IsAssuming greatest whole rest values → rest ≡ [] → IsAssumed greatest whole (falses_in values) true
+pub assumes_all : (greatest : ℕ) (whole rest : List Literal) (values : List Truth) → IsAssuming greatest whole rest values
+    → rest ≡ [] → IsAssumed greatest whole (falses_in values) true
 assumes_all greatest whole rest values is e =
     let same : whole ≡ is.done = is.cut ∙ ap (λ xs. is.done ++ xs) e ∙ append-nil is.done in
-    subst (λ xs. IsAssumed greatest xs (falses_in values) true) (sym same) (is.known, (λ l one two. not_both values l ((is.same l).1 one) ((is.same (opposite l)).1 two)), is.same)
+    subst (λ xs. IsAssumed greatest xs (falses_in values) true) (sym same)
+    (is.known, (λ l one two. not_both values l ((is.same l).1 one) ((is.same (opposite l)).1 two)), is.same)

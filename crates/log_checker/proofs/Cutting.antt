@@ -20,21 +20,25 @@ first_cut count cuts some =
     record { first = at; order = λ p none. absurd (omega (arith, none)); below = omega (arith, at) }
 
 -- one more cut
-pub more_cut : (place count line : ℕ) (cuts : List ℕ) → AreBegun place cuts count → suc place < length cuts → cut_at cuts place ≤ line → line ≤ count → AreBegun (suc place) (set cuts (suc place) line) count
+pub more_cut : (place count line : ℕ) (cuts : List ℕ) → AreBegun place cuts count → suc place < length cuts
+    → cut_at cuts place ≤ line → line ≤ count → AreBegun (suc place) (set cuts (suc place) line) count
 more_cut place count line cuts begun room low high =
     let at = get_or-set_same cuts (suc place) line 0 room in
-    let other : (i : ℕ) → i < suc place → cut_at (set cuts (suc place) line) i ≡ cut_at cuts i = λ i below. get_or-set_other cuts (suc place) i line 0 (λ e. omega (arith, e, below)) in
+    let other : (i : ℕ) → i < suc place → cut_at (set cuts (suc place) line) i ≡ cut_at cuts i =
+    λ i below. get_or-set_other cuts (suc place) i line 0 (λ e. omega (arith, e, below)) in
     record {
       first = other 0 (omega arith) ∙ begun.first;
       order = λ p below. elim (cases_eq p place) [
-        | inl same ↦ subst (λ n. cut_at (set cuts (suc place) line) n ≤ cut_at (set cuts (suc place) line) (suc n)) (sym same) (omega (arith, other place (omega arith), at, low))
+        | inl same ↦ subst (λ n. cut_at (set cuts (suc place) line) n ≤ cut_at (set cuts (suc place) line) (suc n)) (sym same)
+            (omega (arith, other place (omega arith), at, low))
         | inr differs ↦ omega (arith, other p below, other (suc p) (omega (arith, differs, below)), begun.order p (omega (arith, differs, below)))
       ];
       below = omega (arith, at, high);
     }
 
 -- the last cut is the number of lines
-pub last_cut : (pieces count : ℕ) (cuts : List ℕ) → 1 ≤ pieces → length cuts ≡ suc pieces → AreBegun (pieces - 1) cuts count → AreCuts (set cuts pieces count) count
+pub last_cut : (pieces count : ℕ) (cuts : List ℕ) → 1 ≤ pieces → length cuts ≡ suc pieces → AreBegun (pieces - 1) cuts count
+    → AreCuts (set cuts pieces count) count
 last_cut zero count cuts some size begun = absurd (omega (arith, some))
 last_cut (suc place) count cuts some size begun =
     let before : suc place - 1 ≡ place = omega arith in
@@ -49,7 +53,8 @@ last_cut (suc place) count cuts some size begun =
     }
 
 -- a later cut is no lower
-cuts_up : (cuts : List ℕ) → ((piece : ℕ) → suc piece < length cuts → cut_at cuts piece ≤ cut_at cuts (suc piece)) → (i j : ℕ) → i ≤ j → j < length cuts → cut_at cuts i ≤ cut_at cuts j
+cuts_up : (cuts : List ℕ) → ((piece : ℕ) → suc piece < length cuts → cut_at cuts piece ≤ cut_at cuts (suc piece)) → (i j : ℕ) → i ≤ j → j < length cuts
+    → cut_at cuts i ≤ cut_at cuts j
 cuts_up cuts order i zero low high = let same : i ≡ 0 = omega (arith, low) in subst (λ n. cut_at cuts n ≤ cut_at cuts 0) (sym same) (omega arith)
 cuts_up cuts order i (suc j) low high = elim (cases_eq i (suc j)) [
   | inl same ↦ subst (λ n. cut_at cuts n ≤ cut_at cuts (suc j)) (sym same) (omega arith)
@@ -74,8 +79,11 @@ pub next_read : (cuts : List ℕ) (place cut : ℕ) → place + 1 < length cuts 
 next_read cuts place cut low at = let up : place + 1 ≡ suc place = omega arith in cut_read cuts (place + 1) cut low at ∙ ap (cut_at cuts) up
 
 -- what is found between them is found in the piece, over as many letters
-pub judged_at : (clauses : List (List Literal)) (parts : List Part) (cuts : List ℕ) (piece from to m n : ℕ) (bad : Option ℕ) → from ≡ cut_at cuts piece → to ≡ cut_at cuts (suc piece) → m ≡ n
-    → IsFirstBad (IsGoodLine clauses (m - 1) parts) from to bad → IsFirstBad (IsGoodLine clauses (n - 1) parts) (cut_at cuts piece) (cut_at cuts (suc piece)) bad
+pub judged_at : (clauses : List (List Literal)) (parts : List Part) (cuts : List ℕ) (piece from to m n : ℕ) (bad : Option ℕ) → from ≡ cut_at cuts piece
+    → to ≡ cut_at cuts (suc piece) → m ≡ n
+    → IsFirstBad (IsGoodLine clauses (m - 1) parts) from to bad
+    → IsFirstBad (IsGoodLine clauses (n - 1) parts) (cut_at cuts piece) (cut_at cuts (suc piece)) bad
 judged_at clauses parts cuts piece from to m n bad begins ends same is =
     subst (λ k. IsFirstBad (IsGoodLine clauses (n - 1) parts) k (cut_at cuts (suc piece)) bad) begins
-    (subst (λ k. IsFirstBad (IsGoodLine clauses (n - 1) parts) from k bad) ends (subst (λ k. IsFirstBad (IsGoodLine clauses (k - 1) parts) from to bad) same is))
+    (subst (λ k. IsFirstBad (IsGoodLine clauses (n - 1) parts) from k bad) ends
+    (subst (λ k. IsFirstBad (IsGoodLine clauses (k - 1) parts) from to bad) same is))

@@ -1,5 +1,6 @@
 -- Lines that are stored ascending, some of them marked.
-use Rattle.std.proofs.Common.{◌≡◌, ℕ, zero, suc, ◌+◌, ◌-◌, ◌<◌, ◌≤◌, ◌==◌, Bool, true, false, not, cond, ◌||◌, inl, inr, List, [], ◌∷◌, ◌++◌, length, get_or, drop, map, set, filter, All, Some, None, refl, sym, ap, ◌∙◌, subst, arith}
+use Rattle.std.proofs.Common.{◌≡◌, ℕ, zero, suc, ◌+◌, ◌-◌, ◌<◌, ◌≤◌, ◌==◌, Bool, true, false, not, cond, ◌||◌, inl, inr, List, [], ◌∷◌, ◌++◌, length, get_or}
+use Rattle.std.proofs.Common.{drop, map, set, filter, All, Some, None, refl, sym, ap, ◌∙◌, subst, arith}
 use Rattle.std.proofs.lemmas.Bool.{cond-false, cond-true, cases_order, cases_eq, eq-eqb, ne_eqb}
 use Rattle.std.proofs.lemmas.List.{length-set, length_push, map-append, length-map}
 use Rattle.std.proofs.lemmas.List.Elements.{All-push, All-filter, All-weaker, All-head, All-tail, All-set, All-get_or, filter-append}
@@ -26,7 +27,8 @@ lower low high (e ∷ es) less up = (omega (arith, less, up.0), up.1)
 
 ascends_push : (low : ℕ) (es : List Entry) (e : Entry) → low < e.number → All (λ x. x.number < e.number) es → Ascends low es → Ascends low (es ++ e ∷ [])
 ascends_push low [] e less all up = (less, tt)
-ascends_push low (x ∷ es) e less all up = (up.0, ascends_push x.number es e (All-head (λ (y : Entry). y.number < e.number) x es all) (All-tail (λ (y : Entry). y.number < e.number) x es all) up.1)
+ascends_push low (x ∷ es) e less all up =
+    (up.0, ascends_push x.number es e (All-head (λ (y : Entry). y.number < e.number) x es all) (All-tail (λ (y : Entry). y.number < e.number) x es all) up.1)
 
 ascends_filter : (p : Entry → Bool) (low : ℕ) (es : List Entry) → Ascends low es → Ascends low (filter p es)
 ascends_filter p low [] up = up
@@ -56,24 +58,30 @@ found_none [] n others = refl
 found_none (e ∷ es) n others = go e.live refl (found_none es n (behind e es n others))
   where
     go : (b : Bool) → e.live ≡ b → found (live_of es) n ≡ None → found (map line_of (cond b (e ∷ filter (λ x. x.live) es) (filter (λ x. x.live) es))) n ≡ None
-    go true is rest = cond-false (e.number == n) (Some e.literals) (found (live_of es) n) (ne_eqb e.number n (λ at. true_false (sym is ∙ others 0 (omega arith) at))) ∙ rest
+    go true is rest =
+        cond-false (e.number == n) (Some e.literals) (found (live_of es) n) (ne_eqb e.number n (λ at. true_false (sym is ∙ others 0 (omega arith) at))) ∙ rest
     go false is rest = rest
 
-pub found_some : (es : List Entry) (n i : ℕ) → i < length es → number_at es i ≡ n → (get_or es i blank).live ≡ true → ((j : ℕ) → j < i → number_at es j < n) → found (live_of es) n ≡ Some (get_or es i blank).literals
+pub found_some : (es : List Entry) (n i : ℕ) → i < length es → number_at es i ≡ n → (get_or es i blank).live ≡ true → ((j : ℕ) → j < i → number_at es j < n)
+    → found (live_of es) n ≡ Some (get_or es i blank).literals
 found_some [] n i below at is less = absurd (omega (arith, below))
 found_some (e ∷ es) n zero below at is less =
-    ap (λ b. found (map line_of (cond b (e ∷ filter (λ x. x.live) es) (filter (λ x. x.live) es))) n) is ∙ cond-true (e.number == n) (Some e.literals) (found (live_of es) n) (eq-eqb e.number n at)
+    ap (λ b. found (map line_of (cond b (e ∷ filter (λ x. x.live) es) (filter (λ x. x.live) es))) n) is
+    ∙ cond-true (e.number == n) (Some e.literals) (found (live_of es) n) (eq-eqb e.number n at)
 found_some (e ∷ es) n (suc i) below at is less = go e.live (found_some es n i (omega (arith, below)) at is (λ j low. less (suc j) (omega (arith, low))))
   where
-    go : (b : Bool) → found (live_of es) n ≡ Some (get_or es i blank).literals → found (map line_of (cond b (e ∷ filter (λ x. x.live) es) (filter (λ x. x.live) es))) n ≡ Some (get_or es i blank).literals
-    go true rest = cond-false (e.number == n) (Some e.literals) (found (live_of es) n) (ne_eqb e.number n (λ same. omega (arith, same, less 0 (omega arith)))) ∙ rest
+    go : (b : Bool) → found (live_of es) n ≡ Some (get_or es i blank).literals
+        → found (map line_of (cond b (e ∷ filter (λ x. x.live) es) (filter (λ x. x.live) es))) n ≡ Some (get_or es i blank).literals
+    go true rest =
+        cond-false (e.number == n) (Some e.literals) (found (live_of es) n) (ne_eqb e.number n (λ same. omega (arith, same, less 0 (omega arith)))) ∙ rest
     go false rest = rest
 
 -- what stands at the place that was sought
 pub others_past : (es : List Entry) (n place : ℕ) → ((i : ℕ) → i < place → number_at es i < n) → length es ≤ place → AreOthers es n
 others_past es n place less high i below at = absurd (omega (arith, at, less i (omega (arith, below, high))))
 
-pub others_there : (es : List Entry) (n place : ℕ) → Ascends 0 es → place < length es → ((i : ℕ) → i < place → number_at es i < n) → ((i : ℕ) → place ≤ i → i < length es → n ≤ number_at es i)
+pub others_there : (es : List Entry) (n place : ℕ) → Ascends 0 es → place < length es → ((i : ℕ) → i < place → number_at es i < n)
+    → ((i : ℕ) → place ≤ i → i < length es → n ≤ number_at es i)
     → (number_at es place ≡ n → (get_or es place blank).live ≡ false) → AreOthers es n
 others_there es n place up low less more here i below at = elim (cases_order i place) [
   | inl same ↦ subst (λ k. (get_or es k blank).live ≡ false) (sym same) (here (ap (number_at es) (sym same) ∙ at))
@@ -92,18 +100,22 @@ pub kept_others : (es : List Entry) (n : ℕ) → AreOthers es n → filter (λ 
 kept_others [] n others = refl
 kept_others (e ∷ es) n others = go e.live refl (kept_others es n (behind e es n others))
   where
-    go : (b : Bool) → e.live ≡ b → filter (λ l. not (is_named (n ∷ []) l)) (live_of es) ≡ live_of es → filter (λ l. not (is_named (n ∷ []) l)) (map line_of (cond b (e ∷ filter (λ x. x.live) es) (filter (λ x. x.live) es))) ≡ map line_of (cond b (e ∷ filter (λ x. x.live) es) (filter (λ x. x.live) es))
-    go true is rest = cond-true (not (is_named (n ∷ []) (line_of e))) (line_of e ∷ filter (λ l. not (is_named (n ∷ []) l)) (live_of es)) (filter (λ l. not (is_named (n ∷ []) l)) (live_of es)) (ap not (not_named n (line_of e) (λ at. true_false (sym is ∙ others 0 (omega arith) at))))
+    go : (b : Bool) → e.live ≡ b → filter (λ l. not (is_named (n ∷ []) l)) (live_of es) ≡ live_of es → filter (λ l. not (is_named (n ∷ []) l)) (map line_of
+        (cond b (e ∷ filter (λ x. x.live) es) (filter (λ x. x.live) es))) ≡ map line_of (cond b (e ∷ filter (λ x. x.live) es) (filter (λ x. x.live) es))
+    go true is rest = cond-true (not (is_named (n ∷ []) (line_of e))) (line_of e ∷ filter (λ l. not (is_named (n ∷ []) l)) (live_of es))
+        (filter (λ l. not (is_named (n ∷ []) l)) (live_of es)) (ap not (not_named n (line_of e) (λ at. true_false (sym is ∙ others 0 (omega arith) at))))
         ∙ ap (λ ls. line_of e ∷ ls) rest
     go false is rest = rest
 
 -- a line is marked
 pub mark_is : (low : ℕ) (es : List Entry) (n i : ℕ) → Ascends low es → i < length es → number_at es i ≡ n → (get_or es i blank).live ≡ true
-    → (live_of (set es i (marked (get_or es i blank))) ≡ filter (λ l. not (is_named (n ∷ []) l)) (live_of es)) × (suc (length (live_of (set es i (marked (get_or es i blank))))) ≡ length (live_of es))
+    → (live_of (set es i (marked (get_or es i blank))) ≡ filter (λ l. not (is_named (n ∷ []) l)) (live_of es))
+    × (suc (length (live_of (set es i (marked (get_or es i blank))))) ≡ length (live_of es))
 mark_is low [] n i up below at is = absurd (omega (arith, below))
 mark_is low (e ∷ es) n zero up below at is = (
   sym (ap (λ b. filter keeps (map line_of (cond b (e ∷ filter (λ x. x.live) es) (filter (λ x. x.live) es)))) is
-      ∙ cond-false (keeps (line_of e)) (line_of e ∷ filter keeps (live_of es)) (filter keeps (live_of es)) (ap not (is_named_itself n (line_of e) at)) ∙ kept_others es n others),
+      ∙ cond-false (keeps (line_of e)) (line_of e ∷ filter keeps (live_of es)) (filter keeps (live_of es)) (ap not (is_named_itself n (line_of e) at))
+      ∙ kept_others es n others),
   ap (λ b. length (map line_of (cond b (e ∷ filter (λ x. x.live) es) (filter (λ x. x.live) es)))) (sym is),
 )
   where
@@ -117,11 +129,17 @@ mark_is low (e ∷ es) n (suc i) up below at is = go e.live (mark_is e.number es
     less : e.number < n
     less = omega (arith, at, above e.number es up.1 i (omega (arith, below)))
 
-    go : (b : Bool) → (live_of (set es i (marked (get_or es i blank))) ≡ filter (λ l. not (is_named (n ∷ []) l)) (live_of es)) × (suc (length (live_of (set es i (marked (get_or es i blank))))) ≡ length (live_of es)) → (map line_of (cond b (e ∷ filter (λ x. x.live) (set es i (marked (get_or es i blank)))) (filter (λ x. x.live) (set es i (marked (get_or es i blank))))) ≡ filter (λ l. not (is_named (n ∷ []) l)) (map line_of (cond b (e ∷ filter (λ x. x.live) es) (filter (λ x. x.live) es))))
-        × (suc (length (map line_of (cond b (e ∷ filter (λ x. x.live) (set es i (marked (get_or es i blank)))) (filter (λ x. x.live) (set es i (marked (get_or es i blank))))))) ≡ length (map line_of (cond b (e ∷ filter (λ x. x.live) es) (filter (λ x. x.live) es))))
+    go : (b : Bool) → (live_of (set es i (marked (get_or es i blank))) ≡ filter (λ l. not (is_named (n ∷ []) l)) (live_of es))
+        × (suc (length (live_of (set es i (marked (get_or es i blank))))) ≡ length (live_of es)) → (map line_of
+        (cond b (e ∷ filter (λ x. x.live) (set es i (marked (get_or es i blank)))) (filter (λ x. x.live) (set es i (marked (get_or es i blank)))))
+        ≡ filter (λ l. not (is_named (n ∷ []) l)) (map line_of (cond b (e ∷ filter (λ x. x.live) es) (filter (λ x. x.live) es))))
+        × (suc (length (map line_of
+        (cond b (e ∷ filter (λ x. x.live) (set es i (marked (get_or es i blank)))) (filter (λ x. x.live) (set es i (marked (get_or es i blank)))))))
+        ≡ length (map line_of (cond b (e ∷ filter (λ x. x.live) es) (filter (λ x. x.live) es))))
     go true rest = (
       ap (λ ls. line_of e ∷ ls) rest.0
-          ∙ sym (cond-true (not (is_named (n ∷ []) (line_of e))) (line_of e ∷ filter (λ l. not (is_named (n ∷ []) l)) (live_of es)) (filter (λ l. not (is_named (n ∷ []) l)) (live_of es)) (ap not (not_named n (line_of e) (λ same. omega (arith, same, less))))),
+          ∙ sym (cond-true (not (is_named (n ∷ []) (line_of e))) (line_of e ∷ filter (λ l. not (is_named (n ∷ []) l)) (live_of es))
+          (filter (λ l. not (is_named (n ∷ []) l)) (live_of es)) (ap not (not_named n (line_of e) (λ same. omega (arith, same, less))))),
       ap suc rest.1,
     )
     go false rest = rest
@@ -131,11 +149,14 @@ live_twice : (es : List Entry) → filter (λ e. e.live) (filter (λ e. e.live) 
 live_twice [] = refl
 live_twice (e ∷ es) = go e.live refl (live_twice es)
   where
-    go : (b : Bool) → e.live ≡ b → filter (λ x. x.live) (filter (λ x. x.live) es) ≡ filter (λ x. x.live) es → filter (λ x. x.live) (cond b (e ∷ filter (λ x. x.live) es) (filter (λ x. x.live) es)) ≡ cond b (e ∷ filter (λ x. x.live) es) (filter (λ x. x.live) es)
-    go true is rest = cond-true e.live (e ∷ filter (λ x. x.live) (filter (λ x. x.live) es)) (filter (λ x. x.live) (filter (λ x. x.live) es)) is ∙ ap (λ xs. e ∷ xs) rest
+    go : (b : Bool) → e.live ≡ b → filter (λ x. x.live) (filter (λ x. x.live) es) ≡ filter (λ x. x.live) es
+        → filter (λ x. x.live) (cond b (e ∷ filter (λ x. x.live) es) (filter (λ x. x.live) es)) ≡ cond b (e ∷ filter (λ x. x.live) es) (filter (λ x. x.live) es)
+    go true is rest =
+        cond-true e.live (e ∷ filter (λ x. x.live) (filter (λ x. x.live) es)) (filter (λ x. x.live) (filter (λ x. x.live) es)) is ∙ ap (λ xs. e ∷ xs) rest
     go false is rest = rest
 
-pub compacted : (lines : ℕ) (es : List Entry) (dead : ℕ) → IsKept lines es dead → (live_of (filter (λ e. e.live) es) ≡ live_of es) × IsKept lines (filter (λ e. e.live) es) 0
+pub compacted : (lines : ℕ) (es : List Entry) (dead : ℕ) → IsKept lines es dead
+    → (live_of (filter (λ e. e.live) es) ≡ live_of es) × IsKept lines (filter (λ e. e.live) es) 0
 compacted lines es dead is = (
   ap (map line_of) (live_twice es),
   record {
@@ -146,20 +167,25 @@ compacted lines es dead is = (
 )
 
 -- a line is put behind
-pub live_push : (es : List Entry) (n : ℕ) (literals : List Literal) → live_of (es ++ record { number = n; literals = literals; live = true } ∷ []) ≡ live_of es ++ record { number = n; literals = literals } ∷ []
+pub live_push : (es : List Entry) (n : ℕ) (literals : List Literal)
+    → live_of (es ++ record { number = n; literals = literals; live = true } ∷ []) ≡ live_of es ++ record { number = n; literals = literals } ∷ []
 live_push es n literals =
     let e : Entry = record { number = n; literals = literals; live = true } in
     ap (map line_of) (filter-append (λ (x : Entry). x.live) es (e ∷ [])) ∙ map-append line_of (filter (λ (x : Entry). x.live) es) (e ∷ [])
 
-pub kept_push : (lines : ℕ) (es : List Entry) (dead : ℕ) (literals : List Literal) → IsKept lines es dead → IsKept (lines + 1) (es ++ record { number = lines + 1; literals = literals; live = true } ∷ []) dead
+pub kept_push : (lines : ℕ) (es : List Entry) (dead : ℕ) (literals : List Literal) → IsKept lines es dead
+    → IsKept (lines + 1) (es ++ record { number = lines + 1; literals = literals; live = true } ∷ []) dead
 kept_push lines es dead literals is =
     let e : Entry = record { number = lines + 1; literals = literals; live = true } in record {
-      ascends = ascends_push 0 es e (omega arith) (All-weaker (λ (x : Entry). x.number ≤ lines) (λ (x : Entry). x.number < lines + 1) (λ x h. omega (arith, h)) es is.known) is.ascends;
-      known = All-push (λ (x : Entry). x.number ≤ lines + 1) es e (All-weaker (λ (x : Entry). x.number ≤ lines) (λ (x : Entry). x.number ≤ lines + 1) (λ x h. omega (arith, h)) es is.known) (omega arith);
+      ascends = ascends_push 0 es e (omega arith)
+          (All-weaker (λ (x : Entry). x.number ≤ lines) (λ (x : Entry). x.number < lines + 1) (λ x h. omega (arith, h)) es is.known) is.ascends;
+      known = All-push (λ (x : Entry). x.number ≤ lines + 1) es e
+          (All-weaker (λ (x : Entry). x.number ≤ lines) (λ (x : Entry). x.number ≤ lines + 1) (λ x h. omega (arith, h)) es is.known) (omega arith);
       count = omega (arith, is.count, ap length (live_push es (lines + 1) literals), length_push (live_of es) (line_of e), length_push es e);
     }
 
-pub kept_mark : (lines : ℕ) (es : List Entry) (dead n i : ℕ) → IsKept lines es dead → i < length es → number_at es i ≡ n → (get_or es i blank).live ≡ true → IsKept lines (set es i (marked (get_or es i blank))) (dead + 1)
+pub kept_mark : (lines : ℕ) (es : List Entry) (dead n i : ℕ) → IsKept lines es dead → i < length es
+    → number_at es i ≡ n → (get_or es i blank).live ≡ true → IsKept lines (set es i (marked (get_or es i blank))) (dead + 1)
 kept_mark lines es dead n i is below at live = record {
   ascends = ascends_mark 0 es i below is.ascends;
   known = All-set' es i below is.known;
@@ -167,7 +193,8 @@ kept_mark lines es dead n i is below at live = record {
 }
   where
     All-set' : (xs : List Entry) (k : ℕ) → k < length xs → All (λ e. e.number ≤ lines) xs → All (λ e. e.number ≤ lines) (set xs k (marked (get_or xs k blank)))
-    All-set' xs k low all = All-set (λ (e : Entry). e.number ≤ lines) xs k (marked (get_or xs k blank)) (All-get_or (λ (e : Entry). e.number ≤ lines) xs k blank low all) all
+    All-set' xs k low all =
+        All-set (λ (e : Entry). e.number ≤ lines) xs k (marked (get_or xs k blank)) (All-get_or (λ (e : Entry). e.number ≤ lines) xs k blank low all) all
 
 -- numbers go one after another
 pub without_more : (k : KeptValue) (n : ℕ) (ns : List ℕ) → without (without k (n ∷ [])) ns ≡ without k (n ∷ ns)
@@ -178,7 +205,9 @@ without_more k n ns = ap (λ ls. let v : KeptValue = record { lines = k.lines; l
     go (l ∷ ls) = step (n == l.number) (go ls)
       where
         step : (a : Bool) → filter (λ x. not (is_named ns x)) (filter (λ x. not (is_named (n ∷ []) x)) ls) ≡ filter (λ x. not (is_named (n ∷ ns) x)) ls
-            → filter (λ x. not (is_named ns x)) (cond (not (a || false)) (l ∷ filter (λ x. not (is_named (n ∷ []) x)) ls) (filter (λ x. not (is_named (n ∷ []) x)) ls)) ≡ cond (not (a || is_named ns l)) (l ∷ filter (λ x. not (is_named (n ∷ ns) x)) ls) (filter (λ x. not (is_named (n ∷ ns) x)) ls)
+            → filter (λ x. not (is_named ns x))
+            (cond (not (a || false)) (l ∷ filter (λ x. not (is_named (n ∷ []) x)) ls) (filter (λ x. not (is_named (n ∷ []) x)) ls)) ≡ cond
+            (not (a || is_named ns l)) (l ∷ filter (λ x. not (is_named (n ∷ ns) x)) ls) (filter (λ x. not (is_named (n ∷ ns) x)) ls)
         step true rest = rest
         step false rest = ap (λ xs. cond (not (is_named ns l)) (l ∷ xs) xs) rest
 
@@ -214,8 +243,10 @@ drop_at (e ∷ es) (suc i) below = drop_at es i (omega (arith, below)) ∙ ap (�
     later : get_or es i blank ∷ drop (i + 1) es ≡ get_or es i blank ∷ drop (suc i + 1) (e ∷ es)
     later = let f : suc i + 1 ≡ suc (i + 1) = omega arith in ap (λ k. get_or es i blank ∷ drop k (e ∷ es)) (sym f)
 
-split : (es : List Entry) (i : ℕ) (b : Bool) → i < length es → (get_or es i blank).live ≡ b → live_of (drop i es) ≡ map line_of (cond b (get_or es i blank ∷ filter (λ x. x.live) (drop (i + 1) es)) (filter (λ x. x.live) (drop (i + 1) es)))
-split es i b below is = ap live_of (drop_at es i below) ∙ ap (λ c. map line_of (cond c (get_or es i blank ∷ filter (λ x. x.live) (drop (i + 1) es)) (filter (λ x. x.live) (drop (i + 1) es)))) is
+split : (es : List Entry) (i : ℕ) (b : Bool) → i < length es → (get_or es i blank).live ≡ b
+    → live_of (drop i es) ≡ map line_of (cond b (get_or es i blank ∷ filter (λ x. x.live) (drop (i + 1) es)) (filter (λ x. x.live) (drop (i + 1) es)))
+split es i b below is = ap live_of (drop_at es i below)
+    ∙ ap (λ c. map line_of (cond c (get_or es i blank ∷ filter (λ x. x.live) (drop (i + 1) es)) (filter (λ x. x.live) (drop (i + 1) es)))) is
 
 pub left_dead : (es : List Entry) (place index left : ℕ) → IsLeft es place index left → (get_or es index blank).live ≡ false → IsLeft es place (index + 1) left
 left_dead es place index left is dead =
@@ -224,15 +255,18 @@ left_dead es place index left is dead =
       same = ap (λ ls. get_or ls left no_line) (sym e) ∙ is.same;
     }
 
-pub left_live : (es : List Entry) (place index left : ℕ) → IsLeft es place index left → (get_or es index blank).live ≡ true → 0 < left → IsLeft es place (index + 1) (left - 1)
+pub left_live : (es : List Entry) (place index left : ℕ) → IsLeft es place index left
+    → (get_or es index blank).live ≡ true → 0 < left → IsLeft es place (index + 1) (left - 1)
 left_live es place index left is live some =
     let e = split es index true (left_within es place index left is) live in
     let l : left ≡ suc (left - 1) = omega (arith, some) in record {
       low = omega (arith, some, subst (λ ls. left < length ls) e is.low);
-      same = ap (λ k. get_or (line_of (get_or es index blank) ∷ live_of (drop (index + 1) es)) k no_line) (sym l) ∙ ap (λ ls. get_or ls left no_line) (sym e) ∙ is.same;
+      same = ap (λ k. get_or (line_of (get_or es index blank) ∷ live_of (drop (index + 1) es)) k no_line) (sym l)
+          ∙ ap (λ ls. get_or ls left no_line) (sym e) ∙ is.same;
     }
 
-pub left_here : (es : List Entry) (place index left : ℕ) → IsLeft es place index left → (get_or es index blank).live ≡ true → left ≡ 0 → line_of (get_or es index blank) ≡ get_or (live_of es) place no_line
+pub left_here : (es : List Entry) (place index left : ℕ) → IsLeft es place index left
+    → (get_or es index blank).live ≡ true → left ≡ 0 → line_of (get_or es index blank) ≡ get_or (live_of es) place no_line
 left_here es place index left is live none =
     let e = split es index true (left_within es place index left is) live in
     ap (λ ls. get_or ls 0 no_line) (sym e) ∙ ap (λ k. get_or (live_of (drop index es)) k no_line) (sym none) ∙ is.same
@@ -247,7 +281,8 @@ pub read_at : (es : List Entry) (i : ℕ) (e : Entry) → i < length es → e �
 read_at es i e below is = is ∙ any_default es i e blank below
 
 -- a range is halved
-pub half_low : (es : List Entry) (n middle : ℕ) (e : Entry) → Ascends 0 es → middle < length es → e ≡ get_or es middle e → e.number < n → (i : ℕ) → i < middle + 1 → number_at es i < n
+pub half_low : (es : List Entry) (n middle : ℕ) (e : Entry) → Ascends 0 es → middle < length es → e ≡ get_or es middle e → e.number < n → (i : ℕ)
+    → i < middle + 1 → number_at es i < n
 half_low es n middle e up below is less i low =
     let at : e.number ≡ number_at es middle = ap (λ (x : Entry). x.number) (read_at es middle e below is) in
     elim (cases_eq i middle) [
@@ -255,7 +290,8 @@ half_low es n middle e up below is less i low =
       | inr other ↦ omega (arith, at, less, ascends 0 es up i middle (omega (arith, low, other)) below)
     ]
 
-pub half_high : (es : List Entry) (n middle : ℕ) (e : Entry) → Ascends 0 es → middle < length es → e ≡ get_or es middle e → n ≤ e.number → (i : ℕ) → middle ≤ i → i < length es → n ≤ number_at es i
+pub half_high : (es : List Entry) (n middle : ℕ) (e : Entry) → Ascends 0 es → middle < length es → e ≡ get_or es middle e → n ≤ e.number → (i : ℕ)
+    → middle ≤ i → i < length es → n ≤ number_at es i
 half_high es n middle e up below is more i low inside =
     let at : e.number ≡ number_at es middle = ap (λ (x : Entry). x.number) (read_at es middle e below is) in
     elim (cases_eq i middle) [
@@ -275,12 +311,14 @@ behind_first es n first i up low is near =
     let there : 0 + i ≡ i = omega arith in
     omega (arith, apart es up 0 i (omega (arith, low)), ap (number_at es) there, is, near)
 
-pub before_last : (es : List Entry) (n last i : ℕ) → Ascends 0 es → i < length es → last ≡ number_at es (length es - 1) → last < n + (length es - 1 - i) → number_at es i < n
+pub before_last : (es : List Entry) (n last i : ℕ) → Ascends 0 es → i < length es → last ≡ number_at es (length es - 1) → last < n + (length es - 1 - i)
+    → number_at es i < n
 before_last es n last i up low is far =
     let there : i + (length es - 1 - i) ≡ length es - 1 = omega (arith, low) in
     omega (arith, apart es up i (length es - 1 - i) (omega (arith, low)), ap (number_at es) there, is, far)
 
-pub first_last : (es : List Entry) (first last : ℕ) → Ascends 0 es → 0 < length es → first ≡ number_at es 0 → last ≡ number_at es (length es - 1) → first + (length es - 1) ≤ last
+pub first_last : (es : List Entry) (first last : ℕ) → Ascends 0 es → 0 < length es → first ≡ number_at es 0 → last ≡ number_at es (length es - 1)
+    → first + (length es - 1) ≤ last
 first_last es first last up some a b =
     let there : 0 + (length es - 1) ≡ length es - 1 = omega arith in
     omega (arith, apart es up 0 (length es - 1) (omega (arith, some)), ap (number_at es) there, a, b)

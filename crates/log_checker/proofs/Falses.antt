@@ -1,5 +1,6 @@
 -- The literals that are false under some values.
-use Rattle.std.proofs.Common.{◌≡◌, ◌↔◌, ℕ, zero, suc, ◌+◌, ◌<◌, inl, inr, Bool, true, false, not, List, [], ◌∷◌, length, get_or, set, replicate, Contains, refl, sym, ap, ap₂, ◌∙◌, subst, arith}
+use Rattle.std.proofs.Common.{◌≡◌, ◌↔◌, ℕ, zero, suc, ◌+◌, ◌<◌, inl, inr, Bool, true, false, not, List, [], ◌∷◌, length, get_or, set, replicate, Contains, refl}
+use Rattle.std.proofs.Common.{sym, ap, ap₂, ◌∙◌, subst, arith}
 use Rattle.std.proofs.lemmas.Bool.{cases_eq}
 use Rattle.std.proofs.lemmas.List.{get_or-set_same, get_or-set_other}
 use Rattle.std.proofs.lemmas.List.Elements.{Contains-append_right}
@@ -35,8 +36,10 @@ here_false x vs l at = (0, omega (arith, ap (λ (m : Literal). m.letter.0) at), 
 tells_to : (x : ℕ) (vs : List Truth) (l : Literal) → Contains (falses_from x vs) l → Tells x vs l
 tells_to x [] l c = absurd (omega (arith, c.1))
 tells_to x (Unset ∷ vs) l c = later x Unset vs l (tells_to (suc x) vs l c)
-tells_to x (True ∷ vs) l c = cases_cons (record { letter = record { 0 = x }; negated = true }) (falses_from (suc x) vs) l c (Tells x (True ∷ vs) l) (here_true x vs l) (λ t. later x True vs l (tells_to (suc x) vs l t))
-tells_to x (False ∷ vs) l c = cases_cons (record { letter = record { 0 = x }; negated = false }) (falses_from (suc x) vs) l c (Tells x (False ∷ vs) l) (here_false x vs l) (λ t. later x False vs l (tells_to (suc x) vs l t))
+tells_to x (True ∷ vs) l c = cases_cons (record { letter = record { 0 = x }; negated = true }) (falses_from (suc x) vs) l c (Tells x (True ∷ vs) l)
+    (here_true x vs l) (λ t. later x True vs l (tells_to (suc x) vs l t))
+tells_to x (False ∷ vs) l c = cases_cons (record { letter = record { 0 = x }; negated = false }) (falses_from (suc x) vs) l c (Tells x (False ∷ vs) l)
+    (here_false x vs l) (λ t. later x False vs l (tells_to (suc x) vs l t))
 
 unset_is_not : (b : Bool) → signed b Unset ≡ False → ⊥
 unset_is_not true e = cc
@@ -59,11 +62,15 @@ plain_of false e = refl
 tells_from : (x : ℕ) (vs : List Truth) (k : ℕ) (l : Literal) → l.letter.0 ≡ x + k → signed l.negated (get_or vs k Unset) ≡ False → Contains (falses_from x vs) l
 tells_from x [] k l at is = absurd (unset_is_not l.negated is)
 tells_from x (Unset ∷ vs) zero l at is = absurd (unset_is_not l.negated is)
-tells_from x (True ∷ vs) zero l at is = first (record { letter = record { 0 = x }; negated = true }) (falses_from (suc x) vs) l (same_literal x true l (omega (arith, at)) (negated_of l.negated is))
-tells_from x (False ∷ vs) zero l at is = first (record { letter = record { 0 = x }; negated = false }) (falses_from (suc x) vs) l (same_literal x false l (omega (arith, at)) (plain_of l.negated is))
+tells_from x (True ∷ vs) zero l at is = first (record { letter = record { 0 = x }; negated = true }) (falses_from (suc x) vs) l
+    (same_literal x true l (omega (arith, at)) (negated_of l.negated is))
+tells_from x (False ∷ vs) zero l at is = first (record { letter = record { 0 = x }; negated = false }) (falses_from (suc x) vs) l
+    (same_literal x false l (omega (arith, at)) (plain_of l.negated is))
 tells_from x (Unset ∷ vs) (suc k) l at is = tells_from (suc x) vs k l (omega (arith, at)) is
-tells_from x (True ∷ vs) (suc k) l at is = Contains-append_right (record { letter = record { 0 = x }; negated = true } ∷ []) (falses_from (suc x) vs) l (tells_from (suc x) vs k l (omega (arith, at)) is)
-tells_from x (False ∷ vs) (suc k) l at is = Contains-append_right (record { letter = record { 0 = x }; negated = false } ∷ []) (falses_from (suc x) vs) l (tells_from (suc x) vs k l (omega (arith, at)) is)
+tells_from x (True ∷ vs) (suc k) l at is = Contains-append_right (record { letter = record { 0 = x }; negated = true } ∷ []) (falses_from (suc x) vs) l
+    (tells_from (suc x) vs k l (omega (arith, at)) is)
+tells_from x (False ∷ vs) (suc k) l at is = Contains-append_right (record { letter = record { 0 = x }; negated = false } ∷ []) (falses_from (suc x) vs) l
+    (tells_from (suc x) vs k l (omega (arith, at)) is)
 
 -- the false literals are those whose value is false
 pub false_from : (values : List Truth) (l : Literal) → value_of values l ≡ False → Contains (falses_in values) l
@@ -121,15 +128,18 @@ true_is values l is = false_from values (opposite l) (other_true l.negated (get_
 pub unset_letter : (values : List Truth) (l : Literal) → value_of values l ≡ Unset → get_or values l.letter.0 Unset ≡ Unset
 unset_letter values l is = none_false l.negated (get_or values l.letter.0 Unset) is
 
-pub unset_is : (values : List Truth) (l : Literal) → value_of values l ≡ Unset → (¬ Contains (falses_in values) l) × (¬ Contains (falses_in values) (opposite l))
+pub unset_is : (values : List Truth) (l : Literal)
+    → value_of values l ≡ Unset → (¬ Contains (falses_in values) l) × (¬ Contains (falses_in values) (opposite l))
 unset_is values l is =
     let none = unset_letter values l is in (
       λ c. unset_or_false l.negated (get_or values l.letter.0 Unset) none (false_to values l c),
       λ c. unset_or_false (not l.negated) (get_or values l.letter.0 Unset) none (false_to values (opposite l) c),
     )
 
-pub unset_from : (values : List Truth) (l : Literal) → (¬ Contains (falses_in values) l) → (¬ Contains (falses_in values) (opposite l)) → get_or values l.letter.0 Unset ≡ Unset
-unset_from values l one two = is_unset l.negated (get_or values l.letter.0 Unset) (λ e. one (false_from values l e)) (λ e. two (false_from values (opposite l) e))
+pub unset_from : (values : List Truth) (l : Literal) → (¬ Contains (falses_in values) l) → (¬ Contains (falses_in values) (opposite l))
+    → get_or values l.letter.0 Unset ≡ Unset
+unset_from values l one two =
+    is_unset l.negated (get_or values l.letter.0 Unset) (λ e. one (false_from values l e)) (λ e. two (false_from values (opposite l) e))
 
 -- one more literal is false
 signed_false : (b : Bool) → signed b (false_of b) ≡ False
@@ -144,19 +154,25 @@ signed_same false false e = refl
 
 pub falses_more : (values : List Truth) (l k : Literal) → l.letter.0 < length values → get_or values l.letter.0 Unset ≡ Unset
     → Contains (falses_in (set values l.letter.0 (false_of l.negated))) k ↔ Contains (l ∷ falses_in values) k
-falses_more values l k low none = (λ c. to (false_to (set values l.letter.0 (false_of l.negated)) k c), λ c. cases_cons l (falses_in values) k c (Contains (falses_in (set values l.letter.0 (false_of l.negated))) k) here there)
+falses_more values l k low none = (
+  λ c. to (false_to (set values l.letter.0 (false_of l.negated)) k c),
+  λ c. cases_cons l (falses_in values) k c (Contains (falses_in (set values l.letter.0 (false_of l.negated))) k) here there,
+)
   where
     to : value_of (set values l.letter.0 (false_of l.negated)) k ≡ False → Contains (l ∷ falses_in values) k
     to is = elim (cases_eq k.letter.0 l.letter.0) [
       | inl at ↦
           let here : signed k.negated (false_of l.negated) ≡ False =
-          ap (signed k.negated) (sym (get_or-set_same values l.letter.0 (false_of l.negated) Unset low)) ∙ subst (λ x. signed k.negated (get_or (set values l.letter.0 (false_of l.negated)) x Unset) ≡ False) at is in
+          ap (signed k.negated) (sym (get_or-set_same values l.letter.0 (false_of l.negated) Unset low))
+          ∙ subst (λ x. signed k.negated (get_or (set values l.letter.0 (false_of l.negated)) x Unset) ≡ False) at is in
           first l (falses_in values) k (same_literal l.letter.0 l.negated k at (signed_same k.negated l.negated here))
-      | inr other ↦ Contains-append_right (l ∷ []) (falses_in values) k (false_from values k (ap (signed k.negated) (sym (get_or-set_other values l.letter.0 k.letter.0 (false_of l.negated) Unset other)) ∙ is))
+      | inr other ↦ Contains-append_right (l ∷ []) (falses_in values) k
+          (false_from values k (ap (signed k.negated) (sym (get_or-set_other values l.letter.0 k.letter.0 (false_of l.negated) Unset other)) ∙ is))
     ]
 
     here : l ≡ k → Contains (falses_in (set values l.letter.0 (false_of l.negated))) k
-    here at = subst (λ m. Contains (falses_in (set values l.letter.0 (false_of l.negated))) m) at (false_from (set values l.letter.0 (false_of l.negated)) l (ap (signed l.negated) (get_or-set_same values l.letter.0 (false_of l.negated) Unset low) ∙ signed_false l.negated))
+    here at = subst (λ m. Contains (falses_in (set values l.letter.0 (false_of l.negated))) m) at (false_from (set values l.letter.0 (false_of l.negated)) l
+        (ap (signed l.negated) (get_or-set_same values l.letter.0 (false_of l.negated) Unset low) ∙ signed_false l.negated))
 
     there : Contains (falses_in values) k → Contains (falses_in (set values l.letter.0 (false_of l.negated))) k
     there c = false_from (set values l.letter.0 (false_of l.negated)) k (elim (cases_eq k.letter.0 l.letter.0) [

@@ -17,7 +17,8 @@ not_both falses clause u all unit = unit.not_false (All-contains (Contains false
 
 -- a clause forces one literal
 one_unit : (falses clause : List Literal) (u v : Literal) → IsUnit falses clause u → IsUnit falses clause v → v ≡ u
-one_unit falses clause u v one two = elim (All-contains (λ l. Contains falses l ⊎ (l ≡ u)) clause v one.others two.there) [ inl false' ↦ absurd (two.not_false false') | inr same ↦ same ]
+one_unit falses clause u v one two =
+    elim (All-contains (λ l. Contains falses l ⊎ (l ≡ u)) clause v one.others two.there) [ inl false' ↦ absurd (two.not_false false') | inr same ↦ same ]
 
 module _ (clauses : List (List Literal)) (lines : ℕ → Option (List Literal)) (greatest : ℕ) where
   -- what the first hint does
@@ -25,7 +26,8 @@ module _ (clauses : List (List Literal)) (lines : ℕ → Option (List Literal))
   Begins falses hint hints = (clause : List Literal) × NamesAmong clauses lines greatest hint clause
       × (((hints ≡ []) × IsFalse falses clause) ⊎ ((u : Literal) × IsUnit falses clause u × RefutesAmong clauses lines greatest (opposite u ∷ falses) hints))
 
-  pub begins : {falses : List Literal} {hs : List Hint} → RefutesAmong clauses lines greatest falses hs → (hint : Hint) (hints : List Hint) → hs ≡ hint ∷ hints → Begins falses hint hints
+  pub begins : {falses : List Literal} {hs : List Hint} → RefutesAmong clauses lines greatest falses hs → (hint : Hint) (hints : List Hint)
+      → hs ≡ hint ∷ hints → Begins falses hint hints
   begins {falses} (conflict {hint = h} {clause = clause} names all) hint hints e =
       let same : h ≡ hint = ap (λ x. get_or x 0 h) e in
       let rest : [] ≡ hints = ap (drop 1) e in
@@ -42,7 +44,8 @@ module _ (clauses : List (List Literal)) (lines : ℕ → Option (List Literal))
   same_clause : (hint : Hint) (a b : List Literal) → NamesAmong clauses lines greatest hint a → NamesAmong clauses lines greatest hint b → b ≡ a
   same_clause hint a b one two = let e : Some a ≡ Some b = sym one.is ∙ two.is in let f : a ≡ b = cc in sym f
 
-  goes_on : (falses : List Literal) (hint : Hint) (hints : List Hint) (clause : List Literal) (outcome : Outcome) → NamesAmong clauses lines greatest hint clause → IsOutcome falses clause outcome
+  goes_on : (falses : List Literal) (hint : Hint) (hints : List Hint) (clause : List Literal) (outcome : Outcome)
+      → NamesAmong clauses lines greatest hint clause → IsOutcome falses clause outcome
       → Begins falses hint hints → Goes clauses lines greatest falses hints outcome
   goes_on falses hint hints clause AllFalse names is b = elim b.2 [
     | inl end ↦ end.0
@@ -63,9 +66,11 @@ module _ (clauses : List (List Literal)) (lines : ℕ → Option (List Literal))
         | inr more ↦ is.1 more.0 (subst (λ c. IsUnit falses c more.0) same more.1)
       ]
 
-  goes_back : (falses : List Literal) (hint : Hint) (hints : List Hint) (clause : List Literal) (outcome : Outcome) → NamesAmong clauses lines greatest hint clause → IsOutcome falses clause outcome
+  goes_back : (falses : List Literal) (hint : Hint) (hints : List Hint) (clause : List Literal) (outcome : Outcome)
+      → NamesAmong clauses lines greatest hint clause → IsOutcome falses clause outcome
       → Goes clauses lines greatest falses hints outcome → RefutesAmong clauses lines greatest falses (hint ∷ hints)
-  goes_back falses hint hints clause AllFalse names is none = subst (λ hs. RefutesAmong clauses lines greatest falses (hint ∷ hs)) (sym none) (conflict names is)
+  goes_back falses hint hints clause AllFalse names is none =
+      subst (λ hs. RefutesAmong clauses lines greatest falses (hint ∷ hs)) (sym none) (conflict names is)
   goes_back falses hint hints clause (Forces u) names is rest = propagate names is rest
   goes_back falses hint hints clause Neither names is never = absurd never
 

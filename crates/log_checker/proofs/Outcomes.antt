@@ -2,7 +2,8 @@
 use Rattle.std.proofs.Common.{◌≡◌, ℕ, ◌⊎◌, inl, inr, Bool, true, false, eqb, ap₂, List, [], ◌∷◌, ◌++◌, All, Contains, refl, sym, ap, ◌∙◌, subst, arith}
 use mathlib.Core.Bool.{◌&&◌, beq}
 use Rattle.std.proofs.lemmas.Bool.{eqb-true, eq-eqb}
-use Rattle.std.proofs.lemmas.List.Elements.{All-push, All-weaker, All-contains, All-head, All-tail, All-cons, All-nil, Contains-append_left, Contains-append_right, Contains-push}
+use Rattle.std.proofs.lemmas.List.Elements.{All-push, All-weaker, All-contains, All-head, All-tail, All-cons, All-nil, Contains-append_left}
+use Rattle.std.proofs.lemmas.List.Elements.{Contains-append_right, Contains-push}
 use Rattle.cnf_base.specs.declared.literal.Literal.{Literal}
 use Rattle.cnf_base.specs.Literal.{opposite}
 use Rattle.cnf_base.specs.Step.{IsFalse, IsUnit}
@@ -60,7 +61,8 @@ module _ (falses : List Literal) where
   )
 
   -- the first that has no value
-  pub open_first : (xs : List Literal) (l : Literal) → (¬ Contains falses l) → (¬ Contains falses (opposite l)) → IsFalse falses xs → IsUnit falses (xs ++ l ∷ []) l
+  pub open_first : (xs : List Literal) (l : Literal) → (¬ Contains falses l) → (¬ Contains falses (opposite l)) → IsFalse falses xs
+      → IsUnit falses (xs ++ l ∷ []) l
   open_first xs l not_false not_true is = record {
     there = Contains-push xs l;
     not_false = not_false;

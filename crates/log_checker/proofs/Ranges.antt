@@ -1,5 +1,6 @@
 -- The first bad place does not depend on how a range is cut.
-use Rattle.std.proofs.Common.{◌≡◌, ℕ, zero, suc, ◌≤◌, inl, inr, Bool, true, false, length, get_or, take, Contains, is_some, IsTrue, ◌&&◌, List, [], ◌∷◌, Option, Some, None, refl, sym, ap, ◌∙◌, subst, arith}
+use Rattle.std.proofs.Common.{◌≡◌, ℕ, zero, suc, ◌≤◌, inl, inr, Bool, true, false, length, get_or, take, Contains, is_some, IsTrue, ◌&&◌, List, [], ◌∷◌, Option}
+use Rattle.std.proofs.Common.{Some, None, refl, sym, ap, ◌∙◌, subst, arith}
 use Rattle.std.proofs.lemmas.Bool.{cases_lt, cases_eq, cases_order}
 use Rattle.log_checker.specs.Judging.{IsFirstBad, Piece, AreAnswered, end_of, prefer, first_answer}
 use Rattle.std.specs.Bool.{Decides}
@@ -21,13 +22,16 @@ end_above Good from [] all = omega arith
 end_above Good from (p ∷ ps) all = omega (arith, all.0, end_above Good p.to ps all.2)
 
 -- two ranges, one behind the other
-joined : (Good : ℕ → Type 0) (from middle to : ℕ) (a b : Option ℕ) → from ≤ middle → middle ≤ to → IsFirstBad Good from middle a → IsFirstBad Good middle to b → IsFirstBad Good from to (prefer a b)
+joined : (Good : ℕ → Type 0) (from middle to : ℕ) (a b : Option ℕ) → from ≤ middle → middle ≤ to → IsFirstBad Good from middle a → IsFirstBad Good middle to b
+    → IsFirstBad Good from to (prefer a b)
 joined Good from middle to (Some n) b low high one two = (one.0, omega (arith, one.1, high), one.2, one.3)
-joined Good from middle to None None low high one two = λ k above below. elim (cases_lt k middle) [ inl first ↦ one k above first | inr second ↦ two k second below ]
+joined Good from middle to None None low high one two =
+    λ k above below. elim (cases_lt k middle) [ inl first ↦ one k above first | inr second ↦ two k second below ]
 joined Good from middle to None (Some n) low high one two =
     (omega (arith, low, two.0), two.1, two.2, λ k above below. elim (cases_lt k middle) [ inl first ↦ one k above first | inr second ↦ two.3 k second below ])
 
-pub pieces_answer : (Good : ℕ → Type 0) (from : ℕ) (pieces : List Piece) → AreAnswered Good from pieces → IsFirstBad Good from (end_of from pieces) (first_answer pieces)
+pub pieces_answer : (Good : ℕ → Type 0) (from : ℕ) (pieces : List Piece) → AreAnswered Good from pieces
+    → IsFirstBad Good from (end_of from pieces) (first_answer pieces)
 pieces_answer Good from [] all = λ k above below. absurd (omega (arith, above, below))
 pieces_answer Good from (p ∷ ps) all =
     joined Good from p.to (end_of p.to ps) p.answer (first_answer ps) all.0 (end_above Good p.to ps all.2) all.1 (pieces_answer Good p.to ps all.2)
@@ -55,7 +59,8 @@ first_of good Good each (suc n) = go (first_of good Good each n) (good n) refl
   where
     go : (answer : Option ℕ) × IsFirstBad Good 0 n answer → (b : Bool) → good n ≡ b → (answer : Option ℕ) × IsFirstBad Good 0 (suc n) answer
     go (Some k, is) b e = (Some k, (is.0, omega (arith, is.1), is.2, is.3))
-    go (None, is) true e = (None, λ k above below. elim (cases_eq k n) [ inl at ↦ subst Good (sym at) ((each n).0 e) | inr other ↦ is k above (omega (arith, other, below)) ])
+    go (None, is) true e =
+        (None, λ k above below. elim (cases_eq k n) [ inl at ↦ subst Good (sym at) ((each n).0 e) | inr other ↦ is k above (omega (arith, other, below)) ])
     go (None, is) false e = (Some n, (omega arith, omega arith, (λ h. false≢true (sym e ∙ (each n).1 h)), is))
 
 -- whether each line that the hints name is live
@@ -76,9 +81,11 @@ Decides-live parts k (hints.Line n) = (
 
 is_good : List (List Literal) → ℕ → List Part → ℕ → Bool
 is_good clauses greatest parts k =
-    is_hinted_step clauses (take k (lines_of parts)) greatest (get_or (lines_of parts) k []) (get_or (hints_of parts) k []) && list_all (is_live parts k) (get_or (hints_of parts) k [])
+    is_hinted_step clauses (take k (lines_of parts)) greatest (get_or (lines_of parts) k []) (get_or (hints_of parts) k [])
+    && list_all (is_live parts k) (get_or (hints_of parts) k [])
 
-Decides-good : (clauses : List (List Literal)) (greatest : ℕ) (parts : List Part) (k : ℕ) → Decides (is_good clauses greatest parts k) (IsGoodLine clauses greatest parts k)
+Decides-good : (clauses : List (List Literal)) (greatest : ℕ) (parts : List Part) (k : ℕ)
+    → Decides (is_good clauses greatest parts k) (IsGoodLine clauses greatest parts k)
 unfolding is_good IsLive
 Decides-good clauses greatest parts k =
     let ls = take k (lines_of parts) in
@@ -92,4 +99,5 @@ Decides-good clauses greatest parts k =
     )
 
 pub first_bad_is_there : FirstBadIsThere
-first_bad_is_there clauses greatest parts = first_of (is_good clauses greatest parts) (IsGoodLine clauses greatest parts) (Decides-good clauses greatest parts) (length (lines_of parts))
+first_bad_is_there clauses greatest parts =
+    first_of (is_good clauses greatest parts) (IsGoodLine clauses greatest parts) (Decides-good clauses greatest parts) (length (lines_of parts))

@@ -1,10 +1,12 @@
 -- Values are given and taken away.
-use Rattle.std.proofs.Common.{◌≡◌, ℕ, suc, ◌+◌, ◌-◌, ◌<◌, inl, inr, Bool, true, false, List, [], ◌∷◌, ◌++◌, length, take, get_or, set, replicate, All, Contains, refl, sym, ap, ◌∙◌, subst, arith}
+use Rattle.std.proofs.Common.{◌≡◌, ℕ, suc, ◌+◌, ◌-◌, ◌<◌, inl, inr, Bool, true, false, List, [], ◌∷◌, ◌++◌, length, take, get_or, set, replicate, All, Contains}
+use Rattle.std.proofs.Common.{refl, sym, ap, ◌∙◌, subst, arith}
 use Rattle.std.proofs.lemmas.Bool.{cases_eq}
 use Rattle.std.proofs.lemmas.List.{length-set, length-replicate, get_or-set_same, get_or-set_other, get_or-replicate, take_more_set, take_more}
 use Rattle.std.proofs.lemmas.List.Sums.{sum_by-set}
 use Rattle.std.proofs.lemmas.List.Folds.{sum_by-replicate}
-use Rattle.std.proofs.lemmas.List.Elements.{All-push, All-weaker, Contains-append_left, Contains-push, Contains-push_cases, All-nil, All-cons, All-head, All-tail}
+use Rattle.std.proofs.lemmas.List.Elements.{All-push, All-weaker, Contains-append_left, Contains-push, Contains-push_cases, All-nil, All-cons, All-head}
+use Rattle.std.proofs.lemmas.List.Elements.{All-tail}
 use Rattle.log_checker.specs.Values.{is_open, false_of, AreSet}
 use Rattle.log_checker.specs.declared.assignment.Truth.{Truth}
 use Rattle.log_checker.specs.declared.assignment.Truth.TheVariants.{Unset, True, False}
@@ -31,7 +33,8 @@ false_is_set true = refl
 false_is_set false = refl
 
 -- there is room for one more letter
-pub room_left : (values : List Truth) (trail : List ℕ) (used x : ℕ) → AreSet values trail used → x < length values → get_or values x Unset ≡ Unset → used < length trail
+pub room_left : (values : List Truth) (trail : List ℕ) (used x : ℕ) → AreSet values trail used → x < length values
+    → get_or values x Unset ≡ Unset → used < length trail
 room_left values trail used x is low none =
     let one : is_open (get_or values x Unset) ≡ 1 = ap is_open none in
     let e = sum_by-set is_open values x True Unset low in
@@ -47,22 +50,27 @@ set_more values trail used x b is low none =
       size = length-set trail used x ∙ is.size ∙ sym same;
       room = omega (arith, is.room, sum_by-set is_open values x (false_of b) Unset low, ap is_open none, false_is_set b, length-set trail used x);
       known = subst (All (λ y. y < length (set values x (false_of b)))) (sym shown)
-          (All-push (λ y. y < length (set values x (false_of b))) (take used trail) x (All-weaker (λ y. y < length values) (λ y. y < length (set values x (false_of b))) (λ y h. omega (arith, h, same)) (take used trail) is.known) (omega (arith, low, same)));
+          (All-push (λ y. y < length (set values x (false_of b))) (take used trail) x (All-weaker (λ y. y < length values)
+          (λ y. y < length (set values x (false_of b))) (λ y h. omega (arith, h, same)) (take used trail) is.known) (omega (arith, low, same)));
       there = λ y below has. subst (λ ys. Contains ys y) (sym shown) (elim (cases_eq y x) [
         | inl at ↦ subst (λ z. Contains (take used trail ++ x ∷ []) z) (sym at) (Contains-push (take used trail) x)
-        | inr other ↦ Contains-append_left (take used trail) (x ∷ []) y (is.there y (omega (arith, below, same)) (λ e. has (get_or-set_other values x y (false_of b) Unset other ∙ e)))
+        | inr other ↦ Contains-append_left (take used trail) (x ∷ []) y
+            (is.there y (omega (arith, below, same)) (λ e. has (get_or-set_other values x y (false_of b) Unset other ∙ e)))
       ]);
     }
 
 -- the last letter of the trail
-pub last_known : (values : List Truth) (trail : List ℕ) (used d : ℕ) → AreSet values trail (used + 1) → used < length trail → get_or trail used d < length values
-last_known values trail used d is low = All-last (take used trail) (get_or trail used d) (subst (All (λ y. y < length values)) (take_more trail used d low) is.known)
+pub last_known : (values : List Truth) (trail : List ℕ) (used d : ℕ) → AreSet values trail (used + 1) → used < length trail
+    → get_or trail used d < length values
+last_known values trail used d is low =
+    All-last (take used trail) (get_or trail used d) (subst (All (λ y. y < length values)) (take_more trail used d low) is.known)
   where
     All-last : (xs : List ℕ) (x : ℕ) → All (λ y. y < length values) (xs ++ x ∷ []) → x < length values
     All-last [] x all = All-head (λ y. y < length values) x [] all
     All-last (y ∷ xs) x all = All-last xs x (All-tail (λ z. z < length values) y (xs ++ x ∷ []) all)
 
-pub set_fewer : (values : List Truth) (trail : List ℕ) (used d : ℕ) → AreSet values trail (used + 1) → used < length trail → AreSet (set values (get_or trail used d) Unset) trail used
+pub set_fewer : (values : List Truth) (trail : List ℕ) (used d : ℕ) → AreSet values trail (used + 1) → used < length trail
+    → AreSet (set values (get_or trail used d) Unset) trail used
 set_fewer values trail used d is low =
     let x = get_or trail used d in
     let inside : x < length values = last_known values trail used d is low in
@@ -71,19 +79,22 @@ set_fewer values trail used d is low =
     record {
       size = is.size ∙ sym same;
       room = omega (arith, is.room, sum_by-set is_open values x Unset Unset inside);
-      known = All-weaker (λ y. y < length values) (λ y. y < length (set values x Unset)) (λ y h. omega (arith, h, same)) (take used trail) (firsts (take used trail) (subst (All (λ y. y < length values)) shown is.known));
+      known = All-weaker (λ y. y < length values) (λ y. y < length (set values x Unset)) (λ y h. omega (arith, h, same)) (take used trail)
+          (firsts (take used trail) (subst (All (λ y. y < length values)) shown is.known));
       there = λ y below has. elim (cases_eq y x) [
         | inl at ↦ absurd (has (subst (λ z. get_or (set values x Unset) z Unset ≡ Unset) (sym at) (get_or-set_same values x Unset Unset inside)))
-        | inr other ↦ elim (Contains-push_cases (take used trail) x y (subst (λ ys. Contains ys y) shown (is.there y (omega (arith, below, same)) (λ e. has (get_or-set_other values x y Unset Unset other ∙ e))))) [
-          | inl before ↦ before
-          | inr last ↦ absurd (other (sym last))
-        ]
+        | inr other ↦ elim (Contains-push_cases (take used trail) x y
+            (subst (λ ys. Contains ys y) shown (is.there y (omega (arith, below, same)) (λ e. has (get_or-set_other values x y Unset Unset other ∙ e))))) [
+              | inl before ↦ before
+              | inr last ↦ absurd (other (sym last))
+            ]
       ];
     }
   where
     firsts : (xs : List ℕ) → All (λ y. y < length values) (xs ++ get_or trail used d ∷ []) → All (λ y. y < length values) xs
     firsts [] all = All-nil (λ y. y < length values)
-    firsts (y ∷ xs) all = All-cons (λ z. z < length values) y xs (All-head (λ z. z < length values) y (xs ++ get_or trail used d ∷ []) all) (firsts xs (All-tail (λ z. z < length values) y (xs ++ get_or trail used d ∷ []) all))
+    firsts (y ∷ xs) all = All-cons (λ z. z < length values) y xs (All-head (λ z. z < length values) y (xs ++ get_or trail used d ∷ []) all)
+        (firsts xs (All-tail (λ z. z < length values) y (xs ++ get_or trail used d ∷ []) all))
 
 -- the last letter of the trail loses its value
 pub set_undone : (values : List Truth) (trail : List ℕ) (used d : ℕ) → AreSet values trail used → 0 < used
@@ -101,7 +112,8 @@ unset_again False never = absurd (never (λ e. cc))
 
 all_unset : (values : List Truth) → ((x : ℕ) → x < length values → get_or values x Unset ≡ Unset) → values ≡ replicate (length values) Unset
 all_unset [] each = refl
-all_unset (v ∷ values) each = ap (λ w. w ∷ values) (each 0 (omega arith)) ∙ ap (λ ws. Unset ∷ ws) (all_unset values (λ x low. each (suc x) (omega (arith, low))))
+all_unset (v ∷ values) each =
+    ap (λ w. w ∷ values) (each 0 (omega arith)) ∙ ap (λ ws. Unset ∷ ws) (all_unset values (λ x low. each (suc x) (omega (arith, low))))
 
 pub cleared : (values : List Truth) (trail : List ℕ) → AreSet values trail 0 → values ≡ replicate (length values) Unset
 cleared values trail is = all_unset values (λ x low. unset_again (get_or values x Unset) (λ has. none x (is.there x low has)))

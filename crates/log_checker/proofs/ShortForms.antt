@@ -21,10 +21,12 @@ pub short_more : (shorts more : List Short) (s : Short) (clauses : List (List Li
     → (k : ℕ) (d : Short) → k < n + 1 → IsShort (get_or more k d) (get_or clauses k [])
 short_more shorts more s clauses n size pushed each is k d low =
     elim (cases_lt k n) [
-      | inl early ↦ subst (λ t. IsShort t (get_or clauses k [])) (sym (ap (λ xs. get_or xs k d) pushed ∙ get_or_append_left shorts (s ∷ []) d k (omega (arith, size, early)))) (each k d early)
+      | inl early ↦ subst (λ t. IsShort t (get_or clauses k []))
+          (sym (ap (λ xs. get_or xs k d) pushed ∙ get_or_append_left shorts (s ∷ []) d k (omega (arith, size, early)))) (each k d early)
       | inr late ↦
           let here : k ≡ n = omega (arith, late, low) in
-          let last : get_or more k d ≡ s = ap (λ xs. get_or xs k d) pushed ∙ ap (λ i. get_or (shorts ++ s ∷ []) i d) (here ∙ sym size) ∙ get_or-append_seam shorts s [] d in
+          let last : get_or more k d ≡ s =
+          ap (λ xs. get_or xs k d) pushed ∙ ap (λ i. get_or (shorts ++ s ∷ []) i d) (here ∙ sym size) ∙ get_or-append_seam shorts s [] d in
           subst (λ t. IsShort t (get_or clauses k [])) (sym last) (subst (λ i. IsShort s (get_or clauses i [])) (sym here) is)
     ]
 
@@ -32,7 +34,8 @@ short_more shorts more s clauses n size pushed each is k d low =
 pub all_false : (falses : List Literal) → IsOutcome falses [] AllFalse
 all_false falses = All-nil (λ l. Contains falses l)
 
-module _ (values : List Truth) (clauses : List (List Literal)) (number : ℕ) (known : AreKnown (letters_in values) clauses) (low : 1 ≤ number) (high : number ≤ length clauses) where
+module _ (values : List Truth) (clauses : List (List Literal)) (number : ℕ) (known : AreKnown (letters_in values) clauses) (low : 1 ≤ number)
+    (high : number ≤ length clauses) where
   known_as : (ls : List Literal) → clause_at clauses number ≡ ls → All (IsKnown (letters_in values)) ls
   known_as ls is = subst (All (IsKnown (letters_in values))) is (clause_known (letters_in values) clauses number known low high)
 
@@ -41,12 +44,15 @@ module _ (values : List Truth) (clauses : List (List Literal)) (number : ℕ) (k
 
   pub second_known : (a b : ℕ) (ls : List Literal) → clause_at clauses number ≡ literal_of a ∷ literal_of b ∷ ls → b / 2 < length values
   second_known a b ls is =
-      known_within values (literal_of b) (All-head (IsKnown (letters_in values)) (literal_of b) ls (All-tail (IsKnown (letters_in values)) (literal_of a) (literal_of b ∷ ls) (known_as (literal_of a ∷ literal_of b ∷ ls) is)))
+      known_within values (literal_of b) (All-head (IsKnown (letters_in values)) (literal_of b) ls
+      (All-tail (IsKnown (letters_in values)) (literal_of a) (literal_of b ∷ ls) (known_as (literal_of a ∷ literal_of b ∷ ls) is)))
 
   pub third_known : (a b c : ℕ) → clause_at clauses number ≡ literal_of a ∷ literal_of b ∷ literal_of c ∷ [] → c / 2 < length values
   third_known a b c is =
-      let known_all = All-tail (IsKnown (letters_in values)) (literal_of a) (literal_of b ∷ literal_of c ∷ []) (known_as (literal_of a ∷ literal_of b ∷ literal_of c ∷ []) is) in
-      known_within values (literal_of c) (All-head (IsKnown (letters_in values)) (literal_of c) [] (All-tail (IsKnown (letters_in values)) (literal_of b) (literal_of c ∷ []) known_all))
+      let known_all = All-tail (IsKnown (letters_in values)) (literal_of a) (literal_of b ∷ literal_of c ∷ [])
+      (known_as (literal_of a ∷ literal_of b ∷ literal_of c ∷ []) is) in
+      known_within values (literal_of c)
+      (All-head (IsKnown (letters_in values)) (literal_of c) [] (All-tail (IsKnown (letters_in values)) (literal_of b) (literal_of c ∷ []) known_all))
 
 -- the clause is what its short form says
 pub said : (shorts : List Short) (clauses : List (List Literal)) (number : ℕ) (s d : Short) → AreShorts shorts clauses → 1 ≤ number → number ≤ length clauses

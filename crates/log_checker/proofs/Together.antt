@@ -1,5 +1,6 @@
 -- What the workers have found together.
-use Rattle.std.proofs.Common.{◌≡◌, ℕ, zero, suc, ◌+◌, ◌-◌, ◌<◌, ◌≤◌, IfSome, Option, Some, None, List, [], ◌∷◌, length, get_or, drop, All, refl, sym, ap, ◌∙◌, subst, arith}
+use Rattle.std.proofs.Common.{◌≡◌, ℕ, zero, suc, ◌+◌, ◌-◌, ◌<◌, ◌≤◌, IfSome, Option, Some, None, List, [], ◌∷◌, length, get_or, drop, All, refl, sym, ap, ◌∙◌}
+use Rattle.std.proofs.Common.{subst, arith}
 use Rattle.cnf_base.specs.declared.literal.Literal.{Literal}
 use Rattle.cnf_base.specs.Known.{AreKnown}
 use Rattle.cert_text.specs.Text.{Part}
@@ -21,17 +22,20 @@ found_answers cuts number [] = refl
 found_answers cuts number (a ∷ areas) = ap (λ o. prefer a.first_bad o) (found_answers cuts (suc number) areas)
 
 -- areas without a bad line are passed over
-found_on : (areas : List Area) (i : ℕ) (a : Area) → i < length areas → a ≡ get_or areas i a → found (drop i areas) ≡ prefer a.first_bad (found (drop (suc i) areas))
+found_on : (areas : List Area) (i : ℕ) (a : Area) → i < length areas → a ≡ get_or areas i a
+    → found (drop i areas) ≡ prefer a.first_bad (found (drop (suc i) areas))
 found_on [] i a low at = absurd (omega (arith, low))
 found_on (x ∷ areas) zero a low at = ap (λ (b : Area). prefer b.first_bad (found areas)) (sym at)
 found_on (x ∷ areas) (suc i) a low at = found_on areas i a (omega (arith, low)) at
 
-pub found_none : (areas : List Area) (i : ℕ) (a : Area) → i < length areas → a ≡ get_or areas i a → a.first_bad ≡ None → found areas ≡ found (drop i areas) → found areas ≡ found (drop (i + 1) areas)
+pub found_none : (areas : List Area) (i : ℕ) (a : Area) → i < length areas → a ≡ get_or areas i a → a.first_bad ≡ None → found areas ≡ found (drop i areas)
+    → found areas ≡ found (drop (i + 1) areas)
 found_none areas i a low at none so =
     let up : suc i ≡ i + 1 = omega arith in
     so ∙ found_on areas i a low at ∙ ap (λ o. prefer o (found (drop (suc i) areas))) none ∙ ap (λ n. found (drop n areas)) up
 
-pub found_some : (areas : List Area) (i : ℕ) (a : Area) (line : ℕ) → i < length areas → a ≡ get_or areas i a → a.first_bad ≡ Some line → found areas ≡ found (drop i areas) → Some line ≡ found areas
+pub found_some : (areas : List Area) (i : ℕ) (a : Area) (line : ℕ) → i < length areas → a ≡ get_or areas i a → a.first_bad ≡ Some line
+    → found areas ≡ found (drop i areas) → Some line ≡ found areas
 found_some areas i a line low at some so = sym (so ∙ found_on areas i a low at ∙ ap (λ o. prefer o (found (drop (suc i) areas))) some)
 
 found_end : (areas : List Area) (i : ℕ) → length areas ≤ i → found (drop i areas) ≡ None
@@ -53,9 +57,11 @@ pieces_end cuts number (a ∷ areas) =
 module _ (Good : ℕ → Type 0) (cuts : List ℕ) where
   -- each area has the first bad line of its piece
   abbrev Judged : ℕ → List Area → Type 0
-  Judged number areas = (i : ℕ) (d : Area) → i < length areas → IsFirstBad Good (cut_at cuts (number + i)) (cut_at cuts (suc (number + i))) (get_or areas i d).first_bad
+  Judged number areas =
+      (i : ℕ) (d : Area) → i < length areas → IsFirstBad Good (cut_at cuts (number + i)) (cut_at cuts (suc (number + i))) (get_or areas i d).first_bad
 
-  pieces_are_answered : (number : ℕ) (areas : List Area) → ((piece : ℕ) → suc piece < length cuts → cut_at cuts piece ≤ cut_at cuts (suc piece)) → number + length areas < length cuts → Judged number areas
+  pieces_are_answered : (number : ℕ) (areas : List Area) → ((piece : ℕ) → suc piece < length cuts → cut_at cuts piece ≤ cut_at cuts (suc piece))
+      → number + length areas < length cuts → Judged number areas
       → AreAnswered Good (cut_at cuts number) (pieces_of cuts number areas)
   pieces_are_answered number [] order room judged = tt
   pieces_are_answered number (a ∷ areas) order room judged =
@@ -68,7 +74,8 @@ module _ (Good : ℕ → Type 0) (cuts : List ℕ) where
       )
 
   -- so the first answer is the first bad line
-  pub first_is_first : (count : ℕ) (areas : List Area) → AreCuts cuts count → length cuts ≡ suc (length areas) → Judged 0 areas → IsFirstBad Good 0 count (first_answer (pieces_of cuts 0 areas))
+  pub first_is_first : (count : ℕ) (areas : List Area) → AreCuts cuts count → length cuts ≡ suc (length areas) → Judged 0 areas
+      → IsFirstBad Good 0 count (first_answer (pieces_of cuts 0 areas))
   first_is_first count areas cut size judged =
       let all = pieces_answer Good (cut_at cuts 0) (pieces_of cuts 0 areas) (pieces_are_answered 0 areas cut.order (omega (arith, size)) judged) in
       let last : length cuts - 1 ≡ 0 + length areas = omega (arith, size) in
@@ -77,8 +84,10 @@ module _ (Good : ℕ → Type 0) (cuts : List ℕ) where
       (subst (λ n. IsFirstBad Good (cut_at cuts 0) n (first_answer (pieces_of cuts 0 areas))) end all)
 
 -- over as many letters as there were
-pub first_of_all : (clauses : List (List Literal)) (parts : List Part) (letters : ℕ) (cuts : List ℕ) (old new : List Area) → AreCuts cuts (length (lines_of parts)) → length cuts ≡ suc (length old)
-    → All (λ (a : Area). length a.assignment ≡ letters + 1) old → KeepSizes old new → ((i : ℕ) (d : Area) → i < length old → IsJudged clauses parts cuts i (get_or new i d))
+pub first_of_all : (clauses : List (List Literal)) (parts : List Part) (letters : ℕ) (cuts : List ℕ) (old new : List Area)
+    → AreCuts cuts (length (lines_of parts)) → length cuts ≡ suc (length old)
+    → All (λ (a : Area). length a.assignment ≡ letters + 1) old → KeepSizes old new
+    → ((i : ℕ) (d : Area) → i < length old → IsJudged clauses parts cuts i (get_or new i d))
     → IsFirstBad (IsGoodLine clauses letters parts) 0 (length (lines_of parts)) (first_answer (pieces_of cuts 0 new))
 first_of_all clauses parts letters cuts old new cut size sizes keep judged =
     first_is_first (IsGoodLine clauses letters parts) cuts (length (lines_of parts)) new cut (omega (arith, size, keep.count)) (λ i d low.
@@ -100,7 +109,8 @@ lines_answer clauses parts letters None r at is = subst (IsLinesAnswer clauses l
 lines_answer clauses parts letters (Some k) r at is = subst (IsLinesAnswer clauses letters parts) (sym at) (k, refl, is)
 
 -- a scratch keeps its sizes
-pub scratch_still : (letters : ℕ) (old new : List Area) (before after : List ℕ) → KeepSizes old new → length after ≡ length before → IsScratch letters old before → IsScratch letters new after
+pub scratch_still : (letters : ℕ) (old new : List Area) (before after : List ℕ) → KeepSizes old new → length after ≡ length before
+    → IsScratch letters old before → IsScratch letters new after
 scratch_still letters old new before after keep same scratch = record {
   some = omega (arith, keep.count, scratch.some);
   few = omega (arith, keep.count, scratch.few);

@@ -1,5 +1,6 @@
 -- Which line is the first bad one, and what a checker keeps that goes through the parts once.
-use Rattle.std.specs.Prelude.{◌≡◌, ℕ, suc, ◌<◌, ◌≤◌, ◌↔◌, IsTrue, Bool, true, false, not, All, Contains, slice_index_or, ◌==◌, List, [], ◌∷◌, ◌++◌, length, filter, Option, Some, None, if◌then◌else◌, ⊤}
+use Rattle.std.specs.Prelude.{◌≡◌, ℕ, suc, ◌<◌, ◌≤◌, ◌↔◌, IsTrue, Bool, true, false, not, All, Contains, slice_index_or, ◌==◌, List, [], ◌∷◌, ◌++◌, length}
+use Rattle.std.specs.Prelude.{filter, Option, Some, None, if◌then◌else◌, ⊤}
 use Rattle.std.specs.List.{list_any}
 use Rattle.cnf_base.specs.declared.literal.Literal.{Literal}
 use Rattle.cnf_base.specs.declared.literal.Hint.{Hint}
@@ -71,7 +72,8 @@ is_named ns l = list_any (λ n. n == l.number) ns
 
 -- a part is taken
 abbrev pub with_part : Checker → Part → Checker
-with_part c (Line literals hints) = record { letters = c.letters; lines = suc c.lines; live = c.live ++ record { number = suc c.lines; literals = literals } ∷ [] }
+with_part c (Line literals hints) =
+    record { letters = c.letters; lines = suc c.lines; live = c.live ++ record { number = suc c.lines; literals = literals } ∷ [] }
 with_part c (Delete ns) = record { letters = c.letters; lines = c.lines; live = filter (λ l. not (is_named ns l)) c.live }
 
 -- the parts are taken one after another
@@ -132,7 +134,8 @@ Goes clauses lines greatest falses hints Neither = ⊥
 abbrev pub IsHintOutcome : List (List Literal) → (ℕ → Option (List Literal)) → ℕ → List Literal → Hint → Outcome → Type 0
 IsHintOutcome clauses lines greatest falses hint AllFalse = (clause : List Literal) × NamesAmong clauses lines greatest hint clause × IsFalse falses clause
 IsHintOutcome clauses lines greatest falses hint (Forces u) = (clause : List Literal) × NamesAmong clauses lines greatest hint clause × IsUnit falses clause u
-IsHintOutcome clauses lines greatest falses hint Neither = (clause : List Literal) → NamesAmong clauses lines greatest hint clause → IsOutcome falses clause Neither
+IsHintOutcome clauses lines greatest falses hint Neither =
+    (clause : List Literal) → NamesAmong clauses lines greatest hint clause → IsOutcome falses clause Neither
 
 -- what a line is that may have letters that are not known; Neither also where it has some
 abbrev pub IsLineOutcome : ℕ → List Literal → List Literal → Outcome → Type 0

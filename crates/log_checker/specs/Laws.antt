@@ -24,14 +24,17 @@ CheckersKeepLive = (letters : ℕ) (parts : List Part) (m : ℕ) → found (afte
 
 -- hints refute by one hint after another: the first one names a clause, and by what that clause is it is clear what the others have to do
 abbrev pub HintsGoOn : Type 0
-HintsGoOn = (clauses : List (List Literal)) (lines : ℕ → Option (List Literal)) (greatest : ℕ) (falses : List Literal) (hint : Hint) (hints : List Hint) (clause : List Literal) (outcome : Outcome)
+HintsGoOn = (clauses : List (List Literal)) (lines : ℕ → Option (List Literal)) (greatest : ℕ) (falses : List Literal) (hint : Hint) (hints : List Hint)
+    (clause : List Literal) (outcome : Outcome)
     → NamesAmong clauses lines greatest hint clause → IsOutcome falses clause outcome
     → RefutesAmong clauses lines greatest falses (hint ∷ hints) ↔ Goes clauses lines greatest falses hints outcome
 
 -- no hints refute nothing, nor do hints of which the first names no clause
 abbrev pub NoHintsRefute : Type 0
-NoHintsRefute = (clauses : List (List Literal)) (lines : ℕ → Option (List Literal)) (greatest : ℕ) (falses : List Literal) → ¬ RefutesAmong clauses lines greatest falses []
+NoHintsRefute =
+    (clauses : List (List Literal)) (lines : ℕ → Option (List Literal)) (greatest : ℕ) (falses : List Literal) → ¬ RefutesAmong clauses lines greatest falses []
 
 abbrev pub UnnamedRefuteNothing : Type 0
-UnnamedRefuteNothing = (clauses : List (List Literal)) (lines : ℕ → Option (List Literal)) (greatest : ℕ) (falses : List Literal) (hint : Hint) (hints : List Hint)
+UnnamedRefuteNothing =
+    (clauses : List (List Literal)) (lines : ℕ → Option (List Literal)) (greatest : ℕ) (falses : List Literal) (hint : Hint) (hints : List Hint)
     → ((clause : List Literal) → ¬ NamesAmong clauses lines greatest hint clause) → ¬ RefutesAmong clauses lines greatest falses (hint ∷ hints)

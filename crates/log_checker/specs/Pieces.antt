@@ -21,7 +21,8 @@ pub record AreCuts (cuts : List ℕ) (count : ℕ) : Type 0 where
 
 -- a worker leaves the first bad line of the piece of its number
 abbrev pub IsJudged : List (List Literal) → List Part → List ℕ → ℕ → Area → Type 0
-IsJudged clauses parts cuts piece area = IsFirstBad (IsGoodLine clauses (letters_in area.assignment) parts) (cut_at cuts piece) (cut_at cuts (suc piece)) area.first_bad
+IsJudged clauses parts cuts piece area =
+    IsFirstBad (IsGoodLine clauses (letters_in area.assignment) parts) (cut_at cuts piece) (cut_at cuts (suc piece)) area.first_bad
 
 -- areas keep their number and their letters
 pub record KeepSizes (old new : List Area) : Type 0 where

@@ -1,5 +1,6 @@
 -- What is kept of a list, step by step, and where it stands.
-use Rattle.std.proofs.Common.{◌≡◌, ℕ, zero, suc, ◌+◌, ◌<◌, ◌≤◌, inl, inr, Bool, true, false, IsTrue, IsFalse, List, [], ◌∷◌, ◌++◌, length, take, get_or, Some, slice_get, All, Contains, if◌then◌else◌, refl, sym, ap, subst, ◌∙◌, arith}
+use Rattle.std.proofs.Common.{◌≡◌, ℕ, zero, suc, ◌+◌, ◌<◌, ◌≤◌, inl, inr, Bool, true, false, IsTrue, IsFalse, List, [], ◌∷◌, ◌++◌, length, take, get_or, Some}
+use Rattle.std.proofs.Common.{slice_get, All, Contains, if◌then◌else◌, refl, sym, ap, subst, ◌∙◌, arith}
 use Rattle.std.proofs.Math.Seq.{take-suc, take-length}
 use Rattle.std.proofs.lemmas.Bool.{cases_lt}
 use Rattle.std.proofs.lemmas.List.{append-nil, length-take-le}
@@ -15,7 +16,8 @@ kept_from-append M n (x ∷ xs) ys = go (M n) (kept_from-append M (suc n) xs ys)
     moves = omega arith
 
     go : (b : Bool) → kept_from M (suc n) (xs ++ ys) ≡ kept_from M (suc n) xs ++ kept_from M (suc n + length xs) ys
-        → (if b then x ∷ kept_from M (suc n) (xs ++ ys) else kept_from M (suc n) (xs ++ ys)) ≡ (if b then x ∷ kept_from M (suc n) xs else kept_from M (suc n) xs) ++ kept_from M (n + suc (length xs)) ys
+        → (if b then x ∷ kept_from M (suc n) (xs ++ ys) else kept_from M (suc n) (xs ++ ys))
+        ≡ (if b then x ∷ kept_from M (suc n) xs else kept_from M (suc n) xs) ++ kept_from M (n + suc (length xs)) ys
     go true e = ap (λ l. x ∷ l) (e ∙ ap (λ m. kept_from M (suc n) xs ++ kept_from M m ys) moves)
     go false e = e ∙ ap (λ m. kept_from M (suc n) xs ++ kept_from M m ys) moves
 
@@ -30,7 +32,8 @@ module _ {X : Type 0} (M : Marks) (xs : List X) where
   kept_yes k d lt marked = more k d lt ∙ ap (λ (b : Bool). kept M (take k xs) ++ (if b then get_or xs k d ∷ [] else [])) marked
 
   pub kept_no : (k : ℕ) (d : X) → k < length xs → IsFalse (M (suc k)) → kept M (take (suc k) xs) ≡ kept M (take k xs)
-  kept_no k d lt unmarked = more k d lt ∙ ap (λ (b : Bool). kept M (take k xs) ++ (if b then get_or xs k d ∷ [] else [])) unmarked ∙ append-nil (kept M (take k xs))
+  kept_no k d lt unmarked =
+      more k d lt ∙ ap (λ (b : Bool). kept M (take k xs) ++ (if b then get_or xs k d ∷ [] else [])) unmarked ∙ append-nil (kept M (take k xs))
 
   pub kept_all : kept M (take (length xs) xs) ≡ kept M xs
   kept_all = ap (kept M) (take-length xs)
@@ -41,18 +44,22 @@ module _ {X : Type 0} (M : Marks) (xs : List X) where
   seam (y ∷ ys) x = seam ys x
 
   -- a marked member stands behind the marked ones before it
-  pub kept_at : (k j : ℕ) (d : X) → IsTrue (M (suc j)) → j < k → k ≤ length xs → slice_get (kept M (take k xs)) (length (kept M (take j xs))) ≡ Some (get_or xs j d)
+  pub kept_at : (k j : ℕ) (d : X) → IsTrue (M (suc j)) → j < k → k ≤ length xs
+      → slice_get (kept M (take k xs)) (length (kept M (take j xs))) ≡ Some (get_or xs j d)
   kept_at zero j d marked lt le = absurd (omega arith)
   kept_at (suc k) j d marked lt le = elim (cases_lt j k) [
     | inl below ↦ grown (kept_at k j d marked below (omega arith)) (M (suc k)) refl
     | inr at ↦
         let same : k ≡ j = omega arith in
         subst (λ n. slice_get (kept M (take (suc n) xs)) (length (kept M (take j xs))) ≡ Some (get_or xs j d)) (sym same)
-        (subst (λ l. slice_get l (length (kept M (take j xs))) ≡ Some (get_or xs j d)) (sym (kept_yes j d (omega arith) marked)) (seam (kept M (take j xs)) (get_or xs j d)))
+        (subst (λ l. slice_get l (length (kept M (take j xs))) ≡ Some (get_or xs j d)) (sym (kept_yes j d (omega arith) marked))
+        (seam (kept M (take j xs)) (get_or xs j d)))
   ]
     where
-      grown : slice_get (kept M (take k xs)) (length (kept M (take j xs))) ≡ Some (get_or xs j d) → (b : Bool) → M (suc k) ≡ b → slice_get (kept M (take (suc k) xs)) (length (kept M (take j xs))) ≡ Some (get_or xs j d)
-      grown e true is = subst (λ l. slice_get l (length (kept M (take j xs))) ≡ Some (get_or xs j d)) (sym (kept_yes k d (omega arith) is)) (slice_get_append (kept M (take k xs)) (get_or xs k d ∷ []) (length (kept M (take j xs))) (get_or xs j d) e)
+      grown : slice_get (kept M (take k xs)) (length (kept M (take j xs))) ≡ Some (get_or xs j d) → (b : Bool)
+          → M (suc k) ≡ b → slice_get (kept M (take (suc k) xs)) (length (kept M (take j xs))) ≡ Some (get_or xs j d)
+      grown e true is = subst (λ l. slice_get l (length (kept M (take j xs))) ≡ Some (get_or xs j d)) (sym (kept_yes k d (omega arith) is))
+          (slice_get_append (kept M (take k xs)) (get_or xs k d ∷ []) (length (kept M (take j xs))) (get_or xs j d) e)
       grown e false is = subst (λ l. slice_get l (length (kept M (take j xs))) ≡ Some (get_or xs j d)) (sym (kept_no k d (omega arith) is)) e
 
 -- what holds of each member holds of each that is kept
@@ -73,13 +80,15 @@ kept_from_few M n (x ∷ xs) = go (M n) (kept_from_few M (suc n) xs)
     go false h = omega arith
 
 -- as many of two lists of one length are kept
-pub kept_from_paired : {X Y : Type 0} (M : Marks) (n : ℕ) (xs : List X) (ys : List Y) → length xs ≡ length ys → length (kept_from M n xs) ≡ length (kept_from M n ys)
+pub kept_from_paired : {X Y : Type 0} (M : Marks) (n : ℕ) (xs : List X) (ys : List Y) → length xs ≡ length ys
+    → length (kept_from M n xs) ≡ length (kept_from M n ys)
 kept_from_paired M n [] [] e = refl
 kept_from_paired M n [] (y ∷ ys) e = absurd (omega arith)
 kept_from_paired M n (x ∷ xs) [] e = absurd (omega arith)
 kept_from_paired M n (x ∷ xs) (y ∷ ys) e = go (M n) (kept_from_paired M (suc n) xs ys (omega arith))
   where
-    go : (b : Bool) → length (kept_from M (suc n) xs) ≡ length (kept_from M (suc n) ys) → length (if b then x ∷ kept_from M (suc n) xs else kept_from M (suc n) xs) ≡ length (if b then y ∷ kept_from M (suc n) ys else kept_from M (suc n) ys)
+    go : (b : Bool) → length (kept_from M (suc n) xs) ≡ length (kept_from M (suc n) ys)
+        → length (if b then x ∷ kept_from M (suc n) xs else kept_from M (suc n) xs) ≡ length (if b then y ∷ kept_from M (suc n) ys else kept_from M (suc n) ys)
     go true h = ap suc h
     go false h = h
 
@@ -91,7 +100,8 @@ contains_kept M n (x ∷ xs) y c = go (M n) (contains_kept M (suc n) xs y) c
     later : Contains xs y → Contains (x ∷ xs) y
     later i = (suc i.0, omega (arith, i.1), i.2)
 
-    go : (b : Bool) → (Contains (kept_from M (suc n) xs) y → Contains xs y) → Contains (if b then x ∷ kept_from M (suc n) xs else kept_from M (suc n) xs) y → Contains (x ∷ xs) y
+    go : (b : Bool) → (Contains (kept_from M (suc n) xs) y → Contains xs y) → Contains (if b then x ∷ kept_from M (suc n) xs else kept_from M (suc n) xs) y
+        → Contains (x ∷ xs) y
     go true rest (zero, lt, e) = (zero, omega arith, e)
     go true rest (suc k, lt, e) = later (rest (k, omega arith, e))
     go false rest i = later (rest i)

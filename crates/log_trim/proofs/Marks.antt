@@ -1,5 +1,6 @@
 -- Marks from the last line back to the first reach what is needed, and nothing else.
-use Rattle.std.proofs.Common.{◌≡◌, ◌↔◌, IsFalse, ℕ, zero, suc, ◌<◌, ◌≤◌, ◌⊎◌, inl, inr, Bool, true, false, IsTrue, List, [], ◌∷◌, length, take, get_or, set, Contains, refl, sym, ap, subst, ◌∙◌, arith}
+use Rattle.std.proofs.Common.{◌≡◌, ◌↔◌, IsFalse, ℕ, zero, suc, ◌<◌, ◌≤◌, ◌⊎◌, inl, inr, Bool, true, false, IsTrue, List, [], ◌∷◌, length, take, get_or, set}
+use Rattle.std.proofs.Common.{Contains, refl, sym, ap, subst, ◌∙◌, arith}
 use Rattle.std.proofs.lemmas.Bool.{cases_lt}
 use Rattle.std.proofs.Math.Seq.{take-length}
 use Rattle.std.proofs.lemmas.List.{get_or-set_same, get_or-set_other, get_or_past, get_or-take, length-take, length-take-le}
@@ -53,13 +54,22 @@ there xs i d x lt e = (i, lt, moved xs i d x lt e)
 
 -- the first i members are among the first i + 1, and so is the next one
 contains_taken : {X : Type 0} (xs : List X) (i : ℕ) (y : X) → Contains (take i xs) y → Contains (take (suc i) xs) y
-contains_taken xs i y c = (c.0, omega (arith, c.1, length-take i xs, length-take (suc i) xs), get_or-take (suc i) xs c.0 y (omega (arith, c.1, length-take i xs)) ∙ (sym (get_or-take i xs c.0 y (omega (arith, c.1, length-take i xs))) ∙ c.2))
+contains_taken xs i y c = (
+  c.0,
+  omega (arith, c.1, length-take i xs, length-take (suc i) xs),
+  get_or-take (suc i) xs c.0 y (omega (
+    arith,
+    c.1,
+    length-take i xs,
+  )) ∙ (sym (get_or-take i xs c.0 y (omega (arith, c.1, length-take i xs))) ∙ c.2),
+)
 
 contains_next : {X : Type 0} (xs : List X) (i : ℕ) (y : X) → i < length xs → get_or xs i y ≡ y → Contains (take (suc i) xs) y
 contains_next xs i y lt e = (i, omega (arith, length-take-le (suc i) xs (omega arith)), get_or-take (suc i) xs i y (omega arith) ∙ e)
 
 -- what is contained in the first i + 1 members is so in the first i, or is the next one
-pub contains_more : {X : Type 0} (xs : List X) (i : ℕ) (x y : X) → i < length xs → get_or xs i x ≡ x → Contains (take (suc i) xs) y → Contains (take i xs) y ⊎ (x ≡ y)
+pub contains_more : {X : Type 0} (xs : List X) (i : ℕ) (x y : X) → i < length xs → get_or xs i x ≡ x → Contains (take (suc i) xs) y
+    → Contains (take i xs) y ⊎ (x ≡ y)
 contains_more xs i x y lt at c =
     let few : length (take (suc i) xs) ≡ suc i = length-take-le (suc i) xs (omega arith) in
     let less : length (take i xs) ≡ i = length-take-le i xs (omega arith) in
@@ -72,7 +82,8 @@ contains_more xs i x y lt at c =
     ]
 
 module _ (log : DerivationValue) (targets : List ℕ) where
-  pub target_marked : (i : ℕ) (M N : Marks) → i < length targets → IsMarking M N (get_or targets i 0) → AreNeeded log targets M → HasTargets M targets i → AreNeeded log targets N × HasTargets N targets (suc i)
+  pub target_marked : (i : ℕ) (M N : Marks) → i < length targets → IsMarking M N (get_or targets i 0) → AreNeeded log targets M → HasTargets M targets i
+      → AreNeeded log targets N × HasTargets N targets (suc i)
   target_marked i M N lt marking needed has = (
     λ n h. elim ((marking n).0 h) [ inl old ↦ needed n old | inr e ↦ target i lt (sym e) ],
     λ j below. elim (cases_lt j i) [
@@ -84,7 +95,8 @@ module _ (log : DerivationValue) (targets : List ℕ) where
   pub starts : (M : Marks) → AreNeeded log targets M → HasTargets M targets (length targets) → IsMarkedFrom log targets (length log.lines) M
   starts M needed has = record { has = has; needed = needed; closed = λ k m le lt. absurd (omega arith) }
 
-  pub line_visited : (k : ℕ) (M N : Marks) → IsDerivation log → k < length log.lines → IsTrue (M (suc k)) → ((n : ℕ) → IsTrue (N n) ↔ (IsTrue (M n) ⊎ HasHint log k n)) → IsMarkedFrom log targets (suc k) M → IsMarkedFrom log targets k N
+  pub line_visited : (k : ℕ) (M N : Marks) → IsDerivation log → k < length log.lines → IsTrue (M (suc k))
+      → ((n : ℕ) → IsTrue (N n) ↔ (IsTrue (M n) ⊎ HasHint log k n)) → IsMarkedFrom log targets (suc k) M → IsMarkedFrom log targets k N
   line_visited k M N is lt at adds w = record {
     has = λ j below. (adds _).1 (inl (w.has j below));
     needed = λ n h. elim ((adds n).0 h) [ inl old ↦ w.needed n old | inr c ↦ named k (w.needed (suc k) at) c ];
@@ -112,7 +124,8 @@ module _ (log : DerivationValue) (targets : List ℕ) where
     needed_marked (target i lt e) = subst (λ n. IsTrue (M n)) e (w.has i lt)
     needed_marked {n} (named k above c) = elim (cases_lt k (length log.lines)) [
       | inl lt ↦ w.closed k n (omega arith) lt (needed_marked above) c
-      | inr le ↦ absurd (Contains-nil (Line n) (subst (λ l. Contains l (Line n)) (get_or_past log.hints k [] (let paired = is.1.paired in omega (arith, paired, le))) c))
+      | inr le ↦ absurd
+          (Contains-nil (Line n) (subst (λ l. Contains l (Line n)) (get_or_past log.hints k [] (let paired = is.1.paired in omega (arith, paired, le))) c))
     ]
 
     pub ended : IsClosed log M × AreTheNeeded log targets M
@@ -127,7 +140,8 @@ module _ (log : DerivationValue) (targets : List ℕ) where
 
 -- ---- the hints of one line
 
-pub hint_marked : (hints : List Hint) (i m : ℕ) (L M N : Marks) → i < length hints → get_or hints i (Line m) ≡ Line m → AddsHints L M hints i → IsMarking M N m → AddsHints L N hints (suc i)
+pub hint_marked : (hints : List Hint) (i m : ℕ) (L M N : Marks) → i < length hints → get_or hints i (Line m) ≡ Line m → AddsHints L M hints i → IsMarking M N m
+    → AddsHints L N hints (suc i)
 hint_marked hints i m L M N lt at adds marking n = (
   λ h. elim ((marking n).0 h) [
     | inl old ↦ elim ((adds n).0 old) [ inl before ↦ inl before | inr c ↦ inr (contains_taken hints i (Line n) c) ]
@@ -142,7 +156,8 @@ hint_marked hints i m L M N lt at adds marking n = (
   ],
 )
 
-pub clause_passed : (hints : List Hint) (i j : ℕ) (L M : Marks) → i < length hints → get_or hints i (Clause j) ≡ Clause j → AddsHints L M hints i → AddsHints L M hints (suc i)
+pub clause_passed : (hints : List Hint) (i j : ℕ) (L M : Marks) → i < length hints → get_or hints i (Clause j) ≡ Clause j → AddsHints L M hints i
+    → AddsHints L M hints (suc i)
 clause_passed hints i j L M lt at adds n = (
   λ h. elim ((adds n).0 h) [ inl before ↦ inl before | inr c ↦ inr (contains_taken hints i (Line n) c) ],
   λ h. elim h [

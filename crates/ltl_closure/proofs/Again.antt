@@ -5,7 +5,8 @@ use Rattle.std.proofs.lemmas.List.Elements.{Contains-append_cases}
 use mathlib.Core.Bool.{Bool-discrete}
 use Rattle.ltl_closure.specs.Decide.{number_decided, name_decided, is_yes}
 use Rattle.ltl_syntax.specs.Formula.{Atom-discrete}
-use Rattle.ltl_closure.specs.Norm.{Norm, NConst, NLetter, NNotLetter, NAnd, NOr, NNext, NWeakNext, NYesterday, NWeakYesterday, NUntil, NRelease, NSince, NTrigger, Norm-discrete}
+use Rattle.ltl_closure.specs.Norm.{Norm, NConst, NLetter, NNotLetter, NAnd, NOr, NNext, NWeakNext, NYesterday, NWeakYesterday, NUntil, NRelease, NSince}
+use Rattle.ltl_closure.specs.Norm.{NTrigger, Norm-discrete}
 use Rattle.ltl_closure.specs.Closure.{walk, with_new, added, holds_entry, same}
 use Rattle.ltl_closure.proofs.Lists.{Contains-nil, Contains-cons_cases, Contains-here, Contains-there}
 use Rattle.ltl_closure.specs.Keys.{needs}
@@ -65,16 +66,26 @@ module _ (kept : List Norm) (closed : (e d : Norm) → Contains kept e → Conta
   walk_has (NConst b) c = has_cons _ [] c has_nil
   walk_has (NLetter p) c = has_cons _ [] c has_nil
   walk_has (NNotLetter p) c = has_cons _ (NNotLetter p ∷ []) (one (NLetter p) (NNotLetter p) [] refl c) (has_cons _ [] c has_nil)
-  walk_has (NAnd a b) c = has_append (walk a) _ (walk_has a (one a (NAnd a b) _ refl c)) (has_append (walk b) (NAnd a b ∷ []) (walk_has b (two a b (NAnd a b) _ refl c)) (has_cons _ [] c has_nil))
-  walk_has (NOr a b) c = has_append (walk a) _ (walk_has a (one a (NOr a b) _ refl c)) (has_append (walk b) (NOr a b ∷ []) (walk_has b (two a b (NOr a b) _ refl c)) (has_cons _ [] c has_nil))
+  walk_has (NAnd a b) c = has_append (walk a) _ (walk_has a (one a (NAnd a b) _ refl c))
+      (has_append (walk b) (NAnd a b ∷ []) (walk_has b (two a b (NAnd a b) _ refl c)) (has_cons _ [] c has_nil))
+  walk_has (NOr a b) c = has_append (walk a) _ (walk_has a (one a (NOr a b) _ refl c))
+      (has_append (walk b) (NOr a b ∷ []) (walk_has b (two a b (NOr a b) _ refl c)) (has_cons _ [] c has_nil))
   walk_has (NNext a) c = has_append (walk a) (NNext a ∷ []) (walk_has a (one a (NNext a) _ refl c)) (has_cons _ [] c has_nil)
   walk_has (NWeakNext a) c = has_append (walk a) (NWeakNext a ∷ []) (walk_has a (one a (NWeakNext a) _ refl c)) (has_cons _ [] c has_nil)
   walk_has (NYesterday a) c = has_append (walk a) (NYesterday a ∷ []) (walk_has a (one a (NYesterday a) _ refl c)) (has_cons _ [] c has_nil)
   walk_has (NWeakYesterday a) c = has_append (walk a) (NWeakYesterday a ∷ []) (walk_has a (one a (NWeakYesterday a) _ refl c)) (has_cons _ [] c has_nil)
-  walk_has (NUntil a b) c = has_append (walk a) _ (walk_has a (one a (NUntil a b) _ refl c)) (has_append (walk b) (NUntil a b ∷ NNext (NUntil a b) ∷ []) (walk_has b (two a b (NUntil a b) _ refl c)) (has_cons _ (NNext (NUntil a b) ∷ []) c (has_cons _ [] (three a b (NNext (NUntil a b)) (NUntil a b) refl c) has_nil)))
-  walk_has (NRelease a b) c = has_append (walk a) _ (walk_has a (one a (NRelease a b) _ refl c)) (has_append (walk b) (NRelease a b ∷ NWeakNext (NRelease a b) ∷ []) (walk_has b (two a b (NRelease a b) _ refl c)) (has_cons _ (NWeakNext (NRelease a b) ∷ []) c (has_cons _ [] (three a b (NWeakNext (NRelease a b)) (NRelease a b) refl c) has_nil)))
-  walk_has (NSince a b) c = has_append (walk a) _ (walk_has a (one a (NSince a b) _ refl c)) (has_append (walk b) (NSince a b ∷ NYesterday (NSince a b) ∷ []) (walk_has b (two a b (NSince a b) _ refl c)) (has_cons _ (NYesterday (NSince a b) ∷ []) c (has_cons _ [] (three a b (NYesterday (NSince a b)) (NSince a b) refl c) has_nil)))
-  walk_has (NTrigger a b) c = has_append (walk a) _ (walk_has a (one a (NTrigger a b) _ refl c)) (has_append (walk b) (NTrigger a b ∷ NWeakYesterday (NTrigger a b) ∷ []) (walk_has b (two a b (NTrigger a b) _ refl c)) (has_cons _ (NWeakYesterday (NTrigger a b) ∷ []) c (has_cons _ [] (three a b (NWeakYesterday (NTrigger a b)) (NTrigger a b) refl c) has_nil)))
+  walk_has (NUntil a b) c = has_append (walk a)
+      _ (walk_has a (one a (NUntil a b) _ refl c)) (has_append (walk b) (NUntil a b ∷ NNext (NUntil a b) ∷ []) (walk_has b (two a b (NUntil a b) _ refl c))
+      (has_cons _ (NNext (NUntil a b) ∷ []) c (has_cons _ [] (three a b (NNext (NUntil a b)) (NUntil a b) refl c) has_nil)))
+  walk_has (NRelease a b) c = has_append (walk a) _ (walk_has a (one a (NRelease a b) _ refl c))
+      (has_append (walk b) (NRelease a b ∷ NWeakNext (NRelease a b) ∷ []) (walk_has b (two a b (NRelease a b) _ refl c))
+      (has_cons _ (NWeakNext (NRelease a b) ∷ []) c (has_cons _ [] (three a b (NWeakNext (NRelease a b)) (NRelease a b) refl c) has_nil)))
+  walk_has (NSince a b) c = has_append (walk a)
+      _ (walk_has a (one a (NSince a b) _ refl c)) (has_append (walk b) (NSince a b ∷ NYesterday (NSince a b) ∷ []) (walk_has b (two a b (NSince a b) _ refl c))
+      (has_cons _ (NYesterday (NSince a b) ∷ []) c (has_cons _ [] (three a b (NYesterday (NSince a b)) (NSince a b) refl c) has_nil)))
+  walk_has (NTrigger a b) c = has_append (walk a) _ (walk_has a (one a (NTrigger a b) _ refl c))
+      (has_append (walk b) (NTrigger a b ∷ NWeakYesterday (NTrigger a b) ∷ []) (walk_has b (two a b (NTrigger a b) _ refl c))
+      (has_cons _ (NWeakYesterday (NTrigger a b) ∷ []) c (has_cons _ [] (three a b (NWeakYesterday (NTrigger a b)) (NTrigger a b) refl c) has_nil)))
 
   -- an entry that is there is not walked again
   pub walk_again : (g : Norm) → Contains kept g → with_new kept (walk g) ≡ kept

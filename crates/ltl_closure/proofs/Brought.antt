@@ -1,6 +1,7 @@
 -- What the nodes of a table bring to a closure: at most three entries for each of two signs and each unit of their size, beside the constants.
 -- A bounded operator brings at most two for a sign and a unit.
-use Rattle.std.proofs.Common.{◌≡◌, ℕ, zero, suc, ◌+◌, ◌*◌, ◌≤◌, ◌⊎◌, inl, inr, Bool, true, false, not, refl, sym, subst, arith, List, [], ◌∷◌, ◌++◌, length, length-append, Contains}
+use Rattle.std.proofs.Common.{◌≡◌, ℕ, zero, suc, ◌+◌, ◌*◌, ◌≤◌, ◌⊎◌, inl, inr, Bool, true, false, not, refl, sym, subst, arith, List, [], ◌∷◌, ◌++◌, length}
+use Rattle.std.proofs.Common.{length-append, Contains}
 use Rattle.std.proofs.Math.ListN.{get_or-eq_default}
 use Rattle.std.proofs.lemmas.Bool.{cases_lt}
 use Rattle.std.proofs.lemmas.List.Elements.{Contains-get_or, Contains-append_left, Contains-append_right, Contains-append_cases, Contains-push_cases}
@@ -13,7 +14,8 @@ use Rattle.ltl_syntax.specs.declared.node.BinaryOp.TheVariants as two
 use Rattle.ltl_syntax.specs.Formula.{Atom, Formula, Const, Letter, Unary, Binary}
 use Rattle.ltl_syntax.specs.Size.{operator_size, node_size, sizes}
 use Rattle.ltl_syntax.specs.Table.{Table, tree_among, made, trees_after, trees_of, tree_at}
-use Rattle.ltl_closure.specs.Norm.{Norm, NConst, NLetter, NNotLetter, NAnd, NOr, NNext, NWeakNext, NYesterday, NWeakYesterday, NUntil, NRelease, NSince, NTrigger, times, window, pos_of, neg_of}
+use Rattle.ltl_closure.specs.Norm.{Norm, NConst, NLetter, NNotLetter, NAnd, NOr, NNext, NWeakNext, NYesterday, NWeakYesterday, NUntil, NRelease, NSince}
+use Rattle.ltl_closure.specs.Norm.{NTrigger, times, window, pos_of, neg_of}
 use Rattle.ltl_closure.specs.Closure.{walk}
 use Rattle.ltl_closure.specs.Keys.{operands}
 use Rattle.ltl_closure.proofs.Lists.{Contains-nil, Contains-cons_cases, Contains-here, Contains-there}
@@ -186,7 +188,8 @@ positive_in (g ∷ fs) f h e c = elim (Contains-cons_cases g fs f h) [
 negative_in : (fs : List Formula) (f : Formula) → Contains fs f → (e : Norm) → Contains (brings_neg f) e → Contains (all_of fs) e
 negative_in [] f h e c = absurd (Contains-nil f h)
 negative_in (g ∷ fs) f h e c = elim (Contains-cons_cases g fs f h) [
-  | inl i ↦ Contains-append_right (brings_pos g) (brings_neg g ++ all_of fs) e (Contains-append_left (brings_neg g) (all_of fs) e (subst (λ z. Contains (brings_neg z) e) (sym i) c))
+  | inl i ↦ Contains-append_right (brings_pos g) (brings_neg g ++ all_of fs) e
+      (Contains-append_left (brings_neg g) (all_of fs) e (subst (λ z. Contains (brings_neg z) e) (sym i) c))
   | inr r ↦ Contains-append_right (brings_pos g) (brings_neg g ++ all_of fs) e (Contains-append_right (brings_neg g) (all_of fs) e (negative_in fs f r e c))
 ]
 
@@ -312,10 +315,15 @@ module _ (es : List Norm) (consts : (b : Bool) → Contains es (NConst b)) where
   norm_in (NWeakNext a) h k = unary_in a (NWeakNext a) (k a (Contains-here a [])) (h (NWeakNext a) (Contains-here (NWeakNext a) []))
   norm_in (NYesterday a) h k = unary_in a (NYesterday a) (k a (Contains-here a [])) (h (NYesterday a) (Contains-here (NYesterday a) []))
   norm_in (NWeakYesterday a) h k = unary_in a (NWeakYesterday a) (k a (Contains-here a [])) (h (NWeakYesterday a) (Contains-here (NWeakYesterday a) []))
-  norm_in (NUntil a b) h k = asking_in a b (NUntil a b) (NNext (NUntil a b)) (first a b k) (second a b k) (h (NUntil a b) (middle b (NUntil a b) (NNext (NUntil a b)))) (h (NNext (NUntil a b)) (last b (NUntil a b) (NNext (NUntil a b))))
-  norm_in (NRelease a b) h k = asking_in a b (NRelease a b) (NWeakNext (NRelease a b)) (first a b k) (second a b k) (h (NRelease a b) (middle b (NRelease a b) (NWeakNext (NRelease a b)))) (h (NWeakNext (NRelease a b)) (last b (NRelease a b) (NWeakNext (NRelease a b))))
-  norm_in (NSince a b) h k = asking_in a b (NSince a b) (NYesterday (NSince a b)) (first a b k) (second a b k) (h (NSince a b) (middle b (NSince a b) (NYesterday (NSince a b)))) (h (NYesterday (NSince a b)) (last b (NSince a b) (NYesterday (NSince a b))))
-  norm_in (NTrigger a b) h k = asking_in a b (NTrigger a b) (NWeakYesterday (NTrigger a b)) (first a b k) (second a b k) (h (NTrigger a b) (middle b (NTrigger a b) (NWeakYesterday (NTrigger a b)))) (h (NWeakYesterday (NTrigger a b)) (last b (NTrigger a b) (NWeakYesterday (NTrigger a b))))
+  norm_in (NUntil a b) h k = asking_in a b (NUntil a b) (NNext (NUntil a b)) (first a b k) (second a b k)
+      (h (NUntil a b) (middle b (NUntil a b) (NNext (NUntil a b)))) (h (NNext (NUntil a b)) (last b (NUntil a b) (NNext (NUntil a b))))
+  norm_in (NRelease a b) h k = asking_in a b (NRelease a b) (NWeakNext (NRelease a b)) (first a b k) (second a b k)
+      (h (NRelease a b) (middle b (NRelease a b) (NWeakNext (NRelease a b)))) (h (NWeakNext (NRelease a b)) (last b (NRelease a b) (NWeakNext (NRelease a b))))
+  norm_in (NSince a b) h k = asking_in a b (NSince a b) (NYesterday (NSince a b)) (first a b k) (second a b k)
+      (h (NSince a b) (middle b (NSince a b) (NYesterday (NSince a b)))) (h (NYesterday (NSince a b)) (last b (NSince a b) (NYesterday (NSince a b))))
+  norm_in (NTrigger a b) h k = asking_in a b
+      (NTrigger a b) (NWeakYesterday (NTrigger a b)) (first a b k) (second a b k) (h (NTrigger a b) (middle b (NTrigger a b) (NWeakYesterday (NTrigger a b))))
+      (h (NWeakYesterday (NTrigger a b)) (last b (NTrigger a b) (NWeakYesterday (NTrigger a b))))
 
   -- both normal forms of a formula
   abbrev AreIn : Formula → Type 0
@@ -332,26 +340,33 @@ module _ (es : List Norm) (consts : (b : Bool) → Contains es (NConst b)) where
     times_in : (n : ℕ) (c : Norm) → ((e : Norm) → Contains (times_brings N n c) e → Contains es e) → IsIn c → IsIn (times N n c)
     times_in zero c h ic = ic
     times_in (suc n) c h ic =
-        asked_in (times N n c) (times_in n c (λ e k. h e (Contains-there (N (times N n c)) (times_brings N n c) e k)) ic) (h (N (times N n c)) (Contains-here (N (times N n c)) (times_brings N n c)))
+        asked_in (times N n c) (times_in n c (λ e k. h e (Contains-there (N (times N n c)) (times_brings N n c) e k)) ic)
+        (h (N (times N n c)) (Contains-here (N (times N n c)) (times_brings N n c)))
 
     module _ (J : Norm → Norm → Norm) (joins : (a b : Norm) → walk (J a b) ≡ walk a ++ (walk b ++ J a b ∷ [])) (z : Norm) (iz : IsIn z) where
       window_in : (a b : ℕ) (c : Norm) → ((e : Norm) → Contains (window_brings J z N a b c) e → Contains es e) → IsIn c → IsIn (window J z N a b c)
       window_in zero zero c h ic = ic
       window_in zero (suc b) c h ic =
           let w = window J z N zero b c in
-          let rest : (e : Norm) → Contains (N (window J z N zero b c) ∷ window_brings J z N zero b c) e → Contains es e = λ e k. h e (Contains-there (J c (N (window J z N zero b c))) (N (window J z N zero b c) ∷ window_brings J z N zero b c) e k) in
-          let inner : IsIn (window J z N zero b c) = window_in zero b c (λ e k. rest e (Contains-there (N (window J z N zero b c)) (window_brings J z N zero b c) e k)) ic in
+          let rest : (e : Norm) → Contains (N (window J z N zero b c) ∷ window_brings J z N zero b c) e → Contains es e =
+          λ e k. h e (Contains-there (J c (N (window J z N zero b c))) (N (window J z N zero b c) ∷ window_brings J z N zero b c) e k) in
+          let inner : IsIn (window J z N zero b c) =
+          window_in zero b c (λ e k. rest e (Contains-there (N (window J z N zero b c)) (window_brings J z N zero b c) e k)) ic in
           let asked : IsIn (N (window J z N zero b c)) = asked_in w inner (rest (N w) (Contains-here (N w) (window_brings J z N zero b c))) in
-          λ e k. binary_in c (N w) (J c (N w)) ic asked (h (J c (N w)) (Contains-here (J c (N w)) (N w ∷ window_brings J z N zero b c))) e (subst (λ l. Contains l e) (joins c (N w)) k)
+          λ e k. binary_in c (N w) (J c (N w)) ic asked (h (J c (N w)) (Contains-here (J c (N w)) (N w ∷ window_brings J z N zero b c))) e
+          (subst (λ l. Contains l e) (joins c (N w)) k)
       window_in (suc a) (suc b) c h ic =
           let w = window J z N a b c in
-          asked_in w (window_in a b c (λ e k. h e (Contains-there (N w) (window_brings J z N a b c) e k)) ic) (h (N w) (Contains-here (N w) (window_brings J z N a b c)))
+          asked_in w (window_in a b c (λ e k. h e (Contains-there (N w) (window_brings J z N a b c) e k)) ic)
+          (h (N w) (Contains-here (N w) (window_brings J z N a b c)))
       window_in (suc a) zero c h ic = iz
 
-    some_are : (a b : ℕ) (c : Norm) → ((e : Norm) → Contains (window_brings NOr (NConst false) N a b c) e → Contains es e) → IsIn c → IsIn (window NOr (NConst false) N a b c)
+    some_are : (a b : ℕ) (c : Norm) → ((e : Norm) → Contains (window_brings NOr (NConst false) N a b c) e → Contains es e) → IsIn c
+        → IsIn (window NOr (NConst false) N a b c)
     some_are a b c h ic = window_in NOr (λ x y. refl) (NConst false) (const_in false) a b c h ic
 
-    every_are : (a b : ℕ) (c : Norm) → ((e : Norm) → Contains (window_brings NAnd (NConst true) N a b c) e → Contains es e) → IsIn c → IsIn (window NAnd (NConst true) N a b c)
+    every_are : (a b : ℕ) (c : Norm) → ((e : Norm) → Contains (window_brings NAnd (NConst true) N a b c) e → Contains es e) → IsIn c
+        → IsIn (window NAnd (NConst true) N a b c)
     every_are a b c h ic = window_in NAnd (λ x y. refl) (NConst true) (const_in true) a b c h ic
 
   unary_are : (op : UnaryOp) (a : Formula) → Brings (Unary op a) → AreIn a → AreIn (Unary op a)
@@ -359,7 +374,8 @@ module _ (es : List Norm) (consts : (b : Bool) → Contains es (NConst b)) where
   unary_are one.Next a h i = (norm_in (NNext (pos_of a)) h.0 (one_in (pos_of a) i.0), norm_in (NWeakNext (neg_of a)) h.1 (one_in (neg_of a) i.1))
   unary_are one.WeakNext a h i = (norm_in (NWeakNext (pos_of a)) h.0 (one_in (pos_of a) i.0), norm_in (NNext (neg_of a)) h.1 (one_in (neg_of a) i.1))
   unary_are one.Yesterday a h i = (norm_in (NYesterday (pos_of a)) h.0 (one_in (pos_of a) i.0), norm_in (NWeakYesterday (neg_of a)) h.1 (one_in (neg_of a) i.1))
-  unary_are one.WeakYesterday a h i = (norm_in (NWeakYesterday (pos_of a)) h.0 (one_in (pos_of a) i.0), norm_in (NYesterday (neg_of a)) h.1 (one_in (neg_of a) i.1))
+  unary_are one.WeakYesterday a h i =
+      (norm_in (NWeakYesterday (pos_of a)) h.0 (one_in (pos_of a) i.0), norm_in (NYesterday (neg_of a)) h.1 (one_in (neg_of a) i.1))
   unary_are one.Eventually a h i = (
     norm_in (NUntil (NConst true) (pos_of a)) h.0 (two_in (NConst true) (pos_of a) (const_in true) i.0),
     norm_in (NRelease (NConst false) (neg_of a)) h.1 (two_in (NConst false) (neg_of a) (const_in false) i.1),
@@ -381,7 +397,8 @@ module _ (es : List Norm) (consts : (b : Bool) → Contains es (NConst b)) where
   unary_are (one.EventuallyIn m n) a h i = (some_are NNext (λ x. refl) m n (pos_of a) h.0 i.0, every_are NWeakNext (λ x. refl) m n (neg_of a) h.1 i.1)
   unary_are (one.AlwaysIn m n) a h i = (every_are NWeakNext (λ x. refl) m n (pos_of a) h.0 i.0, some_are NNext (λ x. refl) m n (neg_of a) h.1 i.1)
   unary_are (one.OnceIn m n) a h i = (some_are NYesterday (λ x. refl) m n (pos_of a) h.0 i.0, every_are NWeakYesterday (λ x. refl) m n (neg_of a) h.1 i.1)
-  unary_are (one.HistoricallyIn m n) a h i = (every_are NWeakYesterday (λ x. refl) m n (pos_of a) h.0 i.0, some_are NYesterday (λ x. refl) m n (neg_of a) h.1 i.1)
+  unary_are (one.HistoricallyIn m n) a h i =
+      (every_are NWeakYesterday (λ x. refl) m n (pos_of a) h.0 i.0, some_are NYesterday (λ x. refl) m n (neg_of a) h.1 i.1)
 
   -- the connective over these two
   joined_are : (a b g : Norm) → operands g ≡ a ∷ b ∷ [] → ((e : Norm) → Contains (three g) e → Contains es e) → IsIn a → IsIn b → IsIn g
@@ -392,28 +409,55 @@ module _ (es : List Norm) (consts : (b : Bool) → Contains es (NConst b)) where
   either_are a b h ia ib = joined_are a b (NOr a b) refl h (ia (h a (here a b (NOr a b)))) (ib (h b (middle a b (NOr a b))))
 
   binary_are : (op : BinaryOp) (a b : Formula) → Brings (Binary op a b) → AreIn a → AreIn b → AreIn (Binary op a b)
-  binary_are two.And a b h i j = (joined_are (pos_of a) (pos_of b) (pos_of (Binary two.And a b)) refl h.0 i.0 j.0, joined_are (neg_of a) (neg_of b) (neg_of (Binary two.And a b)) refl h.1 i.1 j.1)
-  binary_are two.Or a b h i j = (joined_are (pos_of a) (pos_of b) (pos_of (Binary two.Or a b)) refl h.0 i.0 j.0, joined_are (neg_of a) (neg_of b) (neg_of (Binary two.Or a b)) refl h.1 i.1 j.1)
-  binary_are two.Implies a b h i j = (joined_are (neg_of a) (pos_of b) (pos_of (Binary two.Implies a b)) refl h.0 i.1 j.0, joined_are (pos_of a) (neg_of b) (neg_of (Binary two.Implies a b)) refl h.1 i.0 j.1)
-  binary_are two.Until a b h i j = (joined_are (pos_of a) (pos_of b) (pos_of (Binary two.Until a b)) refl h.0 i.0 j.0, joined_are (neg_of a) (neg_of b) (neg_of (Binary two.Until a b)) refl h.1 i.1 j.1)
-  binary_are two.Release a b h i j = (joined_are (pos_of a) (pos_of b) (pos_of (Binary two.Release a b)) refl h.0 i.0 j.0, joined_are (neg_of a) (neg_of b) (neg_of (Binary two.Release a b)) refl h.1 i.1 j.1)
-  binary_are two.Since a b h i j = (joined_are (pos_of a) (pos_of b) (pos_of (Binary two.Since a b)) refl h.0 i.0 j.0, joined_are (neg_of a) (neg_of b) (neg_of (Binary two.Since a b)) refl h.1 i.1 j.1)
-  binary_are two.Trigger a b h i j = (joined_are (pos_of a) (pos_of b) (pos_of (Binary two.Trigger a b)) refl h.0 i.0 j.0, joined_are (neg_of a) (neg_of b) (neg_of (Binary two.Trigger a b)) refl h.1 i.1 j.1)
+  binary_are two.And a b h i j = (
+    joined_are (pos_of a) (pos_of b) (pos_of (Binary two.And a b)) refl h.0 i.0 j.0,
+    joined_are (neg_of a) (neg_of b) (neg_of (Binary two.And a b)) refl h.1 i.1 j.1,
+  )
+  binary_are two.Or a b h i j = (
+    joined_are (pos_of a) (pos_of b) (pos_of (Binary two.Or a b)) refl h.0 i.0 j.0,
+    joined_are (neg_of a) (neg_of b) (neg_of (Binary two.Or a b)) refl h.1 i.1 j.1,
+  )
+  binary_are two.Implies a b h i j = (
+    joined_are (neg_of a) (pos_of b) (pos_of (Binary two.Implies a b)) refl h.0 i.1 j.0,
+    joined_are (pos_of a) (neg_of b) (neg_of (Binary two.Implies a b)) refl h.1 i.0 j.1,
+  )
+  binary_are two.Until a b h i j = (
+    joined_are (pos_of a) (pos_of b) (pos_of (Binary two.Until a b)) refl h.0 i.0 j.0,
+    joined_are (neg_of a) (neg_of b) (neg_of (Binary two.Until a b)) refl h.1 i.1 j.1,
+  )
+  binary_are two.Release a b h i j = (
+    joined_are (pos_of a) (pos_of b) (pos_of (Binary two.Release a b)) refl h.0 i.0 j.0,
+    joined_are (neg_of a) (neg_of b) (neg_of (Binary two.Release a b)) refl h.1 i.1 j.1,
+  )
+  binary_are two.Since a b h i j = (
+    joined_are (pos_of a) (pos_of b) (pos_of (Binary two.Since a b)) refl h.0 i.0 j.0,
+    joined_are (neg_of a) (neg_of b) (neg_of (Binary two.Since a b)) refl h.1 i.1 j.1,
+  )
+  binary_are two.Trigger a b h i j = (
+    joined_are (pos_of a) (pos_of b) (pos_of (Binary two.Trigger a b)) refl h.0 i.0 j.0,
+    joined_are (neg_of a) (neg_of b) (neg_of (Binary two.Trigger a b)) refl h.1 i.1 j.1,
+  )
   binary_are two.WeakUntil a b h i j =
       let p = NOr (pos_of a) (pos_of b) in
       let n = NAnd (neg_of a) (neg_of b) in (
-        joined_are (pos_of b) p (NRelease (pos_of b) p) refl h.0 j.0 (binary_in (pos_of a) (pos_of b) p i.0 j.0 (h.0 p (here p (NRelease (pos_of b) p) (NWeakNext (NRelease (pos_of b) p))))),
-        joined_are (neg_of b) n (NUntil (neg_of b) n) refl h.1 j.1 (binary_in (neg_of a) (neg_of b) n i.1 j.1 (h.1 n (here n (NUntil (neg_of b) n) (NNext (NUntil (neg_of b) n))))),
+        joined_are (pos_of b) p (NRelease (pos_of b) p) refl h.0 j.0
+            (binary_in (pos_of a) (pos_of b) p i.0 j.0 (h.0 p (here p (NRelease (pos_of b) p) (NWeakNext (NRelease (pos_of b) p))))),
+        joined_are (neg_of b) n (NUntil (neg_of b) n) refl h.1 j.1
+            (binary_in (neg_of a) (neg_of b) n i.1 j.1 (h.1 n (here n (NUntil (neg_of b) n) (NNext (NUntil (neg_of b) n))))),
       )
   binary_are two.StrongRelease a b h i j =
       let p = NAnd (pos_of a) (pos_of b) in
       let n = NOr (neg_of a) (neg_of b) in (
-        joined_are (pos_of b) p (NUntil (pos_of b) p) refl h.0 j.0 (binary_in (pos_of a) (pos_of b) p i.0 j.0 (h.0 p (here p (NUntil (pos_of b) p) (NNext (NUntil (pos_of b) p))))),
-        joined_are (neg_of b) n (NRelease (neg_of b) n) refl h.1 j.1 (binary_in (neg_of a) (neg_of b) n i.1 j.1 (h.1 n (here n (NRelease (neg_of b) n) (NWeakNext (NRelease (neg_of b) n))))),
+        joined_are (pos_of b) p (NUntil (pos_of b) p) refl h.0 j.0
+            (binary_in (pos_of a) (pos_of b) p i.0 j.0 (h.0 p (here p (NUntil (pos_of b) p) (NNext (NUntil (pos_of b) p))))),
+        joined_are (neg_of b) n (NRelease (neg_of b) n) refl h.1 j.1
+            (binary_in (neg_of a) (neg_of b) n i.1 j.1 (h.1 n (here n (NRelease (neg_of b) n) (NWeakNext (NRelease (neg_of b) n))))),
       )
   binary_are two.Iff a b h i j = (
-    either_are (NAnd (pos_of a) (pos_of b)) (NAnd (neg_of a) (neg_of b)) h.0 (binary_in (pos_of a) (pos_of b) (NAnd (pos_of a) (pos_of b)) i.0 j.0) (binary_in (neg_of a) (neg_of b) (NAnd (neg_of a) (neg_of b)) i.1 j.1),
-    either_are (NAnd (pos_of a) (neg_of b)) (NAnd (neg_of a) (pos_of b)) h.1 (binary_in (pos_of a) (neg_of b) (NAnd (pos_of a) (neg_of b)) i.0 j.1) (binary_in (neg_of a) (pos_of b) (NAnd (neg_of a) (pos_of b)) i.1 j.0),
+    either_are (NAnd (pos_of a) (pos_of b)) (NAnd (neg_of a) (neg_of b)) h.0 (binary_in (pos_of a) (pos_of b) (NAnd (pos_of a) (pos_of b)) i.0 j.0)
+        (binary_in (neg_of a) (neg_of b) (NAnd (neg_of a) (neg_of b)) i.1 j.1),
+    either_are (NAnd (pos_of a) (neg_of b)) (NAnd (neg_of a) (pos_of b)) h.1 (binary_in (pos_of a) (neg_of b) (NAnd (pos_of a) (neg_of b)) i.0 j.1)
+        (binary_in (neg_of a) (pos_of b) (NAnd (neg_of a) (pos_of b)) i.1 j.0),
   )
 
   module _ (trees : List Formula) (are : AreMade trees) (brings : (f : Formula) → Contains trees f → Brings f) where

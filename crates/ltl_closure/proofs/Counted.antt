@@ -1,5 +1,6 @@
 -- A closure has at most as many entries as its nodes bring by their sizes, and a walk has no more on its way.
-use Rattle.std.proofs.Common.{◌≡◌, ℕ, ◌+◌, ◌≤◌, inl, inr, Bool, true, false, IsTrue, refl, ◌∙◌, ap, subst, arith, List, [], ◌∷◌, ◌++◌, length, length-append, Contains, if◌then◌else◌}
+use Rattle.std.proofs.Common.{◌≡◌, ℕ, ◌+◌, ◌≤◌, inl, inr, Bool, true, false, IsTrue, refl, ◌∙◌, ap, subst, arith, List, [], ◌∷◌, ◌++◌, length, length-append}
+use Rattle.std.proofs.Common.{Contains, if◌then◌else◌}
 use Rattle.std.proofs.lemmas.List.{length-map}
 use Rattle.std.proofs.lemmas.List.Elements.{Contains-append_left, Contains-push}
 use Rattle.ltl_syntax.specs.Table.{Table, tree_at}
@@ -61,11 +62,13 @@ missing_one kept x (e ∷ es) new h = elim (Contains-cons_cases e es x h) [
 added_few : (kept : List Norm) (x : Norm) (es : List Norm) → Contains es x → length (added kept x) + missing (added kept x) es ≤ length kept + missing kept es
 added_few kept x es h = by (holds_entry kept x) refl
   where
-    by : (b : Bool) → holds_entry kept x ≡ b → length (if b then kept else kept ++ x ∷ []) + missing (if b then kept else kept ++ x ∷ []) es ≤ length kept + missing kept es
+    by : (b : Bool)
+        → holds_entry kept x ≡ b → length (if b then kept else kept ++ x ∷ []) + missing (if b then kept else kept ++ x ∷ []) es ≤ length kept + missing kept es
     by true e = omega arith
     by false e = let one = missing_one kept x es e h in omega (arith, length-append kept (x ∷ []))
 
-with_new_few : (kept xs es : List Norm) → ((e : Norm) → Contains xs e → Contains es e) → length (with_new kept xs) + missing (with_new kept xs) es ≤ length kept + missing kept es
+with_new_few : (kept xs es : List Norm) → ((e : Norm) → Contains xs e → Contains es e)
+    → length (with_new kept xs) + missing (with_new kept xs) es ≤ length kept + missing kept es
 with_new_few kept [] es h = omega arith
 with_new_few kept (x ∷ xs) es h =
     let rest = with_new_few (added kept x) xs es (λ e c. h e (Contains-there x xs e c)) in
@@ -118,11 +121,13 @@ run_grows t (w ∷ ws) p =
     omega arith
 
 -- on its way a walk has no more keys than its closure has entries
-pub walking_few : (t : Table) (root : ℕ) (ks : List Key) (xs : List Entry) (numbers : List ℕ) (memo : Memo) (todo : List Work) → IsWalking t root ks xs numbers memo todo → length ks ≤ 98306
+pub walking_few : (t : Table) (root : ℕ) (ks : List Key) (xs : List Entry) (numbers : List ℕ) (memo : Memo) (todo : List Work)
+    → IsWalking t root ks xs numbers memo todo → length ks ≤ 98306
 walking_few t root ks xs numbers memo todo w =
     let all = closure_few t root w.few in
     let ends : (run t todo w.progress).kept ≡ closure (tree_at t root) = ap (λ p. let q : Progress = p in q.kept) w.ends in
-    let grown : length w.progress.kept ≤ length (closure (tree_at t root)) = subst (λ l. length w.progress.kept ≤ length l) ends (run_grows t todo w.progress) in
+    let grown : length w.progress.kept ≤ length (closure (tree_at t root)) =
+    subst (λ l. length w.progress.kept ≤ length l) ends (run_grows t todo w.progress) in
     let keys : length ks ≡ length xs = ap length w.shared.keys ∙ length-map xs key_of in
     let same = stand_length t.names w.progress.kept w.progress.kept xs w.shared.each in
     omega arith

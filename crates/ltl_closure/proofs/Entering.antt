@@ -1,5 +1,6 @@
 -- From the clauses of an insertion to what entering a key means.
-use Rattle.std.proofs.Common.{◌≡◌, ℕ, suc, ◌+◌, ◌<◌, inl, inr, get_or, Bool, true, false, not, refl, sym, ◌∙◌, ap, subst, arith, List, [], ◌∷◌, ◌++◌, length, slice_get, Some, None, Contains, if◌then◌else◌, true≢false}
+use Rattle.std.proofs.Common.{◌≡◌, ℕ, suc, ◌+◌, ◌<◌, inl, inr, get_or, Bool, true, false, not, refl, sym, ◌∙◌, ap, subst, arith, List, [], ◌∷◌, ◌++◌, length}
+use Rattle.std.proofs.Common.{slice_get, Some, None, Contains, if◌then◌else◌, true≢false}
 use Rattle.std.proofs.lemmas.List.Sums.{position_or_len_is}
 use Rattle.std.proofs.lemmas.Bool.{or_parts}
 use Rattle.std.proofs.lemmas.List.Elements.{Contains-get_or}
@@ -41,7 +42,8 @@ found : (b : Bool) → false ≡ not b → b ≡ true
 found true e = refl
 found false e = cc
 
-module _ (ks : List Key) (xs : List Entry) (key : Key) (new : List Key) (i : ℕ) (added : Bool) (grows : new ≡ grown ks key) (tells : added ≡ not (list_any (key_eq key) ks)) where
+module _ (ks : List Key) (xs : List Entry) (key : Key) (new : List Key) (i : ℕ) (added : Bool) (grows : new ≡ grown ks key)
+    (tells : added ≡ not (list_any (key_eq key) ks)) where
   pub enter_known : added ≡ false → (k : Key) × (slice_get new i ≡ Some k) × (key_eq key k ≡ true) → Enters ks xs key new xs (i + 1)
   enter_known old (k, at, same) names kept g distinct shared has is =
       let there : list_any (key_eq key) ks ≡ true = found _ (sym old ∙ tells) in
@@ -73,9 +75,13 @@ module _ (ks : List Key) (xs : List Entry) (key : Key) (new : List Key) (i : ℕ
     enter_one ys none more names kept g distinct shared has is =
         rw (more, appended, at_end) (fresh_one names kept ks xs g key distinct shared has is (not_there ks key absent) none)
 
-    pub enter_two : (ys zs : List Entry) (r : Request) (last : List Key) → request_of key ≡ Some r → ys ≡ xs ++ entry_of key (i + 1) ∷ [] → zs ≡ ys ++ asking_entry r (i + 1) ∷ [] → last ≡ grown new (keys.Asks r (i + 1)) → Enters ks xs key last zs (i + 1)
+    pub enter_two : (ys zs : List Entry) (r : Request) (last : List Key) → request_of key ≡ Some r → ys ≡ xs ++ entry_of key (i + 1) ∷ []
+        → zs ≡ ys ++ asking_entry r (i + 1) ∷ [] → last ≡ grown new (keys.Asks r (i + 1)) → Enters ks xs key last zs (i + 1)
     enter_two ys zs r last asked more again grows_again names kept g distinct shared has is =
         let free : list_any (key_eq (keys.Asks r (i + 1))) new ≡ false =
-        none_there new (keys.Asks r (i + 1)) (rw (appended, at_end) (request_fresh names kept ks xs g key distinct shared has is (not_there ks key absent) r asked)) in
-        let final : last ≡ (ks ++ key ∷ []) ++ keys.Asks r (i + 1) ∷ [] = grows_again ∙ ap (λ b. if b then new else new ++ keys.Asks r (i + 1) ∷ []) free ∙ ap (λ l. l ++ keys.Asks r (i + 1) ∷ []) appended in
-        rw (again, more, final, at_end) (fresh_two names kept ks xs g key distinct shared has is (not_there ks key absent) r (key_request names kept g key r is asked))
+        none_there new (keys.Asks r (i + 1))
+        (rw (appended, at_end) (request_fresh names kept ks xs g key distinct shared has is (not_there ks key absent) r asked)) in
+        let final : last ≡ (ks ++ key ∷ []) ++ keys.Asks r (i + 1) ∷ [] =
+        grows_again ∙ ap (λ b. if b then new else new ++ keys.Asks r (i + 1) ∷ []) free ∙ ap (λ l. l ++ keys.Asks r (i + 1) ∷ []) appended in
+        rw (again, more, final, at_end)
+        (fresh_two names kept ks xs g key distinct shared has is (not_there ks key absent) r (key_request names kept g key r is asked))

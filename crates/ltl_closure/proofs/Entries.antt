@@ -5,7 +5,8 @@ use Rattle.std.proofs.lemmas.Bool.{or_cases}
 use mathlib.Core.Bool.{Bool-discrete}
 use Rattle.ltl_closure.specs.Decide.{number_decided, name_decided, is_yes}
 use Rattle.ltl_syntax.specs.Formula.{Formula, Atom-discrete}
-use Rattle.ltl_closure.specs.Norm.{Norm, NConst, NLetter, NNotLetter, NAnd, NOr, NNext, NWeakNext, NYesterday, NWeakYesterday, NUntil, NRelease, NSince, NTrigger, Norm-discrete, pos_of}
+use Rattle.ltl_closure.specs.Norm.{Norm, NConst, NLetter, NNotLetter, NAnd, NOr, NNext, NWeakNext, NYesterday, NWeakYesterday, NUntil, NRelease, NSince}
+use Rattle.ltl_closure.specs.Norm.{NTrigger, Norm-discrete, pos_of}
 use Rattle.ltl_closure.specs.Closure.{closure, walk, with_new, holds_entry, same, added}
 use Rattle.ltl_closure.specs.Keys.{needs}
 use Rattle.ltl_closure.proofs.Lists.{Contains-nil, Contains-cons_cases, Contains-here, Contains-there}
@@ -90,9 +91,11 @@ walk_self (NWeakNext a) = Contains-push (walk a) (NWeakNext a)
 walk_self (NYesterday a) = Contains-push (walk a) (NYesterday a)
 walk_self (NWeakYesterday a) = Contains-push (walk a) (NWeakYesterday a)
 walk_self (NUntil a b) = back (walk a) (walk b) (NUntil a b ∷ NNext (NUntil a b) ∷ []) _ (Contains-here (NUntil a b) (NNext (NUntil a b) ∷ []))
-walk_self (NRelease a b) = back (walk a) (walk b) (NRelease a b ∷ NWeakNext (NRelease a b) ∷ []) _ (Contains-here (NRelease a b) (NWeakNext (NRelease a b) ∷ []))
+walk_self (NRelease a b) =
+    back (walk a) (walk b) (NRelease a b ∷ NWeakNext (NRelease a b) ∷ []) _ (Contains-here (NRelease a b) (NWeakNext (NRelease a b) ∷ []))
 walk_self (NSince a b) = back (walk a) (walk b) (NSince a b ∷ NYesterday (NSince a b) ∷ []) _ (Contains-here (NSince a b) (NYesterday (NSince a b) ∷ []))
-walk_self (NTrigger a b) = back (walk a) (walk b) (NTrigger a b ∷ NWeakYesterday (NTrigger a b) ∷ []) _ (Contains-here (NTrigger a b) (NWeakYesterday (NTrigger a b) ∷ []))
+walk_self (NTrigger a b) =
+    back (walk a) (walk b) (NTrigger a b ∷ NWeakYesterday (NTrigger a b) ∷ []) _ (Contains-here (NTrigger a b) (NWeakYesterday (NTrigger a b) ∷ []))
 
 -- with each member what it needs
 abbrev IsClosed : List Norm → Type 0
@@ -106,7 +109,8 @@ unary_closed a g n self ih e d h k = elim (Contains-push_cases (walk a) g e h) [
       Contains-append_left (walk a) (g ∷ []) d (subst (Contains (walk a)) (one_of a d q) self)
 ]
 
-binary_closed : (a b g : Norm) → (needs g ≡ a ∷ b ∷ []) → Contains (walk a) a → Contains (walk b) b → IsClosed (walk a) → IsClosed (walk b) → IsClosed (walk a ++ (walk b ++ g ∷ []))
+binary_closed : (a b g : Norm) → (needs g ≡ a ∷ b ∷ []) → Contains (walk a) a → Contains (walk b) b → IsClosed (walk a) → IsClosed (walk b)
+    → IsClosed (walk a ++ (walk b ++ g ∷ []))
 binary_closed a b g n self_a self_b ia ib e d h k = elim (three (walk a) (walk b) (g ∷ []) e h) [
   | inl w ↦ front (walk a) (walk b) _ d (ia e d w k)
   | inr r ↦ elim r [
@@ -121,7 +125,8 @@ binary_closed a b g n self_a self_b ia ib e d h k = elim (three (walk a) (walk b
   ]
 ]
 
-requesting_closed : (a b g q : Norm) → (needs g ≡ a ∷ b ∷ q ∷ []) → (needs q ≡ g ∷ []) → Contains (walk a) a → Contains (walk b) b → IsClosed (walk a) → IsClosed (walk b) → IsClosed (walk a ++ (walk b ++ g ∷ q ∷ []))
+requesting_closed : (a b g q : Norm) → (needs g ≡ a ∷ b ∷ q ∷ []) → (needs q ≡ g ∷ []) → Contains (walk a) a → Contains (walk b) b → IsClosed (walk a)
+    → IsClosed (walk b) → IsClosed (walk a ++ (walk b ++ g ∷ q ∷ []))
 requesting_closed a b g q n m self_a self_b ia ib e d h k = elim (three (walk a) (walk b) (g ∷ q ∷ []) e h) [
   | inl w ↦ front (walk a) (walk b) _ d (ia e d w k)
   | inr r ↦ elim r [

@@ -2,7 +2,8 @@
 use Rattle.std.proofs.Common.{◌≡◌, ℕ, ◌+◌, ◌-◌, ◌<◌, inl, inr, true, false, refl, sym, ◌∙◌, ap, ap₂, arith, List, [], ◌∷◌, ◌++◌, length, get_or, Contains}
 use Rattle.std.proofs.lemmas.Bool.{cases_lt}
 use Rattle.ltl_syntax.specs.Formula.{Name, Fresh}
-use Rattle.ltl_closure.specs.Norm.{Norm, NConst, NLetter, NNotLetter, NAnd, NOr, NNext, NWeakNext, NYesterday, NWeakYesterday, NUntil, NRelease, NSince, NTrigger}
+use Rattle.ltl_closure.specs.Norm.{Norm, NConst, NLetter, NNotLetter, NAnd, NOr, NNext, NWeakNext, NYesterday, NWeakYesterday, NUntil, NRelease, NSince}
+use Rattle.ltl_closure.specs.Norm.{NTrigger}
 use Rattle.ltl_closure.specs.Entries.{place_in, StandsAmong}
 use Rattle.ltl_closure.specs.Keys.{asking, joined, entry_of, key_of, operands, requests, needs, IsKey, HasOperands, AreDistinct}
 use Rattle.ltl_closure.specs.declared.entry.Entry.{Entry}
@@ -92,7 +93,8 @@ module _ (names : List (List ℕ)) (kept : List Norm) where
   -- it has one key
   pub one_key : (g : Norm) (k l : Key) → AreDistinct names → IsKey names kept g k → IsKey names kept g l → k ≡ l
   one_key (NConst b) k l distinct h i = h ∙ sym i
-  one_key (NLetter (Name bytes)) k l distinct (m, h, lt, name) (n, i, lt', name') = h ∙ ap keys.Letter (same_number m n distinct lt lt' (name ∙ sym name')) ∙ sym i
+  one_key (NLetter (Name bytes)) k l distinct (m, h, lt, name) (n, i, lt', name') =
+      h ∙ ap keys.Letter (same_number m n distinct lt lt' (name ∙ sym name')) ∙ sym i
   one_key (NLetter (Fresh n)) k l distinct h i = h ∙ sym i
   one_key (NNotLetter p) k l distinct h i = h ∙ sym i
   one_key (NAnd a b) k l distinct h i = h ∙ sym i
@@ -108,16 +110,19 @@ module _ (names : List (List ℕ)) (kept : List Norm) where
 
   -- numbers stay when members are added
   module _ (more : List Norm) where
-    left : (g a b : Norm) (rest : List Norm) → ((d : Norm) → Contains (needs g) d → Contains kept d) → needs g ≡ a ∷ rest → place_in (kept ++ more) a ≡ place_in kept a
+    left : (g a b : Norm) (rest : List Norm) → ((d : Norm) → Contains (needs g) d → Contains kept d)
+        → needs g ≡ a ∷ rest → place_in (kept ++ more) a ≡ place_in kept a
     left g a b rest has e = place_left kept more a (first kept g a b rest (needs g) has e)
 
-    right : (g a b : Norm) (rest : List Norm) → ((d : Norm) → Contains (needs g) d → Contains kept d) → needs g ≡ a ∷ b ∷ rest → place_in (kept ++ more) b ≡ place_in kept b
+    right : (g a b : Norm) (rest : List Norm) → ((d : Norm) → Contains (needs g) d → Contains kept d)
+        → needs g ≡ a ∷ b ∷ rest → place_in (kept ++ more) b ≡ place_in kept b
     right g a b rest has e = place_left kept more b (second kept g a b rest (needs g) has e)
 
     last : (g a b q : Norm) → ((d : Norm) → Contains (needs g) d → Contains kept d) → needs g ≡ a ∷ b ∷ q ∷ [] → place_in (kept ++ more) q ≡ place_in kept q
     last g a b q has e = place_left kept more q (has q (rw e (Contains-there a (b ∷ q ∷ []) q (Contains-there b (q ∷ []) q (Contains-here q [])))))
 
-    pub still_stands : (g : Norm) (x : Entry) → ((d : Norm) → Contains (needs g) d → Contains kept d) → StandsAmong names kept g x → StandsAmong names (kept ++ more) g x
+    pub still_stands : (g : Norm) (x : Entry) → ((d : Norm) → Contains (needs g) d → Contains kept d) → StandsAmong names kept g x
+        → StandsAmong names (kept ++ more) g x
     still_stands (NConst true) x has is = is
     still_stands (NConst false) x has is = is
     still_stands (NLetter (Name bytes)) x has is = is
@@ -141,23 +146,30 @@ module _ (names : List (List ℕ)) (kept : List Norm) where
     snd g a b rest has e = place_left kept more b (second kept g a b rest (operands g) has e)
 
     -- the entry of its key and its number stands for it, where its request comes next
-    pub entry_stands : (g : Norm) (key : Key) (number : ℕ) → HasOperands kept g → IsKey names kept g key → ((q : Norm) → Contains (requests g) q → place_in (kept ++ more) q ≡ number + 1) → StandsAmong names (kept ++ more) g (entry_of key number)
+    pub entry_stands : (g : Norm) (key : Key) (number : ℕ) → HasOperands kept g → IsKey names kept g key
+        → ((q : Norm) → Contains (requests g) q → place_in (kept ++ more) q ≡ number + 1) → StandsAmong names (kept ++ more) g (entry_of key number)
     entry_stands (NConst true) key n has is next = ap (λ k. entry_of k n) is
     entry_stands (NConst false) key n has is next = ap (λ k. entry_of k n) is
     entry_stands (NLetter (Name bytes)) key n has (m, is, lt, name) next = (m, ap (λ k. entry_of k n) is, lt, name)
     entry_stands (NLetter (Fresh m)) key n has is next = ap (λ k. entry_of k n) is
     entry_stands (NNotLetter p) key n has is next = ap (λ k. entry_of k n) is ∙ ap Is.NotLetter (sym (fst (NNotLetter p) (NLetter p) (NLetter p) [] has refl))
-    entry_stands (NAnd a b) key n has is next = ap (λ k. entry_of k n) is ∙ ap₂ Is.And (sym (fst (NAnd a b) a b (b ∷ []) has refl)) (sym (snd (NAnd a b) a b [] has refl))
-    entry_stands (NOr a b) key n has is next = ap (λ k. entry_of k n) is ∙ ap₂ Is.Or (sym (fst (NOr a b) a b (b ∷ []) has refl)) (sym (snd (NOr a b) a b [] has refl))
+    entry_stands (NAnd a b) key n has is next =
+        ap (λ k. entry_of k n) is ∙ ap₂ Is.And (sym (fst (NAnd a b) a b (b ∷ []) has refl)) (sym (snd (NAnd a b) a b [] has refl))
+    entry_stands (NOr a b) key n has is next =
+        ap (λ k. entry_of k n) is ∙ ap₂ Is.Or (sym (fst (NOr a b) a b (b ∷ []) has refl)) (sym (snd (NOr a b) a b [] has refl))
     entry_stands (NNext a) key n has is next = ap (λ k. entry_of k n) is ∙ ap (λ m. Is.Next m false) (sym (fst (NNext a) a a [] has refl))
     entry_stands (NWeakNext a) key n has is next = ap (λ k. entry_of k n) is ∙ ap (λ m. Is.Next m true) (sym (fst (NWeakNext a) a a [] has refl))
     entry_stands (NYesterday a) key n has is next = ap (λ k. entry_of k n) is ∙ ap (λ m. Is.Yesterday m false) (sym (fst (NYesterday a) a a [] has refl))
     entry_stands (NWeakYesterday a) key n has is next = ap (λ k. entry_of k n) is ∙ ap (λ m. Is.Yesterday m true) (sym (fst (NWeakYesterday a) a a [] has refl))
     entry_stands (NUntil a b) key n has is next =
-        rw (next (NNext (NUntil a b)) (Contains-here _ []), fst (NUntil a b) a b (b ∷ []) has refl, snd (NUntil a b) a b [] has refl) (ap (λ k. entry_of k n) is)
+        rw (next (NNext (NUntil a b)) (Contains-here _ []), fst (NUntil a b) a b (b ∷ []) has refl, snd (NUntil a b) a b [] has refl)
+        (ap (λ k. entry_of k n) is)
     entry_stands (NRelease a b) key n has is next =
-        rw (next (NWeakNext (NRelease a b)) (Contains-here _ []), fst (NRelease a b) a b (b ∷ []) has refl, snd (NRelease a b) a b [] has refl) (ap (λ k. entry_of k n) is)
+        rw (next (NWeakNext (NRelease a b)) (Contains-here _ []), fst (NRelease a b) a b (b ∷ []) has refl, snd (NRelease a b) a b [] has refl)
+        (ap (λ k. entry_of k n) is)
     entry_stands (NSince a b) key n has is next =
-        rw (next (NYesterday (NSince a b)) (Contains-here _ []), fst (NSince a b) a b (b ∷ []) has refl, snd (NSince a b) a b [] has refl) (ap (λ k. entry_of k n) is)
+        rw (next (NYesterday (NSince a b)) (Contains-here _ []), fst (NSince a b) a b (b ∷ []) has refl, snd (NSince a b) a b [] has refl)
+        (ap (λ k. entry_of k n) is)
     entry_stands (NTrigger a b) key n has is next =
-        rw (next (NWeakYesterday (NTrigger a b)) (Contains-here _ []), fst (NTrigger a b) a b (b ∷ []) has refl, snd (NTrigger a b) a b [] has refl) (ap (λ k. entry_of k n) is)
+        rw (next (NWeakYesterday (NTrigger a b)) (Contains-here _ []), fst (NTrigger a b) a b (b ∷ []) has refl, snd (NTrigger a b) a b [] has refl)
+        (ap (λ k. entry_of k n) is)

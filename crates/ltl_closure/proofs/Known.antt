@@ -15,8 +15,10 @@ known_number f e m = (place_from_one (closure f) e, place_within (closure f) e m
 pub root_number : (f : Formula) → IsNumber (length (closure f)) (place_in (closure f) (pos_of f))
 root_number f = known_number f (pos_of f) (closure_root f)
 
-pub numbers_known : (f : Formula) (es : List Norm) → ((e : Norm) → Contains es e → Contains (closure f) e) → All (IsNumber (length (closure f))) (numbers_of f es)
-numbers_known f es h = All-map (IsNumber (length (closure f))) (place_in (closure f)) es (λ k d lt. known_number f (get_or es k d) (h (get_or es k d) (Contains-get_or es k d lt)))
+pub numbers_known : (f : Formula) (es : List Norm) → ((e : Norm) → Contains es e → Contains (closure f) e)
+    → All (IsNumber (length (closure f))) (numbers_of f es)
+numbers_known f es h =
+    All-map (IsNumber (length (closure f))) (place_in (closure f)) es (λ k d lt. known_number f (get_or es k d) (h (get_or es k d) (Contains-get_or es k d lt)))
 
 module _ (f : Formula) where
   pub next_in : (e : Norm) → Contains (nexts f) e → Contains (closure f) e

@@ -1,5 +1,6 @@
 -- The number of an entry is its place in the closure, from 1: the closure has no repeats.
-use Rattle.std.proofs.Common.{◌≡◌, ℕ, zero, suc, ◌-◌, ◌<◌, ◌≤◌, Bool, true, false, IsTrue, inl, inr, refl, arith, ap, ◌∙◌, List, [], ◌∷◌, ◌++◌, length, get_or, Contains, if◌then◌else◌, length-append}
+use Rattle.std.proofs.Common.{◌≡◌, ℕ, zero, suc, ◌-◌, ◌<◌, ◌≤◌, Bool, true, false, IsTrue, inl, inr, refl, arith, ap, ◌∙◌, List, [], ◌∷◌, ◌++◌, length, get_or}
+use Rattle.std.proofs.Common.{Contains, if◌then◌else◌, length-append}
 use Rattle.std.proofs.lemmas.Bool.{cases_lt, or_parts}
 use Rattle.std.proofs.lemmas.List.{get_or_append_left, get_or_at}
 use Rattle.std.proofs.lemmas.List.Elements.{Contains-get_or}
@@ -53,7 +54,8 @@ pub place_left : (xs ys : List Norm) (e : Norm) → Contains xs e → place_in (
 place_left [] ys e h = absurd (Contains-nil e h)
 place_left (x ∷ xs) ys e h = go (same x e) refl (λ r. place_left xs ys e r)
   where
-    go : (b : Bool) → same x e ≡ b → (Contains xs e → place_in (xs ++ ys) e ≡ place_in xs e) → (if b then 1 else suc (place_in (xs ++ ys) e)) ≡ (if b then 1 else suc (place_in xs e))
+    go : (b : Bool) → same x e ≡ b → (Contains xs e → place_in (xs ++ ys) e ≡ place_in xs e)
+        → (if b then 1 else suc (place_in (xs ++ ys) e)) ≡ (if b then 1 else suc (place_in xs e))
     go true is rest = refl
     go false is rest = elim (Contains-cons_cases x xs e h) [
       | inl i ↦ absurd (clash (same x e) (same_self x e i) is)

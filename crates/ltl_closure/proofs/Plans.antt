@@ -27,7 +27,8 @@ ask_walk asks.WeakYesterday a kept = sym (with_new-append kept (walk a) (own (as
 thrice : (kept xs ys zs : List Norm) → with_new (with_new (with_new kept xs) ys) zs ≡ with_new kept (xs ++ (ys ++ zs))
 thrice kept xs ys zs = sym (with_new-append kept xs (ys ++ zs) ∙ with_new-append (with_new kept xs) ys zs)
 
-join_walk : (c : Connective) (a b : Norm) (kept : List Norm) → with_new (with_new (with_new kept (walk a)) (walk b)) (own (joined c a b)) ≡ with_new kept (walk (joined c a b))
+join_walk : (c : Connective) (a b : Norm) (kept : List Norm)
+    → with_new (with_new (with_new kept (walk a)) (walk b)) (own (joined c a b)) ≡ with_new kept (walk (joined c a b))
 join_walk joins.And a b kept = thrice kept (walk a) (walk b) (own (joined joins.And a b))
 join_walk joins.Or a b kept = thrice kept (walk a) (walk b) (own (joined joins.Or a b))
 join_walk joins.Until a b kept = thrice kept (walk a) (walk b) (own (joined joins.Until a b))
@@ -61,7 +62,8 @@ module _ (t : Table) where
   ask : (r : Request) (ws : List Work) (a : Norm) → Makes t ws a → Makes t (ws ++ works.Ask r ∷ []) (asking r a)
   ask r ws a m p =
       let w = m p in (
-        run-append t ws (works.Ask r ∷ []) p ∙ ap (run t (works.Ask r ∷ [])) w.0 ∙ ap (λ kept. let q : Progress = record { kept = kept; values = asking r a ∷ p.values } in q) (ask_walk r a p.kept),
+        run-append t ws (works.Ask r ∷ []) p ∙ ap (run t (works.Ask r ∷ [])) w.0
+            ∙ ap (λ kept. let q : Progress = record { kept = kept; values = asking r a ∷ p.values } in q) (ask_walk r a p.kept),
         ready-append t ws (works.Ask r ∷ []) p w.1 (rw w.0 (tt, tt)),
       )
 
@@ -69,7 +71,8 @@ module _ (t : Table) where
   join c ws vs a b m n p =
       let w = m p in
       let v = n (reached a p) in (
-        run-append t ws (vs ++ works.Join c ∷ []) p ∙ ap (run t (vs ++ works.Join c ∷ [])) w.0 ∙ run-append t vs (works.Join c ∷ []) (reached a p) ∙ ap (run t (works.Join c ∷ [])) v.0
+        run-append t ws (vs ++ works.Join c ∷ []) p ∙ ap (run t (vs ++ works.Join c ∷ [])) w.0 ∙ run-append t vs (works.Join c ∷ []) (reached a p)
+            ∙ ap (run t (works.Join c ∷ [])) v.0
             ∙ ap (λ kept. let q : Progress = record { kept = kept; values = joined c a b ∷ p.values } in q) (join_walk c a b p.kept),
         ready-append t ws (vs ++ works.Join c ∷ []) p w.1 (rw w.0 (ready-append t vs (works.Join c ∷ []) (reached a p) v.1 (rw v.0 (tt, tt)))),
       )
@@ -79,9 +82,11 @@ module _ (t : Table) where
   times_makes r s a zero lt = visit a s lt
   times_makes r s a (suc n) lt = ask r (times_plan r s a n) _ (times_makes r s a n lt)
 
-  window_makes : (c : Connective) (z : Bool) (r : Request) (s : Bool) (x : ℕ) → x < length t.nodes → (a b : ℕ) → Makes t (window_plan c z r s x a b) (window (joined c) (NConst z) (asking r) a b (signed s (tree_at t x)))
+  window_makes : (c : Connective) (z : Bool) (r : Request) (s : Bool) (x : ℕ) → x < length t.nodes → (a b : ℕ)
+      → Makes t (window_plan c z r s x a b) (window (joined c) (NConst z) (asking r) a b (signed s (tree_at t x)))
   window_makes c z r s x lt zero zero = visit x s lt
-  window_makes c z r s x lt zero (suc b) = join c (works.Visit x s ∷ []) (window_plan c z r s x zero b ++ works.Ask r ∷ []) _ _ (visit x s lt) (ask r (window_plan c z r s x zero b) _ (window_makes c z r s x lt zero b))
+  window_makes c z r s x lt zero (suc b) = join c (works.Visit x s ∷ []) (window_plan c z r s x zero b ++ works.Ask r ∷ []) _ _ (visit x s lt)
+      (ask r (window_plan c z r s x zero b) _ (window_makes c z r s x lt zero b))
   window_makes c z r s x lt (suc a) (suc b) = ask r (window_plan c z r s x a b) _ (window_makes c z r s x lt a b)
   window_makes c z r s x lt (suc a) zero = constant z
 
@@ -119,15 +124,20 @@ module _ (t : Table) where
 
   module _ (a b : ℕ) (la : a < length t.nodes) (lb : b < length t.nodes) where
     -- two visits and their connective
-    pair : (c : Connective) (s r : Bool) → Makes t (works.Visit a s ∷ works.Visit b r ∷ works.Join c ∷ []) (joined c (signed s (tree_at t a)) (signed r (tree_at t b)))
+    pair : (c : Connective) (s r : Bool)
+        → Makes t (works.Visit a s ∷ works.Visit b r ∷ works.Join c ∷ []) (joined c (signed s (tree_at t a)) (signed r (tree_at t b)))
     pair c s r = join c (works.Visit a s ∷ []) (works.Visit b r ∷ []) _ _ (visit a s la) (visit b r lb)
 
-    nested : (c d : Connective) (s : Bool) → Makes t (works.Visit b s ∷ works.Visit a s ∷ works.Visit b s ∷ works.Join c ∷ works.Join d ∷ []) (joined d (signed s (tree_at t b)) (joined c (signed s (tree_at t a)) (signed s (tree_at t b))))
+    nested : (c d : Connective) (s : Bool) → Makes t (works.Visit b s ∷ works.Visit a s ∷ works.Visit b s ∷ works.Join c ∷ works.Join d ∷ []) (joined d
+        (signed s (tree_at t b)) (joined c (signed s (tree_at t a)) (signed s (tree_at t b))))
     nested c d s = join d (works.Visit b s ∷ []) (works.Visit a s ∷ works.Visit b s ∷ works.Join c ∷ []) _ _ (visit b s lb) (pair c s s)
 
-    crossed : (s : Bool) → Makes t (binary_plan s two.Iff a b) (NOr (NAnd (signed true (tree_at t a)) (signed s (tree_at t b))) (NAnd (signed false (tree_at t a)) (signed (not s) (tree_at t b))))
-    crossed true = join joins.Or (works.Visit a true ∷ works.Visit b true ∷ works.Join joins.And ∷ []) (works.Visit a false ∷ works.Visit b false ∷ works.Join joins.And ∷ []) _ _ (pair joins.And true true) (pair joins.And false false)
-    crossed false = join joins.Or (works.Visit a true ∷ works.Visit b false ∷ works.Join joins.And ∷ []) (works.Visit a false ∷ works.Visit b true ∷ works.Join joins.And ∷ []) _ _ (pair joins.And true false) (pair joins.And false true)
+    crossed : (s : Bool) → Makes t (binary_plan s two.Iff a b) (NOr (NAnd (signed true (tree_at t a)) (signed s (tree_at t b)))
+        (NAnd (signed false (tree_at t a)) (signed (not s) (tree_at t b))))
+    crossed true = join joins.Or (works.Visit a true ∷ works.Visit b true ∷ works.Join joins.And ∷ [])
+        (works.Visit a false ∷ works.Visit b false ∷ works.Join joins.And ∷ []) _ _ (pair joins.And true true) (pair joins.And false false)
+    crossed false = join joins.Or (works.Visit a true ∷ works.Visit b false ∷ works.Join joins.And ∷ [])
+        (works.Visit a false ∷ works.Visit b true ∷ works.Join joins.And ∷ []) _ _ (pair joins.And true false) (pair joins.And false true)
 
     pub binary_makes : (s : Bool) (op : BinaryOp) → Makes t (binary_plan s op a b) (signed s (Binary op (tree_at t a) (tree_at t b)))
     binary_makes true two.And = pair joins.And true true
@@ -158,7 +168,12 @@ module _ (t : Table) where
   window_weigh : (c : Connective) (z : Bool) (r : Request) (s : Bool) (x a b : ℕ) → weights t (window_plan c z r s x a b) ≡ window_cost a b (cost (tree_at t x))
   window_weigh c z r s x zero zero = omega arith
   window_weigh c z r s x zero (suc b) =
-      omega (arith, window_weigh c z r s x zero b, weights-append t (window_plan c z r s x zero b) (works.Ask r ∷ []), weights-append t (window_plan c z r s x zero b ++ works.Ask r ∷ []) (works.Join c ∷ []))
+      omega (
+        arith,
+        window_weigh c z r s x zero b,
+        weights-append t (window_plan c z r s x zero b) (works.Ask r ∷ []),
+        weights-append t (window_plan c z r s x zero b ++ works.Ask r ∷ []) (works.Join c ∷ []),
+      )
   window_weigh c z r s x (suc a) (suc b) = omega (arith, window_weigh c z r s x a b, weights-append t (window_plan c z r s x a b) (works.Ask r ∷ []))
   window_weigh c z r s x (suc a) zero = omega arith
 

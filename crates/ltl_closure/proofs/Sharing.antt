@@ -1,11 +1,15 @@
 -- Entering a key: what is there stays, and what is new goes last, with its request.
-use Rattle.std.proofs.Common.{◌≡◌, ℕ, zero, suc, ◌+◌, ◌<◌, ◌≤◌, ◌⊎◌, inl, inr, Bool, true, false, IsTrue, refl, sym, subst, ◌∙◌, ap, ap₂, arith, List, [], ◌∷◌, ◌++◌, length, map, get_or, slice_get, Some, None, Contains, if◌then◌else◌, length-append, append_assoc}
+use Rattle.std.proofs.Common.{◌≡◌, ℕ, zero, suc, ◌+◌, ◌<◌, ◌≤◌, ◌⊎◌, inl, inr, Bool, true, false, IsTrue, refl, sym, subst, ◌∙◌, ap, ap₂, arith, List, [], ◌∷◌}
+use Rattle.std.proofs.Common.{◌++◌, length, map, get_or, slice_get, Some, None, Contains, if◌then◌else◌, length-append, append_assoc}
 use Rattle.std.proofs.lemmas.List.{map-append, length-map}
-use Rattle.std.proofs.lemmas.List.Elements.{Contains-get_or, Contains-append_left, Contains-append_right, Contains-append_cases, Contains-push_cases, Contains-push}
-use Rattle.ltl_closure.specs.Norm.{Norm, NConst, NLetter, NNotLetter, NAnd, NOr, NNext, NWeakNext, NYesterday, NWeakYesterday, NUntil, NRelease, NSince, NTrigger}
+use Rattle.std.proofs.lemmas.List.Elements.{Contains-get_or, Contains-append_left, Contains-append_right, Contains-append_cases, Contains-push_cases}
+use Rattle.std.proofs.lemmas.List.Elements.{Contains-push}
+use Rattle.ltl_closure.specs.Norm.{Norm, NConst, NLetter, NNotLetter, NAnd, NOr, NNext, NWeakNext, NYesterday, NWeakYesterday, NUntil, NRelease, NSince}
+use Rattle.ltl_closure.specs.Norm.{NTrigger}
 use Rattle.ltl_closure.specs.Closure.{with_new, added, holds_entry}
 use Rattle.ltl_closure.specs.Entries.{place_in, StandsAmong}
-use Rattle.ltl_closure.specs.Keys.{asking, entry_of, asking_entry, joined_entry, key_of, request_of, operands, requests, needs, own, IsKey, AllStand, HasOperands, AreShared, IsEntered, AreDistinct}
+use Rattle.ltl_closure.specs.Keys.{asking, entry_of, asking_entry, joined_entry, key_of, request_of, operands, requests, needs, own, IsKey, AllStand}
+use Rattle.ltl_closure.specs.Keys.{HasOperands, AreShared, IsEntered, AreDistinct}
 use Rattle.ltl_closure.specs.declared.entry.Entry.{Entry}
 use Rattle.ltl_closure.specs.declared.key.Request.{Request}
 use Rattle.ltl_closure.specs.declared.key.Request.TheVariants as asks
@@ -28,13 +32,15 @@ module _ (names : List (List ℕ)) (kept : List Norm) where
   stand_length (g ∷ gs) [] a = absurd a
   stand_length (g ∷ gs) (x ∷ xs) a = ap suc (stand_length gs xs a.1)
 
-  stand_append : (gs : List Norm) (xs : List Entry) (hs : List Norm) (ys : List Entry) → AllStand names kept gs xs → AllStand names kept hs ys → AllStand names kept (gs ++ hs) (xs ++ ys)
+  stand_append : (gs : List Norm) (xs : List Entry) (hs : List Norm) (ys : List Entry) → AllStand names kept gs xs → AllStand names kept hs ys
+      → AllStand names kept (gs ++ hs) (xs ++ ys)
   stand_append [] [] hs ys a b = b
   stand_append [] (x ∷ xs) hs ys a b = absurd a
   stand_append (g ∷ gs) [] hs ys a b = absurd a
   stand_append (g ∷ gs) (x ∷ xs) hs ys a b = (a.0, stand_append gs xs hs ys a.1 b)
 
-  stand_longer : (more : List Norm) (gs : List Norm) (xs : List Entry) → ((e d : Norm) → Contains gs e → Contains (needs e) d → Contains kept d) → AllStand names kept gs xs → AllStand names (kept ++ more) gs xs
+  stand_longer : (more : List Norm) (gs : List Norm) (xs : List Entry) → ((e d : Norm) → Contains gs e → Contains (needs e) d → Contains kept d)
+      → AllStand names kept gs xs → AllStand names (kept ++ more) gs xs
   stand_longer more [] [] c a = a
   stand_longer more [] (x ∷ xs) c a = a
   stand_longer more (g ∷ gs) [] c a = a
@@ -42,13 +48,15 @@ module _ (names : List (List ℕ)) (kept : List Norm) where
       (still_stands names kept more g x (λ d h. c g d (Contains-here g gs) h) a.0, stand_longer more gs xs (λ e d h k. c e d (Contains-there g gs e h) k) a.1)
 
   -- what stands at a place
-  pub stand_at : (gs : List Norm) (xs : List Entry) (i : ℕ) (d : Norm) (y : Entry) → AllStand names kept gs xs → i < length gs → StandsAmong names kept (get_or gs i d) (get_or xs i y)
+  pub stand_at : (gs : List Norm) (xs : List Entry) (i : ℕ) (d : Norm) (y : Entry) → AllStand names kept gs xs → i < length gs
+      → StandsAmong names kept (get_or gs i d) (get_or xs i y)
   stand_at [] xs i d y a lt = absurd (omega arith)
   stand_at (g ∷ gs) [] i d y a lt = absurd a
   stand_at (g ∷ gs) (x ∷ xs) zero d y a lt = a.0
   stand_at (g ∷ gs) (x ∷ xs) (suc i) d y a lt = stand_at gs xs i d y a.1 (omega arith)
 
-  key_at : (gs : List Norm) (xs : List Entry) (i : ℕ) (key : Key) (d : Norm) → AllStand names kept gs xs → slice_get (map key_of xs) i ≡ Some key → (i < length gs) × IsKey names kept (get_or gs i d) key
+  key_at : (gs : List Norm) (xs : List Entry) (i : ℕ) (key : Key) (d : Norm) → AllStand names kept gs xs → slice_get (map key_of xs) i ≡ Some key
+      → (i < length gs) × IsKey names kept (get_or gs i d) key
   key_at [] [] i key d a e = absurd (cc)
   key_at [] (x ∷ xs) i key d a e = absurd a
   key_at (g ∷ gs) [] i key d a e = absurd a
@@ -57,7 +65,8 @@ module _ (names : List (List ℕ)) (kept : List Norm) where
       (omega arith, subst (IsKey names kept g) is (stands_key names kept g x a.0))
   key_at (g ∷ gs) (x ∷ xs) (suc i) key d a e = let r = key_at gs xs i key d a.1 e in let lt = r.0 in (omega arith, r.1)
 
-  key_there : (gs : List Norm) (xs : List Entry) (g : Norm) → AllStand names kept gs xs → Contains gs g → (k : Key) × IsKey names kept g k × Contains (map key_of xs) k
+  key_there : (gs : List Norm) (xs : List Entry) (g : Norm) → AllStand names kept gs xs → Contains gs g
+      → (k : Key) × IsKey names kept g k × Contains (map key_of xs) k
   key_there [] xs g a h = absurd (Contains-nil g h)
   key_there (e ∷ gs) [] g a h = absurd a
   key_there (e ∷ gs) (x ∷ xs) g a h = elim (Contains-cons_cases e gs g h) [
@@ -65,7 +74,8 @@ module _ (names : List (List ℕ)) (kept : List Norm) where
     | inr c ↦ let r = key_there gs xs g a.1 c in (r.0, r.1, Contains-there (key_of x) (map key_of xs) r.0 r.2)
   ]
 
-  key_from : (gs : List Norm) (xs : List Entry) (k : Key) → AllStand names kept gs xs → Contains (map key_of xs) k → (g : Norm) × Contains gs g × IsKey names kept g k
+  key_from : (gs : List Norm) (xs : List Entry) (k : Key) → AllStand names kept gs xs → Contains (map key_of xs) k
+      → (g : Norm) × Contains gs g × IsKey names kept g k
   key_from [] [] k a h = absurd (Contains-nil k h)
   key_from [] (x ∷ xs) k a h = absurd a
   key_from (g ∷ gs) [] k a h = absurd a
@@ -85,7 +95,8 @@ module _ (names : List (List ℕ)) (kept : List Norm) where
   asks_operand g r n has is = absurd (cc)
 
   -- the request that the key tells of
-  key_requests : (g : Norm) (key : Key) → IsKey names kept g key → ((request_of key ≡ None) × (requests g ≡ [])) ⊎ ((r : Request) × (request_of key ≡ Some r) × (requests g ≡ asking r g ∷ []))
+  key_requests : (g : Norm) (key : Key) → IsKey names kept g key
+      → ((request_of key ≡ None) × (requests g ≡ [])) ⊎ ((r : Request) × (request_of key ≡ Some r) × (requests g ≡ asking r g ∷ []))
   key_requests (NConst b) key is = inl (ap request_of is, refl)
   key_requests (NLetter (Name bytes)) key (n, is, lt, name) = inl (ap request_of is, refl)
   key_requests (NLetter (Fresh n)) key is = inl (ap request_of is, refl)
@@ -101,7 +112,8 @@ module _ (names : List (List ℕ)) (kept : List Norm) where
   key_requests (NSince a b) key is = inr (asks.Yesterday, ap request_of is, refl)
   key_requests (NTrigger a b) key is = inr (asks.WeakYesterday, ap request_of is, refl)
 
-pub key_request : (names : List (List ℕ)) (kept : List Norm) (g : Norm) (key : Key) (r : Request) → IsKey names kept g key → request_of key ≡ Some r → requests g ≡ asking r g ∷ []
+pub key_request : (names : List (List ℕ)) (kept : List Norm) (g : Norm) (key : Key) (r : Request) → IsKey names kept g key → request_of key ≡ Some r
+    → requests g ≡ asking r g ∷ []
 key_request names kept g key r is e = elim (key_requests names kept g key is) [
   | inl w ↦ absurd (let n = w.0 in cc)
   | inr w ↦ let n = w.1 in let same : w.0 ≡ r = cc in subst (λ q. requests g ≡ asking q g ∷ []) same w.2
@@ -128,7 +140,8 @@ asking_needs asks.WeakNext g = refl
 asking_needs asks.Yesterday g = refl
 asking_needs asks.WeakYesterday g = refl
 
-asking_stands : (names : List (List ℕ)) (kept : List Norm) (r : Request) (g : Norm) (n : ℕ) → place_in kept g ≡ n → StandsAmong names kept (asking r g) (asking_entry r n)
+asking_stands : (names : List (List ℕ)) (kept : List Norm) (r : Request) (g : Norm) (n : ℕ)
+    → place_in kept g ≡ n → StandsAmong names kept (asking r g) (asking_entry r n)
 asking_stands names kept asks.Next g n e = rw e refl
 asking_stands names kept asks.WeakNext g n e = rw e refl
 asking_stands names kept asks.Yesterday g n e = rw e refl
@@ -218,7 +231,9 @@ module _ (names : List (List ℕ)) (kept : List Norm) (ks : List Key) (xs : List
           let stands = entry_stands names kept (g ∷ []) g key (suc (length ks)) has is (λ q c. absurd (Contains-nil q (subst (λ l. Contains l q) w.1 c))) in
           let made = extend (g ∷ []) (entry_of key (suc (length ks)) ∷ []) (stands, tt) (closed_one w.1) (placed_push kept g absent shared.placed) in
           record {
-            shared = rw grown (subst (λ k. AreShared names (kept ++ g ∷ []) (ks ++ k ∷ []) (xs ++ entry_of key (suc (length ks)) ∷ [])) (key_entry key (suc (length ks))) made);
+            shared = rw grown
+                (subst (λ k. AreShared names (kept ++ g ∷ []) (ks ++ k ∷ []) (xs ++ entry_of key (suc (length ks)) ∷ []))
+                (key_entry key (suc (length ks))) made);
             there = rw grown (Contains-push kept g);
             place = rw grown (sym (place_here []));
           }
@@ -263,27 +278,36 @@ module _ (names : List (List ℕ)) (kept : List Norm) (ks : List Key) (xs : List
         ]
       ]
 
-      placed_two : (k : ℕ) (d : Norm) → k < length (kept ++ g ∷ asking r g ∷ []) → place_in (kept ++ g ∷ asking r g ∷ []) (get_or (kept ++ g ∷ asking r g ∷ []) k d) ≡ suc k
+      placed_two : (k : ℕ) (d : Norm) → k < length (kept ++ g ∷ asking r g ∷ [])
+          → place_in (kept ++ g ∷ asking r g ∷ []) (get_or (kept ++ g ∷ asking r g ∷ []) k d) ≡ suc k
       placed_two =
           let e : kept ++ g ∷ asking r g ∷ [] ≡ (kept ++ g ∷ []) ++ asking r g ∷ [] = sym (append_assoc kept (g ∷ []) (asking r g ∷ [])) in
           rw e (placed_push (kept ++ g ∷ []) (asking r g) unasked (placed_push kept g absent shared.placed))
 
-      two_shared : IsEntered names kept g (ks ++ key_of (entry_of key (suc (length ks))) ∷ key_of (asking_entry r (suc (length ks))) ∷ []) (xs ++ entry_of key (suc (length ks)) ∷ asking_entry r (suc (length ks)) ∷ []) (suc (length ks))
+      two_shared : IsEntered names kept g (ks ++ key_of (entry_of key (suc (length ks))) ∷ key_of (asking_entry r (suc (length ks))) ∷ [])
+          (xs ++ entry_of key (suc (length ks)) ∷ asking_entry r (suc (length ks)) ∷ []) (suc (length ks))
       two_shared =
           let grown : with_new kept (own g) ≡ kept ++ g ∷ asking r g ∷ [] =
-          ap (λ l. with_new (added kept g) l) asked ∙ ap (λ l. added l (asking r g)) (added_new kept g absent) ∙ added_new (kept ++ g ∷ []) (asking r g) unasked ∙ append_assoc kept (g ∷ []) (asking r g ∷ []) in
-          let first = entry_stands names kept (g ∷ asking r g ∷ []) g key (suc (length ks)) has is (λ q c. ap (place_in (kept ++ g ∷ asking r g ∷ [])) (sym (one_of (asking r g) q (subst (λ l. Contains l q) asked c))) ∙ place_next) in
+          ap (λ l. with_new (added kept g) l) asked ∙ ap (λ l. added l (asking r g)) (added_new kept g absent) ∙ added_new (kept ++ g ∷ []) (asking r g) unasked
+          ∙ append_assoc kept (g ∷ []) (asking r g ∷ []) in
+          let first = entry_stands names kept (g ∷ asking r g ∷ []) g key (suc (length ks)) has is
+          (λ q c. ap (place_in (kept ++ g ∷ asking r g ∷ [])) (sym (one_of (asking r g) q (subst (λ l. Contains l q) asked c))) ∙ place_next) in
           let second = asking_stands names (kept ++ g ∷ asking r g ∷ []) r g (suc (length ks)) (place_here (asking r g ∷ [])) in
-          let made = extend (g ∷ asking r g ∷ []) (entry_of key (suc (length ks)) ∷ asking_entry r (suc (length ks)) ∷ []) (first, (second, tt)) closed_two placed_two in
+          let made = extend (g ∷ asking r g ∷ []) (entry_of key (suc (length ks)) ∷ asking_entry r (suc (length ks)) ∷ []) (first, (second, tt))
+          closed_two placed_two in
           record {
             shared = rw grown made;
             there = rw grown (Contains-append_right kept (g ∷ asking r g ∷ []) g (Contains-here g (asking r g ∷ [])));
             place = rw grown (sym (place_here (asking r g ∷ [])));
           }
 
-      pub fresh_two : IsEntered names kept g ((ks ++ key ∷ []) ++ keys.Asks r (suc (length ks)) ∷ []) ((xs ++ entry_of key (suc (length ks)) ∷ []) ++ asking_entry r (suc (length ks)) ∷ []) (suc (length ks))
+      pub fresh_two : IsEntered names kept g ((ks ++ key ∷ []) ++ keys.Asks r (suc (length ks)) ∷ [])
+          ((xs ++ entry_of key (suc (length ks)) ∷ []) ++ asking_entry r (suc (length ks)) ∷ []) (suc (length ks))
       fresh_two =
-          rw (append_assoc ks (key ∷ []) (keys.Asks r (suc (length ks)) ∷ []), append_assoc xs (entry_of key (suc (length ks)) ∷ []) (asking_entry r (suc (length ks)) ∷ []))
+          rw (
+            append_assoc ks (key ∷ []) (keys.Asks r (suc (length ks)) ∷ []),
+            append_assoc xs (entry_of key (suc (length ks)) ∷ []) (asking_entry r (suc (length ks)) ∷ []),
+          )
           (subst (λ l. IsEntered names kept g (ks ++ l) (xs ++ entry_of key (suc (length ks)) ∷ asking_entry r (suc (length ks)) ∷ []) (suc (length ks)))
           (ap₂ (λ k l. k ∷ l ∷ []) (key_entry key (suc (length ks))) (asking_key r (suc (length ks)))) two_shared)
 
@@ -292,7 +316,8 @@ module _ (names : List (List ℕ)) (kept : List Norm) (ks : List Key) (xs : List
     request_fresh r asked h = elim (Contains-push_cases ks key (keys.Asks r (suc (length ks))) h) [
       | inr here ↦ absurd (let e : request_of (keys.Asks r (suc (length ks))) ≡ Some r = ap request_of (sym here) ∙ asked in cc)
       | inl old ↦
-          let w = key_from names kept kept xs (keys.Asks r (suc (length ks))) shared.each (subst (λ l. Contains l (keys.Asks r (suc (length ks)))) shared.keys old) in
+          let w = key_from names kept kept xs (keys.Asks r (suc (length ks))) shared.each
+          (subst (λ l. Contains l (keys.Asks r (suc (length ks)))) shared.keys old) in
           let le = asks_operand names kept w.0 r (suc (length ks)) (operands_there w.0 w.1) w.2 in
           let e = same_length in
           absurd (omega arith)

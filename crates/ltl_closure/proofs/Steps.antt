@@ -31,28 +31,42 @@ IsWalk t w numbers todo = IsWalking t w.root w.shared.keys.keys w.shared.entries
 
 module _ (t : Table) (old new : Walk) where
   at_new : (key : Key) (todo : List Work) → Puts old key todo new
-      → ((n : ℕ) → Enters old.shared.keys.keys old.shared.entries.items key new.shared.keys.keys new.shared.entries.items n → IsWalking t old.root new.shared.keys.keys new.shared.entries.items (n ∷ reverse old.numbers.items) old.memo todo)
+      → ((n : ℕ) → Enters old.shared.keys.keys old.shared.entries.items key new.shared.keys.keys new.shared.entries.items n
+      → IsWalking t old.root new.shared.keys.keys new.shared.entries.items (n ∷ reverse old.numbers.items) old.memo todo)
       → IsAt t new (reverse new.work.items)
   at_new key todo p f = rw (p.root, p.numbers, p.memo, p.work) (f p.number p.entered)
 
-  pub const_put : (b : Bool) → Puts old (keys.Const b) (reverse old.work.items) new → IsAt t old (works.Const b ∷ reverse old.work.items) → IsAt t new (reverse new.work.items)
-  const_put b p w = at_new (keys.Const b) _ p (λ n e. const_at t old.root old.shared.keys.keys old.shared.entries.items old.memo (reverse old.work.items) b (reverse old.numbers.items) _ _ n w e)
+  pub const_put : (b : Bool) → Puts old (keys.Const b) (reverse old.work.items) new → IsAt t old (works.Const b ∷ reverse old.work.items)
+      → IsAt t new (reverse new.work.items)
+  const_put b p w = at_new (keys.Const b) _ p
+      (λ n e. const_at t old.root old.shared.keys.keys old.shared.entries.items old.memo (reverse old.work.items) b (reverse old.numbers.items) _ _ n w e)
 
-  pub ask_put : (r : Request) (a : ℕ) → Puts old (keys.Asks r a) (reverse old.work.items) new → IsWalk t old (a ∷ reverse old.numbers.items) (works.Ask r ∷ reverse old.work.items) → IsAt t new (reverse new.work.items)
-  ask_put r a p w = at_new (keys.Asks r a) _ p (λ n e. ask_at t old.root old.shared.keys.keys old.shared.entries.items old.memo (reverse old.work.items) r a (reverse old.numbers.items) _ _ n w e)
+  pub ask_put : (r : Request) (a : ℕ) → Puts old (keys.Asks r a) (reverse old.work.items) new
+      → IsWalk t old (a ∷ reverse old.numbers.items) (works.Ask r ∷ reverse old.work.items) → IsAt t new (reverse new.work.items)
+  ask_put r a p w = at_new (keys.Asks r a) _ p
+      (λ n e. ask_at t old.root old.shared.keys.keys old.shared.entries.items old.memo (reverse old.work.items) r a (reverse old.numbers.items) _ _ n w e)
 
-  pub join_put : (c : Connective) (b a : ℕ) → Puts old (keys.Joins c a b) (reverse old.work.items) new → IsWalk t old (b ∷ a ∷ reverse old.numbers.items) (works.Join c ∷ reverse old.work.items) → IsAt t new (reverse new.work.items)
-  join_put op b a p w = at_new (keys.Joins op a b) _ p (λ n e. join_at t old.root old.shared.keys.keys old.shared.entries.items old.memo (reverse old.work.items) op b a (reverse old.numbers.items) _ _ n w e)
+  pub join_put : (c : Connective) (b a : ℕ) → Puts old (keys.Joins c a b) (reverse old.work.items) new
+      → IsWalk t old (b ∷ a ∷ reverse old.numbers.items) (works.Join c ∷ reverse old.work.items) → IsAt t new (reverse new.work.items)
+  join_put op b a p w = at_new (keys.Joins op a b) _ p
+      (λ n e. join_at t old.root old.shared.keys.keys old.shared.entries.items old.memo (reverse old.work.items) op b a (reverse old.numbers.items) _ _ n w e)
 
-  pub negate_put : (a : ℕ) → Puts old (keys.NotLetter a) (reverse old.work.items) new → IsWalk t old (a ∷ reverse old.numbers.items) (works.Negate ∷ reverse old.work.items) → IsAt t new (reverse new.work.items)
-  negate_put a p w = at_new (keys.NotLetter a) _ p (λ n e. negate_at t old.root old.shared.keys.keys old.shared.entries.items old.memo (reverse old.work.items) a (reverse old.numbers.items) _ _ n w e)
+  pub negate_put : (a : ℕ) → Puts old (keys.NotLetter a) (reverse old.work.items) new
+      → IsWalk t old (a ∷ reverse old.numbers.items) (works.Negate ∷ reverse old.work.items) → IsAt t new (reverse new.work.items)
+  negate_put a p w = at_new (keys.NotLetter a) _ p
+      (λ n e. negate_at t old.root old.shared.keys.keys old.shared.entries.items old.memo (reverse old.work.items) a (reverse old.numbers.items) _ _ n w e)
 
-  pub visit_const_put : (i : ℕ) (s b : Bool) → Puts old (keys.Const b) (reverse old.work.items) new → signed s (tree_at t i) ≡ NConst b → IsAt t old (works.Visit i s ∷ reverse old.work.items) → IsAt t new (reverse new.work.items)
-  visit_const_put i s b p is w = at_new (keys.Const b) _ p (λ n e. visit_const t old.root old.shared.keys.keys old.shared.entries.items old.memo (reverse old.work.items) i s b b (reverse old.numbers.items) _ _ n w is e)
+  pub visit_const_put : (i : ℕ) (s b : Bool) → Puts old (keys.Const b) (reverse old.work.items) new → signed s (tree_at t i) ≡ NConst b
+      → IsAt t old (works.Visit i s ∷ reverse old.work.items) → IsAt t new (reverse new.work.items)
+  visit_const_put i s b p is w = at_new (keys.Const b) _ p (λ n e. visit_const t old.root old.shared.keys.keys old.shared.entries.items old.memo
+      (reverse old.work.items) i s b b (reverse old.numbers.items) _ _ n w is e)
 
-  pub visit_letter_put : (i : ℕ) (s : Bool) (a : Atom) (key : Key) → Puts old key (letter_work s (reverse old.work.items)) new → tree_at t i ≡ Letter a → ((kept : List Norm) → IsKey t.names kept (NLetter a) key) → IsAt t old (works.Visit i s ∷ reverse old.work.items) → IsAt t new (reverse new.work.items)
-  visit_letter_put i true a key p is fits w = at_new key _ p (λ n e. visit_letter t old.root old.shared.keys.keys old.shared.entries.items old.memo (reverse old.work.items) i a key (reverse old.numbers.items) _ _ n w is fits e)
-  visit_letter_put i false a key p is fits w = at_new key _ p (λ n e. visit_negated t old.root old.shared.keys.keys old.shared.entries.items old.memo (reverse old.work.items) i a key (reverse old.numbers.items) _ _ n w is fits e)
+  pub visit_letter_put : (i : ℕ) (s : Bool) (a : Atom) (key : Key) → Puts old key (letter_work s (reverse old.work.items)) new → tree_at t i ≡ Letter a
+      → ((kept : List Norm) → IsKey t.names kept (NLetter a) key) → IsAt t old (works.Visit i s ∷ reverse old.work.items) → IsAt t new (reverse new.work.items)
+  visit_letter_put i true a key p is fits w = at_new key _ p (λ n e. visit_letter t old.root old.shared.keys.keys old.shared.entries.items old.memo
+      (reverse old.work.items) i a key (reverse old.numbers.items) _ _ n w is fits e)
+  visit_letter_put i false a key p is fits w = at_new key _ p (λ n e. visit_negated t old.root old.shared.keys.keys old.shared.entries.items old.memo
+      (reverse old.work.items) i a key (reverse old.numbers.items) _ _ n w is fits e)
 
 operator_costs : (op : UnaryOp) (d : ℕ) → 0 < operator_cost op d
 operator_costs one.Not d = omega arith

@@ -1,5 +1,6 @@
 -- Each piece of work keeps what a walk is.
-use Rattle.std.proofs.Common.{◌≡◌, ℕ, ◌<◌, ◌≤◌, ◌⊎◌, inl, inr, Bool, true, false, refl, sym, subst, ◌∙◌, ap, arith, List, [], ◌∷◌, ◌++◌, length, map, Contains, if◌then◌else◌}
+use Rattle.std.proofs.Common.{◌≡◌, ℕ, ◌<◌, ◌≤◌, ◌⊎◌, inl, inr, Bool, true, false, refl, sym, subst, ◌∙◌, ap, arith, List, [], ◌∷◌, ◌++◌, length, map, Contains}
+use Rattle.std.proofs.Common.{if◌then◌else◌}
 use Rattle.ltl_syntax.specs.Formula.{Atom, Letter, Unary, Binary}
 use Rattle.ltl_syntax.specs.declared.node.UnaryOp.{UnaryOp}
 use Rattle.ltl_syntax.specs.declared.node.BinaryOp.{BinaryOp}
@@ -70,7 +71,8 @@ asking_operands asks.WeakNext a = refl
 asking_operands asks.Yesterday a = refl
 asking_operands asks.WeakYesterday a = refl
 
-joined_key : (names : List (List ℕ)) (kept : List Norm) (c : Connective) (a b : Norm) → IsKey names kept (joined c a b) (keys.Joins c (place_in kept a) (place_in kept b))
+joined_key : (names : List (List ℕ)) (kept : List Norm) (c : Connective) (a b : Norm)
+    → IsKey names kept (joined c a b) (keys.Joins c (place_in kept a) (place_in kept b))
 joined_key names kept joins.And a b = refl
 joined_key names kept joins.Or a b = refl
 joined_key names kept joins.Until a b = refl
@@ -88,10 +90,12 @@ joined_operands joins.Trigger a b = refl
 
 module _ (t : Table) (root : ℕ) (ks : List Key) (xs : List Entry) (memo : Memo) (todo : List Work) where
   -- a normal form is put
-  module _ (kept values : List Norm) (g : Norm) (key : Key) (distinct : AreDistinct t.names) (few : sizes t.nodes ≤ 16384) (shared : AreShared t.names kept ks xs) (there : (v : Norm) → Contains values v → Contains kept v)
+  module _ (kept values : List Norm) (g : Norm) (key : Key) (distinct : AreDistinct t.names) (few : sizes t.nodes ≤ 16384)
+      (shared : AreShared t.names kept ks xs) (there : (v : Norm) → Contains values v → Contains kept v)
       (room : HasRoom memo (length t.nodes)) (known : IsKnown t kept memo) (has : HasOperands kept g) (is : IsKey t.names kept g key) where
     put_at : (ks' : List Key) (xs' : List Entry) (n : ℕ) (ws : List Work) → Enters ks xs key ks' xs' n
-        → AreReady t ws (record { kept = with_new kept (own g); values = g ∷ values }) → run t ws (record { kept = with_new kept (own g); values = g ∷ values }) ≡ reached (pos_of (tree_at t root)) (record { kept = []; values = [] })
+        → AreReady t ws (record { kept = with_new kept (own g); values = g ∷ values })
+        → run t ws (record { kept = with_new kept (own g); values = g ∷ values }) ≡ reached (pos_of (tree_at t root)) (record { kept = []; values = [] })
         → IsWalking t root ks' xs' (n ∷ map (place_in kept) values) memo ws
     put_at ks' xs' n ws enters ready ends =
         let e = enters t.names kept g distinct shared has is in record {
@@ -110,15 +114,20 @@ module _ (t : Table) (root : ℕ) (ks : List Key) (xs : List Entry) (memo : Memo
           ends = ends;
         }
 
-  pub const_at : (b : Bool) (numbers : List ℕ) (ks' : List Key) (xs' : List Entry) (n : ℕ) → IsWalking t root ks xs numbers memo (works.Const b ∷ todo) → Enters ks xs (keys.Const b) ks' xs' n → IsWalking t root ks' xs' (n ∷ numbers) memo todo
+  pub const_at : (b : Bool) (numbers : List ℕ) (ks' : List Key) (xs' : List Entry) (n : ℕ) → IsWalking t root ks xs numbers memo (works.Const b ∷ todo)
+      → Enters ks xs (keys.Const b) ks' xs' n → IsWalking t root ks' xs' (n ∷ numbers) memo todo
   const_at b numbers ks' xs' n w enters =
-      rw w.waiting (put_at w.progress.kept w.progress.values (NConst b) (keys.Const b) w.distinct w.few w.shared w.there w.room w.known (λ d c. absurd (Contains-nil d c)) refl ks' xs' n todo enters w.ready.1 w.ends)
+      rw w.waiting (put_at w.progress.kept w.progress.values (NConst b) (keys.Const b) w.distinct w.few w.shared w.there w.room w.known
+      (λ d c. absurd (Contains-nil d c)) refl ks' xs' n todo enters w.ready.1 w.ends)
 
-  pub ask_at : (r : Request) (a : ℕ) (rest : List ℕ) (ks' : List Key) (xs' : List Entry) (n : ℕ) → IsWalking t root ks xs (a ∷ rest) memo (works.Ask r ∷ todo) → Enters ks xs (keys.Asks r a) ks' xs' n → IsWalking t root ks' xs' (n ∷ rest) memo todo
+  pub ask_at : (r : Request) (a : ℕ) (rest : List ℕ) (ks' : List Key) (xs' : List Entry) (n : ℕ) → IsWalking t root ks xs (a ∷ rest) memo (works.Ask r ∷ todo)
+      → Enters ks xs (keys.Asks r a) ks' xs' n → IsWalking t root ks' xs' (n ∷ rest) memo todo
   ask_at r a rest ks' xs' n w enters = go w.progress.kept w.progress.values w.shared w.there w.waiting w.known w.ready w.ends
     where
-      go : (kept values : List Norm) → AreShared t.names kept ks xs → ((v : Norm) → Contains values v → Contains kept v) → (a ∷ rest) ≡ map (place_in kept) values → IsKnown t kept memo
-          → AreReady t (works.Ask r ∷ todo) (record { kept = kept; values = values }) → run t (works.Ask r ∷ todo) (record { kept = kept; values = values }) ≡ reached (pos_of (tree_at t root)) (record { kept = []; values = [] })
+      go : (kept values : List Norm) → AreShared t.names kept ks xs → ((v : Norm) → Contains values v → Contains kept v)
+          → (a ∷ rest) ≡ map (place_in kept) values → IsKnown t kept memo
+          → AreReady t (works.Ask r ∷ todo) (record { kept = kept; values = values })
+          → run t (works.Ask r ∷ todo) (record { kept = kept; values = values }) ≡ reached (pos_of (tree_at t root)) (record { kept = []; values = [] })
           → IsWalking t root ks' xs' (n ∷ rest) memo todo
       go kept [] shared there waiting known ready ends = absurd ready.0
       go kept (v ∷ vs) shared there waiting known ready ends =
@@ -128,11 +137,15 @@ module _ (t : Table) (root : ℕ) (ks : List Key) (xs : List Entry) (memo : Memo
           (λ d c. subst (Contains kept) (one_of v d (subst (λ z. Contains z d) (asking_operands r v) c)) (there v (Contains-here v vs)))
           (rw e (asking_key t.names kept r v)) ks' xs' n todo enters ready.1 ends)
 
-  pub join_at : (c : Connective) (b a : ℕ) (rest : List ℕ) (ks' : List Key) (xs' : List Entry) (n : ℕ) → IsWalking t root ks xs (b ∷ a ∷ rest) memo (works.Join c ∷ todo) → Enters ks xs (keys.Joins c a b) ks' xs' n → IsWalking t root ks' xs' (n ∷ rest) memo todo
+  pub join_at : (c : Connective) (b a : ℕ) (rest : List ℕ) (ks' : List Key) (xs' : List Entry) (n : ℕ)
+      → IsWalking t root ks xs (b ∷ a ∷ rest) memo (works.Join c ∷ todo) → Enters ks xs (keys.Joins c a b) ks' xs' n
+      → IsWalking t root ks' xs' (n ∷ rest) memo todo
   join_at op b a rest ks' xs' n w enters = go w.progress.kept w.progress.values w.shared w.there w.waiting w.known w.ready w.ends
     where
-      go : (kept values : List Norm) → AreShared t.names kept ks xs → ((v : Norm) → Contains values v → Contains kept v) → (b ∷ a ∷ rest) ≡ map (place_in kept) values → IsKnown t kept memo
-          → AreReady t (works.Join op ∷ todo) (record { kept = kept; values = values }) → run t (works.Join op ∷ todo) (record { kept = kept; values = values }) ≡ reached (pos_of (tree_at t root)) (record { kept = []; values = [] })
+      go : (kept values : List Norm) → AreShared t.names kept ks xs → ((v : Norm) → Contains values v → Contains kept v)
+          → (b ∷ a ∷ rest) ≡ map (place_in kept) values → IsKnown t kept memo
+          → AreReady t (works.Join op ∷ todo) (record { kept = kept; values = values })
+          → run t (works.Join op ∷ todo) (record { kept = kept; values = values }) ≡ reached (pos_of (tree_at t root)) (record { kept = []; values = [] })
           → IsWalking t root ks' xs' (n ∷ rest) memo todo
       go kept [] shared there waiting known ready ends = absurd ready.0
       go kept (v ∷ []) shared there waiting known ready ends = absurd ready.0
@@ -140,18 +153,22 @@ module _ (t : Table) (root : ℕ) (ks : List Key) (xs : List Entry) (memo : Memo
           let e : b ≡ place_in kept v = cc in
           let f : a ≡ place_in kept u = cc in
           let l : rest ≡ map (place_in kept) vs = cc in
-          rw l (put_at kept vs (joined op u v) (keys.Joins op a b) w.distinct w.few shared (λ d c. there d (Contains-there v (u ∷ vs) d (Contains-there u vs d c))) w.room known
+          rw l (put_at kept vs (joined op u v) (keys.Joins op a b) w.distinct w.few shared
+          (λ d c. there d (Contains-there v (u ∷ vs) d (Contains-there u vs d c))) w.room known
           (λ d c. elim (Contains-cons_cases u (v ∷ []) d (subst (λ z. Contains z d) (joined_operands op u v) c)) [
             | inl i ↦ subst (Contains kept) i (there u (Contains-there v (u ∷ vs) u (Contains-here u vs)))
             | inr i ↦ subst (Contains kept) (one_of v d i) (there v (Contains-here v (u ∷ vs)))
           ])
           (rw (e, f) (joined_key t.names kept op u v)) ks' xs' n todo enters ready.1 ends)
 
-  pub negate_at : (a : ℕ) (rest : List ℕ) (ks' : List Key) (xs' : List Entry) (n : ℕ) → IsWalking t root ks xs (a ∷ rest) memo (works.Negate ∷ todo) → Enters ks xs (keys.NotLetter a) ks' xs' n → IsWalking t root ks' xs' (n ∷ rest) memo todo
+  pub negate_at : (a : ℕ) (rest : List ℕ) (ks' : List Key) (xs' : List Entry) (n : ℕ) → IsWalking t root ks xs (a ∷ rest) memo (works.Negate ∷ todo)
+      → Enters ks xs (keys.NotLetter a) ks' xs' n → IsWalking t root ks' xs' (n ∷ rest) memo todo
   negate_at a rest ks' xs' n w enters = go w.progress.kept w.progress.values w.shared w.there w.waiting w.known w.ready w.ends
     where
-      go : (kept values : List Norm) → AreShared t.names kept ks xs → ((v : Norm) → Contains values v → Contains kept v) → (a ∷ rest) ≡ map (place_in kept) values → IsKnown t kept memo
-          → AreReady t (works.Negate ∷ todo) (record { kept = kept; values = values }) → run t (works.Negate ∷ todo) (record { kept = kept; values = values }) ≡ reached (pos_of (tree_at t root)) (record { kept = []; values = [] })
+      go : (kept values : List Norm) → AreShared t.names kept ks xs → ((v : Norm) → Contains values v → Contains kept v)
+          → (a ∷ rest) ≡ map (place_in kept) values → IsKnown t kept memo
+          → AreReady t (works.Negate ∷ todo) (record { kept = kept; values = values })
+          → run t (works.Negate ∷ todo) (record { kept = kept; values = values }) ≡ reached (pos_of (tree_at t root)) (record { kept = []; values = [] })
           → IsWalking t root ks' xs' (n ∷ rest) memo todo
       go kept [] shared there waiting known ready ends = absurd ready.0
       go kept (NLetter p ∷ vs) shared there waiting known ready ends =
@@ -162,7 +179,8 @@ module _ (t : Table) (root : ℕ) (ks : List Key) (xs : List Entry) (memo : Memo
           (ap keys.NotLetter e) ks' xs' n todo enters ready.1 ends)
       go kept (v ∷ vs) shared there waiting known ready ends = absurd (let e = ready.0.1 in cc)
 
-  pub keep_at : (i : ℕ) (s : Bool) (a : ℕ) (rest : List ℕ) (memo' : Memo) → IsWalking t root ks xs (a ∷ rest) memo (works.Keep i s ∷ todo) → HasRoom memo' (length t.nodes)
+  pub keep_at : (i : ℕ) (s : Bool) (a : ℕ) (rest : List ℕ) (memo' : Memo) → IsWalking t root ks xs (a ∷ rest) memo (works.Keep i s ∷ todo)
+      → HasRoom memo' (length t.nodes)
       → ((n : ℕ) (r : Bool) → (memo_at memo' n r ≡ memo_at memo n r) ⊎ ((n ≡ i) × (r ≡ s) × (memo_at memo' n r ≡ a)))
       → IsWalking t root ks xs (a ∷ rest) memo' todo
   keep_at i s a rest memo' w room changes = record {
@@ -178,7 +196,8 @@ module _ (t : Table) (root : ℕ) (ks : List Key) (xs : List Entry) (memo : Memo
     ends = w.ends;
   }
     where
-      top : (kept values : List Norm) → TopIs (signed s (tree_at t i)) values → (a ∷ rest) ≡ map (place_in kept) values → ((v : Norm) → Contains values v → Contains kept v) → Contains kept (signed s (tree_at t i)) × (a ≡ place_in kept (signed s (tree_at t i)))
+      top : (kept values : List Norm) → TopIs (signed s (tree_at t i)) values → (a ∷ rest) ≡ map (place_in kept) values
+          → ((v : Norm) → Contains values v → Contains kept v) → Contains kept (signed s (tree_at t i)) × (a ≡ place_in kept (signed s (tree_at t i)))
       top kept [] is waiting there = absurd is
       top kept (v ∷ vs) is waiting there =
           let e : a ≡ place_in kept v = cc in
@@ -196,11 +215,13 @@ module _ (t : Table) (root : ℕ) (ks : List Key) (xs : List Entry) (memo : Memo
       ]
 
   -- a number that is known stands for the whole walk
-  pub visit_known : (i : ℕ) (s : Bool) (numbers : List ℕ) → IsWalking t root ks xs numbers memo (works.Visit i s ∷ todo) → (memo_at memo i s ≡ 0 → ⊥) → IsWalking t root ks xs (memo_at memo i s ∷ numbers) memo todo
+  pub visit_known : (i : ℕ) (s : Bool) (numbers : List ℕ) → IsWalking t root ks xs numbers memo (works.Visit i s ∷ todo) → (memo_at memo i s ≡ 0 → ⊥)
+      → IsWalking t root ks xs (memo_at memo i s ∷ numbers) memo todo
   visit_known i s numbers w nonzero = elim (w.known i s w.ready.0) [
     | inl zero ↦ absurd (nonzero zero)
     | inr k ↦
-        let same : with_new w.progress.kept (walk (signed s (tree_at t i))) ≡ w.progress.kept = walk_again w.progress.kept w.shared.closed (signed s (tree_at t i)) k.0 in
+        let same : with_new w.progress.kept (walk (signed s (tree_at t i))) ≡ w.progress.kept =
+        walk_again w.progress.kept w.shared.closed (signed s (tree_at t i)) k.0 in
         let here : reached (signed s (tree_at t i)) w.progress ≡ record { kept = w.progress.kept; values = signed s (tree_at t i) ∷ w.progress.values } =
         ap (λ kept. let p : Progress = record { kept = kept; values = signed s (tree_at t i) ∷ w.progress.values } in p) same in
         record {
@@ -221,7 +242,8 @@ module _ (t : Table) (root : ℕ) (ks : List Key) (xs : List Entry) (memo : Memo
   ]
 
   -- a plan that makes the node's normal form stands for the walk
-  planned : (i : ℕ) (s : Bool) (numbers : List ℕ) (plan : List Work) → IsWalking t root ks xs numbers memo (works.Visit i s ∷ todo) → Makes t plan (signed s (tree_at t i)) → IsWalking t root ks xs numbers memo (plan ++ works.Keep i s ∷ todo)
+  planned : (i : ℕ) (s : Bool) (numbers : List ℕ) (plan : List Work) → IsWalking t root ks xs numbers memo (works.Visit i s ∷ todo)
+      → Makes t plan (signed s (tree_at t i)) → IsWalking t root ks xs numbers memo (plan ++ works.Keep i s ∷ todo)
   planned i s numbers plan w makes =
       let m = makes w.progress in record {
         progress = w.progress;
@@ -236,28 +258,42 @@ module _ (t : Table) (root : ℕ) (ks : List Key) (xs : List Entry) (memo : Memo
         ends = run-append t plan (works.Keep i s ∷ todo) w.progress ∙ ap (run t (works.Keep i s ∷ todo)) m.0 ∙ w.ends;
       }
 
-  pub visit_unary : (i : ℕ) (s : Bool) (op : UnaryOp) (a : ℕ) (numbers : List ℕ) → IsWalking t root ks xs numbers memo (works.Visit i s ∷ todo) → tree_at t i ≡ Unary op (tree_at t a) → a < i → IsWalking t root ks xs numbers memo (unary_plan s op a ++ works.Keep i s ∷ todo)
+  pub visit_unary : (i : ℕ) (s : Bool) (op : UnaryOp) (a : ℕ) (numbers : List ℕ) → IsWalking t root ks xs numbers memo (works.Visit i s ∷ todo)
+      → tree_at t i ≡ Unary op (tree_at t a) → a < i → IsWalking t root ks xs numbers memo (unary_plan s op a ++ works.Keep i s ∷ todo)
   visit_unary i s op a numbers w is lt = let n = w.ready.0 in planned i s numbers (unary_plan s op a) w (rw is (unary_makes t s op a (omega arith)))
 
-  pub visit_binary : (i : ℕ) (s : Bool) (op : BinaryOp) (a b : ℕ) (numbers : List ℕ) → IsWalking t root ks xs numbers memo (works.Visit i s ∷ todo) → tree_at t i ≡ Binary op (tree_at t a) (tree_at t b) → a < i → b < i → IsWalking t root ks xs numbers memo (binary_plan s op a b ++ works.Keep i s ∷ todo)
-  visit_binary i s op a b numbers w is la lb = let n = w.ready.0 in planned i s numbers (binary_plan s op a b) w (rw is (binary_makes t a b (omega arith) (omega arith) s op))
+  pub visit_binary : (i : ℕ) (s : Bool) (op : BinaryOp) (a b : ℕ) (numbers : List ℕ)
+      → IsWalking t root ks xs numbers memo (works.Visit i s ∷ todo) → tree_at t i ≡ Binary op (tree_at t a) (tree_at t b)
+      → a < i → b < i → IsWalking t root ks xs numbers memo (binary_plan s op a b ++ works.Keep i s ∷ todo)
+  visit_binary i s op a b numbers w is la lb = let n = w.ready.0 in
+      planned i s numbers (binary_plan s op a b) w (rw is (binary_makes t a b (omega arith) (omega arith) s op))
 
   -- a constant
-  pub visit_const : (i : ℕ) (s b c : Bool) (numbers : List ℕ) (ks' : List Key) (xs' : List Entry) (n : ℕ) → IsWalking t root ks xs numbers memo (works.Visit i s ∷ todo) → signed s (tree_at t i) ≡ NConst b → Enters ks xs (keys.Const b) ks' xs' n → IsWalking t root ks' xs' (n ∷ numbers) memo todo
+  pub visit_const : (i : ℕ) (s b c : Bool) (numbers : List ℕ) (ks' : List Key) (xs' : List Entry) (n : ℕ)
+      → IsWalking t root ks xs numbers memo (works.Visit i s ∷ todo) → signed s (tree_at t i) ≡ NConst b → Enters ks xs (keys.Const b) ks' xs' n
+      → IsWalking t root ks' xs' (n ∷ numbers) memo todo
   visit_const i s b c numbers ks' xs' n w is enters =
-      rw w.waiting (put_at w.progress.kept w.progress.values (NConst b) (keys.Const b) w.distinct w.few w.shared w.there w.room w.known (λ d c. absurd (Contains-nil d c)) refl ks' xs' n todo enters (rw is at w.ready.1) (rw is at w.ends))
+      rw w.waiting (put_at w.progress.kept w.progress.values (NConst b) (keys.Const b) w.distinct w.few w.shared w.there w.room w.known
+      (λ d c. absurd (Contains-nil d c)) refl ks' xs' n todo enters (rw is at w.ready.1) (rw is at w.ends))
 
   -- a letter
-  pub visit_letter : (i : ℕ) (p : Atom) (key : Key) (numbers : List ℕ) (ks' : List Key) (xs' : List Entry) (n : ℕ) → IsWalking t root ks xs numbers memo (works.Visit i true ∷ todo) → tree_at t i ≡ Letter p → ((kept : List Norm) → IsKey t.names kept (NLetter p) key) → Enters ks xs key ks' xs' n → IsWalking t root ks' xs' (n ∷ numbers) memo todo
+  pub visit_letter : (i : ℕ) (p : Atom) (key : Key) (numbers : List ℕ) (ks' : List Key) (xs' : List Entry) (n : ℕ)
+      → IsWalking t root ks xs numbers memo (works.Visit i true ∷ todo) → tree_at t i ≡ Letter p → ((kept : List Norm) → IsKey t.names kept (NLetter p) key)
+      → Enters ks xs key ks' xs' n → IsWalking t root ks' xs' (n ∷ numbers) memo todo
   visit_letter i p key numbers ks' xs' n w is fits enters =
-      rw w.waiting (put_at w.progress.kept w.progress.values (NLetter p) key w.distinct w.few w.shared w.there w.room w.known (λ d c. absurd (Contains-nil d c)) (fits w.progress.kept) ks' xs' n todo enters (rw is at w.ready.1) (rw is at w.ends))
+      rw w.waiting (put_at w.progress.kept w.progress.values (NLetter p) key w.distinct w.few w.shared w.there w.room w.known (λ d c. absurd (Contains-nil d c))
+      (fits w.progress.kept) ks' xs' n todo enters (rw is at w.ready.1) (rw is at w.ends))
 
-  pub visit_negated : (i : ℕ) (p : Atom) (key : Key) (numbers : List ℕ) (ks' : List Key) (xs' : List Entry) (n : ℕ) → IsWalking t root ks xs numbers memo (works.Visit i false ∷ todo) → tree_at t i ≡ Letter p → ((kept : List Norm) → IsKey t.names kept (NLetter p) key) → Enters ks xs key ks' xs' n → IsWalking t root ks' xs' (n ∷ numbers) memo (works.Negate ∷ todo)
+  pub visit_negated : (i : ℕ) (p : Atom) (key : Key) (numbers : List ℕ) (ks' : List Key) (xs' : List Entry) (n : ℕ)
+      → IsWalking t root ks xs numbers memo (works.Visit i false ∷ todo) → tree_at t i ≡ Letter p → ((kept : List Norm) → IsKey t.names kept (NLetter p) key)
+      → Enters ks xs key ks' xs' n → IsWalking t root ks' xs' (n ∷ numbers) memo (works.Negate ∷ todo)
   visit_negated i p key numbers ks' xs' n w is fits enters =
-      rw w.waiting (put_at w.progress.kept w.progress.values (NLetter p) key w.distinct w.few w.shared w.there w.room w.known (λ d c. absurd (Contains-nil d c)) (fits w.progress.kept) ks' xs' n (works.Negate ∷ todo) enters ((p, refl), rw is at w.ready.1) (rw is at w.ends))
+      rw w.waiting (put_at w.progress.kept w.progress.values (NLetter p) key w.distinct w.few w.shared w.there w.room w.known (λ d c. absurd (Contains-nil d c))
+      (fits w.progress.kept) ks' xs' n (works.Negate ∷ todo) enters ((p, refl), rw is at w.ready.1) (rw is at w.ends))
 
 -- where a walk starts
-pub starts : (t : Table) (root : ℕ) (memo : Memo) → AreDistinct t.names → sizes t.nodes ≤ 16384 → root < length t.nodes → HasRoom memo (length t.nodes) → ((n : ℕ) (s : Bool) → memo_at memo n s ≡ 0) → IsWalking t root [] [] [] memo (works.Visit root true ∷ [])
+pub starts : (t : Table) (root : ℕ) (memo : Memo) → AreDistinct t.names → sizes t.nodes ≤ 16384 → root < length t.nodes → HasRoom memo (length t.nodes)
+    → ((n : ℕ) (s : Bool) → memo_at memo n s ≡ 0) → IsWalking t root [] [] [] memo (works.Visit root true ∷ [])
 starts t root memo distinct few lt room zero = record {
   progress = record { kept = []; values = [] };
   distinct = distinct;

@@ -3,7 +3,8 @@ use Rattle.std.specs.Prelude.{Bool, true, false, ◌||◌, List, [], ◌∷◌, 
 use mathlib.Core.Bool.{Bool-discrete}
 use Rattle.ltl_closure.specs.Decide.{number_decided, name_decided, is_yes}
 use Rattle.ltl_syntax.specs.Formula.{Formula, Atom-discrete}
-use Rattle.ltl_closure.specs.Norm.{Norm, NConst, NLetter, NNotLetter, NAnd, NOr, NNext, NWeakNext, NYesterday, NWeakYesterday, NUntil, NRelease, NSince, NTrigger, Norm-discrete, pos_of}
+use Rattle.ltl_closure.specs.Norm.{Norm, NConst, NLetter, NNotLetter, NAnd, NOr, NNext, NWeakNext, NYesterday, NWeakYesterday, NUntil, NRelease, NSince}
+use Rattle.ltl_closure.specs.Norm.{NTrigger, Norm-discrete, pos_of}
 
 abbrev pub same : Norm → Norm → Bool
 same a b = is_yes (Norm-discrete Bool-discrete (Atom-discrete name_decided number_decided) a b)

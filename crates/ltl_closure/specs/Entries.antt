@@ -8,7 +8,8 @@ use Rattle.ltl_closure.specs.contracts.entry.Entry as entry_row
 use Rattle.ltl_syntax.specs.FormulaCode.{coded_formula}
 use Rattle.ltl_syntax.specs.Table.{Table, tree_at}
 use Rattle.ltl_syntax.specs.Formula.{Name, Fresh, Formula}
-use Rattle.ltl_closure.specs.Norm.{Norm, NConst, NLetter, NNotLetter, NAnd, NOr, NNext, NWeakNext, NYesterday, NWeakYesterday, NUntil, NRelease, NSince, NTrigger, pos_of}
+use Rattle.ltl_closure.specs.Norm.{Norm, NConst, NLetter, NNotLetter, NAnd, NOr, NNext, NWeakNext, NYesterday, NWeakYesterday, NUntil, NRelease, NSince}
+use Rattle.ltl_closure.specs.Norm.{NTrigger, pos_of}
 use Rattle.ltl_closure.specs.Closure.{closure, same, nexts, yesterdays, eventualities}
 use Rattle.ltl_closure.specs.declared.entry.Entry.{Entry}
 use Rattle.ltl_closure.specs.declared.entry.Entry.TheVariants as Is
@@ -69,7 +70,8 @@ pub record ClosureValue : Type 0 where
 abbrev pub coded_closure : Coded ClosureValue
 coded_closure =
     code_by (Table × (ℕ × (Formula × (Kind × (List (List ℕ) × List Entry)))))
-    (coded× table_row.the_row.coded (coded× coded_ℕ (coded× coded_formula (coded× kind_row.the_row.coded (coded× (coded_list (coded_list coded_ℕ)) (coded_list entry_row.the_row.coded))))))
+    (coded× table_row.the_row.coded
+    (coded× coded_ℕ (coded× coded_formula (coded× kind_row.the_row.coded (coded× (coded_list (coded_list coded_ℕ)) (coded_list entry_row.the_row.coded))))))
     (λ c. (c.table, (c.node, (c.formula, (c.kind, (c.names, c.entries))))))
     (λ p. record { table = p.0; node = p.1.0; formula = p.1.1.0; kind = p.1.1.1.0; names = p.1.1.1.1.0; entries = p.1.1.1.1.1 }) (λ _. refl)
 

@@ -1,7 +1,8 @@
 -- The keys by which subformulas are shared, and the entries that they become.
 use Rattle.std.specs.Prelude.{◌≡◌, ◌≢◌, ℕ, suc, ◌+◌, ◌<◌, true, false, List, [], ◌∷◌, ◌++◌, length, map, slice_index_or, Option, Some, None, Contains}
 use Rattle.ltl_syntax.specs.Formula.{Name, Fresh}
-use Rattle.ltl_closure.specs.Norm.{Norm, NConst, NLetter, NNotLetter, NAnd, NOr, NNext, NWeakNext, NYesterday, NWeakYesterday, NUntil, NRelease, NSince, NTrigger}
+use Rattle.ltl_closure.specs.Norm.{Norm, NConst, NLetter, NNotLetter, NAnd, NOr, NNext, NWeakNext, NYesterday, NWeakYesterday, NUntil, NRelease, NSince}
+use Rattle.ltl_closure.specs.Norm.{NTrigger}
 use Rattle.ltl_closure.specs.Closure.{with_new}
 use Rattle.ltl_closure.specs.Entries.{place_in, StandsAmong}
 use Rattle.ltl_closure.specs.declared.entry.Entry.{Entry}
@@ -172,5 +173,6 @@ AreDistinct names = (i j : ℕ) → i < j → j < length names → slice_index_o
 -- from these keys and entries to those, entering what has the key, which then has the number
 abbrev pub Enters : List Key → List Entry → Key → List Key → List Entry → ℕ → Type 0
 Enters old_keys old_entries key new_keys new_entries number =
-    (names : List (List ℕ)) (kept : List Norm) (g : Norm) → AreDistinct names → AreShared names kept old_keys old_entries → HasOperands kept g → IsKey names kept g key
+    (names : List (List ℕ)) (kept : List Norm) (g : Norm) → AreDistinct names → AreShared names kept old_keys old_entries → HasOperands kept g
+    → IsKey names kept g key
     → IsEntered names kept g new_keys new_entries number

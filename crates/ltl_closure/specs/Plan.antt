@@ -187,7 +187,8 @@ binary_plan s two.And a b = plain_plan s two.And a b
 binary_plan s two.Or a b = plain_plan s two.Or a b
 binary_plan s two.Implies a b = works.Visit a (not s) ∷ works.Visit b s ∷ works.Join (connective_of s two.Implies) ∷ []
 binary_plan s two.Iff a b =
-    works.Visit a true ∷ works.Visit b s ∷ works.Join joins.And ∷ works.Visit a false ∷ works.Visit b (not s) ∷ works.Join joins.And ∷ works.Join (connective_of s two.Iff) ∷ []
+    works.Visit a true ∷ works.Visit b s ∷ works.Join joins.And ∷ works.Visit a false ∷ works.Visit b (not s) ∷ works.Join joins.And
+    ∷ works.Join (connective_of s two.Iff) ∷ []
 binary_plan s two.Until a b = plain_plan s two.Until a b
 binary_plan s two.Release a b = plain_plan s two.Release a b
 binary_plan true two.WeakUntil a b = nested_plan true joins.Or two.WeakUntil a b
@@ -254,7 +255,8 @@ IsWithin m n = (n < length m.positive.items) × (n < length m.negative.items)
 -- a number that is known is the right one
 abbrev pub IsKnown : Table → List Norm → Memo → Type 0
 IsKnown t kept memo =
-    (n : ℕ) (s : Bool) → n < length t.nodes → (memo_at memo n s ≡ 0) ⊎ (Contains kept (signed s (tree_at t n)) × (memo_at memo n s ≡ place_in kept (signed s (tree_at t n))))
+    (n : ℕ) (s : Bool) → n < length t.nodes → (memo_at memo n s ≡ 0)
+    ⊎ (Contains kept (signed s (tree_at t n)) × (memo_at memo n s ≡ place_in kept (signed s (tree_at t n))))
 
 -- a walk from the root's tree: the waiting numbers, the last first, are those of normal forms that are there, and the work that is
 -- left ends with the root's normal form

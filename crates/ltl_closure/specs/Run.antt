@@ -1,9 +1,11 @@
 -- States, runs, carries, accepted and pruned runs.
-use Rattle.std.specs.Prelude.{◌≡◌, ℕ, suc, ◌+◌, ◌*◌, ◌^◌, ◌-◌, ◌<◌, ◌≤◌, nat_le, if◌then◌else◌, Bool, not, ◌&&◌, ◌||◌, List, ◌++◌, length, map, IsTrue, IsFalse, Contains}
+use Rattle.std.specs.Prelude.{◌≡◌, ℕ, suc, ◌+◌, ◌*◌, ◌^◌, ◌-◌, ◌<◌, ◌≤◌, nat_le, if◌then◌else◌, Bool, not, ◌&&◌, ◌||◌, List, ◌++◌, length, map, IsTrue, IsFalse}
+use Rattle.std.specs.Prelude.{Contains}
 use Rattle.ltl_syntax.specs.declared.node.Kind.{Kind}
 use Rattle.ltl_syntax.specs.declared.node.Kind.TheVariants as Kinds
 use Rattle.ltl_syntax.specs.Formula.{Formula}
-use Rattle.ltl_closure.specs.Norm.{Norm, NConst, NLetter, NNotLetter, NAnd, NOr, NNext, NWeakNext, NYesterday, NWeakYesterday, NUntil, NRelease, NSince, NTrigger, pos_of}
+use Rattle.ltl_closure.specs.Norm.{Norm, NConst, NLetter, NNotLetter, NAnd, NOr, NNext, NWeakNext, NYesterday, NWeakYesterday, NUntil, NRelease, NSince}
+use Rattle.ltl_closure.specs.Norm.{NTrigger, pos_of}
 use Rattle.ltl_closure.specs.Closure.{closure, nexts, yesterdays, eventualities, argument}
 
 -- a state: the truth values of the letters and the requests. It is read at no other entry
@@ -62,11 +64,14 @@ IsFulfilledIn r l i e = (j : ℕ) × (l < j) × (j ≤ i) × IsTrue (is_fulfille
 
 pub data IsAccepted (f : Formula) (r : States) (k : ℕ) : Kind → Type 0 where
   Empty : ((e : Norm) → Contains (nexts f) e → IsFalse (r k e)) → IsAccepted f r k Kinds.Infinite
-  Loop : (l : ℕ) → l < k → carry f (r l) ≡ carry f (r k) → ((e : Norm) → Contains (eventualities f) e → IsTrue (is_pending (r k) e) → IsFulfilledIn r l k e) → IsAccepted f r k Kinds.Infinite
+  Loop : (l : ℕ) → l < k → carry f (r l) ≡ carry f (r k) → ((e : Norm) → Contains (eventualities f) e → IsTrue (is_pending (r k) e) → IsFulfilledIn r l k e)
+      → IsAccepted f r k Kinds.Infinite
   End : ((a : Norm) → Contains (closure f) (NNext a) → IsFalse (r k (NNext a))) → IsAccepted f r k Kinds.Finite
 
 pub data IsPrunedAt (f : Formula) (r : States) (i : ℕ) : Kind → Type 0 where
-  Triple : (l j : ℕ) → l < j → j < i → carry f (r l) ≡ carry f (r j) → carry f (r j) ≡ carry f (r i) → ((e : Norm) → Contains (eventualities f) e → IsTrue (is_pending (r i) e) → IsFulfilledIn r j i e → IsFulfilledIn r l j e) → IsPrunedAt f r i Kinds.Infinite
+  Triple : (l j : ℕ) → l < j → j < i → carry f (r l) ≡ carry f (r j) → carry f (r j) ≡ carry f (r i)
+      → ((e : Norm) → Contains (eventualities f) e → IsTrue (is_pending (r i) e) → IsFulfilledIn r j i e → IsFulfilledIn r l j e)
+      → IsPrunedAt f r i Kinds.Infinite
   Pair : (j : ℕ) → j < i → carry f (r j) ≡ carry f (r i) → IsPrunedAt f r i Kinds.Finite
 
 abbrev pub IsUnpruned : Formula → States → ℕ → Kind → Type 0
@@ -94,7 +99,8 @@ pub data Verdict : Type 0 where
 pub data IsVerdict (f : Formula) (kind : Kind) (limit : ℕ) : Verdict → Type 0 where
   no_run : {k : ℕ} → k ≤ limit → ((j : ℕ) → j < k → IsOpen f kind j) → (HasRun f k → ⊥) → IsVerdict f kind limit (Unsat k)
   accepted : {k : ℕ} → k ≤ limit → ((j : ℕ) → j < k → IsOpen f kind j) → HasAccepted f kind k → IsVerdict f kind limit (Sat k)
-  all_pruned : {k : ℕ} → k ≤ limit → ((j : ℕ) → j < k → IsOpen f kind j) → (HasAccepted f kind k → ⊥) → (HasUnpruned f kind k → ⊥) → IsVerdict f kind limit (Unsat k)
+  all_pruned : {k : ℕ} → k ≤ limit → ((j : ℕ) → j < k → IsOpen f kind j) → (HasAccepted f kind k → ⊥) → (HasUnpruned f kind k → ⊥)
+      → IsVerdict f kind limit (Unsat k)
   undecided : ((j : ℕ) → j ≤ limit → IsOpen f kind j) → IsVerdict f kind limit (Undecided limit)
 
 abbrev pub bound : Formula → Kind → ℕ

@@ -43,7 +43,8 @@ without_p = NAnd (NNotLetter p) (NOr only_q only_r)
 -- the closure of `p <-> (q <-> r)`
 abbrev pub nested_entries : List Norm
 nested_entries =
-    NLetter p ∷ NLetter q ∷ NLetter r ∷ both ∷ NNotLetter q ∷ NNotLetter r ∷ neither ∷ NOr both neither ∷ with_p ∷ NNotLetter p ∷ only_q ∷ only_r ∷ NOr only_q only_r ∷ without_p ∷ NOr with_p without_p ∷ []
+    NLetter p ∷ NLetter q ∷ NLetter r ∷ both ∷ NNotLetter q ∷ NNotLetter r ∷ neither ∷ NOr both neither ∷ with_p ∷ NNotLetter p
+    ∷ only_q ∷ only_r ∷ NOr only_q only_r ∷ without_p ∷ NOr with_p without_p ∷ []
 
 -- `G F p & G !p`
 abbrev pub recurring : Formula

@@ -1,5 +1,6 @@
 -- The bounded operator at the front of a text.
-use Rattle.std.proofs.Common.{◌≡◌, ℕ, ◌+◌, ◌≤◌, Bool, true, false, ◌&&◌, ◌==◌, List, [], ◌∷◌, ◌++◌, length, drop, arith, refl, sym, ap, ◌∙◌, subst, append_assoc, length-append}
+use Rattle.std.proofs.Common.{◌≡◌, ℕ, ◌+◌, ◌≤◌, Bool, true, false, ◌&&◌, ◌==◌, List, [], ◌∷◌, ◌++◌, length, drop, arith, refl, sym, ap, ◌∙◌, subst}
+use Rattle.std.proofs.Common.{append_assoc, length-append}
 use Rattle.std.specs.Prelude.{Option, Some, None, if◌then◌else◌, nat_le}
 use Rattle.std.specs.Fmt.{decimal}
 use Rattle.std.proofs.lemmas.Bool.{and_parts}
@@ -9,7 +10,8 @@ use borrow.Author.Tests.{eqb-true}
 use Rattle.ltl_lexer.specs.declared.token.UnaryWord.{UnaryWord}
 use Rattle.ltl_lexer.specs.declared.token.UnaryWord.TheVariants as unary
 use Rattle.ltl_lexer.specs.Tokens.{IsBounded}
-use Rattle.ltl_lexer.specs.Scanning.{begins, front_number, closed_times, front_times, closed_range, second_number, front_range, with_times, with_range, front_bounded}
+use Rattle.ltl_lexer.specs.Scanning.{begins, front_number, closed_times, front_times, closed_range, second_number, front_range, with_times, with_range}
+use Rattle.ltl_lexer.specs.Scanning.{front_bounded}
 use Rattle.ltl_lexer.proofs.Numbers.{number_found, number_read}
 
 pub pick : (Q A : Type 0) (t : Bool) (x r z : A) → (t ≡ true → x ≡ z → Q) → (t ≡ false → r ≡ z → Q) → (if t then x else r) ≡ z → Q
@@ -83,9 +85,11 @@ times_found [] n len = λ e. absurd (cc)
 times_found (b ∷ bs) n len = pick (AreTimes (b ∷ bs) n len) (Option (ℕ × ℕ)) (b == 91) (closed_times bs (front_number bs)) None (two n len)
     (λ t e. subst (λ z. AreTimes (z ∷ bs) n len) (sym (eqb-true b 91 t)) (times_closed bs (front_number bs) n len refl e)) (λ t e. absurd (cc))
 
-range_closed : (bs rest : List ℕ) (a m : ℕ) (r : Option (ℕ × ℕ)) (c d len : ℕ) → bs ≡ decimal a ++ 44 ∷ rest → m ≡ length (decimal a) → front_number rest ≡ r → closed_range bs a m r ≡ three c d len → AreRange (91 ∷ bs) c d len
+range_closed : (bs rest : List ℕ) (a m : ℕ) (r : Option (ℕ × ℕ)) (c d len : ℕ) → bs ≡ decimal a ++ 44 ∷ rest → m ≡ length (decimal a)
+    → front_number rest ≡ r → closed_range bs a m r ≡ three c d len → AreRange (91 ∷ bs) c d len
 range_closed bs rest a m None c d len w l h = λ e. absurd (cc)
-range_closed bs rest a m (Some r) c d len w l h = pick (AreRange (91 ∷ bs) c d len) (Option (ℕ × ℕ × ℕ)) (nat_le a r.0 && begins (drop (m + 1 + r.1) bs) 93) (Some (a, r.0, m + r.1 + 3)) None (three c d len) (λ t e.
+range_closed bs rest a m (Some r) c d len w l h = pick (AreRange (91 ∷ bs) c d len) (Option (ℕ × ℕ × ℕ)) (nat_le a r.0 && begins (drop (m + 1 + r.1) bs) 93)
+    (Some (a, r.0, m + r.1 + 3)) None (three c d len) (λ t e.
     let f = number_found rest r.0 r.1 h in
     let p = and_parts (nat_le a r.0) (begins (drop (m + 1 + r.1) bs) 93) t in
     let g = begins_with (drop (m + 1 + r.1) bs) 93 p.1 in
@@ -98,7 +102,8 @@ range_closed bs rest a m (Some r) c d len w l h = pick (AreRange (91 ∷ bs) c d
       rest = g.0;
       order = le;
       small = f.small;
-      whole = ap (λ z. 91 ∷ z) (w ∙ ap (λ z. decimal a ++ 44 ∷ z) (f.whole ∙ ap (λ z. decimal r.0 ++ z) k ∙ sym (append_assoc (decimal r.0) (93 ∷ []) g.0)) ∙ sym (append_assoc (decimal a) (44 ∷ (decimal r.0 ++ 93 ∷ [])) g.0));
+      whole = ap (λ z. 91 ∷ z) (w ∙ ap (λ z. decimal a ++ 44 ∷ z) (f.whole ∙ ap (λ z. decimal r.0 ++ z) k ∙ sym (append_assoc (decimal r.0) (93 ∷ []) g.0))
+          ∙ sym (append_assoc (decimal a) (44 ∷ (decimal r.0 ++ 93 ∷ [])) g.0));
       long =
           let q = f.long in
           let o = length-append (decimal a) (44 ∷ (decimal r.0 ++ 93 ∷ [])) in
@@ -108,7 +113,8 @@ range_closed bs rest a m (Some r) c d len w l h = pick (AreRange (91 ∷ bs) c d
 
 range_second : (bs : List ℕ) (r : Option (ℕ × ℕ)) (c d len : ℕ) → front_number bs ≡ r → second_number bs r ≡ three c d len → AreRange (91 ∷ bs) c d len
 range_second bs None c d len h = λ e. absurd (cc)
-range_second bs (Some r) c d len h = pick (AreRange (91 ∷ bs) c d len) (Option (ℕ × ℕ × ℕ)) (begins (drop r.1 bs) 44) (closed_range bs r.0 r.1 (front_number (drop (r.1 + 1) bs))) None (three c d len) (λ t e.
+range_second bs (Some r) c d len h = pick (AreRange (91 ∷ bs) c d len) (Option (ℕ × ℕ × ℕ)) (begins (drop r.1 bs) 44)
+    (closed_range bs r.0 r.1 (front_number (drop (r.1 + 1) bs))) None (three c d len) (λ t e.
     let f = number_found bs r.0 r.1 h in
     let g = begins_with (drop r.1 bs) 44 t in
     let k : f.rest ≡ 44 ∷ g.0 = sym (behind bs (decimal r.0) f.rest r.1 f.whole f.long) ∙ g.1 in
@@ -147,11 +153,14 @@ range_read a b rest o s =
     let e3 : bs ≡ (decimal a ++ 44 ∷ decimal b) ++ 93 ∷ rest = e ∙ sym (append_assoc (decimal a) (44 ∷ decimal b) (93 ∷ rest)) in
     let f : front_number bs ≡ two a k = ap front_number e ∙ number_read a (44 ∷ (decimal b ++ 93 ∷ rest)) (omega arith) refl in
     let d : drop k bs ≡ 44 ∷ (decimal b ++ 93 ∷ rest) = behind bs (decimal a) (44 ∷ (decimal b ++ 93 ∷ rest)) k e refl in
-    let d2 : drop (k + 1) bs ≡ decimal b ++ 93 ∷ rest = behind bs (decimal a ++ 44 ∷ []) (decimal b ++ 93 ∷ rest) (k + 1) e2 (sym (length-append (decimal a) (44 ∷ []))) in
-    let d3 : drop (k + 1 + m) bs ≡ 93 ∷ rest = behind bs (decimal a ++ 44 ∷ decimal b) (93 ∷ rest) (k + 1 + m) e3 (let q = length-append (decimal a) (44 ∷ decimal b) in omega arith) in
+    let d2 : drop (k + 1) bs ≡ decimal b ++ 93 ∷ rest =
+    behind bs (decimal a ++ 44 ∷ []) (decimal b ++ 93 ∷ rest) (k + 1) e2 (sym (length-append (decimal a) (44 ∷ []))) in
+    let d3 : drop (k + 1 + m) bs ≡ 93 ∷ rest =
+    behind bs (decimal a ++ 44 ∷ decimal b) (93 ∷ rest) (k + 1 + m) e3 (let q = length-append (decimal a) (44 ∷ decimal b) in omega arith) in
     let h : front_number (drop (k + 1) bs) ≡ two b m = ap front_number d2 ∙ number_read b (93 ∷ rest) s refl in
     let le : nat_le a b ≡ true = grind (arith, nat_tests) in
-    let l : k + m + 3 ≡ length (range_bytes a b) = let p = length-append (decimal a) (44 ∷ inner) in let q = length-append (decimal b) (93 ∷ []) in omega arith in
+    let l : k + m + 3 ≡ length (range_bytes a b) = let p = length-append (decimal a) (44 ∷ inner) in
+    let q = length-append (decimal b) (93 ∷ []) in omega arith in
     ap (second_number bs) f
     ∙ ap (λ z. if begins z 44 then closed_range bs a k (front_number (drop (k + 1) bs)) else None) d
     ∙ ap (closed_range bs a k) h
@@ -173,12 +182,18 @@ bounded_read unary.Y bytes rest g = absurd g
 bounded_read unary.Z bytes rest g = absurd g
 bounded_read unary.O bytes rest g = absurd g
 bounded_read unary.H bytes rest g = absurd g
-bounded_read (unary.XTimes n) bytes rest g = ap (λ z. front_bounded (z ++ rest)) g.1 ∙ ap (with_times unary.XTimes) (times_read n rest g.0) ∙ ap (λ z. found (unary.XTimes n) z) (let l = ap length g.1 in omega arith)
-bounded_read (unary.YTimes n) bytes rest g = ap (λ z. front_bounded (z ++ rest)) g.1 ∙ ap (with_times unary.YTimes) (times_read n rest g.0) ∙ ap (λ z. found (unary.YTimes n) z) (let l = ap length g.1 in omega arith)
-bounded_read (unary.FIn a b) bytes rest g = let e = g.2 ∙ ap (λ z. 70 ∷ z) (flat a b) in ap (λ z. front_bounded (z ++ rest)) e ∙ ap (with_range unary.FIn) (range_read a b rest g.0 g.1) ∙ ap (λ z. found (unary.FIn a b) z) (let l = ap length e in omega arith)
-bounded_read (unary.GIn a b) bytes rest g = let e = g.2 ∙ ap (λ z. 71 ∷ z) (flat a b) in ap (λ z. front_bounded (z ++ rest)) e ∙ ap (with_range unary.GIn) (range_read a b rest g.0 g.1) ∙ ap (λ z. found (unary.GIn a b) z) (let l = ap length e in omega arith)
-bounded_read (unary.OIn a b) bytes rest g = let e = g.2 ∙ ap (λ z. 79 ∷ z) (flat a b) in ap (λ z. front_bounded (z ++ rest)) e ∙ ap (with_range unary.OIn) (range_read a b rest g.0 g.1) ∙ ap (λ z. found (unary.OIn a b) z) (let l = ap length e in omega arith)
-bounded_read (unary.HIn a b) bytes rest g = let e = g.2 ∙ ap (λ z. 72 ∷ z) (flat a b) in ap (λ z. front_bounded (z ++ rest)) e ∙ ap (with_range unary.HIn) (range_read a b rest g.0 g.1) ∙ ap (λ z. found (unary.HIn a b) z) (let l = ap length e in omega arith)
+bounded_read (unary.XTimes n) bytes rest g = ap (λ z. front_bounded (z ++ rest)) g.1 ∙ ap (with_times unary.XTimes) (times_read n rest g.0)
+    ∙ ap (λ z. found (unary.XTimes n) z) (let l = ap length g.1 in omega arith)
+bounded_read (unary.YTimes n) bytes rest g = ap (λ z. front_bounded (z ++ rest)) g.1 ∙ ap (with_times unary.YTimes) (times_read n rest g.0)
+    ∙ ap (λ z. found (unary.YTimes n) z) (let l = ap length g.1 in omega arith)
+bounded_read (unary.FIn a b) bytes rest g = let e = g.2 ∙ ap (λ z. 70 ∷ z) (flat a b) in ap (λ z. front_bounded (z ++ rest)) e
+    ∙ ap (with_range unary.FIn) (range_read a b rest g.0 g.1) ∙ ap (λ z. found (unary.FIn a b) z) (let l = ap length e in omega arith)
+bounded_read (unary.GIn a b) bytes rest g = let e = g.2 ∙ ap (λ z. 71 ∷ z) (flat a b) in ap (λ z. front_bounded (z ++ rest)) e
+    ∙ ap (with_range unary.GIn) (range_read a b rest g.0 g.1) ∙ ap (λ z. found (unary.GIn a b) z) (let l = ap length e in omega arith)
+bounded_read (unary.OIn a b) bytes rest g = let e = g.2 ∙ ap (λ z. 79 ∷ z) (flat a b) in ap (λ z. front_bounded (z ++ rest)) e
+    ∙ ap (with_range unary.OIn) (range_read a b rest g.0 g.1) ∙ ap (λ z. found (unary.OIn a b) z) (let l = ap length e in omega arith)
+bounded_read (unary.HIn a b) bytes rest g = let e = g.2 ∙ ap (λ z. 72 ∷ z) (flat a b) in ap (λ z. front_bounded (z ++ rest)) e
+    ∙ ap (with_range unary.HIn) (range_read a b rest g.0 g.1) ∙ ap (λ z. found (unary.HIn a b) z) (let l = ap length e in omega arith)
 
 -- what is found is a bounded operator
 pub record IsFront (text : List ℕ) (word : UnaryWord) (len : ℕ) : Type 0 where
@@ -197,7 +212,8 @@ found_same v w m n e = let p = found_is (v, m) (w, n) e in (ap (λ (z : UnaryWor
 front_at : (text : List ℕ) (v : UnaryWord) (m : ℕ) (w : UnaryWord) (n : ℕ) → IsFront text v m → found v m ≡ found w n → IsFront text w n
 front_at text v m w n g e = subst (λ (p : UnaryWord × ℕ). IsFront text p.0 p.1) (found_is (v, m) (w, n) e) g
 
-with_letter : (b : ℕ) (op : ℕ → UnaryWord) → ((n : ℕ) (bytes : List ℕ) → n ≤ 255 → bytes ≡ b ∷ times_bytes n → IsBounded bytes (op n)) → (bs : List ℕ) (r : Option (ℕ × ℕ)) (w : UnaryWord) (n : ℕ) → front_times bs ≡ r → with_times op r ≡ found w n → IsFront (b ∷ bs) w n
+with_letter : (b : ℕ) (op : ℕ → UnaryWord) → ((n : ℕ) (bytes : List ℕ) → n ≤ 255 → bytes ≡ b ∷ times_bytes n → IsBounded bytes (op n))
+    → (bs : List ℕ) (r : Option (ℕ × ℕ)) (w : UnaryWord) (n : ℕ) → front_times bs ≡ r → with_times op r ≡ found w n → IsFront (b ∷ bs) w n
 with_letter b op is bs None w n h e = absurd (cc)
 with_letter b op is bs (Some r) w n h e =
     let f = times_found bs r.0 r.1 h in
@@ -209,7 +225,8 @@ with_letter b op is bs (Some r) w n h e =
       bounded = is r.0 (b ∷ times_bytes r.0) f.small refl;
     }) e
 
-with_letters : (b : ℕ) (op : ℕ → ℕ → UnaryWord) → ((c d : ℕ) (bytes : List ℕ) → c ≤ d → d ≤ 255 → bytes ≡ b ∷ range_bytes c d → IsBounded bytes (op c d)) → (bs : List ℕ) (r : Option (ℕ × ℕ × ℕ)) (w : UnaryWord) (n : ℕ) → front_range bs ≡ r → with_range op r ≡ found w n → IsFront (b ∷ bs) w n
+with_letters : (b : ℕ) (op : ℕ → ℕ → UnaryWord) → ((c d : ℕ) (bytes : List ℕ) → c ≤ d → d ≤ 255 → bytes ≡ b ∷ range_bytes c d → IsBounded bytes (op c d))
+    → (bs : List ℕ) (r : Option (ℕ × ℕ × ℕ)) (w : UnaryWord) (n : ℕ) → front_range bs ≡ r → with_range op r ≡ found w n → IsFront (b ∷ bs) w n
 with_letters b op is bs None w n h e = absurd (cc)
 with_letters b op is bs (Some r) w n h e =
     let f = range_found bs r.0 r.1 r.2 h in
@@ -227,10 +244,16 @@ letter_is b k bs w n t g = subst (λ z. IsFront (z ∷ bs) w n) (sym (eqb-true b
 pub bounded_found : (text : List ℕ) (w : UnaryWord) (n : ℕ) → front_bounded text ≡ found w n → IsFront text w n
 bounded_found [] w n = λ e. absurd (cc)
 bounded_found (b ∷ bs) w n =
-    pick (IsFront (b ∷ bs) w n) (Option (UnaryWord × ℕ)) (b == 88) (with_times unary.XTimes (front_times bs)) _ (found w n) (λ t e. letter_is b 88 bs w n t (with_letter 88 unary.XTimes (λ m bytes s i. (s, i)) bs (front_times bs) w n refl e))
-    (λ f1. pick (IsFront (b ∷ bs) w n) (Option (UnaryWord × ℕ)) (b == 89) (with_times unary.YTimes (front_times bs)) _ (found w n) (λ t e. letter_is b 89 bs w n t (with_letter 89 unary.YTimes (λ m bytes s i. (s, i)) bs (front_times bs) w n refl e))
-    (λ f2. pick (IsFront (b ∷ bs) w n) (Option (UnaryWord × ℕ)) (b == 70) (with_range unary.FIn (front_range bs)) _ (found w n) (λ t e. letter_is b 70 bs w n t (with_letters 70 unary.FIn (λ c d bytes o s i. (o, s, i ∙ ap (λ z. 70 ∷ z) (sym (flat c d)))) bs (front_range bs) w n refl e))
-    (λ f3. pick (IsFront (b ∷ bs) w n) (Option (UnaryWord × ℕ)) (b == 71) (with_range unary.GIn (front_range bs)) _ (found w n) (λ t e. letter_is b 71 bs w n t (with_letters 71 unary.GIn (λ c d bytes o s i. (o, s, i ∙ ap (λ z. 71 ∷ z) (sym (flat c d)))) bs (front_range bs) w n refl e))
-    (λ f4. pick (IsFront (b ∷ bs) w n) (Option (UnaryWord × ℕ)) (b == 79) (with_range unary.OIn (front_range bs)) _ (found w n) (λ t e. letter_is b 79 bs w n t (with_letters 79 unary.OIn (λ c d bytes o s i. (o, s, i ∙ ap (λ z. 79 ∷ z) (sym (flat c d)))) bs (front_range bs) w n refl e))
-    (λ f5. pick (IsFront (b ∷ bs) w n) (Option (UnaryWord × ℕ)) (b == 72) (with_range unary.HIn (front_range bs)) None (found w n) (λ t e. letter_is b 72 bs w n t (with_letters 72 unary.HIn (λ c d bytes o s i. (o, s, i ∙ ap (λ z. 72 ∷ z) (sym (flat c d)))) bs (front_range bs) w n refl e))
+    pick (IsFront (b ∷ bs) w n) (Option (UnaryWord × ℕ)) (b == 88) (with_times unary.XTimes (front_times bs)) _ (found w n)
+    (λ t e. letter_is b 88 bs w n t (with_letter 88 unary.XTimes (λ m bytes s i. (s, i)) bs (front_times bs) w n refl e))
+    (λ f1. pick (IsFront (b ∷ bs) w n) (Option (UnaryWord × ℕ)) (b == 89) (with_times unary.YTimes (front_times bs)) _ (found w n)
+    (λ t e. letter_is b 89 bs w n t (with_letter 89 unary.YTimes (λ m bytes s i. (s, i)) bs (front_times bs) w n refl e))
+    (λ f2. pick (IsFront (b ∷ bs) w n) (Option (UnaryWord × ℕ)) (b == 70) (with_range unary.FIn (front_range bs)) _ (found w n) (λ t e. letter_is b 70 bs w n t
+    (with_letters 70 unary.FIn (λ c d bytes o s i. (o, s, i ∙ ap (λ z. 70 ∷ z) (sym (flat c d)))) bs (front_range bs) w n refl e))
+    (λ f3. pick (IsFront (b ∷ bs) w n) (Option (UnaryWord × ℕ)) (b == 71) (with_range unary.GIn (front_range bs)) _ (found w n) (λ t e. letter_is b 71 bs w n t
+    (with_letters 71 unary.GIn (λ c d bytes o s i. (o, s, i ∙ ap (λ z. 71 ∷ z) (sym (flat c d)))) bs (front_range bs) w n refl e))
+    (λ f4. pick (IsFront (b ∷ bs) w n) (Option (UnaryWord × ℕ)) (b == 79) (with_range unary.OIn (front_range bs)) _ (found w n) (λ t e. letter_is b 79 bs w n t
+    (with_letters 79 unary.OIn (λ c d bytes o s i. (o, s, i ∙ ap (λ z. 79 ∷ z) (sym (flat c d)))) bs (front_range bs) w n refl e))
+    (λ f5. pick (IsFront (b ∷ bs) w n) (Option (UnaryWord × ℕ)) (b == 72) (with_range unary.HIn (front_range bs)) None (found w n) (λ t e.
+    letter_is b 72 bs w n t (with_letters 72 unary.HIn (λ c d bytes o s i. (o, s, i ∙ ap (λ z. 72 ∷ z) (sym (flat c d)))) bs (front_range bs) w n refl e))
     (λ f6 e. absurd (cc)))))))

@@ -2,7 +2,8 @@
 use Rattle.std.proofs.Common.{◌≡◌, ◌⊎◌, inl, inr, List, [], ◌∷◌, ◌++◌, refl, sym, ap, ap₂}
 
 -- l ++ r, cut at t, is cut within l or within r
-pub cut_within : {A : Type 0} (l r b : List A) (t : A) (a : List A) → l ++ r ≡ b ++ t ∷ a → ((c : List A) × (l ≡ b ++ t ∷ c) × (a ≡ c ++ r)) ⊎ ((c : List A) × (b ≡ l ++ c) × (r ≡ c ++ t ∷ a))
+pub cut_within : {A : Type 0} (l r b : List A) (t : A) (a : List A)
+    → l ++ r ≡ b ++ t ∷ a → ((c : List A) × (l ≡ b ++ t ∷ c) × (a ≡ c ++ r)) ⊎ ((c : List A) × (b ≡ l ++ c) × (r ≡ c ++ t ∷ a))
 cut_within [] r b t a e = inr (b, refl, e)
 cut_within (x ∷ l) r [] t a e = inl (l, (let h : x ≡ t = cc in ap (λ z. z ∷ l) h), (cc))
 cut_within (x ∷ l) r (y ∷ b) t a e =

@@ -1,5 +1,6 @@
 -- Characters and words at the front of a text.
-use Rattle.std.proofs.Common.{◌≡◌, ℕ, zero, suc, ◌+◌, ◌-◌, ◌<◌, ◌≤◌, Bool, true, false, ◌&&◌, List, [], ◌∷◌, ◌++◌, length, take, drop, arith, refl, sym, ap, ap₂, ◌∙◌, subst, append_assoc, length-append}
+use Rattle.std.proofs.Common.{◌≡◌, ℕ, zero, suc, ◌+◌, ◌-◌, ◌<◌, ◌≤◌, Bool, true, false, ◌&&◌, List, [], ◌∷◌, ◌++◌, length, take, drop, arith, refl, sym, ap}
+use Rattle.std.proofs.Common.{ap₂, ◌∙◌, subst, append_assoc, length-append}
 use Rattle.std.specs.Prelude.{Some, encode_utf8, encode_utf8_all}
 use Rattle.std.specs.Str.{all_scalars}
 use Rattle.std.specs.List.{list_all}
@@ -19,7 +20,8 @@ use Rattle.ltl_lexer.specs.Scanning.{passes, FrontChar, EndsWord}
 wide : (c : ℕ) → 0 < length (encode_utf8 c)
 wide c = let e = length-encode c in let b = len_utf8_bounds c in omega arith
 
-pub front_some : (first : Bool) (text : List ℕ) (ch size : ℕ) → Some ch ≡ (decoded text).char → size ≡ (decoded text).size → passes first ch ≡ true → FrontChar first text size
+pub front_some : (first : Bool) (text : List ℕ) (ch size : ℕ) → Some ch ≡ (decoded text).char → size ≡ (decoded text).size
+    → passes first ch ≡ true → FrontChar first text size
 front_some first text ch size e n p =
     let s = SpellsChar-decoded text ch (sym e) in
     let w = wide ch in record {
@@ -71,10 +73,12 @@ word_more word c w p s = record {
 take_more_of : (text : List ℕ) (m n : ℕ) → m ≤ length text → take (m + n) text ≡ take m text ++ take n (drop m text)
 take_more_of text m n le = take-add m n text
 
-pub word_longer : (text : List ℕ) (len size : ℕ) → len ≤ length text → IsWord (take len text) → FrontChar false (drop len text) size → 0 < size → IsWord (take (len + size) text)
+pub word_longer : (text : List ℕ) (len size : ℕ) → len ≤ length text → IsWord (take len text) → FrontChar false (drop len text) size
+    → 0 < size → IsWord (take (len + size) text)
 word_longer text len size le w g pos =
     let k = g.char pos in
-    subst IsWord (ap (λ z. take len text ++ z) (sym (char_taken (drop len text) k.0 size k.3 k.4)) ∙ sym (take_more_of text len size le)) (word_more (take len text) k.0 w k.2 k.1)
+    subst IsWord (ap (λ z. take len text ++ z) (sym (char_taken (drop len text) k.0 size k.3 k.4)) ∙ sym (take_more_of text len size le))
+    (word_more (take len text) k.0 w k.2 k.1)
 
 -- where some characters begin others, these are the first of them
 front_chars : (cs ds more : List ℕ) → encode_utf8_all cs ++ more ≡ encode_utf8_all ds → (es : List ℕ) × (ds ≡ cs ++ es) × (more ≡ encode_utf8_all es)
@@ -99,7 +103,8 @@ word_ends word rest w g more after e pos v =
     go [] a b = let l = ap length b in absurd (omega arith)
     go (d ∷ es) a b =
         let o : v.others ≡ w.others ++ d ∷ es = cc in
-        let p = and_parts (list_all is_xid_continue w.others) (list_all is_xid_continue (d ∷ es)) (sym (list_all-append is_xid_continue w.others (d ∷ es)) ∙ ap (list_all is_xid_continue) (sym o) ∙ v.continues) in
+        let p = and_parts (list_all is_xid_continue w.others) (list_all is_xid_continue (d ∷ es))
+        (sym (list_all-append is_xid_continue w.others (d ∷ es)) ∙ ap (list_all is_xid_continue) (sym o) ∙ v.continues) in
         let q : is_xid_continue d ≡ true = (and_parts (is_xid_continue d) (list_all is_xid_continue es) p.1).0 in
         let s : IsScalar d = scalar_in (w.first ∷ w.others) d es (ap all_scalars (sym a) ∙ v.characters) in
         let n = g.none refl d (encode_utf8_all es ++ after) s (e ∙ ap (λ z. z ++ after) b ∙ append_assoc (encode_utf8 d) (encode_utf8_all es) after) in
@@ -112,12 +117,14 @@ word_ends word rest w g more after e pos v =
 pub none_ends : (text : List ℕ) → FrontChar true text 0 → EndsWord [] text
 none_ends text g more after e pos v =
     let s = (and_parts _ (all_scalars v.others) v.characters).0 in
-    let n = g.none refl v.first (encode_utf8_all v.others ++ after) s (e ∙ ap (λ z. z ++ after) (sym v.spelled) ∙ append_assoc (encode_utf8 v.first) (encode_utf8_all v.others) after) in
+    let n = g.none refl v.first (encode_utf8_all v.others ++ after) s
+    (e ∙ ap (λ z. z ++ after) (sym v.spelled) ∙ append_assoc (encode_utf8 v.first) (encode_utf8_all v.others) after) in
     let p = v.starts in
     cc
 
 pub no_word : IsWord [] → ⊥
-no_word w = let e = ap length w.spelled in let l = length-append (encode_utf8 w.first) (encode_utf8_all w.others) in let p = wide w.first in absurd (omega arith)
+no_word w = let e = ap length w.spelled in let l = length-append (encode_utf8 w.first) (encode_utf8_all w.others) in let p = wide w.first in
+    absurd (omega arith)
 
 pub rest_taken : (first : Bool) (text : List ℕ) (k size : ℕ) → FrontChar first (take (length text - k) (drop k text)) size → FrontChar first (drop k text) size
 rest_taken first text k size g = subst (λ z. FrontChar first z size) (take_all (length text - k) (drop k text) (let l = length-drop k text in omega arith)) g

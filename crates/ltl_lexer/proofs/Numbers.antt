@@ -1,5 +1,6 @@
 -- The number at the front of a text.
-use Rattle.std.proofs.Common.{◌≡◌, ℕ, zero, suc, ◌+◌, ◌*◌, ◌-◌, ◌/◌, ◌%◌, ◌<◌, ◌≤◌, Bool, true, false, ◌==◌, List, [], ◌∷◌, ◌++◌, length, get_or, arith, refl, sym, ap, ap₂, ◌∙◌, subst, inl, inr}
+use Rattle.std.proofs.Common.{◌≡◌, ℕ, zero, suc, ◌+◌, ◌*◌, ◌-◌, ◌/◌, ◌%◌, ◌<◌, ◌≤◌, Bool, true, false, ◌==◌, List, [], ◌∷◌, ◌++◌, length, get_or, arith, refl}
+use Rattle.std.proofs.Common.{sym, ap, ap₂, ◌∙◌, subst, inl, inr}
 use Rattle.std.specs.Prelude.{Option, Some, None, if◌then◌else◌, nat_le}
 use Rattle.std.specs.Char.{is_ascii_digit}
 use Rattle.std.specs.Fmt.{decimal}
@@ -53,7 +54,8 @@ pub decimal_three : (x y z : ℕ) → 0 < x → x < 10 → y < 10 → z < 10 →
 decimal_three x y z p l m n =
     let q : (100 * x + 10 * y + z) / 10 ≡ 10 * x + y = omega arith in
     let r : (100 * x + 10 * y + z) % 10 ≡ z = omega arith in
-    decimal_step (100 * x + 10 * y + z) (omega arith) (omega arith) ∙ ap₂ (λ a b. decimal a ++ ((48 + b) ∷ [])) q r ∙ ap (λ s. s ++ ((48 + z) ∷ [])) (decimal_two x y p l m)
+    decimal_step (100 * x + 10 * y + z) (omega arith) (omega arith) ∙ ap₂ (λ a b. decimal a ++ ((48 + b) ∷ [])) q r
+    ∙ ap (λ s. s ++ ((48 + z) ∷ [])) (decimal_two x y p l m)
 
 -- the number stands at the front, and is so long
 pub record IsNumber (text : List ℕ) (n len : ℕ) : Type 0 where
@@ -71,7 +73,8 @@ pair a m = Some (a, m)
 number_at : (text : List ℕ) (a m n len : ℕ) → IsNumber text a m → pair a m ≡ pair n len → IsNumber text n len
 number_at text a m n len g e = subst (λ (p : ℕ × ℕ). IsNumber text p.0 p.1) (pair_is (a, m) (n, len) e) g
 
-number_three : (text : List ℕ) (x y : ℕ) (third : Option ℕ) (n len : ℕ) → 0 < x → digit_at text 0 ≡ Some x → digit_at text 1 ≡ Some y → digit_at text 2 ≡ third → three_digits x y third ≡ Some (n, len) → IsNumber text n len
+number_three : (text : List ℕ) (x y : ℕ) (third : Option ℕ) (n len : ℕ) → 0 < x → digit_at text 0 ≡ Some x → digit_at text 1 ≡ Some y
+    → digit_at text 2 ≡ third → three_digits x y third ≡ Some (n, len) → IsNumber text n len
 number_three text x y None n len p a b c e =
     let f = digit_front text x a in
     let g = digit_front f.0 y (sym (ap (λ z. digit_at z 1) f.1) ∙ b) in
@@ -98,7 +101,8 @@ number_three text x y (Some z) n len p a b c e = go (nat_le (100 * x + 10 * y + 
         }) (sym (ap (λ t. if t then Some (100 * x + 10 * y + z, 3) else None) h) ∙ e)
     go false h = let v : None ≡ pair n len = sym (ap (λ t. if t then Some (100 * x + 10 * y + z, 3) else None) h) ∙ e in absurd (cc)
 
-number_two : (text : List ℕ) (x : ℕ) (second third : Option ℕ) (n len : ℕ) → digit_at text 0 ≡ Some x → digit_at text 1 ≡ second → digit_at text 2 ≡ third → two_digits x second third ≡ Some (n, len) → IsNumber text n len
+number_two : (text : List ℕ) (x : ℕ) (second third : Option ℕ) (n len : ℕ) → digit_at text 0 ≡ Some x
+    → digit_at text 1 ≡ second → digit_at text 2 ≡ third → two_digits x second third ≡ Some (n, len) → IsNumber text n len
 number_two text x None third n len a b c e =
     let f = digit_front text x a in
     let d = decimal_digit x f.2 in
@@ -114,7 +118,8 @@ number_two text x (Some y) third n len a b c e = go (x == 0) refl
     go true h = let v : None ≡ pair n len = sym (ap (λ t. if t then None else three_digits x y third) h) ∙ e in absurd (cc)
     go false h = number_three text x y third n len (grind (arith, nat_tests)) a b c (sym (ap (λ t. if t then None else three_digits x y third) h) ∙ e)
 
-number_one : (text : List ℕ) (first second third : Option ℕ) (n len : ℕ) → digit_at text 0 ≡ first → digit_at text 1 ≡ second → digit_at text 2 ≡ third → one_digit first second third ≡ Some (n, len) → IsNumber text n len
+number_one : (text : List ℕ) (first second third : Option ℕ) (n len : ℕ)
+    → digit_at text 0 ≡ first → digit_at text 1 ≡ second → digit_at text 2 ≡ third → one_digit first second third ≡ Some (n, len) → IsNumber text n len
 number_one text None second third n len a b c e = absurd (cc)
 number_one text (Some x) second third n len a b c e = number_two text x second third n len a b c e
 
@@ -122,7 +127,8 @@ pub number_found : (text : List ℕ) (n len : ℕ) → front_number text ≡ Som
 number_found text n len e = number_one text (digit_at text 0) (digit_at text 1) (digit_at text 2) n len refl refl refl e
 
 -- the number that stands at the front is found, where no digit stands behind it
-all_three : (x y z : ℕ) → 0 < x → x < 10 → y < 10 → z < 10 → 100 * x + 10 * y + z ≤ 255 → (rest : List ℕ) → front_number (decimal (100 * x + 10 * y + z) ++ rest) ≡ Some (100 * x + 10 * y + z, length (decimal (100 * x + 10 * y + z)))
+all_three : (x y z : ℕ) → 0 < x → x < 10 → y < 10 → z < 10 → 100 * x + 10 * y + z ≤ 255 → (rest : List ℕ)
+    → front_number (decimal (100 * x + 10 * y + z) ++ rest) ≡ Some (100 * x + 10 * y + z, length (decimal (100 * x + 10 * y + z)))
 all_three x y z p l m n s rest =
     let d = decimal_three x y z p l m n in
     let text = (48 + x) ∷ (48 + y) ∷ (48 + z) ∷ rest in
@@ -136,7 +142,8 @@ all_three x y z p l m n s rest =
     ∙ ap (λ t. if t then pair (100 * x + 10 * y + z) 3 else None) small
     ∙ ap (λ k. pair (100 * x + 10 * y + z) k) (ap length (sym d))
 
-all_two : (x y : ℕ) → 0 < x → x < 10 → y < 10 → (rest : List ℕ) → digit_at rest 0 ≡ None → front_number (decimal (10 * x + y) ++ rest) ≡ Some (10 * x + y, length (decimal (10 * x + y)))
+all_two : (x y : ℕ) → 0 < x → x < 10 → y < 10 → (rest : List ℕ)
+    → digit_at rest 0 ≡ None → front_number (decimal (10 * x + y) ++ rest) ≡ Some (10 * x + y, length (decimal (10 * x + y)))
 all_two x y p l m rest none =
     let d = decimal_two x y p l m in
     let text = (48 + x) ∷ (48 + y) ∷ rest in

@@ -1,5 +1,6 @@
 -- A text has one list of tokens.
-use Rattle.std.proofs.Common.{◌≡◌, ℕ, ◌+◌, ◌<◌, ◌⊎◌, inl, inr, Bool, true, false, ◌||◌, ◌==◌, List, [], ◌∷◌, ◌++◌, length, arith, refl, sym, ap, ap₂, ◌∙◌, subst}
+use Rattle.std.proofs.Common.{◌≡◌, ℕ, ◌+◌, ◌<◌, ◌⊎◌, inl, inr, Bool, true, false, ◌||◌, ◌==◌, List, [], ◌∷◌, ◌++◌, length, arith, refl, sym, ap, ap₂, ◌∙◌}
+use Rattle.std.proofs.Common.{subst}
 use Rattle.std.specs.Prelude.{Option, Some, None}
 use Rattle.std.specs.List.{list_all}
 use Rattle.std.proofs.lemmas.Bool.{and_parts, or_cases}
@@ -20,7 +21,8 @@ one_kind bytes k m (inr p) (inl q) = let e = like_no_sign bytes k p in absurd (c
 one_kind bytes k m (inr (inl p)) (inr (inl q)) = sym p.1 ∙ q.1
 one_kind bytes k m (inr (inl p)) (inr (inr q)) = absurd (bounded_no_word bytes q.0 q.2 p.0)
 one_kind bytes k m (inr (inr p)) (inr (inl q)) = absurd (bounded_no_word bytes p.0 p.2 q.0)
-one_kind bytes k m (inr (inr p)) (inr (inr q)) = p.1 ∙ ap kinds.Unary (found_same p.0 q.0 (length bytes) (length bytes) (sym (bounded_read p.0 bytes [] p.2) ∙ bounded_read q.0 bytes [] q.2)).0 ∙ sym q.1
+one_kind bytes k m (inr (inr p)) (inr (inr q)) =
+    p.1 ∙ ap kinds.Unary (found_same p.0 q.0 (length bytes) (length bytes) (sym (bounded_read p.0 bytes [] p.2) ∙ bounded_read q.0 bytes [] q.2)).0 ∙ sym q.1
 
 -- of two ways to cut a list one goes further
 prefix : {A : Type 0} (a b x y : List A) → a ++ x ≡ b ++ y → ((c : List A) × (a ≡ b ++ c) × (y ≡ c ++ x)) ⊎ ((c : List A) × (b ≡ a ++ c) × (x ≡ c ++ y))
@@ -119,7 +121,8 @@ not_white (b ∷ a) x s w = not_white a x s (and_parts (is_white b) (list_all is
 pub one_next : (place : ℕ) (text : List ℕ) (t u : Token) (r q : List ℕ) → IsNext place text t r → IsNext place text u q → (t ≡ u) × (r ≡ q)
 one_next place text t u r q g h =
     let e : g.white ++ (g.bytes ++ r) ≡ h.white ++ (h.bytes ++ q) = sym g.whole ∙ h.whole in
-    let w = same_white g.white h.white (g.bytes ++ r) (h.bytes ++ q) g.blank h.blank (solid g.bytes r t.kind g.longest.spells) (solid h.bytes q u.kind h.longest.spells) e in
+    let w = same_white g.white h.white (g.bytes ++ r) (h.bytes ++ q) g.blank h.blank (solid g.bytes r t.kind g.longest.spells)
+    (solid h.bytes q u.kind h.longest.spells) e in
     let l = same_longest t.kind u.kind g.bytes h.bytes r q g.longest h.longest w.1 in
     let s : t.start ≡ u.start = g.start ∙ ap (λ z. place + length z) w.0 ∙ sym h.start in
     let f : t.end ≡ u.end = g.end ∙ ap₂ (λ x y. x + length y) s l.1 ∙ sym h.end in

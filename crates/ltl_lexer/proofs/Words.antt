@@ -1,5 +1,6 @@
 -- The bytes of words and of signs, and when a word or a sign is the longest token.
-use Rattle.std.proofs.Common.{◌≡◌, ℕ, ◌<◌, ◌≤◌, ◌⊎◌, inl, inr, Bool, true, false, ◌&&◌, ◌||◌, ◌==◌, List, [], ◌∷◌, ◌++◌, length, get_or, arith, refl, sym, ap, ap₂, ◌∙◌, subst, append_assoc, length-append}
+use Rattle.std.proofs.Common.{◌≡◌, ℕ, ◌<◌, ◌≤◌, ◌⊎◌, inl, inr, Bool, true, false, ◌&&◌, ◌||◌, ◌==◌, List, [], ◌∷◌, ◌++◌, length, get_or, arith, refl, sym, ap}
+use Rattle.std.proofs.Common.{ap₂, ◌∙◌, subst, append_assoc, length-append}
 use Rattle.std.specs.Prelude.{Option, Some, None, IsUtf8, if◌then◌else◌, encode_utf8, encode_utf8_all}
 use Rattle.std.specs.Str.{all_scalars}
 use Rattle.std.specs.Fmt.{decimal}
@@ -37,7 +38,8 @@ char_of c front b back e l =
     inside_one c [] (encode_utf8 c) (length front) (sym (append-nil (encode_utf8 c))) (omega arith) (omega arith) ∙ here
 
 -- an ASCII byte of characters that all pass a test is one of these characters
-pub chars_ascii : (p : ℕ → Bool) (cs : List ℕ) → list_all p cs ≡ true → (front : List ℕ) (b : ℕ) (back : List ℕ) → encode_utf8_all cs ≡ front ++ b ∷ back → b < 128 → p b ≡ true
+pub chars_ascii : (p : ℕ → Bool) (cs : List ℕ) → list_all p cs ≡ true → (front : List ℕ) (b : ℕ) (back : List ℕ)
+    → encode_utf8_all cs ≡ front ++ b ∷ back → b < 128 → p b ≡ true
 chars_ascii p [] h [] b back e l = absurd (cc)
 chars_ascii p [] h (x ∷ front) b back e l = absurd (cc)
 chars_ascii p (c ∷ cs) h front b back e l =
@@ -56,7 +58,8 @@ first_continues c h = elim (or_cases (is_xid_start c) (c == 95) h) [
 -- the ASCII bytes of a word
 pub word_ascii : (bytes : List ℕ) → IsWord bytes → (front : List ℕ) (b : ℕ) (back : List ℕ) → bytes ≡ front ++ b ∷ back → b < 128 → is_word_byte b ≡ true
 word_ascii bytes w front b back e l =
-    let all : list_all is_xid_continue (w.first ∷ w.others) ≡ true = ap (λ z. z && list_all is_xid_continue w.others) (first_continues w.first w.starts) ∙ w.continues in
+    let all : list_all is_xid_continue (w.first ∷ w.others) ≡ true =
+    ap (λ z. z && list_all is_xid_continue w.others) (first_continues w.first w.starts) ∙ w.continues in
     sym (is_xid_continue-ascii b l) ∙ chars_ascii is_xid_continue (w.first ∷ w.others) all front b back (w.spelled ∙ e) l
 
 -- the first byte of a word is no ASCII byte but of a word
@@ -134,12 +137,16 @@ spelling_not_empty [] kind (inl s) = absurd (cc)
 spelling_not_empty [] kind (inr w) = let f = (like_front [] kind w).2 in absurd (cc)
 spelling_not_empty (b ∷ bs) kind s = omega arith
 
-other_kind : (b : Bool) (k : TokenKind) (r : Option TokenKind) → (k ≡ kinds.Identifier → ⊥) → (r ≡ Some kinds.Identifier → ⊥) → (if b then Some k else r) ≡ Some kinds.Identifier → ⊥
+other_kind : (b : Bool) (k : TokenKind) (r : Option TokenKind) → (k ≡ kinds.Identifier → ⊥) → (r ≡ Some kinds.Identifier → ⊥)
+    → (if b then Some k else r) ≡ Some kinds.Identifier → ⊥
 other_kind true k r f g e = f (cc)
 other_kind false k r f g e = g e
 
 no_sign : (bytes : List ℕ) → sign bytes ≡ Some kinds.Identifier → ⊥
-no_sign bytes = other_kind _ kinds.Not _ (λ (e : kinds.Not ≡ kinds.Identifier). cc) (other_kind _ kinds.And _ (λ (e : kinds.And ≡ kinds.Identifier). cc) (other_kind _ kinds.Or _ (λ (e : kinds.Or ≡ kinds.Identifier). cc) (other_kind _ kinds.Implies _ (λ (e : kinds.Implies ≡ kinds.Identifier). cc) (other_kind _ kinds.Iff _ (λ (e : kinds.Iff ≡ kinds.Identifier). cc) (other_kind _ kinds.OpenParen _ (λ (e : kinds.OpenParen ≡ kinds.Identifier). cc) (other_kind _ kinds.CloseParen _ (λ (e : kinds.CloseParen ≡ kinds.Identifier). cc) (λ (e : None ≡ Some kinds.Identifier). cc)))))))
+no_sign bytes = other_kind _ kinds.Not _ (λ (e : kinds.Not ≡ kinds.Identifier). cc) (other_kind _ kinds.And _ (λ (e : kinds.And ≡ kinds.Identifier). cc)
+    (other_kind _ kinds.Or _ (λ (e : kinds.Or ≡ kinds.Identifier). cc) (other_kind _ kinds.Implies _ (λ (e : kinds.Implies ≡ kinds.Identifier). cc)
+    (other_kind _ kinds.Iff _ (λ (e : kinds.Iff ≡ kinds.Identifier). cc) (other_kind _ kinds.OpenParen _ (λ (e : kinds.OpenParen ≡ kinds.Identifier). cc)
+    (other_kind _ kinds.CloseParen _ (λ (e : kinds.CloseParen ≡ kinds.Identifier). cc) (λ (e : None ≡ Some kinds.Identifier). cc)))))))
 
 -- what spells an identifier is a word that is not reserved
 pub identifier_is_word : (bytes : List ℕ) → Spells bytes kinds.Identifier → IsWord bytes × (word_kind bytes ≡ kinds.Identifier)
@@ -167,14 +174,20 @@ either_kind true k r z p g e = subst FitsKind e p
 either_kind false k r z p g e = g e
 
 word_fits : (bytes : List ℕ) (z : TokenKind) → word_kind bytes ≡ z → FitsKind z
-word_fits bytes z = either_kind _ kinds.True _ z tt (either_kind _ kinds.False _ z tt (either_kind _ (kinds.Unary unary.X) _ z tt (either_kind _ (kinds.Unary unary.WX) _ z tt (either_kind _ (kinds.Unary unary.F) _ z tt (either_kind _ (kinds.Unary unary.G) _ z tt (either_kind _ (kinds.Unary unary.Y) _ z tt (either_kind _ (kinds.Unary unary.Z) _ z tt (either_kind _ (kinds.Unary unary.O) _ z tt (either_kind _ (kinds.Unary unary.H) _ z tt (either_kind _ (kinds.Binary binary.U) _ z tt (either_kind _ (kinds.Binary binary.R) _ z tt (either_kind _ (kinds.Binary binary.W) _ z tt (either_kind _ (kinds.Binary binary.M) _ z tt (either_kind _ (kinds.Binary binary.S) _ z tt (either_kind _ (kinds.Binary binary.T) kinds.Identifier z tt (λ e. subst FitsKind e tt))))))))))))))))
+word_fits bytes z =
+    either_kind _ kinds.True _ z tt (either_kind _ kinds.False _ z tt (either_kind _ (kinds.Unary unary.X) _ z tt (either_kind _ (kinds.Unary unary.WX)
+    _ z tt (either_kind _ (kinds.Unary unary.F) _ z tt (either_kind _ (kinds.Unary unary.G) _ z tt (either_kind _ (kinds.Unary unary.Y) _ z tt (either_kind _
+    (kinds.Unary unary.Z) _ z tt (either_kind _ (kinds.Unary unary.O) _ z tt (either_kind _ (kinds.Unary unary.H) _ z tt (either_kind _ (kinds.Binary binary.U)
+    _ z tt (either_kind _ (kinds.Binary binary.R) _ z tt (either_kind _ (kinds.Binary binary.W) _ z tt (either_kind _ (kinds.Binary binary.M) _ z tt
+    (either_kind _ (kinds.Binary binary.S) _ z tt (either_kind _ (kinds.Binary binary.T) kinds.Identifier z tt (λ e. subst FitsKind e tt))))))))))))))))
 
 either_sign : (b : Bool) (k z : TokenKind) (r : Option TokenKind) → FitsKind k → (r ≡ Some z → FitsKind z) → (if b then Some k else r) ≡ Some z → FitsKind z
 either_sign true k z r p g e = let h : k ≡ z = cc in subst FitsKind h p
 either_sign false k z r p g e = g e
 
 sign_fits : (bytes : List ℕ) (z : TokenKind) → sign bytes ≡ Some z → FitsKind z
-sign_fits bytes z = either_sign _ kinds.Not z _ tt (either_sign _ kinds.And z _ tt (either_sign _ kinds.Or z _ tt (either_sign _ kinds.Implies z _ tt (either_sign _ kinds.Iff z _ tt (either_sign _ kinds.OpenParen z _ tt (either_sign _ kinds.CloseParen z None tt (λ e. absurd (cc))))))))
+sign_fits bytes z = either_sign _ kinds.Not z _ tt (either_sign _ kinds.And z _ tt (either_sign _ kinds.Or z _ tt (either_sign _ kinds.Implies z _ tt
+    (either_sign _ kinds.Iff z _ tt (either_sign _ kinds.OpenParen z _ tt (either_sign _ kinds.CloseParen z None tt (λ e. absurd (cc))))))))
 
 bounded_fits : (bytes : List ℕ) (word : UnaryWord) → IsBounded bytes word → HasNumbers word
 bounded_fits bytes unary.X g = tt

@@ -1,5 +1,6 @@
 -- The tokens of a text: at each place behind white space the longest spelling, up to the first byte that begins none.
-use Rattle.std.specs.Prelude.{◌≡◌, ℕ, ◌+◌, ◌<◌, ◌≤◌, Bool, false, ◌||◌, ◌==◌, IsTrue, List, [], ◌∷◌, ◌++◌, length, slice_range, ◌⊎◌, Option, Some, None, Result, Ok, Err, if◌then◌else◌, codes, bytes_eq, encode_utf8_all}
+use Rattle.std.specs.Prelude.{◌≡◌, ℕ, ◌+◌, ◌<◌, ◌≤◌, Bool, false, ◌||◌, ◌==◌, IsTrue, List, [], ◌∷◌, ◌++◌, length, slice_range, ◌⊎◌, Option, Some, None, Result}
+use Rattle.std.specs.Prelude.{Ok, Err, if◌then◌else◌, codes, bytes_eq, encode_utf8_all}
 use Rattle.std.specs.Str.{all_scalars}
 use Rattle.std.specs.Fmt.{decimal}
 use Rattle.std.specs.List.{list_all}
@@ -91,7 +92,8 @@ IsBounded bytes (unary.HIn a b) = HasRange (codes "H") a b bytes
 
 -- the bytes, all of them, are a spelling of this kind of token: a sign, a word, or a bounded operator
 abbrev pub Spells : List ℕ → TokenKind → Type 0
-Spells bytes kind = (sign bytes ≡ Some kind) ⊎ ((IsWord bytes × (word_kind bytes ≡ kind)) ⊎ ((word : UnaryWord) × (kind ≡ kinds.Unary word) × IsBounded bytes word))
+Spells bytes kind =
+    (sign bytes ≡ Some kind) ⊎ ((IsWord bytes × (word_kind bytes ≡ kind)) ⊎ ((word : UnaryWord) × (kind ≡ kinds.Unary word) × IsBounded bytes word))
 
 -- the numbers of a bounded operator are at most 255, and in order
 abbrev pub HasNumbers : UnaryWord → Type 0

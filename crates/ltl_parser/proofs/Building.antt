@@ -1,5 +1,6 @@
 -- What the stack and the table stand for, before and after a node is pushed.
-use Rattle.std.proofs.Common.{◌≡◌, ℕ, ◌<◌, ◌≤◌, Bool, true, false, ◌||◌, ◌==◌, List, [], ◌∷◌, ◌++◌, length, arith, refl, sym, ap, ap₂, ◌∙◌, subst, length-append}
+use Rattle.std.proofs.Common.{◌≡◌, ℕ, ◌<◌, ◌≤◌, Bool, true, false, ◌||◌, ◌==◌, List, [], ◌∷◌, ◌++◌, length, arith, refl, sym, ap, ap₂, ◌∙◌, subst}
+use Rattle.std.proofs.Common.{length-append}
 use Rattle.std.specs.Prelude.{Option, Some, None, nat_le, if◌then◌else◌, MatchOption}
 use Rattle.std.specs.List.{list_any}
 use Rattle.std.proofs.lemmas.Bool.Decides.{nat_tests}
@@ -16,7 +17,8 @@ use Rattle.ltl_parser.specs.Grammar.{strength}
 use Rattle.ltl_parser.specs.Standing.{Paren, Pre, Half, parens, IsHeld, IsStopped, frames, to_make, to_weigh, AreRoots, ArePending, applied, Becomes}
 use Rattle.ltl_parser.proofs.Holding.{apply_prefix, apply_infix}
 
-pub frames_kept : (t u : Table) (ws : List Waiting) (high : ℕ) → AreRoots t ws high → ((k : ℕ) → k < length t.nodes → tree_at u k ≡ tree_at t k) → frames u ws ≡ frames t ws
+pub frames_kept : (t u : Table) (ws : List Waiting) (high : ℕ) → AreRoots t ws high → ((k : ℕ) → k < length t.nodes → tree_at u k ≡ tree_at t k)
+    → frames u ws ≡ frames t ws
 frames_kept t u [] high r e = refl
 frames_kept t u (waits.Paren ∷ ws) high r e = ap (λ z. Paren ∷ z) (frames_kept t u ws high r e)
 frames_kept t u (waits.Prefix op ∷ ws) high r e = ap (λ z. Pre op ∷ z) (frames_kept t u ws high r.1 e)
@@ -28,11 +30,13 @@ root_kept t u node k e r h = (
   ap (list_any (has_child k)) e ∙ list_any-append (has_child k) t.nodes (node ∷ []) ∙ ap₂ (λ p q. p || q) r.1 (ap (λ p. p || false) h),
 )
 
-pub roots_kept : (t u : Table) (node : Node) (ws : List Waiting) (high : ℕ) → u.nodes ≡ t.nodes ++ node ∷ [] → AreRoots t ws high → ((k : ℕ) → k < high → has_child k node ≡ false) → AreRoots u ws high
+pub roots_kept : (t u : Table) (node : Node) (ws : List Waiting) (high : ℕ) → u.nodes ≡ t.nodes ++ node ∷ [] → AreRoots t ws high
+    → ((k : ℕ) → k < high → has_child k node ≡ false) → AreRoots u ws high
 roots_kept t u node [] high e r h = tt
 roots_kept t u node (waits.Paren ∷ ws) high e r h = roots_kept t u node ws high e r h
 roots_kept t u node (waits.Prefix op ∷ ws) high e r h = (r.0, roots_kept t u node ws high e r.1 h)
-roots_kept t u node (waits.Infix left op ∷ ws) high e r h = (r.0, root_kept t u node left e r.1 (h left r.0), roots_kept t u node ws left e r.2 (λ k lt. h k (let l = r.0 in omega arith)))
+roots_kept t u node (waits.Infix left op ∷ ws) high e r h =
+    (r.0, root_kept t u node left e r.1 (h left r.0), roots_kept t u node ws left e r.2 (λ k lt. h k (let l = r.0 in omega arith)))
 
 pub roots_higher : (t : Table) (ws : List Waiting) (low high : ℕ) → low ≤ high → AreRoots t ws low → AreRoots t ws high
 roots_higher t [] low high le r = tt
@@ -82,7 +86,8 @@ pub enough_to_weigh : (m : ℕ) (ws : List Waiting) (a : ℕ) (node : Node) → 
 enough_to_weigh m [] a node e = absurd (cc)
 enough_to_weigh m (waits.Paren ∷ ws) a node e = absurd (cc)
 enough_to_weigh m (waits.Prefix op ∷ ws) a node e = let n : nodes.Unary op a ≡ node = cc in omega (arith, ap node_size n)
-enough_to_weigh m (waits.Infix left op ∷ ws) a node e = let n = chosen (nat_le m (strength op)) (nodes.Binary op left a) node e in omega (arith, ap node_size n.1)
+enough_to_weigh m (waits.Infix left op ∷ ws) a node e = let n = chosen (nat_le m (strength op)) (nodes.Binary op left a) node e in
+    omega (arith, ap node_size n.1)
 
 pub becomes_itself : (m : ℕ) (t : Table) (ws : List Waiting) (a : ℕ) → ArePending t ws a → Becomes m t ws a t ws a
 becomes_itself m t ws a p = record { held = λ ts h. h; depth = refl; pending = p; room = refl; size = refl; more = omega arith; names = refl }
@@ -99,7 +104,8 @@ becomes_more m t u v ws xs ys a b c p q = record {
 }
 
 -- one node pushed: what waited on top is applied
-pub becomes_pushed : (m : ℕ) (t u : Table) (w : Waiting) (ws : List Waiting) (a : ℕ) (node : Node) → applied m (w ∷ ws) a ≡ Some node → ArePending t (w ∷ ws) a → Pushes t node u → IsRoot u (length t.nodes) → Becomes m t (w ∷ ws) a u ws (length t.nodes)
+pub becomes_pushed : (m : ℕ) (t u : Table) (w : Waiting) (ws : List Waiting) (a : ℕ) (node : Node) → applied m (w ∷ ws) a ≡ Some node → ArePending t (w ∷ ws) a
+    → Pushes t node u → IsRoot u (length t.nodes) → Becomes m t (w ∷ ws) a u ws (length t.nodes)
 becomes_pushed m t u waits.Paren ws a node e p g r = absurd (cc)
 becomes_pushed m t u (waits.Prefix op) ws a node e p g r =
     let n : nodes.Unary op a ≡ node = cc in
@@ -107,12 +113,14 @@ becomes_pushed m t u (waits.Prefix op) ws a node e p g r =
     let same = frames_kept t u ws a p.roots.1 g.others in
     let low : a < length t.nodes = p.root.0 in
     record {
-      held = λ ts h. subst (λ z. IsHeld m z ts (tree_at u (length t.nodes))) (sym same) (subst (λ z. IsHeld m (frames t ws) ts z) (sym tree) (apply_prefix m op (frames t ws) ts (tree_at t a) h));
+      held = λ ts h. subst (λ z. IsHeld m z ts (tree_at u (length t.nodes))) (sym same)
+          (subst (λ z. IsHeld m (frames t ws) ts z) (sym tree) (apply_prefix m op (frames t ws) ts (tree_at t a) h));
       depth = ap parens same;
       pending = record {
         last = omega (arith, ap length g.nodes ∙ length-append t.nodes (node ∷ []));
         root = r;
-        roots = roots_higher u ws a (length t.nodes) (omega arith) (roots_kept t u node ws a g.nodes p.roots.1 (λ k lt. ap (has_child k) (sym n) ∙ above a k lt));
+        roots =
+            roots_higher u ws a (length t.nodes) (omega arith) (roots_kept t u node ws a g.nodes p.roots.1 (λ k lt. ap (has_child k) (sym n) ∙ above a k lt));
       };
       room = omega (arith, ap length g.nodes ∙ length-append t.nodes (node ∷ []));
       size = omega (arith, ap sizes g.nodes ∙ sizes-push t.nodes node, ap node_size n);
@@ -126,12 +134,15 @@ becomes_pushed m t u (waits.Infix left op) ws a node e p g r =
     let low : a < length t.nodes = p.root.0 in
     let lower : left < a = p.roots.0 in
     record {
-      held = λ ts h. subst (λ z. IsHeld m z ts (tree_at u (length t.nodes))) (sym same) (subst (λ z. IsHeld m (frames t ws) ts z) (sym tree) (apply_infix m op (tree_at t left) (frames t ws) ts (tree_at t a) (level_le m (strength op) c.0) h));
+      held = λ ts h. subst (λ z. IsHeld m z ts (tree_at u (length t.nodes))) (sym same)
+          (subst (λ z. IsHeld m (frames t ws) ts z) (sym tree)
+          (apply_infix m op (tree_at t left) (frames t ws) ts (tree_at t a) (level_le m (strength op) c.0) h));
       depth = ap parens same;
       pending = record {
         last = omega (arith, ap length g.nodes ∙ length-append t.nodes (node ∷ []));
         root = r;
-        roots = roots_higher u ws left (length t.nodes) (omega arith) (roots_kept t u node ws left g.nodes p.roots.2 (λ k lt. ap (has_child k) (sym c.1) ∙ ap₂ (λ p q. p || q) (above left k lt) (above a k (omega arith))));
+        roots = roots_higher u ws left (length t.nodes) (omega arith) (roots_kept t u node ws left g.nodes p.roots.2 (λ k lt. ap (has_child k) (sym c.1)
+            ∙ ap₂ (λ p q. p || q) (above left k lt) (above a k (omega arith))));
       };
       room = omega (arith, ap length g.nodes ∙ length-append t.nodes (node ∷ []));
       size = omega (arith, ap sizes g.nodes ∙ sizes-push t.nodes node, ap node_size c.1);
@@ -139,8 +150,10 @@ becomes_pushed m t u (waits.Infix left op) ws a node e p g r =
       names = g.names;
     }
 
-pub becomes_popped : (m : ℕ) (t u : Table) (ws vs : List Waiting) (a n : ℕ) (node : Node) (r : Option Waiting) → Some node ≡ applied m ws a → MatchOption r ((ws ≡ []) × (vs ≡ [])) (λ w. ws ≡ w ∷ vs) → ArePending t ws a → Pushes t node u → IsRoot u n → n ≡ length t.nodes → Becomes m t ws a u vs n
+pub becomes_popped : (m : ℕ) (t u : Table) (ws vs : List Waiting) (a n : ℕ) (node : Node) (r : Option Waiting) → Some node ≡ applied m ws a
+    → MatchOption r ((ws ≡ []) × (vs ≡ [])) (λ w. ws ≡ w ∷ vs) → ArePending t ws a → Pushes t node u → IsRoot u n → n ≡ length t.nodes → Becomes m t ws a u vs n
 becomes_popped m t u ws vs a n node None e s p g q k = let x = ap (λ z. applied m z a) s.0 in absurd (cc)
 becomes_popped m t u ws vs a n node (Some w) e s p g q k =
     let f : applied m (w ∷ vs) a ≡ Some node = ap (λ z. applied m z a) (sym s) ∙ sym e in
-    subst (λ z. Becomes m t z a u vs n) (sym s) (subst (λ z. Becomes m t (w ∷ vs) a u vs z) (sym k) (becomes_pushed m t u w vs a node f (subst (λ z. ArePending t z a) s p) g (subst (IsRoot u) k q)))
+    subst (λ z. Becomes m t z a u vs n) (sym s)
+    (subst (λ z. Becomes m t (w ∷ vs) a u vs z) (sym k) (becomes_pushed m t u w vs a node f (subst (λ z. ArePending t z a) s p) g (subst (IsRoot u) k q)))

@@ -29,32 +29,38 @@ conditions = Leaf a ∷ Infix two.Implies ∷ Leaf b ∷ Infix two.Implies ∷ L
 
 -- a U b U c is a U (b U c)
 until_right : IsPart 4 untils (Binary two.Until a (Binary two.Until b c))
-until_right = join_part (Leaf a ∷ []) (Leaf b ∷ Infix two.Until ∷ Leaf c ∷ []) a (Binary two.Until b c) two.Until (leaf_part _ a) (join_part (Leaf b ∷ []) (Leaf c ∷ []) b c two.Until (leaf_part _ b) (leaf_part _ c))
+until_right = join_part (Leaf a ∷ []) (Leaf b ∷ Infix two.Until ∷ Leaf c ∷ []) a (Binary two.Until b c) two.Until (leaf_part _ a)
+    (join_part (Leaf b ∷ []) (Leaf c ∷ []) b c two.Until (leaf_part _ b) (leaf_part _ c))
 
 -- a -> b -> c is a -> (b -> c)
 implies_right : IsPart 1 conditions (Binary two.Implies a (Binary two.Implies b c))
-implies_right = join_part (Leaf a ∷ []) (Leaf b ∷ Infix two.Implies ∷ Leaf c ∷ []) a (Binary two.Implies b c) two.Implies (leaf_part _ a) (join_part (Leaf b ∷ []) (Leaf c ∷ []) b c two.Implies (leaf_part _ b) (leaf_part _ c))
+implies_right = join_part (Leaf a ∷ []) (Leaf b ∷ Infix two.Implies ∷ Leaf c ∷ []) a (Binary two.Implies b c) two.Implies (leaf_part _ a)
+    (join_part (Leaf b ∷ []) (Leaf c ∷ []) b c two.Implies (leaf_part _ b) (leaf_part _ c))
 
 -- a | b | c is (a | b) | c
 or_left : Reads (Leaf a ∷ Infix two.Or ∷ Leaf b ∷ Infix two.Or ∷ Leaf c ∷ []) (Binary two.Or (Binary two.Or a b) c)
-or_left = (join_part (Leaf a ∷ Infix two.Or ∷ Leaf b ∷ []) (Leaf c ∷ []) (Binary two.Or a b) c two.Or (join_part (Leaf a ∷ []) (Leaf b ∷ []) a b two.Or (leaf_part _ a) (leaf_part _ b)) (leaf_part _ c)).reads
+or_left = (join_part (Leaf a ∷ Infix two.Or ∷ Leaf b ∷ []) (Leaf c ∷ []) (Binary two.Or a b) c two.Or
+    (join_part (Leaf a ∷ []) (Leaf b ∷ []) a b two.Or (leaf_part _ a) (leaf_part _ b)) (leaf_part _ c)).reads
 
 -- a U b U c & d | a -> b -> c <-> d is ((((a U (b U c)) & d) | a) -> (b -> c)) <-> d
 all_strengths : Reads (untils ++ Infix two.And ∷ Leaf d ∷ Infix two.Or ∷ conditions ++ Infix two.Iff ∷ Leaf d ∷ [])
     (Binary two.Iff (Binary two.Implies (Binary two.Or (Binary two.And (Binary two.Until a (Binary two.Until b c)) d) a) (Binary two.Implies b c)) d)
 all_strengths =
     let conjunction = join_part untils (Leaf d ∷ []) _ d two.And (part_weaker 4 3 untils _ (omega arith) until_right) (leaf_part _ d) in
-    let disjunction = join_part (untils ++ Infix two.And ∷ Leaf d ∷ []) (Leaf a ∷ []) _ a two.Or (part_weaker 3 2 _ _ (omega arith) conjunction) (leaf_part _ a) in
+    let disjunction = join_part (untils ++ Infix two.And ∷ Leaf d ∷ []) (Leaf a ∷ []) _ a two.Or (part_weaker 3 2 _ _ (omega arith) conjunction)
+    (leaf_part _ a) in
     let inner = join_part (Leaf b ∷ []) (Leaf c ∷ []) b c two.Implies (leaf_part _ b) (leaf_part _ c) in
     let condition = join_part _ (Leaf b ∷ Infix two.Implies ∷ Leaf c ∷ []) _ _ two.Implies disjunction inner in
     (join_part _ (Leaf d ∷ []) _ d two.Iff (part_weaker 1 0 _ _ (omega arith) condition) (leaf_part _ d)).reads
 
 -- !a S b is (!a) S b
 negation_first : Reads (Prefix one.Not ∷ Leaf a ∷ Infix two.Since ∷ Leaf b ∷ []) (Binary two.Since (Unary one.Not a) b)
-negation_first = (join_part (Prefix one.Not ∷ Leaf a ∷ []) (Leaf b ∷ []) (Unary one.Not a) b two.Since (prefix_part one.Not a (Leaf a ∷ []) (leaf_part _ a) _) (leaf_part _ b)).reads
+negation_first = (join_part (Prefix one.Not ∷ Leaf a ∷ []) (Leaf b ∷ []) (Unary one.Not a) b two.Since (prefix_part one.Not a (Leaf a ∷ []) (leaf_part _ a) _)
+    (leaf_part _ b)).reads
 
 -- G F (a & b)
-over_parentheses : Reads (Prefix one.Always ∷ Prefix one.Eventually ∷ Open ∷ Leaf a ∷ Infix two.And ∷ Leaf b ∷ Close ∷ []) (Unary one.Always (Unary one.Eventually (Binary two.And a b)))
+over_parentheses : Reads (Prefix one.Always ∷ Prefix one.Eventually ∷ Open ∷ Leaf a ∷ Infix two.And ∷ Leaf b ∷ Close ∷ [])
+    (Unary one.Always (Unary one.Eventually (Binary two.And a b)))
 over_parentheses =
     let inner = join_part (Leaf a ∷ []) (Leaf b ∷ []) a b two.And (leaf_part _ a) (leaf_part _ b) in
     let enclosed = enclosed_part (Leaf a ∷ Infix two.And ∷ Leaf b ∷ []) (Binary two.And a b) 3 inner 5 in

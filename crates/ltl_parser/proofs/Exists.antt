@@ -21,7 +21,8 @@ moved b t ts h = subst HasReading (append_assoc b (t ∷ []) ts) h
 abbrev GoesOn : List Symbol → Type 0
 GoesOn ts =
     ((fs : List Frame) (before : List Symbol) → Stands fs before → walk Operand (parens fs) ts ≡ None → HasReading (before ++ ts))
-    × ((fs : List Frame) (before : List Symbol) (f : Formula) → ((m : ℕ) → IsHeld m fs before f) → walk Operator (parens fs) ts ≡ None → HasReading (before ++ ts))
+    × ((fs : List Frame) (before : List Symbol) (f : Formula) → ((m : ℕ) → IsHeld m fs before f)
+    → walk Operator (parens fs) ts ≡ None → HasReading (before ++ ts))
 
 pub no_parens : (fs : List Frame) (ts : List Symbol) (f : Formula) → IsHeld 0 fs ts f → IsStopped 0 fs → parens fs ≡ 0 → Reads ts f
 no_parens [] ts f h s e = held_all 0 ts f h
@@ -29,27 +30,35 @@ no_parens (Paren ∷ fs) ts f h s e = absurd (omega arith)
 no_parens (Pre op ∷ fs) ts f h s e = absurd s
 no_parens (Half g op ∷ fs) ts f h s e = absurd (omega arith)
 
-closed : (n : ℕ) (fs : List Frame) (ts : List Symbol) (f : Formula) → IsHeld 0 fs ts f → IsStopped 0 fs → parens fs ≡ suc n → (gs : List Frame) × (parens gs ≡ n) × ((m : ℕ) → IsHeld m gs (ts ++ Close ∷ []) f)
+closed : (n : ℕ) (fs : List Frame) (ts : List Symbol) (f : Formula) → IsHeld 0 fs ts f → IsStopped 0 fs → parens fs ≡ suc n
+    → (gs : List Frame) × (parens gs ≡ n) × ((m : ℕ) → IsHeld m gs (ts ++ Close ∷ []) f)
 closed n [] ts f h s e = absurd (omega arith)
 closed n (Paren ∷ fs) ts f h s e = (fs, omega arith, λ m. held_enclosed m fs ts f h)
 closed n (Pre op ∷ fs) ts f h s e = absurd s
 closed n (Half g op ∷ fs) ts f h s e = absurd (omega arith)
 
 module _ (t : Symbol) (ts : List Symbol) (ih : GoesOn ts) where
-  operand : (fs : List Frame) (before : List Symbol) → Stands fs before → (s : Symbol) → s ≡ t → walk Operand (parens fs) (s ∷ ts) ≡ None → HasReading (before ++ t ∷ ts)
-  operand fs before st (Leaf f) e w = moved before t ts (subst (λ z. HasReading ((before ++ z ∷ []) ++ ts)) e (ih.1 fs (before ++ Leaf f ∷ []) f (λ m. held_leaf m fs before f st) (later_none _ w)))
-  operand fs before st (Prefix op) e w = moved before t ts (subst (λ z. HasReading ((before ++ z ∷ []) ++ ts)) e (ih.0 (Pre op ∷ fs) (before ++ Prefix op ∷ []) (before, st, refl) (later_none _ w)))
-  operand fs before st Open e w = moved before t ts (subst (λ z. HasReading ((before ++ z ∷ []) ++ ts)) e (ih.0 (Paren ∷ fs) (before ++ Open ∷ []) (before, st, refl) (later_none _ w)))
+  operand : (fs : List Frame) (before : List Symbol) → Stands fs before → (s : Symbol)
+      → s ≡ t → walk Operand (parens fs) (s ∷ ts) ≡ None → HasReading (before ++ t ∷ ts)
+  operand fs before st (Leaf f) e w = moved before t ts
+      (subst (λ z. HasReading ((before ++ z ∷ []) ++ ts)) e (ih.1 fs (before ++ Leaf f ∷ []) f (λ m. held_leaf m fs before f st) (later_none _ w)))
+  operand fs before st (Prefix op) e w = moved before t ts
+      (subst (λ z. HasReading ((before ++ z ∷ []) ++ ts)) e (ih.0 (Pre op ∷ fs) (before ++ Prefix op ∷ []) (before, st, refl) (later_none _ w)))
+  operand fs before st Open e w =
+      moved before t ts (subst (λ z. HasReading ((before ++ z ∷ []) ++ ts)) e (ih.0 (Paren ∷ fs) (before ++ Open ∷ []) (before, st, refl) (later_none _ w)))
   operand fs before st (Infix op) e w = absurd (cc)
   operand fs before st Close e w = absurd (cc)
 
-  infix_next : (fs : List Frame) (before : List Symbol) (f : Formula) → ((m : ℕ) → IsHeld m fs before f) → (op : BinaryOp) → Infix op ≡ t → walk Operand (parens fs) ts ≡ None → HasReading (before ++ t ∷ ts)
+  infix_next : (fs : List Frame) (before : List Symbol) (f : Formula) → ((m : ℕ) → IsHeld m fs before f) → (op : BinaryOp)
+      → Infix op ≡ t → walk Operand (parens fs) ts ≡ None → HasReading (before ++ t ∷ ts)
   infix_next fs before f h op e w =
       let r = reduced (left_bound op) fs before f (h (left_bound op)) in
       let q : walk Operand (parens (Half r.1 op ∷ r.0)) ts ≡ None = ap (λ n. walk Operand n ts) r.3 ∙ w in
-      moved before t ts (subst (λ z. HasReading ((before ++ z ∷ []) ++ ts)) e (ih.0 (Half r.1 op ∷ r.0) (before ++ Infix op ∷ []) (push_infix op r.0 before r.1 r.2 r.4) q))
+      moved before t ts
+      (subst (λ z. HasReading ((before ++ z ∷ []) ++ ts)) e (ih.0 (Half r.1 op ∷ r.0) (before ++ Infix op ∷ []) (push_infix op r.0 before r.1 r.2 r.4) q))
 
-  close_next : (fs : List Frame) (before : List Symbol) (f : Formula) → ((m : ℕ) → IsHeld m fs before f) → (n : ℕ) → parens fs ≡ n → Close ≡ t → walk Operator n (Close ∷ ts) ≡ None → HasReading (before ++ t ∷ ts)
+  close_next : (fs : List Frame) (before : List Symbol) (f : Formula) → ((m : ℕ) → IsHeld m fs before f) → (n : ℕ)
+      → parens fs ≡ n → Close ≡ t → walk Operator n (Close ∷ ts) ≡ None → HasReading (before ++ t ∷ ts)
   close_next fs before f h zero p e w = absurd (cc)
   close_next fs before f h (suc n) p e w =
       let r = reduced 0 fs before f (h 0) in
@@ -57,14 +66,16 @@ module _ (t : Symbol) (ts : List Symbol) (ih : GoesOn ts) where
       let q : walk Operator (parens c.0) ts ≡ None = ap (λ k. walk Operator k ts) c.1 ∙ later_none _ w in
       moved before t ts (subst (λ z. HasReading ((before ++ z ∷ []) ++ ts)) e (ih.1 c.0 (before ++ Close ∷ []) r.1 c.2 q))
 
-  operator : (fs : List Frame) (before : List Symbol) (f : Formula) → ((m : ℕ) → IsHeld m fs before f) → (n : ℕ) → parens fs ≡ n → (s : Symbol) → s ≡ t → walk Operator n (s ∷ ts) ≡ None → HasReading (before ++ t ∷ ts)
+  operator : (fs : List Frame) (before : List Symbol) (f : Formula) → ((m : ℕ) → IsHeld m fs before f) → (n : ℕ) → parens fs ≡ n → (s : Symbol)
+      → s ≡ t → walk Operator n (s ∷ ts) ≡ None → HasReading (before ++ t ∷ ts)
   operator fs before f h n p (Leaf g) e w = absurd (cc)
   operator fs before f h n p (Prefix op) e w = absurd (cc)
   operator fs before f h n p Open e w = absurd (cc)
   operator fs before f h n p (Infix op) e w = infix_next fs before f h op e (ap (λ k. walk Operand k ts) p ∙ later_none _ w)
   operator fs before f h n p Close e w = close_next fs before f h n p e w
 
-at_end : (fs : List Frame) (before : List Symbol) (f : Formula) → IsHeld 0 fs before f → (n : ℕ) → parens fs ≡ n → walk Operator n [] ≡ None → HasReading (before ++ [])
+at_end : (fs : List Frame) (before : List Symbol) (f : Formula) → IsHeld 0 fs before f → (n : ℕ)
+    → parens fs ≡ n → walk Operator n [] ≡ None → HasReading (before ++ [])
 at_end fs before f h zero p w =
     let r = reduced 0 fs before f h in
     subst HasReading (sym (append-nil before)) (r.1, no_parens r.0 before r.1 r.2 r.4 (r.3 ∙ p))

@@ -1,5 +1,6 @@
 -- Lists read from left to right, with a stack of what waits for an operand.
-use Rattle.std.proofs.Common.{◌≡◌, ℕ, suc, ◌+◌, ◌<◌, ◌≤◌, Bool, true, false, inl, inr, List, [], ◌∷◌, ◌++◌, arith, refl, sym, ap, ◌∙◌, subst, cond, append_assoc}
+use Rattle.std.proofs.Common.{◌≡◌, ℕ, suc, ◌+◌, ◌<◌, ◌≤◌, Bool, true, false, inl, inr, List, [], ◌∷◌, ◌++◌, arith, refl, sym, ap, ◌∙◌, subst, cond}
+use Rattle.std.proofs.Common.{append_assoc}
 use Rattle.std.proofs.lemmas.Bool.{cases_lt}
 use Rattle.ltl_syntax.specs.declared.node.UnaryOp.{UnaryOp}
 use Rattle.ltl_syntax.specs.declared.node.BinaryOp.{BinaryOp}
@@ -20,7 +21,8 @@ apply_prefix m op fs ts f h = record {
   whole = h.whole ∙ ap (λ z. z ++ h.text) h.stands.2 ∙ append_assoc h.stands.0 (Prefix op ∷ []) h.text;
 }
 
-pub apply_infix : (m : ℕ) (op : BinaryOp) (g : Formula) (fs : List Frame) (ts : List Symbol) (f : Formula) → m ≤ strength op → IsHeld m (Half g op ∷ fs) ts f → IsHeld m fs ts (Binary op g f)
+pub apply_infix : (m : ℕ) (op : BinaryOp) (g : Formula) (fs : List Frame) (ts : List Symbol) (f : Formula) → m ≤ strength op → IsHeld m (Half g op ∷ fs) ts f
+    → IsHeld m fs ts (Binary op g f)
 apply_infix m op g fs ts f le h = record {
   before = h.stands.0;
   text = h.stands.1 ++ Infix op ∷ h.text;
@@ -29,11 +31,13 @@ apply_infix m op g fs ts f le h = record {
   part = join_part h.stands.1 h.text g f op h.stands.3 (part_weaker h.level (right_bound op) h.text f h.fits h.part);
   fits = h.stands.4;
   asked = le;
-  whole = h.whole ∙ ap (λ z. z ++ h.text) h.stands.5 ∙ append_assoc h.stands.0 (h.stands.1 ++ Infix op ∷ []) h.text ∙ ap (λ z. h.stands.0 ++ z) (append_assoc h.stands.1 (Infix op ∷ []) h.text);
+  whole = h.whole ∙ ap (λ z. z ++ h.text) h.stands.5 ∙ append_assoc h.stands.0 (h.stands.1 ++ Infix op ∷ []) h.text
+      ∙ ap (λ z. h.stands.0 ++ z) (append_assoc h.stands.1 (Infix op ∷ []) h.text);
 }
 
 -- all that is to be applied before an operator that wants m on its left, applied
-pub reduced : (m : ℕ) (fs : List Frame) (ts : List Symbol) (f : Formula) → IsHeld m fs ts f → (gs : List Frame) × (g : Formula) × IsHeld m gs ts g × (parens gs ≡ parens fs) × IsStopped m gs
+pub reduced : (m : ℕ) (fs : List Frame) (ts : List Symbol) (f : Formula) → IsHeld m fs ts f
+    → (gs : List Frame) × (g : Formula) × IsHeld m gs ts g × (parens gs ≡ parens fs) × IsStopped m gs
 reduced m [] ts f h = ([], f, h, refl, tt)
 reduced m (Paren ∷ fs) ts f h = (Paren ∷ fs, f, h, refl, tt)
 reduced m (Pre op ∷ fs) ts f h = reduced m fs ts (Unary op f) (apply_prefix m op fs ts f h)
@@ -61,8 +65,16 @@ fits_infix o (Paren ∷ fs) s = omega arith
 fits_infix o (Pre op ∷ fs) s = absurd s
 fits_infix o (Half f op ∷ fs) s = yields (strength op) (strength o) s
 
-pub push_infix : (o : BinaryOp) (fs : List Frame) (ts : List Symbol) (f : Formula) → IsHeld (left_bound o) fs ts f → IsStopped (left_bound o) fs → Stands (Half f o ∷ fs) (ts ++ Infix o ∷ [])
-push_infix o fs ts f h s = (h.before, h.text, h.stands, part_weaker h.level (left_bound o) h.text f h.asked h.part, fits_infix o fs s, ap (λ z. z ++ Infix o ∷ []) h.whole ∙ append_assoc h.before h.text (Infix o ∷ []))
+pub push_infix : (o : BinaryOp) (fs : List Frame) (ts : List Symbol) (f : Formula) → IsHeld (left_bound o) fs ts f → IsStopped (left_bound o) fs
+    → Stands (Half f o ∷ fs) (ts ++ Infix o ∷ [])
+push_infix o fs ts f h s = (
+  h.before,
+  h.text,
+  h.stands,
+  part_weaker h.level (left_bound o) h.text f h.asked h.part,
+  fits_infix o fs s,
+  ap (λ z. z ++ Infix o ∷ []) h.whole ∙ append_assoc h.before h.text (Infix o ∷ []),
+)
 
 pub held_leaf : (m : ℕ) (fs : List Frame) (ts : List Symbol) (f : Formula) → Stands fs ts → IsHeld m fs (ts ++ Leaf f ∷ []) f
 held_leaf m fs ts f s = record {
@@ -85,7 +97,8 @@ held_enclosed m fs ts f h = record {
   part = enclosed_part h.text f h.level h.part (m + bound fs);
   fits = omega arith;
   asked = omega arith;
-  whole = ap (λ z. z ++ Close ∷ []) (h.whole ∙ ap (λ z. z ++ h.text) h.stands.2 ∙ append_assoc h.stands.0 (Open ∷ []) h.text) ∙ append_assoc h.stands.0 (Open ∷ h.text) (Close ∷ []);
+  whole = ap (λ z. z ++ Close ∷ []) (h.whole ∙ ap (λ z. z ++ h.text) h.stands.2 ∙ append_assoc h.stands.0 (Open ∷ []) h.text)
+      ∙ append_assoc h.stands.0 (Open ∷ h.text) (Close ∷ []);
 }
 
 pub held_all : (m : ℕ) (ts : List Symbol) (f : Formula) → IsHeld m [] ts f → Reads ts f

@@ -1,10 +1,12 @@
 -- Lists that read, with the strength of what is outside their parentheses.
-use Rattle.std.proofs.Common.{◌≡◌, ℕ, suc, ◌+◌, ◌<◌, ◌≤◌, Bool, true, false, ◌⊎◌, inl, inr, List, [], ◌∷◌, ◌++◌, length, arith, refl, ap, ◌∙◌, cond, length-append, append-nil}
+use Rattle.std.proofs.Common.{◌≡◌, ℕ, suc, ◌+◌, ◌<◌, ◌≤◌, Bool, true, false, ◌⊎◌, inl, inr, List, [], ◌∷◌, ◌++◌, length, arith, refl, ap, ◌∙◌, cond}
+use Rattle.std.proofs.Common.{length-append, append-nil}
 use Rattle.ltl_syntax.specs.declared.node.UnaryOp.{UnaryOp}
 use Rattle.ltl_syntax.specs.declared.node.BinaryOp.{BinaryOp}
 use Rattle.ltl_syntax.specs.declared.node.BinaryOp.TheVariants as two
 use Rattle.ltl_syntax.specs.Formula.{Formula, Unary, Binary}
-use Rattle.ltl_parser.specs.Grammar.{Symbol, Leaf, Prefix, Infix, Open, Close, opens, closes, opening, closing, strength, groups_left, IsOuter, Counts, HasNoOuter, Apart, Applied, Enclosed, Alone}
+use Rattle.ltl_parser.specs.Grammar.{Symbol, Leaf, Prefix, Infix, Open, Close, opens, closes, opening, closing, strength, groups_left, IsOuter, Counts}
+use Rattle.ltl_parser.specs.Grammar.{HasNoOuter, Apart, Applied, Enclosed, Alone}
 use Rattle.ltl_parser.specs.Standing.{IsEven, IsPart, left_bound, right_bound}
 use Rattle.ltl_lexer.proofs.Cuts.{cut_within}
 
@@ -48,7 +50,8 @@ leaf_part k f = record {
   above = λ b o a w. absurd (leaf_outer f b o a w.whole);
 }
 
-prefix_before : (op : UnaryOp) (ts : List Symbol) → IsEven ts → (b : List Symbol) (t : Symbol) (a : List Symbol) → Prefix op ∷ ts ≡ b ++ t ∷ a → closes b ≤ opens b
+prefix_before : (op : UnaryOp) (ts : List Symbol) → IsEven ts → (b : List Symbol) (t : Symbol) (a : List Symbol)
+    → Prefix op ∷ ts ≡ b ++ t ∷ a → closes b ≤ opens b
 prefix_before op ts g [] t a e = omega arith
 prefix_before op ts g (x ∷ b) t a e =
     let h : x ≡ Prefix op = cc in
@@ -57,7 +60,8 @@ prefix_before op ts g (x ∷ b) t a e =
     let w : closing x ≡ 0 = ap closing h in
     omega arith
 
-prefix_above : (k : ℕ) (op : UnaryOp) (f : Formula) (ts : List Symbol) → IsPart k ts f → (b : List Symbol) (o : BinaryOp) (a : List Symbol) → IsOuter (Prefix op ∷ ts) b o a → k ≤ strength o
+prefix_above : (k : ℕ) (op : UnaryOp) (f : Formula) (ts : List Symbol) → IsPart k ts f → (b : List Symbol) (o : BinaryOp) (a : List Symbol)
+    → IsOuter (Prefix op ∷ ts) b o a → k ≤ strength o
 prefix_above k op f ts g [] o a w = let e = w.whole in absurd (cc)
 prefix_above k op f ts g (x ∷ b) o a w =
     let e = w.whole in
@@ -81,7 +85,8 @@ last_cut t c a [] d e = (refl, cc)
 last_cut t c a (x ∷ []) d e = absurd (cc)
 last_cut t c a (x ∷ y ∷ b) d e = absurd (cc)
 
-enclosed_before : (ts : List Symbol) → IsEven ts → (b : List Symbol) (t : Symbol) (a : List Symbol) → Open ∷ (ts ++ Close ∷ []) ≡ b ++ t ∷ a → closes b ≤ opens b
+enclosed_before : (ts : List Symbol) → IsEven ts → (b : List Symbol) (t : Symbol) (a : List Symbol)
+    → Open ∷ (ts ++ Close ∷ []) ≡ b ++ t ∷ a → closes b ≤ opens b
 enclosed_before ts g [] t a e = omega arith
 enclosed_before ts g (x ∷ b) t a e =
     let h : x ≡ Open = cc in
@@ -134,7 +139,8 @@ where_outer l r b a op o g w = elim (cut_within l (Infix op ∷ r) b (Infix o) a
   | inr c ↦ inr (go c.0 c.1 c.2)
 ]
   where
-    go : (c : List Symbol) → b ≡ l ++ c → Infix op ∷ r ≡ c ++ Infix o ∷ a → ((o ≡ op) × (b ≡ l)) ⊎ ((c : List Symbol) × IsOuter r c o a × (b ≡ l ++ Infix op ∷ c))
+    go : (c : List Symbol)
+        → b ≡ l ++ c → Infix op ∷ r ≡ c ++ Infix o ∷ a → ((o ≡ op) × (b ≡ l)) ⊎ ((c : List Symbol) × IsOuter r c o a × (b ≡ l ++ Infix op ∷ c))
     go [] e h = inl ((cc), e ∙ append-nil l)
     go (x ∷ c) e h =
         let i : x ≡ Infix op = cc in
@@ -148,10 +154,11 @@ where_outer l r b a op o g w = elim (cut_within l (Infix op ∷ r) b (Infix o) a
 
 module _ (l r : List Symbol) (f g : Formula) (op : BinaryOp) (p : IsPart (left_bound op) l f) (q : IsPart (right_bound op) r g) where
   bounds : (strength op ≤ left_bound op) × (strength op ≤ right_bound op)
-  bounds = elim (groups_left (strength op)) as (λ b. (strength op ≤ cond b (strength op) (suc (strength op))) × (strength op ≤ cond b (suc (strength op)) (strength op))) [
-    | true ↦ (omega arith, omega arith)
-    | false ↦ (omega arith, omega arith)
-  ]
+  bounds = elim (groups_left (strength op)) as
+      (λ b. (strength op ≤ cond b (strength op) (suc (strength op))) × (strength op ≤ cond b (suc (strength op)) (strength op))) [
+        | true ↦ (omega arith, omega arith)
+        | false ↦ (omega arith, omega arith)
+      ]
 
   join_weakest : (b : List Symbol) (o : BinaryOp) (a : List Symbol) → IsOuter (l ++ Infix op ∷ r) b o a → strength op ≤ strength o
   join_weakest b o a w = elim (where_outer l r b a op o p.even w) [
@@ -160,7 +167,8 @@ module _ (l r : List Symbol) (f g : Formula) (op : BinaryOp) (p : IsPart (left_b
     | inr (inr c) ↦ let h = q.above c.0 o a c.1 in let k = bounds in omega arith
   ]
 
-  join_place : (side : Bool) → groups_left (strength op) ≡ side → (b : List Symbol) (o : BinaryOp) (a : List Symbol) → IsOuter (l ++ Infix op ∷ r) b o a → strength o ≡ strength op → Counts side (length l) (length b)
+  join_place : (side : Bool) → groups_left (strength op) ≡ side → (b : List Symbol) (o : BinaryOp) (a : List Symbol) → IsOuter (l ++ Infix op ∷ r) b o a
+      → strength o ≡ strength op → Counts side (length l) (length b)
   join_place true s b o a w e = elim (where_outer l r b a op o p.even w) [
     | inl c ↦ let h = ap length c.2 ∙ length-append b (Infix o ∷ c.0) in omega arith
     | inr (inl c) ↦ let h = ap length c.1 in omega arith
@@ -198,7 +206,14 @@ module _ (l r : List Symbol) (f g : Formula) (op : BinaryOp) (p : IsPart (left_b
 
   pub join_part : IsPart (strength op) (l ++ Infix op ∷ r) (Binary op f g)
   join_part = record {
-    reads = Apart (l ++ Infix op ∷ r) l r op f g (record { outer = record { whole = refl; level = p.even.level }; weakest = join_weakest; place = join_place (groups_left (strength op)) refl }) p.reads q.reads;
+    reads = Apart (l ++ Infix op ∷ r) l r op f g (record {
+      outer = record {
+        whole = refl;
+        level = p.even.level;
+      };
+      weakest = join_weakest;
+      place = join_place (groups_left (strength op)) refl;
+    }) p.reads q.reads;
     even = record {
       level = let x = opens-append l (Infix op ∷ r) in let y = closes-append l (Infix op ∷ r) in let m = p.even.level in let n = q.even.level in omega arith;
       before = join_before;

@@ -178,10 +178,12 @@ printed_without_fresh (Binary op a b) p = (printed_without_fresh a p.0, printed_
 pub read_without_fresh : (text : List ℕ) (f : Formula) → ReadsText text f → HasNoFresh f
 read_without_fresh text f r = printed_without_fresh f (read_is_printable text f r)
 
-pub nodes_of_tokens : (text : List ℕ) (ts : List Token) (f : Formula) → AreTokens 0 text ts None → Reads (symbols text ts) f → nodes_in f ≡ units (symbols text ts)
+pub nodes_of_tokens : (text : List ℕ) (ts : List Token) (f : Formula) → AreTokens 0 text ts None → Reads (symbols text ts) f
+    → nodes_in f ≡ units (symbols text ts)
 nodes_of_tokens text ts f a r = sym (united (symbols text ts) f r (simple_symbols text ts a))
 
-pub size_of_tokens : (text : List ℕ) (ts : List Token) (f : Formula) → AreTokens 0 text ts None → Reads (symbols text ts) f → formula_size f ≡ node_count (symbols text ts)
+pub size_of_tokens : (text : List ℕ) (ts : List Token) (f : Formula) → AreTokens 0 text ts None → Reads (symbols text ts) f
+    → formula_size f ≡ node_count (symbols text ts)
 size_of_tokens text ts f a r = sym (sized (symbols text ts) f r (simple_symbols text ts a))
 
 -- the size of a formula is that of each text that reads as it
@@ -205,7 +207,8 @@ one_grammar_fault text a b p q = let e = sym p.fault ∙ ap (grammar_fault text)
 
 -- a text reads as one formula at most
 pub one_text_reading : (text : List ℕ) (f g : Formula) → ReadsText text f → ReadsText text g → f ≡ g
-one_text_reading text f g p q = one_reading (symbols text p.tokens) f g p.reads (subst (λ z. Reads (symbols text z) g) (same_tokens text q.tokens p.tokens q.lexed p.lexed) q.reads)
+one_text_reading text f g p q =
+    one_reading (symbols text p.tokens) f g p.reads (subst (λ z. Reads (symbols text z) g) (same_tokens text q.tokens p.tokens q.lexed p.lexed) q.reads)
 
 pub lexical_not_grammar : (text : List ℕ) (a b : ℕ) → IsLexicalFault text a → IsGrammarFault text b → ⊥
 lexical_not_grammar text a b p q = no_lexical text a q.tokens p q.lexed

@@ -32,13 +32,15 @@ names_after-append names [] x = refl
 names_after-append names (s ∷ ss) x = names_after-append (with_name names s) ss x
 
 module _ (ss : List Symbol) (i : ℕ) (x : Symbol) (h : drop i ss ≡ x ∷ drop (i + 1) ss) where
-  pub way_room : (t : Table) (ws : List Waiting) (a : Option ℕ) → IsUnderWay ss i t ws a → node_count ss ≤ 16384 → sizes t.nodes + to_weigh ws + weight x ≤ 16384
+  pub way_room : (t : Table) (ws : List Waiting) (a : Option ℕ) → IsUnderWay ss i t ws a
+      → node_count ss ≤ 16384 → sizes t.nodes + to_weigh ws + weight x ≤ 16384
   way_room t ws a g le = let r = g.size in let e = ap node_count h in omega arith
 
   pub way_taken : (t : Table) (ws : List Waiting) (a : Option ℕ) → IsUnderWay ss i t ws a → IsTaken (wanted a) (parens (frames t ws)) x
   way_taken t ws a g = taken (wanted a) (parens (frames t ws)) x (drop (i + 1) ss) (ap (walk (wanted a) (parens (frames t ws))) (sym h) ∙ g.clean)
 
-  pub way_next : (t u : Table) (ws vs : List Waiting) (a b : Option ℕ) → take (i + 1) ss ≡ take i ss ++ x ∷ [] → IsUnderWay ss i t ws a → Steps t ws a x u vs b → IsUnderWay ss (i + 1) u vs b
+  pub way_next : (t u : Table) (ws vs : List Waiting) (a b : Option ℕ) → take (i + 1) ss ≡ take i ss ++ x ∷ [] → IsUnderWay ss i t ws a → Steps t ws a x u vs b
+      → IsUnderWay ss (i + 1) u vs b
   way_next t u ws vs a b e g s = record {
     state = subst (IsState u vs b) (sym e) (s.state (take i ss) g.state);
     clean = s.goes_on (drop (i + 1) ss) (ap (walk (wanted a) (parens (frames t ws))) (sym h) ∙ g.clean);
@@ -60,7 +62,8 @@ nothing_left t (waits.Prefix op ∷ ws) s e = absurd s
 nothing_left t (waits.Infix left op ∷ ws) s e = absurd (omega arith)
 
 -- at the end of the symbols, where what waits on the stack has been applied
-module _ (ss : List Symbol) (i : ℕ) (t u : Table) (ws vs : List Waiting) (a b : ℕ) (le : length ss ≤ i) (g : IsUnderWay ss i t ws (Some a)) (c : Becomes 0 t ws a u vs b) (s : IsStopped 0 (frames u vs)) where
+module _ (ss : List Symbol) (i : ℕ) (t u : Table) (ws vs : List Waiting) (a b : ℕ) (le : length ss ≤ i) (g : IsUnderWay ss i t ws (Some a))
+    (c : Becomes 0 t ws a u vs b) (s : IsStopped 0 (frames u vs)) where
   all : take i ss ≡ ss
   all = take_all i ss le
 
@@ -92,12 +95,14 @@ module _ (ss : List Symbol) (i : ℕ) (t u : Table) (ws vs : List Waiting) (a b 
   pub way_names : u.names ≡ names_of ss
   way_names = c.names ∙ g.names ∙ ap names_of all
 
-pub next_symbol : (text : List ℕ) (ts : List Token) (i : ℕ) (d : Token) → i < length ts → drop i (symbols text ts) ≡ symbol_of text (get_or ts i d) ∷ drop (i + 1) (symbols text ts)
+pub next_symbol : (text : List ℕ) (ts : List Token) (i : ℕ) (d : Token) → i < length ts
+    → drop i (symbols text ts) ≡ symbol_of text (get_or ts i d) ∷ drop (i + 1) (symbols text ts)
 next_symbol text ts i d lt =
     drop_more (symbols text ts) i (symbol_of text d) (let n = length-map ts (symbol_of text) in omega arith)
     ∙ ap (λ z. z ∷ drop (i + 1) (symbols text ts)) (get_or-map (symbol_of text) ts i d (symbol_of text d) lt)
 
-pub taken_symbols : (text : List ℕ) (ts : List Token) (i : ℕ) (d : Token) → i < length ts → take (i + 1) (symbols text ts) ≡ take i (symbols text ts) ++ symbol_of text (get_or ts i d) ∷ []
+pub taken_symbols : (text : List ℕ) (ts : List Token) (i : ℕ) (d : Token) → i < length ts
+    → take (i + 1) (symbols text ts) ≡ take i (symbols text ts) ++ symbol_of text (get_or ts i d) ∷ []
 taken_symbols text ts i d lt =
     take_more (symbols text ts) i (symbol_of text d) (let n = length-map ts (symbol_of text) in omega arith)
     ∙ ap (λ z. take i (symbols text ts) ++ z ∷ []) (get_or-map (symbol_of text) ts i d (symbol_of text d) lt)

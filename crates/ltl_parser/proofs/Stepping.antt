@@ -1,5 +1,6 @@
 -- What each kind of symbol does.
-use Rattle.std.proofs.Common.{◌≡◌, ℕ, zero, suc, ◌+◌, ◌<◌, ◌≤◌, Bool, true, false, List, [], ◌∷◌, ◌++◌, length, get_or, arith, refl, sym, ap, ◌∙◌, subst, length-append}
+use Rattle.std.proofs.Common.{◌≡◌, ℕ, zero, suc, ◌+◌, ◌<◌, ◌≤◌, Bool, true, false, List, [], ◌∷◌, ◌++◌, length, get_or, arith, refl, sym, ap, ◌∙◌, subst}
+use Rattle.std.proofs.Common.{length-append}
 use Rattle.std.specs.Prelude.{Option, Some, None, MatchOption, bytes_eq, if◌then◌else◌}
 use Rattle.std.specs.List.{list_any}
 use Rattle.std.proofs.lemmas.List.Folds.{Any-from_list_any, list_any_at}
@@ -44,7 +45,8 @@ named t u text number w = go (list_any (bytes_eq text) t.names) refl
         let here = list_any_at (bytes_eq text) t.names i [] lt ((bytes_eq-Decides text (get_or t.names i [])).1 (sym same)) in
         absurd (cc))).1
 
-pub letter_added : (t u v : Table) (text : List ℕ) (number n : ℕ) → Names t text number u → length u.names ≤ length t.names + 1 → Pushes u (nodes.Letter number) v → IsRoot v n → n ≡ length u.nodes → AddsLeaf t (Letter (Name text)) v n
+pub letter_added : (t u v : Table) (text : List ℕ) (number n : ℕ) → Names t text number u
+    → length u.names ≤ length t.names + 1 → Pushes u (nodes.Letter number) v → IsRoot v n → n ≡ length u.nodes → AddsLeaf t (Letter (Name text)) v n
 letter_added t u v text number n w few g r place =
     let long : length u.nodes ≡ length t.nodes = ap length w.nodes in
     let same : (k : ℕ) → tree_at u k ≡ tree_at t k = λ k. ap (λ z. tree_among z k) w.trees in
@@ -70,12 +72,18 @@ roots_map t u (waits.Paren ∷ ws) high h r = roots_map t u ws high h r
 roots_map t u (waits.Prefix op ∷ ws) high h r = (r.0, roots_map t u ws high h r.1)
 roots_map t u (waits.Infix left op ∷ ws) high h r = (r.0, h left r.1, roots_map t u ws left h r.2)
 
-pub leaf_steps : (t u : Table) (ws : List Waiting) (f : Formula) (n : ℕ) → AddsLeaf t f u n → AreRoots t ws (length t.nodes) → length t.names ≤ length t.nodes → Steps t ws None (Leaf f) u ws (Some n)
+pub leaf_steps : (t u : Table) (ws : List Waiting) (f : Formula) (n : ℕ) → AddsLeaf t f u n → AreRoots t ws (length t.nodes) → length t.names ≤ length t.nodes
+    → Steps t ws None (Leaf f) u ws (Some n)
 leaf_steps t u ws f n g r names =
     let same = frames_kept t u ws (length t.nodes) r g.others in record {
-      state = λ ts st m. subst (λ z. IsHeld m z (ts ++ Leaf f ∷ []) (tree_at u n)) (sym same) (subst (λ z. IsHeld m (frames t ws) (ts ++ Leaf f ∷ []) z) (sym g.tree) (held_leaf m (frames t ws) ts f st));
+      state = λ ts st m. subst (λ z. IsHeld m z (ts ++ Leaf f ∷ []) (tree_at u n)) (sym same)
+          (subst (λ z. IsHeld m (frames t ws) (ts ++ Leaf f ∷ []) z) (sym g.tree) (held_leaf m (frames t ws) ts f st));
       goes_on = λ rest w. subst (λ z. walk Operator (parens z) rest ≡ None) (sym same) (later_none _ w);
-      ready = record { last = let c = g.count in let p = g.place in omega arith; root = g.root; roots = subst (AreRoots u ws) (sym g.place) (roots_map t u ws (length t.nodes) g.roots r) };
+      ready = record {
+        last = let c = g.count in let p = g.place in omega arith;
+        root = g.root;
+        roots = subst (AreRoots u ws) (sym g.place) (roots_map t u ws (length t.nodes) g.roots r);
+      };
       room = let c = g.count in omega arith;
       size = let c = g.size in omega arith;
       names = g.names;
@@ -96,7 +104,8 @@ constant_added t u b n g r place = record {
   roots = λ k h. g.roots k h refl;
 }
 
-pub prefix_steps : (t : Table) (ws : List Waiting) (op : UnaryOp) → IsInOrder op → AreRoots t ws (length t.nodes) → length t.names ≤ length t.nodes → Steps t ws None (Prefix op) t (waits.Prefix op ∷ ws) None
+pub prefix_steps : (t : Table) (ws : List Waiting) (op : UnaryOp) → IsInOrder op → AreRoots t ws (length t.nodes) → length t.names ≤ length t.nodes
+    → Steps t ws None (Prefix op) t (waits.Prefix op ∷ ws) None
 prefix_steps t ws op o r names = record {
   state = λ ts st. (ts, st, refl);
   goes_on = λ rest w. later_none _ w;
@@ -107,7 +116,8 @@ prefix_steps t ws op o r names = record {
   few = names;
 }
 
-pub infix_steps : (t u : Table) (ws vs : List Waiting) (a b : ℕ) (op : BinaryOp) → Becomes (left_bound op) t ws a u vs b → IsStopped (left_bound op) (frames u vs) → length t.names ≤ length t.nodes → Steps t ws (Some a) (Infix op) u (waits.Infix b op ∷ vs) None
+pub infix_steps : (t u : Table) (ws vs : List Waiting) (a b : ℕ) (op : BinaryOp) → Becomes (left_bound op) t ws a u vs b
+    → IsStopped (left_bound op) (frames u vs) → length t.names ≤ length t.nodes → Steps t ws (Some a) (Infix op) u (waits.Infix b op ∷ vs) None
 infix_steps t u ws vs a b op g s names = record {
   state = λ ts h. push_infix op (frames u vs) ts (tree_at u b) (g.held ts (h (left_bound op))) s;
   goes_on = λ rest w. ap (λ n. walk Operand n rest) g.depth ∙ later_none _ w;
@@ -118,7 +128,8 @@ infix_steps t u ws vs a b op g s names = record {
   few = let e = ap length g.names in let m = g.more in omega arith;
 }
 
-enclosed_steps : (t u : Table) (ws xs : List Waiting) (a b : ℕ) → Becomes 0 t ws a u (waits.Paren ∷ xs) b → length t.names ≤ length t.nodes → Steps t ws (Some a) Close u xs (Some b)
+enclosed_steps : (t u : Table) (ws xs : List Waiting) (a b : ℕ) → Becomes 0 t ws a u (waits.Paren ∷ xs) b → length t.names ≤ length t.nodes
+    → Steps t ws (Some a) Close u xs (Some b)
 enclosed_steps t u ws xs a b g names = record {
   state = λ ts h m. held_enclosed m (frames u xs) ts (tree_at u b) (g.held ts (h 0));
   goes_on = λ rest w. later_none _ (subst (λ n. walk Operator n (Close ∷ rest) ≡ None) (sym g.depth) w);
@@ -129,7 +140,9 @@ enclosed_steps t u ws xs a b g names = record {
   few = let e = ap length g.names in let m = g.more in omega arith;
 }
 
-pub close_steps : (t u : Table) (ws vs xs : List Waiting) (a b : ℕ) (r : Option Waiting) → Becomes 0 t ws a u vs b → IsStopped 0 (frames u vs) → MatchOption r ((vs ≡ []) × (xs ≡ [])) (λ w. vs ≡ w ∷ xs) → 0 < parens (frames t ws) → length t.names ≤ length t.nodes → Steps t ws (Some a) Close u xs (Some b)
+pub close_steps : (t u : Table) (ws vs xs : List Waiting) (a b : ℕ) (r : Option Waiting) → Becomes 0 t ws a u vs b
+    → IsStopped 0 (frames u vs) → MatchOption r ((vs ≡ []) × (xs ≡ [])) (λ w. vs ≡ w ∷ xs) → 0 < parens (frames t ws) → length t.names ≤ length t.nodes
+    → Steps t ws (Some a) Close u xs (Some b)
 close_steps t u ws [] xs a b r g s p l names = let d = g.depth in absurd (omega arith)
 close_steps t u ws (waits.Paren ∷ vs) xs a b None g s p l names = let e = p.0 in absurd (cc)
 close_steps t u ws (waits.Paren ∷ vs) xs a b (Some w) g s p l names =

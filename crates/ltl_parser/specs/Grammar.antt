@@ -70,7 +70,8 @@ Counts false place other = place ≤ other
 pub record IsMain (ts before : List Symbol) (op : BinaryOp) (after : List Symbol) : Type 0 where
   pub outer : IsOuter ts before op after
   pub weakest : (b : List Symbol) (o : BinaryOp) (a : List Symbol) → IsOuter ts b o a → strength op ≤ strength o
-  pub place : (b : List Symbol) (o : BinaryOp) (a : List Symbol) → IsOuter ts b o a → strength o ≡ strength op → Counts (groups_left (strength op)) (length before) (length b)
+  pub place : (b : List Symbol) (o : BinaryOp) (a : List Symbol) → IsOuter ts b o a → strength o ≡ strength op
+      → Counts (groups_left (strength op)) (length before) (length b)
 
 -- no operator stands outside all parentheses
 abbrev pub HasNoOuter : List Symbol → Type 0
@@ -79,7 +80,8 @@ HasNoOuter ts = (b : List Symbol) (o : BinaryOp) (a : List Symbol) → IsOuter t
 -- the list reads as the formula: apart at its main operator; else, without an outer one, an operator over the rest, or what is
 -- enclosed in parentheses; or one leaf
 pub data Reads : List Symbol → Formula → Type 0 where
-  Apart : (ts before after : List Symbol) (op : BinaryOp) (f g : Formula) → IsMain ts before op after → Reads before f → Reads after g → Reads ts (Binary op f g)
+  Apart : (ts before after : List Symbol) (op : BinaryOp) (f g : Formula) → IsMain ts before op after → Reads before f → Reads after g
+      → Reads ts (Binary op f g)
   Applied : (ts rest : List Symbol) (op : UnaryOp) (f : Formula) → HasNoOuter ts → ts ≡ Prefix op ∷ rest → Reads rest f → Reads ts (Unary op f)
   Enclosed : (ts inner : List Symbol) (f : Formula) → HasNoOuter ts → ts ≡ Open ∷ (inner ++ Close ∷ []) → Reads inner f → Reads ts f
   Alone : (ts : List Symbol) (f : Formula) → ts ≡ Leaf f ∷ [] → Reads ts f

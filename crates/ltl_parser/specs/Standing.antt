@@ -1,5 +1,6 @@
 -- Internal: what the reader's stack stands for, and what its private functions do to it. No public contract cites this file.
-use Rattle.std.specs.Prelude.{◌≡◌, ℕ, suc, ◌+◌, ◌<◌, ◌≤◌, Bool, true, false, List, [], ◌∷◌, ◌++◌, length, cond, Option, Some, None, nat_le, if◌then◌else◌, take, drop}
+use Rattle.std.specs.Prelude.{◌≡◌, ℕ, suc, ◌+◌, ◌<◌, ◌≤◌, Bool, true, false, List, [], ◌∷◌, ◌++◌, length, cond, Option, Some, None, nat_le, if◌then◌else◌, take}
+use Rattle.std.specs.Prelude.{drop}
 use Rattle.ltl_syntax.specs.declared.node.UnaryOp.{UnaryOp}
 use Rattle.ltl_syntax.specs.declared.node.BinaryOp.{BinaryOp}
 use Rattle.ltl_syntax.specs.declared.node.Node.{Node}
@@ -7,7 +8,8 @@ use Rattle.ltl_syntax.specs.declared.node.Node.TheVariants as nodes
 use Rattle.ltl_syntax.specs.Formula.{Formula, Const, Letter, Name}
 use Rattle.ltl_syntax.specs.Table.{Table, tree_at, IsRoot}
 use Rattle.ltl_syntax.specs.Size.{operator_size, sizes, IsInOrder}
-use Rattle.ltl_parser.specs.Grammar.{Symbol, Leaf, Prefix, Infix, Open, Close, opens, closes, strength, groups_left, IsOuter, Reads, walk, Wanted, Operand, Operator, fault, weight, node_count}
+use Rattle.ltl_parser.specs.Grammar.{Symbol, Leaf, Prefix, Infix, Open, Close, opens, closes, strength, groups_left, IsOuter, Reads, walk, Wanted, Operand}
+use Rattle.ltl_parser.specs.Grammar.{Operator, fault, weight, node_count}
 use Rattle.ltl_parser.specs.Text.{with_name, names_of}
 use Rattle.ltl_parser.specs.declared.meaning.Meaning.{Meaning}
 use Rattle.ltl_parser.specs.declared.meaning.Meaning.TheVariants as means
@@ -67,7 +69,8 @@ abbrev pub Stands : List Frame → List Symbol → Type 0
 Stands [] ts = ts ≡ []
 Stands (Paren ∷ fs) ts = (b : List Symbol) × Stands fs b × (ts ≡ b ++ Open ∷ [])
 Stands (Pre op ∷ fs) ts = (b : List Symbol) × Stands fs b × (ts ≡ b ++ Prefix op ∷ [])
-Stands (Half f op ∷ fs) ts = (b : List Symbol) × (l : List Symbol) × Stands fs b × IsPart (left_bound op) l f × (bound fs ≤ strength op) × (ts ≡ b ++ (l ++ Infix op ∷ []))
+Stands (Half f op ∷ fs) ts =
+    (b : List Symbol) × (l : List Symbol) × Stands fs b × IsPart (left_bound op) l f × (bound fs ≤ strength op) × (ts ≡ b ++ (l ++ Infix op ∷ []))
 
 -- the list is that of the frames and then an operand, at least as strong as m and as the frames want
 pub record IsHeld (m : ℕ) (fs : List Frame) (ts : List Symbol) (f : Formula) : Type 0 where

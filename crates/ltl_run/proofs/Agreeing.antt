@@ -32,7 +32,8 @@ module _ (t u : Trace) (same : (i : ℕ) → IsPosition u i ↔ IsPosition t i)
   stand_right next xs ys s n lt d =
       let e = length-append xs ys in
       let here : next + (length xs + n) ≡ next + length xs + n = omega arith in
-      subst (λ m. AgreeAt (Letter (Fresh m)) (get_or ys n d)) here (subst (λ g. AgreeAt (Letter (Fresh (next + (length xs + n)))) g) (get_or-append-add xs ys n d) (s (length xs + n) (omega arith) d))
+      subst (λ m. AgreeAt (Letter (Fresh m)) (get_or ys n d)) here
+      (subst (λ g. AgreeAt (Letter (Fresh (next + (length xs + n)))) g) (get_or-append-add xs ys n d) (s (length xs + n) (omega arith) d))
 
   letter_agrees : (bytes : List ℕ) → IsPlain bytes → AgreeAt (Letter (Name bytes)) (Letter (Name bytes))
   letter_agrees bytes plain = record { to = λ i d h. (named i bytes d plain).0 h; back = λ i d h. (named i bytes d plain).1 h }
@@ -69,6 +70,7 @@ module _ (t u : Trace) (same : (i : ℕ) → IsPosition u i ↔ IsPosition t i)
           let parts : Stand next (xs ++ ys) = subst (Stand next) (cond-false (P at) (Binary op a b ∷ []) (xs ++ ys) e) s in
           let left = rep_agrees a o.0 (suc at) next (stand_left next xs ys parts) in
           let right = rep_agrees b o.1 (suc at + nodes_in a) (next + length xs) (stand_right next xs ys parts) in
-          subst (λ g. AgreeAt g (Binary op a b)) (sym (cond-false (P at) (Letter (Fresh next)) (Binary op (rep_from P (suc at) next a) (rep_from P (suc at + nodes_in a) (next + length xs) b)) e))
+          subst (λ g. AgreeAt g (Binary op a b))
+          (sym (cond-false (P at) (Letter (Fresh next)) (Binary op (rep_from P (suc at) next a) (rep_from P (suc at + nodes_in a) (next + length xs) b)) e))
           (binary_agrees t u same op (rep_from P (suc at) next a) (rep_from P (suc at + nodes_in a) (next + length xs) b) a b left right)
     ]

@@ -1,5 +1,6 @@
 -- At the bound the verdict is settled.
-use Rattle.std.proofs.Common.{◌≡◌, ℕ, suc, ◌+◌, ◌*◌, ◌^◌, ◌<◌, ◌≤◌, ◌⊎◌, inl, inr, subst, ap, ap₂, arith, sym, refl, ◌∙◌, List, [], ◌∷◌, ◌++◌, map, length, Contains, Bool, true, IsTrue, IsFalse, count_by, length-append, ◌&&◌}
+use Rattle.std.proofs.Common.{◌≡◌, ℕ, suc, ◌+◌, ◌*◌, ◌^◌, ◌<◌, ◌≤◌, ◌⊎◌, inl, inr, subst, ap, ap₂, arith, sym, refl, ◌∙◌, List, [], ◌∷◌, ◌++◌, map, length}
+use Rattle.std.proofs.Common.{Contains, Bool, true, IsTrue, IsFalse, count_by, length-append, ◌&&◌}
 use Rattle.ltl_syntax.specs.declared.node.Kind.{Kind}
 use Rattle.ltl_syntax.specs.declared.node.Kind.TheVariants as Kinds
 use Rattle.std.proofs.lemmas.Bool.{cases_lt, and_parts, and_from, and_right}
@@ -11,7 +12,8 @@ use Rattle.ltl_closure.specs.Decide.{is_yes}
 use Rattle.ltl_syntax.specs.Formula.{Formula}
 use Rattle.ltl_closure.specs.Norm.{Norm}
 use Rattle.ltl_closure.specs.Closure.{nexts, yesterdays, eventualities, argument}
-use Rattle.ltl_closure.specs.Run.{States, IsRun, val, carry, is_pending, is_fulfilled, IsFulfilledIn, IsAccepted, Loop, Triple, Pair, IsUnpruned, IsVerdict, undecided, Undecided, bound}
+use Rattle.ltl_closure.specs.Run.{States, IsRun, val, carry, is_pending, is_fulfilled, IsFulfilledIn, IsAccepted, Loop, Triple, Pair, IsUnpruned, IsVerdict}
+use Rattle.ltl_closure.specs.Run.{undecided, Undecided, bound}
 use Rattle.ltl_closure.proofs.Lists.{Contains-nil, Contains-cons_cases, Contains-here, Contains-there}
 use Rattle.ltl_word.proofs.Search.{first_or_none, ×_decided, →_decided, IsTrue_decided}
 use Rattle.ltl_run.specs.Repeated.{IsAscending, HaveCarry}
@@ -21,7 +23,8 @@ use Rattle.ltl_run.proofs.Shorter.{one_pending}
 use Rattle.ltl_run.proofs.Crowd.{places, length-places, places_within, IsAscending-places, Agree, crowd, count_by-lt}
 
 -- each member has it, or one has not
-pub member_or_all : {X : Type 0} (P : X → Type 0) → ((x : X) → Dec (P x)) → (xs : List X) → ((x : X) × Contains xs x × (P x → ⊥)) ⊎ ((x : X) → Contains xs x → P x)
+pub member_or_all : {X : Type 0} (P : X → Type 0) → ((x : X) → Dec (P x)) → (xs : List X)
+    → ((x : X) × Contains xs x × (P x → ⊥)) ⊎ ((x : X) → Contains xs x → P x)
 member_or_all P d [] = inr (λ x c. absurd (Contains-nil x c))
 member_or_all P d (y ∷ ys) = elim (d y) [
   | no h ↦ inl (y, Contains-here y ys, h)
@@ -32,10 +35,11 @@ member_or_all P d (y ∷ ys) = elim (d y) [
 ]
 
 pub fulfilled_decided : (r : States) (l i : ℕ) (e : Norm) → Dec (IsFulfilledIn r l i e)
-fulfilled_decided r l i e = elim (first_or_none (λ j. (l < j) × IsTrue (is_fulfilled (r j) e)) (λ j. ×_decided (dec_lt l j) (IsTrue_decided (is_fulfilled (r j) e))) (suc i)) [
-  | inl w ↦ yes (w.0, w.2.0, omega arith, w.2.1)
-  | inr none ↦ no (λ w. none w.0 (omega arith) (w.1, w.3))
-]
+fulfilled_decided r l i e =
+    elim (first_or_none (λ j. (l < j) × IsTrue (is_fulfilled (r j) e)) (λ j. ×_decided (dec_lt l j) (IsTrue_decided (is_fulfilled (r j) e))) (suc i)) [
+      | inl w ↦ yes (w.0, w.2.0, omega arith, w.2.1)
+      | inr none ↦ no (λ w. none w.0 (omega arith) (w.1, w.3))
+    ]
 
 yes_is : {P : Type 0} (d : Dec P) → IsTrue (is_yes d) → P
 yes_is (yes p) e = p
@@ -72,18 +76,21 @@ agree_carry f r ys agree y z cy cz = carry-from f (r y) (r z) (record {
 })
 
 pub length-tests_of : (f : Formula) (r : States) → length (tests_of f r) ≡ length (nexts f) + length (yesterdays f)
-length-tests_of f r = length-append (map (λ e i. r i e) (nexts f)) (map (λ e i. val (r i) (argument e)) (yesterdays f)) ∙ ap₂ ◌+◌ (length-map (nexts f) (λ e i. r i e)) (length-map (yesterdays f) (λ e i. val (r i) (argument e)))
+length-tests_of f r = length-append (map (λ e i. r i e) (nexts f)) (map (λ e i. val (r i) (argument e)) (yesterdays f))
+    ∙ ap₂ ◌+◌ (length-map (nexts f) (λ e i. r i e)) (length-map (yesterdays f) (λ e i. val (r i) (argument e)))
 
 -- among more than m * 2 ^ (x + y) states, more than m have one carry
 pub crowded : (f : Formula) (r : States) (m n : ℕ) → m * 2 ^ (length (nexts f) + length (yesterdays f)) < n →
-    (ys : List ℕ) × IsAscending ys × (m < length ys) × ((y : ℕ) → Contains ys y → y < n) × ((y z : ℕ) → Contains ys y → Contains ys z → carry f (r y) ≡ carry f (r z))
+    (ys : List ℕ) × IsAscending ys × (m < length ys) × ((y : ℕ) → Contains ys y → y < n)
+    × ((y z : ℕ) → Contains ys y → Contains ys z → carry f (r y) ≡ carry f (r z))
 crowded f r m n h =
     let e : m * 2 ^ length (tests_of f r) ≡ m * 2 ^ (length (nexts f) + length (yesterdays f)) = ap (λ c. m * 2 ^ c) (length-tests_of f r) in
     let d : length (places 0 n) ≡ n = length-places 0 n in
     let w = crowd (tests_of f r) m (places 0 n) (IsAscending-places 0 n) (omega arith) in
     (w.0, w.1, w.2, λ y c. let p = places_within 0 n y (w.3 y c) in omega arith, agree_carry f r w.0 w.4)
 
-module _ (f : Formula) (k : ℕ) (r : States) (run : IsRun f k r) (open' : (i : ℕ) → i ≤ k → IsAccepted f r i Kinds.Infinite → ⊥) (unpruned : IsUnpruned f r k Kinds.Infinite) where
+module _ (f : Formula) (k : ℕ) (r : States) (run : IsRun f k r) (open' : (i : ℕ) → i ≤ k → IsAccepted f r i Kinds.Infinite → ⊥)
+    (unpruned : IsUnpruned f r k Kinds.Infinite) where
   module _ (y0 : ℕ) where
     -- pending with this carry, and fulfilled after y0 and up to z
     meets : ℕ → Norm → Bool
@@ -103,7 +110,8 @@ module _ (f : Formula) (k : ℕ) (r : States) (run : IsRun f k r) (open' : (i : 
           | inl w ↦ one_more w.0 w.1 w.2
         ]
       where
-        one_more : (e : Norm) → Contains (eventualities f) e → ((IsTrue (is_pending (r z) e) → IsFulfilledIn r y z e → IsFulfilledIn r y0 y e) → ⊥) → count_by (meets y) (eventualities f) < count_by (meets z) (eventualities f)
+        one_more : (e : Norm) → Contains (eventualities f) e → ((IsTrue (is_pending (r z) e) → IsFulfilledIn r y z e → IsFulfilledIn r y0 y e) → ⊥)
+            → count_by (meets y) (eventualities f) < count_by (meets z) (eventualities f)
         one_more e c h =
             let pending : IsTrue (is_pending (r z) e) = premise (IsTrue_decided (is_pending (r z) e)) h in
             let now : IsFulfilledIn r y z e = premise (fulfilled_decided r y z e) (λ g. h (λ p. g)) in
@@ -127,15 +135,18 @@ module _ (f : Formula) (k : ℕ) (r : States) (run : IsRun f k r) (open' : (i : 
           | inl w ↦ few w.0 w.1 w.2
         ]
       where
-        few : (e : Norm) → Contains (eventualities f) e → ((IsTrue (is_pending (r z) e) → IsFulfilledIn r y0 z e) → ⊥) → count_by (meets z) (eventualities f) < length (eventualities f)
+        few : (e : Norm) → Contains (eventualities f) e → ((IsTrue (is_pending (r z) e) → IsFulfilledIn r y0 z e) → ⊥)
+            → count_by (meets z) (eventualities f) < length (eventualities f)
         few e c h =
             let before : IsFulfilledIn r y0 z e → ⊥ = λ w. h (λ p. w) in
-            let lt = count_by-lt (meets z) (λ d. true) (eventualities f) e (λ d t. refl) c (and_right _ _ (is_no_of (fulfilled_decided r y0 z e) before)) refl in
+            let lt = count_by-lt (meets z) (λ d. true) (eventualities f) e (λ d t. refl) c
+            (and_right _ _ (is_no_of (fulfilled_decided r y0 z e) before)) refl in
             let le = count_by-le-length (λ d. true) (eventualities f) in
             omega arith
 
     -- along places with one carry
-    met_along : (ys : List ℕ) (y : ℕ) → y0 < y → y ≤ k → IsAscending (y ∷ ys) → ((z : ℕ) → Contains ys z → z ≤ k) → ((z : ℕ) → Contains (y ∷ ys) z → carry f (r y0) ≡ carry f (r z)) → met y + length ys < length (eventualities f)
+    met_along : (ys : List ℕ) (y : ℕ) → y0 < y → y ≤ k → IsAscending (y ∷ ys) → ((z : ℕ) → Contains ys z → z ≤ k)
+        → ((z : ℕ) → Contains (y ∷ ys) z → carry f (r y0) ≡ carry f (r z)) → met y + length ys < length (eventualities f)
     met_along [] y a le asc below one = let w = met_few y a le (one y (Contains-here y [])) in omega arith
     met_along (z ∷ zs) y a le asc below one =
         let lt : y < z = asc.0 z (Contains-here z zs) in
@@ -147,7 +158,8 @@ module _ (f : Formula) (k : ℕ) (r : States) (run : IsRun f k r) (open' : (i : 
         omega arith
 
   -- no carry comes more than e + 1 times
-  pub carries_few : (ys : List ℕ) → IsAscending ys → ((y : ℕ) → Contains ys y → y ≤ k) → ((y z : ℕ) → Contains ys y → Contains ys z → carry f (r y) ≡ carry f (r z)) → length ys ≤ length (eventualities f) + 1
+  pub carries_few : (ys : List ℕ) → IsAscending ys → ((y : ℕ) → Contains ys y → y ≤ k)
+      → ((y z : ℕ) → Contains ys y → Contains ys z → carry f (r y) ≡ carry f (r z)) → length ys ≤ length (eventualities f) + 1
   carries_few [] asc below one = omega arith
   carries_few (x ∷ []) asc below one = omega arith
   carries_few (x ∷ y ∷ ys) asc below one =
@@ -158,7 +170,8 @@ module _ (f : Formula) (k : ℕ) (r : States) (run : IsRun f k r) (open' : (i : 
       omega arith
 
 -- an unpruned run with no accepted prefix is shorter than the bound
-pub bounded : (f : Formula) (k : ℕ) (r : States) → IsRun f k r → ((i : ℕ) → i ≤ k → IsAccepted f r i Kinds.Infinite → ⊥) → IsUnpruned f r k Kinds.Infinite → k < bound f Kinds.Infinite
+pub bounded : (f : Formula) (k : ℕ) (r : States) → IsRun f k r → ((i : ℕ) → i ≤ k → IsAccepted f r i Kinds.Infinite → ⊥) → IsUnpruned f r k Kinds.Infinite
+    → k < bound f Kinds.Infinite
 bounded f k r run open' unpruned = elim (cases_lt k (bound f Kinds.Infinite)) [
   | inl lt ↦ lt
   | inr ge ↦
@@ -168,12 +181,15 @@ bounded f k r run open' unpruned = elim (cases_lt k (bound f Kinds.Infinite)) [
 ]
 
 -- in an unpruned run none of whose fronts is accepted, each carry comes at most e + 1 times
-pub carry_comes_few : (f : Formula) (k : ℕ) (r : States) → IsRun f k r → ((i : ℕ) → i ≤ k → IsAccepted f r i Kinds.Infinite → ⊥) → IsUnpruned f r k Kinds.Infinite → (c : List Bool) (states : List ℕ) → HaveCarry f r k c states
+pub carry_comes_few : (f : Formula) (k : ℕ) (r : States) → IsRun f k r → ((i : ℕ) → i ≤ k → IsAccepted f r i Kinds.Infinite → ⊥)
+    → IsUnpruned f r k Kinds.Infinite → (c : List Bool) (states : List ℕ) → HaveCarry f r k c states
     → length states ≤ length (eventualities f) + 1
-carry_comes_few f k r run open' unpruned c states have = carries_few f k r run open' unpruned states have.ascending have.within (λ y z a b. have.one y a ∙ sym (have.one z b))
+carry_comes_few f k r run open' unpruned c states have =
+    carries_few f k r run open' unpruned states have.ascending have.within (λ y z a b. have.one y a ∙ sym (have.one z b))
 
 -- and in the finite kind once
-pub carry_comes_once : (f : Formula) (k : ℕ) (r : States) → IsUnpruned f r k Kinds.Finite → (c : List Bool) (states : List ℕ) → HaveCarry f r k c states → length states ≤ 1
+pub carry_comes_once : (f : Formula) (k : ℕ) (r : States) → IsUnpruned f r k Kinds.Finite → (c : List Bool) (states : List ℕ) → HaveCarry f r k c states
+    → length states ≤ 1
 carry_comes_once f k r unpruned c [] have = omega arith
 carry_comes_once f k r unpruned c (x ∷ []) have = omega arith
 carry_comes_once f k r unpruned c (x ∷ y ∷ ys) have =
@@ -189,7 +205,8 @@ bounded_finite f k r run unpruned = elim (cases_lt k (bound f Kinds.Finite)) [
       absurd (two w.0 w.1 w.2 w.3 w.4)
 ]
   where
-    two : (ys : List ℕ) → IsAscending ys → 1 < length ys → ((y : ℕ) → Contains ys y → y < suc k) → ((y z : ℕ) → Contains ys y → Contains ys z → carry f (r y) ≡ carry f (r z)) → ⊥
+    two : (ys : List ℕ) → IsAscending ys → 1 < length ys → ((y : ℕ) → Contains ys y → y < suc k)
+        → ((y z : ℕ) → Contains ys y → Contains ys z → carry f (r y) ≡ carry f (r z)) → ⊥
     two [] asc many below one = omega arith
     two (x ∷ []) asc many below one = omega arith
     two (x ∷ y ∷ ys) asc many below one =
@@ -201,7 +218,8 @@ bounded_finite f k r run unpruned = elim (cases_lt k (bound f Kinds.Finite)) [
 pub settled : (f : Formula) (kind : Kind) (limit n : ℕ) → bound f kind ≤ limit → IsVerdict f kind limit (Undecided n) → ⊥
 settled f Kinds.Infinite limit n le (undecided all) =
     let w = (all (bound f Kinds.Infinite) le).unpruned in
-    let lt = bounded f (bound f Kinds.Infinite) w.0 w.1 (λ i h acc. (all i (omega arith)).rejected (w.0, run_prefix f (bound f Kinds.Infinite) w.0 w.1 i h, acc)) w.2 in
+    let lt = bounded f (bound f Kinds.Infinite) w.0 w.1
+    (λ i h acc. (all i (omega arith)).rejected (w.0, run_prefix f (bound f Kinds.Infinite) w.0 w.1 i h, acc)) w.2 in
     omega arith
 settled f Kinds.Finite limit n le (undecided all) =
     let w = (all (bound f Kinds.Finite) le).unpruned in

@@ -1,5 +1,6 @@
 -- The states that the code collects show the run.
-use Rattle.std.proofs.Common.{◌≡◌, ℕ, suc, ◌-◌, ◌<◌, ◌≤◌, false, List, [], length, get_or, map, Some, None, slice_get, Contains, All, IsTrue, refl, sym, ◌∙◌, ap, subst, arith, ◌⊎◌, inl, inr}
+use Rattle.std.proofs.Common.{◌≡◌, ℕ, suc, ◌-◌, ◌<◌, ◌≤◌, false, List, [], length, get_or, map, Some, None, slice_get, Contains, All, IsTrue, refl, sym, ◌∙◌}
+use Rattle.std.proofs.Common.{ap, subst, arith, ◌⊎◌, inl, inr}
 use Rattle.std.proofs.lemmas.List.{get_or-map, length-map}
 use Rattle.std.proofs.lemmas.List.Elements.{Contains-get_or}
 use Rattle.std.proofs.lemmas.Option.{slice_get_cases}
@@ -7,7 +8,8 @@ use Rattle.ltl_syntax.specs.Formula.{Atom, Formula}
 use Rattle.ltl_syntax.specs.Table.{IsPlain}
 use Rattle.ltl_word.specs.Trace.{Names}
 use Rattle.ltl_word.specs.Holds.{name_of}
-use Rattle.ltl_closure.specs.Norm.{Norm, NConst, NLetter, NNotLetter, NAnd, NOr, NNext, NWeakNext, NYesterday, NWeakYesterday, NUntil, NRelease, NSince, NTrigger}
+use Rattle.ltl_closure.specs.Norm.{Norm, NConst, NLetter, NNotLetter, NAnd, NOr, NNext, NWeakNext, NYesterday, NWeakYesterday, NUntil, NRelease, NSince}
+use Rattle.ltl_closure.specs.Norm.{NTrigger}
 use Rattle.ltl_closure.specs.Closure.{closure}
 use Rattle.ltl_closure.specs.Entries.{place_in, AreEntries}
 use Rattle.ltl_closure.specs.declared.entry.Entry.{Entry}
@@ -41,7 +43,8 @@ module _ (f : Formula) (names : Names) (are : names ≡ map the_name (letters f)
   long = ap length are ∙ length-map (letters f) the_name
 
   -- the letter at a place, and its name
-  letter_at : (j : ℕ) → j < length names → (p : Atom) × (get_or (letters f) j (NConst false) ≡ NLetter p) × Contains (closure f) (NLetter p) × (get_or names j [] ≡ name_of p)
+  letter_at : (j : ℕ) → j < length names
+      → (p : Atom) × (get_or (letters f) j (NConst false) ≡ NLetter p) × Contains (closure f) (NLetter p) × (get_or names j [] ≡ name_of p)
   letter_at j lt =
       let n = long in
       let within : j < length (letters f) = omega arith in
@@ -65,7 +68,8 @@ module _ (f : Formula) (names : Names) (are : names ≡ map the_name (letters f)
           place_in (letters f) (NLetter p) - 1,
           omega arith,
           v,
-          ap (λ ns. get_or ns (place_in (letters f) (NLetter p) - 1) []) are ∙ (get_or-map the_name (letters f) (place_in (letters f) (NLetter p) - 1) (NConst false) [] within ∙ ap the_name (entry_place (letters f) (NLetter p) (NConst false) d)),
+          ap (λ ns. get_or ns (place_in (letters f) (NLetter p) - 1) []) are ∙ (get_or-map the_name (letters f) (place_in (letters f) (NLetter p) - 1)
+              (NConst false) [] within ∙ ap the_name (entry_place (letters f) (NLetter p) (NConst false) d)),
         )
 
     only : (name : List ℕ) → Contains shown name → (p : Atom) × Contains (closure f) (NLetter p) × IsTrue (value_in f s (NLetter p)) × (name ≡ name_of p)
@@ -88,16 +92,19 @@ module _ (f : Formula) (names : Names) (are : names ≡ map the_name (letters f)
       only = λ name c. let w = only name c in (w.0, w.1, w.3);
     }
 
-  pub states_shown : (states : List RunState) (shown : List Names) → 0 < length states → HaveChosen names states (length states) shown → AreShown f (run_of f states) (length states - 1) shown
+  pub states_shown : (states : List RunState) (shown : List Names) → 0 < length states → HaveChosen names states (length states) shown
+      → AreShown f (run_of f states) (length states - 1) shown
   states_shown states shown some have = record {
     states_length = let n = have.count in omega arith;
     first = λ i le. at i (omega arith) (slice_get_cases states i).1;
   } where
-    at : (i : ℕ) → i < length states → ((s : RunState) × (i < length states) × (slice_get states i ≡ Some s) × (get_or states i s ≡ s)) ⊎ ((length states ≤ i) × (slice_get states i ≡ None)) → Shows f (run_of f states i) (get_or shown i [])
+    at : (i : ℕ) → i < length states → ((s : RunState) × (i < length states) × (slice_get states i ≡ Some s) × (get_or states i s ≡ s))
+        ⊎ ((length states ≤ i) × (slice_get states i ≡ None)) → Shows f (run_of f states i) (get_or shown i [])
     at i lt (inl (s, l, e, d)) = subst (λ o. Shows f (value_if f o) (get_or shown i [])) (sym e) (state_shows s (get_or shown i []) (have.each i s lt e))
     at i lt (inr w) = absurd (omega arith)
 
-module _ (known : Names) (f : Formula) (entries : List Entry) (names : Names) (are : AreEntries known f entries) (named : names ≡ entry_names known entries) where
+module _ (known : Names) (f : Formula) (entries : List Entry) (names : Names) (are : AreEntries known f entries)
+    (named : names ≡ entry_names known entries) where
   pub names_long : length names ≡ length (letters f)
   names_long = ap length (named ∙ letter_names_are known f entries are) ∙ length-map (letters f) the_name
 

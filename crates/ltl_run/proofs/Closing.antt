@@ -24,19 +24,23 @@ first_position (Finite states) good = good
 satisfies : (f : Formula) (t : Trace) → IsTrace t → Holds t (formula_of (pos_of f)) 0 → Satisfies t f
 satisfies f t good h = (norm_holds t good f).yes'.to 0 (first_position t good) h
 
-pub run_satisfies : (f : Formula) (kind : Kind) (k : ℕ) (r : States) (close : Close) (t : Trace) → IsRun f k r → Accepts close f r k kind → GivesTrace f r k close t → IsTrace t × IsOfKind t kind × Satisfies t f
+pub run_satisfies : (f : Formula) (kind : Kind) (k : ℕ) (r : States) (close : Close) (t : Trace) → IsRun f k r → Accepts close f r k kind
+    → GivesTrace f r k close t → IsTrace t × IsOfKind t kind × Satisfies t f
 run_satisfies f Kinds.Infinite k r closes.Empty t run none (stem, e, g) =
     let good : IsTrace (Infinite stem ([] ∷ [])) = omega arith in
-    subst (λ u. IsTrace u × IsOfKind u Kinds.Infinite × Satisfies u f) (sym e) (good, tt, satisfies f (Infinite stem ([] ∷ [])) good (empty_satisfies f k r run none stem g))
+    subst (λ u. IsTrace u × IsOfKind u Kinds.Infinite × Satisfies u f) (sym e)
+    (good, tt, satisfies f (Infinite stem ([] ∷ [])) good (empty_satisfies f k r run none stem g))
 run_satisfies f Kinds.Infinite k r (closes.Loop l) t run c (stem, loop_part, e, g) =
     let n = g.loop_length in
     let lt = c.earlier in
     let good : 0 < length loop_part = omega arith in
-    subst (λ u. IsTrace u × IsOfKind u Kinds.Infinite × Satisfies u f) (sym e) (good, tt, satisfies f (Infinite stem loop_part) good (loop_satisfies f k r run l c.earlier c.one c.fulfilled stem loop_part g))
+    subst (λ u. IsTrace u × IsOfKind u Kinds.Infinite × Satisfies u f) (sym e)
+    (good, tt, satisfies f (Infinite stem loop_part) good (loop_satisfies f k r run l c.earlier c.one c.fulfilled stem loop_part g))
 run_satisfies f Kinds.Finite k r closes.End t run none (states, e, g) =
     let n = g.states_length in
     let good : 0 < length states = omega arith in
-    subst (λ u. IsTrace u × IsOfKind u Kinds.Finite × Satisfies u f) (sym e) (good, tt, satisfies f (Finite states) good (end_satisfies f k r run none states g))
+    subst (λ u. IsTrace u × IsOfKind u Kinds.Finite × Satisfies u f) (sym e)
+    (good, tt, satisfies f (Finite states) good (end_satisfies f k r run none states g))
 run_satisfies f Kinds.Finite k r closes.Empty t run acc g = absurd acc
 run_satisfies f Kinds.Finite k r (closes.Loop l) t run acc g = absurd acc
 run_satisfies f Kinds.Infinite k r closes.End t run acc g = absurd acc

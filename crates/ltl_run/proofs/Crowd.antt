@@ -1,5 +1,6 @@
 -- Of many places with few answers, many have one answer.
-use Rattle.std.proofs.Common.{◌≡◌, ℕ, zero, suc, ◌+◌, ◌*◌, ◌^◌, ◌<◌, ◌≤◌, inl, inr, subst, ap, arith, sym, refl, ◌∙◌, List, [], ◌∷◌, length, Contains, Bool, true, false, not, cond, IsTrue, IsFalse, filter, count_by, pow-suc}
+use Rattle.std.proofs.Common.{◌≡◌, ℕ, zero, suc, ◌+◌, ◌*◌, ◌^◌, ◌<◌, ◌≤◌, inl, inr, subst, ap, arith, sym, refl, ◌∙◌, List, [], ◌∷◌, length, Contains, Bool}
+use Rattle.std.proofs.Common.{true, false, not, cond, IsTrue, IsFalse, filter, count_by, pow-suc}
 use Rattle.std.proofs.lemmas.Bool.{cases_lt, not-true}
 use Rattle.std.proofs.lemmas.List.Sums.{sum_by-cons}
 use Rattle.ltl_closure.proofs.Lists.{Contains-nil, Contains-cons_cases, Contains-from_filter}
@@ -60,7 +61,8 @@ crowd_in g p fs m xs one (ys, asc, many, inside, agree) = (
   ],
 )
 
-pub crowd : (fs : List (ℕ → Bool)) (m : ℕ) (xs : List ℕ) → IsAscending xs → m * 2 ^ length fs < length xs → (ys : List ℕ) × IsAscending ys × (m < length ys) × ((y : ℕ) → Contains ys y → Contains xs y) × Agree fs ys
+pub crowd : (fs : List (ℕ → Bool)) (m : ℕ) (xs : List ℕ) → IsAscending xs → m * 2 ^ length fs < length xs
+    → (ys : List ℕ) × IsAscending ys × (m < length ys) × ((y : ℕ) → Contains ys y → Contains xs y) × Agree fs ys
 crowd [] m xs asc h = (xs, asc, omega arith, λ y c. c, λ g c. absurd (Contains-nil g c))
 crowd (g ∷ fs) m xs asc h =
     let split = length_split g xs in
@@ -69,7 +71,8 @@ crowd (g ∷ fs) m xs asc h =
       | inl lt ↦ crowd_in g g fs m xs (λ y z a b. a ∙ sym b) (crowd fs m (filter g xs) (IsAscending-filter g xs asc) lt)
       | inr ge ↦
           let double : m * 2 ^ suc (length fs) ≡ m * 2 ^ length fs + m * 2 ^ length fs = ap (λ n. m * n) twice ∙ omega arith in
-          crowd_in g (λ x. not (g x)) fs m xs (λ y z a b. not-true (g y) a ∙ sym (not-true (g z) b)) (crowd fs m (filter (λ x. not (g x)) xs) (IsAscending-filter (λ x. not (g x)) xs asc) (omega arith))
+          crowd_in g (λ x. not (g x)) fs m xs (λ y z a b. not-true (g y) a ∙ sym (not-true (g z) b))
+          (crowd fs m (filter (λ x. not (g x)) xs) (IsAscending-filter (λ x. not (g x)) xs asc) (omega arith))
     ]
 
 count_case : (b c : Bool) (u v : ℕ) → (IsTrue b → IsTrue c) → u ≤ v → cond b 1 0 + u ≤ cond c 1 0 + v
@@ -95,7 +98,8 @@ count_by-le p q [] h = omega arith
 count_by-le p q (x ∷ xs) h =
     rw (sum_by-cons (λ y. cond (p y) 1 0) x xs, sum_by-cons (λ y. cond (q y) 1 0) x xs) (count_case (p x) (q x) _ _ (h x) (count_by-le p q xs h))
 
-pub count_by-lt : {X : Type 0} (p q : X → Bool) (xs : List X) (e : X) → ((x : X) → IsTrue (p x) → IsTrue (q x)) → Contains xs e → IsFalse (p e) → IsTrue (q e) → count_by p xs < count_by q xs
+pub count_by-lt : {X : Type 0} (p q : X → Bool) (xs : List X) (e : X) → ((x : X) → IsTrue (p x) → IsTrue (q x)) → Contains xs e → IsFalse (p e) → IsTrue (q e)
+    → count_by p xs < count_by q xs
 count_by-lt p q [] e h c n y = absurd (Contains-nil e c)
 count_by-lt p q (x ∷ xs) e h c n y =
     rw (sum_by-cons (λ y. cond (p y) 1 0) x xs, sum_by-cons (λ y. cond (q y) 1 0) x xs)

@@ -1,7 +1,8 @@
 -- The normal form nests past operators no deeper than the formula.
 use Rattle.std.proofs.Common.{◌≤◌, ◌+◌, ◌*◌, ℕ, zero, suc, max, arith, true, false}
 use Rattle.ltl_syntax.specs.Formula.{Formula, Const, Letter, Unary, Binary}
-use Rattle.ltl_syntax.specs.declared.node.UnaryOp.TheVariants.{Always, AlwaysIn, Eventually, EventuallyIn, Historically, HistoricallyIn, Next, NextTimes, Not, Once, OnceIn, WeakNext, WeakYesterday, Yesterday, YesterdayTimes}
+use Rattle.ltl_syntax.specs.declared.node.UnaryOp.TheVariants.{Always, AlwaysIn, Eventually, EventuallyIn, Historically, HistoricallyIn, Next, NextTimes, Not}
+use Rattle.ltl_syntax.specs.declared.node.UnaryOp.TheVariants.{Once, OnceIn, WeakNext, WeakYesterday, Yesterday, YesterdayTimes}
 use Rattle.ltl_syntax.specs.declared.node.BinaryOp.TheVariants.{And, Iff, Implies, Or, Release, Since, StrongRelease, Trigger, Until, WeakUntil}
 use Rattle.ltl_word.specs.Depth.{past_depth}
 use Rattle.ltl_closure.specs.Norm.{Norm, NConst, NAnd, NOr, NNext, NWeakNext, NYesterday, NWeakYesterday, times, window, formula_of, pos_of, neg_of}
@@ -41,12 +42,18 @@ norm_depth (Unary Yesterday a) = let r = norm_depth a in (omega arith, omega ari
 norm_depth (Unary WeakYesterday a) = let r = norm_depth a in (omega arith, omega arith)
 norm_depth (Unary Once a) = let r = norm_depth a in (omega arith, omega arith)
 norm_depth (Unary Historically a) = let r = norm_depth a in (omega arith, omega arith)
-norm_depth (Unary (NextTimes n) a) = let r = norm_depth a in (omega (arith, times_depth NNext 0 (λ g. omega arith) n (pos_of a)), omega (arith, times_depth NWeakNext 0 (λ g. omega arith) n (neg_of a)))
-norm_depth (Unary (YesterdayTimes n) a) = let r = norm_depth a in (omega (arith, times_depth NYesterday 1 (λ g. omega arith) n (pos_of a)), omega (arith, times_depth NWeakYesterday 1 (λ g. omega arith) n (neg_of a)))
-norm_depth (Unary (EventuallyIn m n) a) = let r = norm_depth a in (omega (arith, some_depth NNext 0 (λ g. omega arith) m n (pos_of a)), omega (arith, every_depth NWeakNext 0 (λ g. omega arith) m n (neg_of a)))
-norm_depth (Unary (AlwaysIn m n) a) = let r = norm_depth a in (omega (arith, every_depth NWeakNext 0 (λ g. omega arith) m n (pos_of a)), omega (arith, some_depth NNext 0 (λ g. omega arith) m n (neg_of a)))
-norm_depth (Unary (OnceIn m n) a) = let r = norm_depth a in (omega (arith, some_depth NYesterday 1 (λ g. omega arith) m n (pos_of a)), omega (arith, every_depth NWeakYesterday 1 (λ g. omega arith) m n (neg_of a)))
-norm_depth (Unary (HistoricallyIn m n) a) = let r = norm_depth a in (omega (arith, every_depth NWeakYesterday 1 (λ g. omega arith) m n (pos_of a)), omega (arith, some_depth NYesterday 1 (λ g. omega arith) m n (neg_of a)))
+norm_depth (Unary (NextTimes n) a) = let r = norm_depth a in
+    (omega (arith, times_depth NNext 0 (λ g. omega arith) n (pos_of a)), omega (arith, times_depth NWeakNext 0 (λ g. omega arith) n (neg_of a)))
+norm_depth (Unary (YesterdayTimes n) a) = let r = norm_depth a in
+    (omega (arith, times_depth NYesterday 1 (λ g. omega arith) n (pos_of a)), omega (arith, times_depth NWeakYesterday 1 (λ g. omega arith) n (neg_of a)))
+norm_depth (Unary (EventuallyIn m n) a) = let r = norm_depth a in
+    (omega (arith, some_depth NNext 0 (λ g. omega arith) m n (pos_of a)), omega (arith, every_depth NWeakNext 0 (λ g. omega arith) m n (neg_of a)))
+norm_depth (Unary (AlwaysIn m n) a) = let r = norm_depth a in
+    (omega (arith, every_depth NWeakNext 0 (λ g. omega arith) m n (pos_of a)), omega (arith, some_depth NNext 0 (λ g. omega arith) m n (neg_of a)))
+norm_depth (Unary (OnceIn m n) a) = let r = norm_depth a in
+    (omega (arith, some_depth NYesterday 1 (λ g. omega arith) m n (pos_of a)), omega (arith, every_depth NWeakYesterday 1 (λ g. omega arith) m n (neg_of a)))
+norm_depth (Unary (HistoricallyIn m n) a) = let r = norm_depth a in
+    (omega (arith, every_depth NWeakYesterday 1 (λ g. omega arith) m n (pos_of a)), omega (arith, some_depth NYesterday 1 (λ g. omega arith) m n (neg_of a)))
 norm_depth (Binary And a b) = let r = norm_depth a in let s = norm_depth b in (omega arith, omega arith)
 norm_depth (Binary Or a b) = let r = norm_depth a in let s = norm_depth b in (omega arith, omega arith)
 norm_depth (Binary Implies a b) = let r = norm_depth a in let s = norm_depth b in (omega arith, omega arith)

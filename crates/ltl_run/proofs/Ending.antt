@@ -1,5 +1,6 @@
 -- A run that closes by an empty or a last state gives a trace that satisfies the formula.
-use Rattle.std.proofs.Common.{◌≡◌, ℕ, zero, suc, ◌<◌, ◌≤◌, inl, inr, subst, arith, sym, refl, ◌∙◌, List, [], ◌∷◌, length, Contains, ◌&&◌, IsTrue, IsFalse, lt-ltb}
+use Rattle.std.proofs.Common.{◌≡◌, ℕ, zero, suc, ◌<◌, ◌≤◌, inl, inr, subst, arith, sym, refl, ◌∙◌, List, [], ◌∷◌, length, Contains, ◌&&◌, IsTrue, IsFalse}
+use Rattle.std.proofs.Common.{lt-ltb}
 use Rattle.std.proofs.lemmas.Bool.{cases_lt, and_parts, or_cases, cond-true}
 use Rattle.ltl_syntax.specs.Formula.{Formula}
 use Rattle.ltl_word.specs.declared.trace.Trace.{Trace}
@@ -26,15 +27,18 @@ module _ (f : Formula) (k : ℕ) (r : States) (run : IsRun f k r) (t : Trace) (a
     | inr ge ↦ let e : i ≡ k = omega arith in absurd (strong a c (subst (λ n. IsTrue (r n (NNext a))) e v))
   ]
 
-  weak_at : (i : ℕ) → i ≤ k → (a : Norm) → Contains (closure f) (NWeakNext a) → IsTrue (r i (NWeakNext a)) → IsPosition t (suc i) → (suc i ≤ k) × IsTrue (val (r (suc i)) a)
+  weak_at : (i : ℕ) → i ≤ k → (a : Norm) → Contains (closure f) (NWeakNext a) → IsTrue (r i (NWeakNext a)) → IsPosition t (suc i)
+      → (suc i ≤ k) × IsTrue (val (r (suc i)) a)
   weak_at i d a c v at = elim (cases_lt i k) [
     | inl lt ↦ (omega arith, sym (run.next i lt (NWeakNext a) (Contains-filter is_next (closure f) (NWeakNext a) c refl)) ∙ v)
     | inr ge ↦ let e : i ≡ k = omega arith in absurd (weak a c (subst (λ n. IsTrue (r n (NWeakNext a))) e v) (subst (λ n. IsPosition t (suc n)) e at))
   ]
 
-  yesterday_at : (i : ℕ) → i ≤ k → (a : Norm) → Contains (closure f) (NYesterday a) → IsTrue (r i (NYesterday a)) → (j : ℕ) × (suc j ≡ i) × (j ≤ k) × IsTrue (val (r j) a)
+  yesterday_at : (i : ℕ) → i ≤ k → (a : Norm) → Contains (closure f) (NYesterday a) → IsTrue (r i (NYesterday a))
+      → (j : ℕ) × (suc j ≡ i) × (j ≤ k) × IsTrue (val (r j) a)
   yesterday_at zero d a c v = let x = run.yesterday a c in cc
-  yesterday_at (suc i) d a c v = (i, refl, omega arith, sym (run.before i (omega arith) (NYesterday a) (Contains-filter is_yesterday (closure f) (NYesterday a) c refl)) ∙ v)
+  yesterday_at (suc i) d a c v =
+      (i, refl, omega arith, sym (run.before i (omega arith) (NYesterday a) (Contains-filter is_yesterday (closure f) (NYesterday a) c refl)) ∙ v)
 
   fair_at : (i : ℕ) → i ≤ k → (a b : Norm) → Contains (closure f) (NUntil a b) → IsTrue (val (r i) (NUntil a b)) → (j : ℕ) × (i ≤ j) × IsTrue (val (r j) b)
   fair_at i d a b c v = elim (or_cases (val (r i) b) (val (r i) a && r i (NNext (NUntil a b))) v) [
@@ -63,7 +67,8 @@ module _ (f : Formula) (k : ℕ) (r : States) (run : IsRun f k r) (t : Trace) (a
     fair = fair_at;
   }) (pos_of f) (closure_root f) 0 (omega arith) run.root
 
-pub empty_satisfies : (f : Formula) (k : ℕ) (r : States) → IsRun f k r → ((e : Norm) → Contains (nexts f) e → IsFalse (r k e)) → (stem : List Names) → AreShown f r k stem → Holds (Infinite stem ([] ∷ [])) (formula_of (pos_of f)) 0
+pub empty_satisfies : (f : Formula) (k : ℕ) (r : States) → IsRun f k r → ((e : Norm) → Contains (nexts f) e → IsFalse (r k e)) → (stem : List Names)
+    → AreShown f r k stem → Holds (Infinite stem ([] ∷ [])) (formula_of (pos_of f)) 0
 empty_satisfies f k r run none stem shown =
     ending_satisfies f k r run (Infinite stem ([] ∷ [])) (λ i h. tt)
     (λ i h. let n = shown.states_length in let s : i < length stem = omega arith in
@@ -71,7 +76,8 @@ empty_satisfies f k r run none stem shown =
     (λ a c v. let x = none (NNext a) (Contains-filter is_next (closure f) (NNext a) c refl) in cc)
     (λ a c v at. let x = none (NWeakNext a) (Contains-filter is_next (closure f) (NWeakNext a) c refl) in cc)
 
-pub end_satisfies : (f : Formula) (k : ℕ) (r : States) → IsRun f k r → ((a : Norm) → Contains (closure f) (NNext a) → IsFalse (r k (NNext a))) → (states : List Names) → AreShown f r k states → Holds (Finite states) (formula_of (pos_of f)) 0
+pub end_satisfies : (f : Formula) (k : ℕ) (r : States) → IsRun f k r → ((a : Norm) → Contains (closure f) (NNext a) → IsFalse (r k (NNext a)))
+    → (states : List Names) → AreShown f r k states → Holds (Finite states) (formula_of (pos_of f)) 0
 end_satisfies f k r run none states shown =
     ending_satisfies f k r run (Finite states) (λ i h. let n = shown.states_length in omega arith)
     shown.first

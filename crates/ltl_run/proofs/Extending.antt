@@ -1,6 +1,7 @@
 -- Each trace has an extension by the values of the replaced occurrences. On an infinite trace these repeat with the loop only after some loops, so
 -- the stem takes that many loops in.
-use Rattle.std.proofs.Common.{◌≡◌, ℕ, zero, suc, ◌+◌, ◌-◌, ◌*◌, ◌/◌, ◌%◌, ◌^◌, ◌<◌, ◌≤◌, ◌↔◌, inl, inr, subst, ap, ap₂, arith, sym, refl, ◌∙◌, List, [], ◌∷◌, length, get_or, Contains, lt-ltb, le-ltb}
+use Rattle.std.proofs.Common.{◌≡◌, ℕ, zero, suc, ◌+◌, ◌-◌, ◌*◌, ◌/◌, ◌%◌, ◌^◌, ◌<◌, ◌≤◌, ◌↔◌, inl, inr, subst, ap, ap₂, arith, sym, refl, ◌∙◌, List, [], ◌∷◌}
+use Rattle.std.proofs.Common.{length, get_or, Contains, lt-ltb, le-ltb}
 use Rattle.std.proofs.Math.Nat.{mod-lt}
 use Rattle.std.proofs.lemmas.Nat.{div-add-mod'}
 use Rattle.std.proofs.lemmas.Bool.{cases_lt, cond-true, cond-false}
@@ -118,7 +119,8 @@ module _ (stem loop_part : List Names) (some : 0 < length loop_part) (f : Formul
   }
 
   Part-repeats : (n : ℕ) → n < length gs → Repeats (Holds t (get_or gs n f)) p first
-  Part-repeats n lt = Holds-repeats stem loop_part some (get_or gs n f) (past_depth f) (All-get_or (IsShallow P (past_depth f)) gs n f lt (replaced_shallow P (past_depth f) f 0 (omega arith)))
+  Part-repeats n lt = Holds-repeats stem loop_part some (get_or gs n f) (past_depth f)
+      (All-get_or (IsShallow P (past_depth f)) gs n f lt (replaced_shallow P (past_depth f) f 0 (omega arith)))
 
   gs_few : length gs ≤ 2 ^ 64
   gs_few = let d = replaced_few P f 0 in omega arith
@@ -170,8 +172,10 @@ module _ (states : List Names) (some : 0 < length states) (f : Formula) (P : Pla
   unfolding word
   word_extends = record {
     longer = length-states_from shown 0 (length states);
-    named = λ i name at plain. subst (λ s. Contains s name ↔ Contains (state_at (Finite states) i) name) (sym (at_place i at)) (extended_plain (Finite states) some i (replaced f P) name plain);
-    fresh = λ i n at lt. subst (λ s. Contains s (name_of (Fresh n)) ↔ Holds (Finite states) (get_or (replaced f P) n f) i) (sym (at_place i at)) (extended_fresh (Finite states) some i (replaced f P) n f word_few lt);
+    named = λ i name at plain. subst (λ s. Contains s name ↔ Contains (state_at (Finite states) i) name) (sym (at_place i at))
+        (extended_plain (Finite states) some i (replaced f P) name plain);
+    fresh = λ i n at lt. subst (λ s. Contains s (name_of (Fresh n)) ↔ Holds (Finite states) (get_or (replaced f P) n f) i) (sym (at_place i at))
+        (extended_fresh (Finite states) some i (replaced f P) n f word_few lt);
   }
 
 -- ---- what extensions are
@@ -239,7 +243,9 @@ position_zero (Infinite stem loop_part) some = tt
 position_zero (Finite states) some = some
 
 -- what refutes the formula with some occurrences replaced refutes the formula
-pub refuted_by_rep : (f : Formula) (P : Places) (kind : Kind) → IsOriginal f → nodes_in f ≤ 2 ^ 64 → ((u : Trace) → IsTrace u → IsOfKind u kind → Satisfies u (rep f P) → ⊥) → (t : Trace) → IsTrace t → IsOfKind t kind → Satisfies t f → ⊥
+pub refuted_by_rep : (f : Formula) (P : Places) (kind : Kind) → IsOriginal f → nodes_in f ≤ 2 ^ 64
+    → ((u : Trace) → IsTrace u → IsOfKind u kind → Satisfies u (rep f P) → ⊥) → (t : Trace) → IsTrace t → IsOfKind t kind → Satisfies t f → ⊥
 refuted_by_rep f P kind o few none t good of_kind h =
     let w = trace_extends f P t few good in
-    none w.0 (extension_is_trace f P t w.0 w.1 good) (extension_is_of_kind f P t w.0 w.1 kind of_kind) ((extension_agrees f P t w.0 w.1 o 0 (position_zero t good)).1 h)
+    none w.0 (extension_is_trace f P t w.0 w.1 good) (extension_is_of_kind f P t w.0 w.1 kind of_kind)
+    ((extension_agrees f P t w.0 w.1 o 0 (position_zero t good)).1 h)

@@ -12,7 +12,8 @@ use Rattle.ltl_word.specs.Trace.{IsTrace, IsOfKind}
 use Rattle.ltl_word.specs.Holds.{Satisfies}
 use Rattle.ltl_closure.specs.Norm.{Norm}
 use Rattle.ltl_closure.specs.Closure.{eventualities}
-use Rattle.ltl_closure.specs.Run.{RunState, States, IsRun, carry, is_pending, IsFulfilledIn, IsAccepted, IsPrunedAt, Triple, Pair, IsUnpruned, HasAccepted, IsVerdict, no_run, all_pruned, Verdict, Sat, Unsat, Undecided, bound}
+use Rattle.ltl_closure.specs.Run.{RunState, States, IsRun, carry, is_pending, IsFulfilledIn, IsAccepted, IsPrunedAt, Triple, Pair, IsUnpruned, HasAccepted}
+use Rattle.ltl_closure.specs.Run.{IsVerdict, no_run, all_pruned, Verdict, Sat, Unsat, Undecided, bound}
 use Rattle.ltl_word.proofs.Search.{first_or_none, ×_decided, →_decided, IsTrue_decided, mapped}
 use Rattle.ltl_run.proofs.Splicing.{run_prefix}
 use Rattle.ltl_run.proofs.Shorter.{shorter}
@@ -41,7 +42,10 @@ module _ (f : Formula) (r : States) (i : ℕ) where
 
   triple_decided : Dec ((j : ℕ) × (j < i) × ((l : ℕ) × (l < j) × PrunesAt j l))
   triple_decided = elim (first_or_none (λ j. (l : ℕ) × (l < j) × PrunesAt j l)
-      (λ j. elim (first_or_none (PrunesAt j) (λ l. ×_decided (carry_decided f (r l) (r j)) (×_decided (carry_decided f (r j) (r i)) (prunes_decided l j))) j) [ inl w ↦ yes w | inr none ↦ no (λ w. none w.0 w.1 w.2) ])
+      (λ j. elim (first_or_none (PrunesAt j) (λ l. ×_decided (carry_decided f (r l) (r j)) (×_decided (carry_decided f (r j) (r i)) (prunes_decided l j))) j) [
+        | inl w ↦ yes w
+        | inr none ↦ no (λ w. none w.0 w.1 w.2)
+      ])
       i) [
         | inl w ↦ yes w
         | inr none ↦ no (λ w. none w.0 w.1 w.2)
@@ -64,7 +68,8 @@ module _ (f : Formula) (r : States) (i : ℕ) where
   ]
 
 -- from an accepted run one that is unpruned too, and no longer
-pub unpruned_from : (f : Formula) (kind : Kind) (fuel k : ℕ) → k ≤ fuel → HasAccepted f kind k → (m : ℕ) × (m ≤ k) × (r : States) × IsRun f m r × IsAccepted f r m kind × IsUnpruned f r m kind
+pub unpruned_from : (f : Formula) (kind : Kind) (fuel k : ℕ) → k ≤ fuel → HasAccepted f kind k
+    → (m : ℕ) × (m ≤ k) × (r : States) × IsRun f m r × IsAccepted f r m kind × IsUnpruned f r m kind
 unpruned_from f kind zero k le (r, run, acc) = elim (first_or_none (λ i. IsPrunedAt f r i kind) (λ i. pruned_decided f r i kind) (suc k)) [
   | inr none ↦ (k, omega arith, r, run, acc, λ i h p. none i (omega arith) p)
   | inl w ↦ let v = shorter f k r run kind acc w.0 (omega arith) w.2 in absurd (omega arith)
@@ -93,22 +98,26 @@ unsat_sound f kind limit k n (all_pruned le open' rejected none) acc =
 
 -- a trace of the kind that satisfies the formula gives an accepted run
 pub trace_runs : (f : Formula) (kind : Kind) (t : Trace) → IsTrace t → IsOfKind t kind → Satisfies t f → (k : ℕ) × HasAccepted f kind k
-trace_runs f Kinds.Infinite (Infinite stem loop_part) good is h = trace_accepted f stem loop_part good ((norm_holds (Infinite stem loop_part) good f).yes'.back 0 tt h)
+trace_runs f Kinds.Infinite (Infinite stem loop_part) good is h =
+    trace_accepted f stem loop_part good ((norm_holds (Infinite stem loop_part) good f).yes'.back 0 tt h)
 trace_runs f Kinds.Finite (Infinite stem loop_part) good is h = absurd is
 trace_runs f Kinds.Infinite (Finite states) good is h = absurd is
 trace_runs f Kinds.Finite (Finite states) good is h =
     let e : length states ≡ suc (length states - 1) = omega arith in
     (length states - 1, finite_accepted f states (length states - 1) e ((norm_holds (Finite states) good f).yes'.back 0 good h))
 
-pub unsat_has_no_trace : (f : Formula) (kind : Kind) (limit k : ℕ) (t : Trace) → IsVerdict f kind limit (Unsat k) → IsTrace t → IsOfKind t kind → Satisfies t f → ⊥
+pub unsat_has_no_trace : (f : Formula) (kind : Kind) (limit k : ℕ) (t : Trace) → IsVerdict f kind limit (Unsat k) → IsTrace t → IsOfKind t kind
+    → Satisfies t f → ⊥
 unsat_has_no_trace f kind limit k t v good is h = let w = trace_runs f kind t good is h in unsat_sound f kind limit k w.0 v w.1
 
 -- an accepted run of least length is unpruned
-pub least_unpruned : (f : Formula) (kind : Kind) (k : ℕ) (r : States) → IsRun f k r → IsAccepted f r k kind → ((m : ℕ) → m < k → HasAccepted f kind m → ⊥) → IsUnpruned f r k kind
+pub least_unpruned : (f : Formula) (kind : Kind) (k : ℕ) (r : States) → IsRun f k r → IsAccepted f r k kind → ((m : ℕ) → m < k → HasAccepted f kind m → ⊥)
+    → IsUnpruned f r k kind
 least_unpruned f kind k r run acc least i le p = let w = shorter f k r run kind acc i le p in least w.0 w.1 (w.2, w.3, w.4)
 
 -- at the bound a trace that satisfies the formula leaves no verdict but SAT
-pub found_at_bound : (f : Formula) (kind : Kind) (limit : ℕ) (v : Verdict) (t : Trace) → bound f kind ≤ limit → IsVerdict f kind limit v → IsTrace t → IsOfKind t kind → Satisfies t f → (k : ℕ) × (v ≡ Sat k)
+pub found_at_bound : (f : Formula) (kind : Kind) (limit : ℕ) (v : Verdict) (t : Trace) → bound f kind ≤ limit → IsVerdict f kind limit v → IsTrace t
+    → IsOfKind t kind → Satisfies t f → (k : ℕ) × (v ≡ Sat k)
 found_at_bound f kind limit (Sat k) t le v good is h = (k, refl)
 found_at_bound f kind limit (Unsat k) t le v good is h = absurd (unsat_has_no_trace f kind limit k t v good is h)
 found_at_bound f kind limit (Undecided k) t le v good is h = absurd (settled f kind limit k le v)

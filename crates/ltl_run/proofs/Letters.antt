@@ -1,5 +1,6 @@
 -- The letters of a closure: each stands once, so its place among them is its number.
-use Rattle.std.proofs.Common.{◌≡◌, ℕ, zero, suc, ◌-◌, ◌<◌, Bool, true, false, cond, List, [], ◌∷◌, length, get_or, filter, Contains, refl, ◌∙◌, ap, subst, arith, if◌then◌else◌}
+use Rattle.std.proofs.Common.{◌≡◌, ℕ, zero, suc, ◌-◌, ◌<◌, Bool, true, false, cond, List, [], ◌∷◌, length, get_or, filter, Contains, refl, ◌∙◌, ap, subst}
+use Rattle.std.proofs.Common.{arith, if◌then◌else◌}
 use Rattle.std.proofs.lemmas.Bool.{cond-true, cond-false}
 use Rattle.std.proofs.lemmas.List.Elements.{Contains-get_or}
 use Rattle.ltl_syntax.specs.Formula.{Formula}
@@ -25,7 +26,8 @@ apart_of_placed [] p = tt
 apart_of_placed (x ∷ xs) p = (
   λ e c.
       let lt : place_in xs e - 1 < length xs = omega (arith, place_within xs e c, place_from_one xs e) in
-      subst (λ z. same x z ≡ false) (entry_place xs e x c) (not_first (same x (get_or xs (place_in xs e - 1) x)) _ (place_in xs e - 1) (p (suc (place_in xs e - 1)) x (omega arith))).0,
+      subst (λ z. same x z ≡ false) (entry_place xs e x c)
+      (not_first (same x (get_or xs (place_in xs e - 1) x)) _ (place_in xs e - 1) (p (suc (place_in xs e - 1)) x (omega arith))).0,
   apart_of_placed xs (λ k d lt. (not_first (same x (get_or xs k d)) _ k (p (suc k) d (omega arith))).1),
 )
 

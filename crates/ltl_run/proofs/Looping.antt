@@ -1,5 +1,6 @@
 -- A run that closes by a loop gives a trace that satisfies the formula.
-use Rattle.std.proofs.Common.{◌≡◌, ℕ, zero, suc, ◌+◌, ◌-◌, ◌<◌, ◌≤◌, ◌⊎◌, inl, inr, subst, ap, arith, sym, refl, ◌∙◌, List, [], ◌∷◌, length, Contains, ◌&&◌, IsTrue, eqb, eq-eqb, ne_eqb, slice_index_or, lt-ltb, le-ltb, mod-eq_of_lt, if◌then◌else◌}
+use Rattle.std.proofs.Common.{◌≡◌, ℕ, zero, suc, ◌+◌, ◌-◌, ◌<◌, ◌≤◌, ◌⊎◌, inl, inr, subst, ap, arith, sym, refl, ◌∙◌, List, [], ◌∷◌, length, Contains, ◌&&◌}
+use Rattle.std.proofs.Common.{IsTrue, eqb, eq-eqb, ne_eqb, slice_index_or, lt-ltb, le-ltb, mod-eq_of_lt, if◌then◌else◌}
 use Rattle.std.proofs.lemmas.Bool.{cases_lt, cases_eq, and_parts, or_cases, cond-true, cond-false}
 use Rattle.ltl_syntax.specs.Formula.{Formula}
 use Rattle.ltl_word.specs.declared.trace.Trace.{Trace}
@@ -18,7 +19,8 @@ use Rattle.ltl_word.proofs.Periodicity.{state-repeats}
 use Rattle.ltl_run.proofs.Sound.{Follows, sound}
 
 pub until_request : (f : Formula) (a b : Norm) → Contains (closure f) (NUntil a b) → Contains (closure f) (NNext (NUntil a b))
-until_request f a b c = closure_closed f (NUntil a b) (NNext (NUntil a b)) c (Contains-there a (b ∷ NNext (NUntil a b) ∷ []) _ (Contains-there b (NNext (NUntil a b) ∷ []) _ (Contains-here (NNext (NUntil a b)) [])))
+until_request f a b c = closure_closed f (NUntil a b) (NNext (NUntil a b)) c
+    (Contains-there a (b ∷ NNext (NUntil a b) ∷ []) _ (Contains-there b (NNext (NUntil a b) ∷ []) _ (Contains-here (NNext (NUntil a b)) [])))
 
 module _ (l k : ℕ) (lt : l < k) where
   -- the state that stands at position i
@@ -119,7 +121,8 @@ module _ (f : Formula) (k : ℕ) (r : States) (run : IsRun f k r) (l : ℕ) (lt 
   in_nexts a c = Contains-filter is_next (closure f) (NNext a) c refl
 
   -- a request that is true stays until its right operand is true
-  waits : (a b : Norm) → Contains (closure f) (NUntil a b) → (fuel i : ℕ) → IsTrue (val (unrolled i) (NUntil a b)) → ((j : ℕ) × (i ≤ j) × IsTrue (val (unrolled j) b)) ⊎ IsTrue (unrolled (i + fuel) (NNext (NUntil a b)))
+  waits : (a b : Norm) → Contains (closure f) (NUntil a b) → (fuel i : ℕ) → IsTrue (val (unrolled i) (NUntil a b))
+      → ((j : ℕ) × (i ≤ j) × IsTrue (val (unrolled j) b)) ⊎ IsTrue (unrolled (i + fuel) (NNext (NUntil a b)))
   waits a b c zero i v = elim (or_cases (val (unrolled i) b) (val (unrolled i) a && unrolled i (NNext (NUntil a b))) v) [
     | inl now ↦ inl (i, omega arith, now)
     | inr both ↦
@@ -138,7 +141,8 @@ module _ (f : Formula) (k : ℕ) (r : States) (run : IsRun f k r) (l : ℕ) (lt 
         ]
   ]
 
-  unrolled_fair : (a b : Norm) → Contains (closure f) (NUntil a b) → (i : ℕ) → IsTrue (val (unrolled i) (NUntil a b)) → (j : ℕ) × (i ≤ j) × IsTrue (val (unrolled j) b)
+  unrolled_fair : (a b : Norm) → Contains (closure f) (NUntil a b) → (i : ℕ) → IsTrue (val (unrolled i) (NUntil a b))
+      → (j : ℕ) × (i ≤ j) × IsTrue (val (unrolled j) b)
   unfolding unrolled at
   unrolled_fair a b c i v =
       let below = index_below l k lt i in
@@ -181,7 +185,8 @@ module _ (f : Formula) (k : ℕ) (r : States) (run : IsRun f k r) (l : ℕ) (lt 
         let d : suc l + (i - length stem) ≡ i = omega arith in
         let state : slice_index_or loop_part (i - length stem) [] ≡ state_at t i =
         sym (cond-false _ _ _ (le-ltb i (length stem) s) ∙ ap (λ m. slice_index_or loop_part m []) (mod-eq_of_lt n)) in
-        rw (index_first l k lt i le) (subst (Shows f (r i)) state (subst (λ m. Shows f (r m) (slice_index_or loop_part (i - length stem) [])) d (shown.second (i - length stem) n)))
+        rw (index_first l k lt i le)
+        (subst (Shows f (r i)) state (subst (λ m. Shows f (r m) (slice_index_or loop_part (i - length stem) [])) d (shown.second (i - length stem) n)))
 
     shows_moved : (j i : ℕ) → suc l ≤ j → i ≡ j + (k - l) → ShowsAt j → ShowsAt i
     unfolding unrolled at ShowsAt
@@ -209,7 +214,8 @@ module _ (f : Formula) (k : ℕ) (r : States) (run : IsRun f k r) (l : ℕ) (lt 
     shows_at : (i : ℕ) → ShowsAt i
     shows_at i = elim (cases_lt l i) [ inl high ↦ shows_later i i (omega arith) high | inr low ↦ shows_low i low ]
 
-    yesterday_at : (i : ℕ) → Always' i → (a : Norm) → Contains (closure f) (NYesterday a) → IsTrue (unrolled i (NYesterday a)) → (j : ℕ) × (suc j ≡ i) × Always' j × IsTrue (val (unrolled j) a)
+    yesterday_at : (i : ℕ) → Always' i → (a : Norm) → Contains (closure f) (NYesterday a) → IsTrue (unrolled i (NYesterday a))
+        → (j : ℕ) × (suc j ≡ i) × Always' j × IsTrue (val (unrolled j) a)
     unfolding unrolled at index
     yesterday_at zero d a c v = let no' = run.yesterday a c in cc
     yesterday_at (suc i) d a c v = (i, refl, tt, sym (unrolled_before i (NYesterday a) (Contains-filter is_yesterday (closure f) (NYesterday a) c refl)) ∙ v)

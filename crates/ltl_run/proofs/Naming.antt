@@ -1,5 +1,6 @@
 -- The names that the code collects are those of the closure's letters, and no two letters have one name.
-use Rattle.std.proofs.Common.{◌≡◌, ℕ, zero, suc, ◌-◌, ◌<◌, true, false, List, [], ◌∷◌, ◌++◌, length, get_or, filter, map, Option, Some, None, Contains, All, refl, sym, ◌∙◌, ap, subst, arith}
+use Rattle.std.proofs.Common.{◌≡◌, ℕ, zero, suc, ◌-◌, ◌<◌, true, false, List, [], ◌∷◌, ◌++◌, length, get_or, filter, map, Option, Some, None, Contains, All}
+use Rattle.std.proofs.Common.{refl, sym, ◌∙◌, ap, subst, arith}
 use Rattle.std.specs.Fmt.{decimal}
 use Rattle.std.proofs.lemmas.Fmt.{decimal_injective}
 use Rattle.std.proofs.lemmas.List.{append_cancel_right}
@@ -8,7 +9,8 @@ use Rattle.ltl_syntax.specs.Formula.{Atom, Name, Fresh, Formula}
 use Rattle.ltl_syntax.specs.Table.{IsPlain}
 use Rattle.ltl_word.specs.Trace.{Names}
 use Rattle.ltl_word.specs.Holds.{name_of}
-use Rattle.ltl_closure.specs.Norm.{Norm, NConst, NLetter, NNotLetter, NAnd, NOr, NNext, NWeakNext, NYesterday, NWeakYesterday, NUntil, NRelease, NSince, NTrigger}
+use Rattle.ltl_closure.specs.Norm.{Norm, NConst, NLetter, NNotLetter, NAnd, NOr, NNext, NWeakNext, NYesterday, NWeakYesterday, NUntil, NRelease, NSince}
+use Rattle.ltl_closure.specs.Norm.{NTrigger}
 use Rattle.ltl_closure.specs.Closure.{closure}
 use Rattle.ltl_closure.specs.Entries.{place_in, StandsAmong, AreEntries}
 use Rattle.ltl_closure.specs.declared.entry.Entry.{Entry}
@@ -46,7 +48,8 @@ module _ (known : Names) (kept : List Norm) where
   stands_name (NSince a b) x h = ap (entry_name known) h
   stands_name (NTrigger a b) x h = ap (entry_name known) h
 
-  one_more : (e : Norm) (rest : List Norm) (names : Names) → names ≡ map the_name (filter is_letter rest) → name_before (letter_name e) names ≡ map the_name (filter is_letter (e ∷ rest))
+  one_more : (e : Norm) (rest : List Norm) (names : Names) → names ≡ map the_name (filter is_letter rest)
+      → name_before (letter_name e) names ≡ map the_name (filter is_letter (e ∷ rest))
   one_more (NLetter p) rest names h = ap (λ ns. name_of p ∷ ns) h
   one_more (NConst b) rest names h = h
   one_more (NNotLetter p) rest names h = h
@@ -61,7 +64,8 @@ module _ (known : Names) (kept : List Norm) where
   one_more (NSince a b) rest names h = h
   one_more (NTrigger a b) rest names h = h
 
-  names_agree : (es : List Norm) (xs : List Entry) → length xs ≡ length es → ((k : ℕ) → k < length es → StandsAmong known kept (get_or es k (NConst false)) (get_or xs k Is.True))
+  names_agree : (es : List Norm) (xs : List Entry) → length xs ≡ length es
+      → ((k : ℕ) → k < length es → StandsAmong known kept (get_or es k (NConst false)) (get_or xs k Is.True))
       → entry_names known xs ≡ map the_name (filter is_letter es)
   names_agree [] [] n h = refl
   names_agree [] (x ∷ xs) n h = absurd (omega arith)
@@ -99,9 +103,11 @@ module _ (known : Names) (f : Formula) (entries : List Entry) (are : AreEntries 
     told : (p : Atom) → Contains (closure f) (NLetter p) → IsPlainLetter p
     told p c =
         let k = place_in (closure f) (NLetter p) - 1 in
-        let lt : place_in (closure f) (NLetter p) - 1 < length (closure f) = omega (arith, place_within (closure f) (NLetter p) c, place_from_one (closure f) (NLetter p)) in
+        let lt : place_in (closure f) (NLetter p) - 1 < length (closure f) =
+        omega (arith, place_within (closure f) (NLetter p) c, place_from_one (closure f) (NLetter p)) in
         let n = are.long in
-        letter_told p _ (subst (λ e. StandsAmong known (closure f) e (get_or entries (place_in (closure f) (NLetter p) - 1) Is.True)) (entry_place (closure f) (NLetter p) (NConst false) c) (are.each (place_in (closure f) (NLetter p) - 1) lt))
+        letter_told p _ (subst (λ e. StandsAmong known (closure f) e (get_or entries (place_in (closure f) (NLetter p) - 1) Is.True))
+        (entry_place (closure f) (NLetter p) (NConst false) c) (are.each (place_in (closure f) (NLetter p) - 1) lt))
         (All-get_or IsSmall entries (place_in (closure f) (NLetter p) - 1) Is.True (omega arith) small)
 
     -- two letters of the closure with one name are one

@@ -1,7 +1,8 @@
 -- At positions the normal form holds where the formula does, and that of its negation where the formula does not.
 use Rattle.std.proofs.Common.{ℕ, zero, suc, inl, inr, refl, arith, Bool, true, false, not, IsTrue}
 use Rattle.ltl_syntax.specs.Formula.{Formula, Const, Letter, Unary, Binary}
-use Rattle.ltl_syntax.specs.declared.node.UnaryOp.TheVariants.{Always, AlwaysIn, Eventually, EventuallyIn, Historically, HistoricallyIn, Next, NextTimes, Not, Once, OnceIn, WeakNext, WeakYesterday, Yesterday, YesterdayTimes}
+use Rattle.ltl_syntax.specs.declared.node.UnaryOp.TheVariants.{Always, AlwaysIn, Eventually, EventuallyIn, Historically, HistoricallyIn, Next, NextTimes, Not}
+use Rattle.ltl_syntax.specs.declared.node.UnaryOp.TheVariants.{Once, OnceIn, WeakNext, WeakYesterday, Yesterday, YesterdayTimes}
 use Rattle.ltl_syntax.specs.declared.node.BinaryOp.TheVariants.{And, Iff, Implies, Or, Release, Since, StrongRelease, Trigger, Until, WeakUntil}
 use Rattle.ltl_word.specs.declared.trace.Trace.{Trace}
 use Rattle.ltl_word.specs.Trace.{IsPosition, IsTrace}
@@ -10,8 +11,15 @@ use Rattle.ltl_word.specs.Holds.{Holds}
 use Rattle.ltl_word.proofs.Search.{IsDecided}
 use Rattle.ltl_word.proofs.Duality.{Negated, Always_decided, Never_decided}
 use Rattle.ltl_word.proofs.Decided.{Holds_decided, Position_decided, position_below, horizon}
-use Rattle.ltl_word.proofs.Agreement.{IsRange, Same, Same-self, Same-turned, Same-not, Same-next, Same-weak_next, Same-yesterday, Same-weak_yesterday, Same-then, Same-never, Same-always, Same-and, Same-or, Same-no_and, Same-no_or, Same-until, Same-released, Same-no_next, Same-no_weak_next, Same-no_until, Same-no_release, Same-since, Same-triggered, Same-no_yesterday, Same-no_weak_yesterday, Same-no_since, Same-no_trigger}
-use Rattle.ltl_word.proofs.Bounded.{eventually_later, later_eventually, always_later, later_always, eventually_out, eventually_in, always_out, always_in, eventually_here, here_eventually, always_here, here_always, once_earlier, earlier_once, historically_earlier, earlier_historically, once_out, once_in, historically_out, historically_in, once_here, here_once, historically_here, here_historically, Same-eventually_in, Same-always_in, Same-once_in, Same-historically_in, Same-no_eventually_in, Same-no_always_in, Same-no_once_in, Same-no_historically_in, Same-times, Same-yesterdays}
+use Rattle.ltl_word.proofs.Agreement.{IsRange, Same, Same-self, Same-turned, Same-not, Same-next, Same-weak_next, Same-yesterday, Same-weak_yesterday}
+use Rattle.ltl_word.proofs.Agreement.{Same-then, Same-never, Same-always, Same-and, Same-or, Same-no_and, Same-no_or, Same-until, Same-released, Same-no_next}
+use Rattle.ltl_word.proofs.Agreement.{Same-no_weak_next, Same-no_until, Same-no_release, Same-since, Same-triggered, Same-no_yesterday, Same-no_weak_yesterday}
+use Rattle.ltl_word.proofs.Agreement.{Same-no_since, Same-no_trigger}
+use Rattle.ltl_word.proofs.Bounded.{eventually_later, later_eventually, always_later, later_always, eventually_out, eventually_in, always_out, always_in}
+use Rattle.ltl_word.proofs.Bounded.{eventually_here, here_eventually, always_here, here_always, once_earlier, earlier_once, historically_earlier}
+use Rattle.ltl_word.proofs.Bounded.{earlier_historically, once_out, once_in, historically_out, historically_in, once_here, here_once, historically_here}
+use Rattle.ltl_word.proofs.Bounded.{here_historically, Same-eventually_in, Same-always_in, Same-once_in, Same-historically_in, Same-no_eventually_in}
+use Rattle.ltl_word.proofs.Bounded.{Same-no_always_in, Same-no_once_in, Same-no_historically_in, Same-times, Same-yesterdays}
 use Rattle.ltl_closure.specs.Norm.{Norm, NNext, NWeakNext, NYesterday, NWeakYesterday, times, some_in, every_in, formula_of, pos_of, neg_of}
 
 not_both : (b : Bool) → IsTrue b → IsTrue (not b) → ⊥
@@ -47,46 +55,54 @@ module _ (t : Trace) (good : IsTrace t) where
   -- the rows of the bounded operators hold where these do
   times_next : (n : ℕ) (c : Norm) → Same P (Is (times NNext n c)) (IsEventuallyIn P n n (Is c))
   times_next zero c = record { to = λ i q x. here_eventually P (Is c) i q x; back = λ i q w. eventually_here P (Is c) i w }
-  times_next (suc n) c = Same-then _ _ _ (Same-next range _ _ (times_next n c)) (record { to = λ i q w. later_eventually P (Is c) (position_below t) n n i w; back = λ i q w. eventually_later P (Is c) (position_below t) n n i w })
+  times_next (suc n) c = Same-then _ _ _ (Same-next range _ _ (times_next n c))
+      (record { to = λ i q w. later_eventually P (Is c) (position_below t) n n i w; back = λ i q w. eventually_later P (Is c) (position_below t) n n i w })
 
   times_weak_next : (n : ℕ) (c : Norm) → Same P (Is (times NWeakNext n c)) (IsAlwaysIn P n n (Is c))
   times_weak_next zero c = record { to = λ i q x. here_always P (Is c) i x; back = λ i q w. always_here P (Is c) i q w }
-  times_weak_next (suc n) c = Same-then _ _ _ (Same-weak_next range _ _ (times_weak_next n c)) (record { to = λ i q w. later_always P (Is c) (position_below t) n n i w; back = λ i q w. always_later P (Is c) (position_below t) n n i w })
+  times_weak_next (suc n) c = Same-then _ _ _ (Same-weak_next range _ _ (times_weak_next n c))
+      (record { to = λ i q w. later_always P (Is c) (position_below t) n n i w; back = λ i q w. always_later P (Is c) (position_below t) n n i w })
 
   times_yesterday : (n : ℕ) (c : Norm) → Same P (Is (times NYesterday n c)) (IsOnceIn n n (Is c))
   times_yesterday zero c = record { to = λ i q x. here_once (Is c) i x; back = λ i q w. once_here (Is c) i w }
-  times_yesterday (suc n) c = Same-then _ _ _ (Same-yesterday range _ _ (times_yesterday n c)) (record { to = λ i q w. earlier_once (Is c) n n i w; back = λ i q w. once_earlier (Is c) n n i w })
+  times_yesterday (suc n) c = Same-then _ _ _ (Same-yesterday range _ _ (times_yesterday n c))
+      (record { to = λ i q w. earlier_once (Is c) n n i w; back = λ i q w. once_earlier (Is c) n n i w })
 
   times_weak_yesterday : (n : ℕ) (c : Norm) → Same P (Is (times NWeakYesterday n c)) (IsHistoricallyIn n n (Is c))
   times_weak_yesterday zero c = record { to = λ i q x. here_historically (Is c) i x; back = λ i q w. historically_here (Is c) i w }
-  times_weak_yesterday (suc n) c = Same-then _ _ _ (Same-weak_yesterday range _ _ (times_weak_yesterday n c)) (record { to = λ i q w. earlier_historically (Is c) n n i w; back = λ i q w. historically_earlier (Is c) n n i w })
+  times_weak_yesterday (suc n) c = Same-then _ _ _ (Same-weak_yesterday range _ _ (times_weak_yesterday n c))
+      (record { to = λ i q w. earlier_historically (Is c) n n i w; back = λ i q w. historically_earlier (Is c) n n i w })
 
   some_next : (a b : ℕ) (c : Norm) → Same P (Is (some_in NNext a b c)) (IsEventuallyIn P a b (Is c))
   some_next zero zero c = record { to = λ i q x. here_eventually P (Is c) i q x; back = λ i q w. eventually_here P (Is c) i w }
   some_next zero (suc b) c = Same-then _ _ _ (Same-or _ _ _ _ (Same-self (Is c)) (Same-next range _ _ (some_next zero b c)))
       (record { to = λ i q w. eventually_in P (Is c) (position_below t) b i q w; back = λ i q w. eventually_out P (Is c) (position_below t) b i w })
-  some_next (suc a) (suc b) c = Same-then _ _ _ (Same-next range _ _ (some_next a b c)) (record { to = λ i q w. later_eventually P (Is c) (position_below t) a b i w; back = λ i q w. eventually_later P (Is c) (position_below t) a b i w })
+  some_next (suc a) (suc b) c = Same-then _ _ _ (Same-next range _ _ (some_next a b c))
+      (record { to = λ i q w. later_eventually P (Is c) (position_below t) a b i w; back = λ i q w. eventually_later P (Is c) (position_below t) a b i w })
   some_next (suc a) zero c = record { to = λ i q e. absurd (cc); back = λ i q w. absurd (omega arith) }
 
   every_next : (a b : ℕ) (c : Norm) → Same P (Is (every_in NWeakNext a b c)) (IsAlwaysIn P a b (Is c))
   every_next zero zero c = record { to = λ i q x. here_always P (Is c) i x; back = λ i q w. always_here P (Is c) i q w }
   every_next zero (suc b) c = Same-then _ _ _ (Same-and _ _ _ _ (Same-self (Is c)) (Same-weak_next range _ _ (every_next zero b c)))
       (record { to = λ i q w. always_in P (Is c) (position_below t) b i w; back = λ i q w. always_out P (Is c) (position_below t) b i q w })
-  every_next (suc a) (suc b) c = Same-then _ _ _ (Same-weak_next range _ _ (every_next a b c)) (record { to = λ i q w. later_always P (Is c) (position_below t) a b i w; back = λ i q w. always_later P (Is c) (position_below t) a b i w })
+  every_next (suc a) (suc b) c = Same-then _ _ _ (Same-weak_next range _ _ (every_next a b c))
+      (record { to = λ i q w. later_always P (Is c) (position_below t) a b i w; back = λ i q w. always_later P (Is c) (position_below t) a b i w })
   every_next (suc a) zero c = record { to = λ i q e j low high at'. absurd (omega arith); back = λ i q w. refl }
 
   some_yesterday : (a b : ℕ) (c : Norm) → Same P (Is (some_in NYesterday a b c)) (IsOnceIn a b (Is c))
   some_yesterday zero zero c = record { to = λ i q x. here_once (Is c) i x; back = λ i q w. once_here (Is c) i w }
   some_yesterday zero (suc b) c = Same-then _ _ _ (Same-or _ _ _ _ (Same-self (Is c)) (Same-yesterday range _ _ (some_yesterday zero b c)))
       (record { to = λ i q w. once_in (Is c) b i w; back = λ i q w. once_out (Is c) b i w })
-  some_yesterday (suc a) (suc b) c = Same-then _ _ _ (Same-yesterday range _ _ (some_yesterday a b c)) (record { to = λ i q w. earlier_once (Is c) a b i w; back = λ i q w. once_earlier (Is c) a b i w })
+  some_yesterday (suc a) (suc b) c = Same-then _ _ _ (Same-yesterday range _ _ (some_yesterday a b c))
+      (record { to = λ i q w. earlier_once (Is c) a b i w; back = λ i q w. once_earlier (Is c) a b i w })
   some_yesterday (suc a) zero c = record { to = λ i q e. absurd (cc); back = λ i q w. absurd (omega arith) }
 
   every_yesterday : (a b : ℕ) (c : Norm) → Same P (Is (every_in NWeakYesterday a b c)) (IsHistoricallyIn a b (Is c))
   every_yesterday zero zero c = record { to = λ i q x. here_historically (Is c) i x; back = λ i q w. historically_here (Is c) i w }
   every_yesterday zero (suc b) c = Same-then _ _ _ (Same-and _ _ _ _ (Same-self (Is c)) (Same-weak_yesterday range _ _ (every_yesterday zero b c)))
       (record { to = λ i q w. historically_in (Is c) b i w; back = λ i q w. historically_out (Is c) b i w })
-  every_yesterday (suc a) (suc b) c = Same-then _ _ _ (Same-weak_yesterday range _ _ (every_yesterday a b c)) (record { to = λ i q w. earlier_historically (Is c) a b i w; back = λ i q w. historically_earlier (Is c) a b i w })
+  every_yesterday (suc a) (suc b) c = Same-then _ _ _ (Same-weak_yesterday range _ _ (every_yesterday a b c))
+      (record { to = λ i q w. earlier_historically (Is c) a b i w; back = λ i q w. historically_earlier (Is c) a b i w })
   every_yesterday (suc a) zero c = record { to = λ i q e j low high. absurd (omega arith); back = λ i q w. refl }
 
   -- both halves at once, since each needs the other below a negation
@@ -179,7 +195,8 @@ module _ (t : Trace) (good : IsTrace t) where
   }
   norm_holds (Binary WeakUntil a b) = let r = norm_holds a in let s = norm_holds b in record {
     yes' = Same-released range _ _ _ _ s.yes' (Same-or _ _ _ _ r.yes' s.yes');
-    no' = Same-no_release range _ _ _ _ at (decided b) (decided (Binary Or a b)) (horizon t good _ (Unary Not (Binary Or a b))) s.no' (Same-no_or _ _ _ _ (decided a) r.no' s.no');
+    no' = Same-no_release range _ _ _ _ at (decided b) (decided (Binary Or a b)) (horizon t good _ (Unary Not (Binary Or a b))) s.no'
+        (Same-no_or _ _ _ _ (decided a) r.no' s.no');
   }
   norm_holds (Binary StrongRelease a b) = let r = norm_holds a in let s = norm_holds b in record {
     yes' = Same-until range _ _ _ _ s.yes' (Same-and _ _ _ _ r.yes' s.yes');
@@ -211,11 +228,14 @@ module _ (t : Trace) (good : IsTrace t) where
   }
   norm_holds (Unary (NextTimes n) a) = let r = norm_holds a in record {
     yes' = Same-then _ _ _ (times_next n (pos_of a)) (Same-then _ _ _ (Same-eventually_in range n n _ _ r.yes') (Same-turned _ _ (Same-times n (Holds t a) P)));
-    no' = Same-then _ _ _ (times_weak_next n (neg_of a)) (Same-then _ _ _ (Same-no_eventually_in range n n _ _ r.no') (Same-not _ _ (Same-turned _ _ (Same-times n (Holds t a) P))));
+    no' = Same-then _ _ _ (times_weak_next n (neg_of a))
+        (Same-then _ _ _ (Same-no_eventually_in range n n _ _ r.no') (Same-not _ _ (Same-turned _ _ (Same-times n (Holds t a) P))));
   }
   norm_holds (Unary (YesterdayTimes n) a) = let r = norm_holds a in record {
-    yes' = Same-then _ _ _ (times_yesterday n (pos_of a)) (Same-then _ _ _ (Same-once_in range n n _ _ r.yes') (Same-turned _ _ (Same-yesterdays n (Holds t a))));
-    no' = Same-then _ _ _ (times_weak_yesterday n (neg_of a)) (Same-then _ _ _ (Same-no_once_in range n n _ _ r.no') (Same-not _ _ (Same-turned _ _ (Same-yesterdays n (Holds t a)))));
+    yes' =
+        Same-then _ _ _ (times_yesterday n (pos_of a)) (Same-then _ _ _ (Same-once_in range n n _ _ r.yes') (Same-turned _ _ (Same-yesterdays n (Holds t a))));
+    no' = Same-then _ _ _ (times_weak_yesterday n (neg_of a))
+        (Same-then _ _ _ (Same-no_once_in range n n _ _ r.no') (Same-not _ _ (Same-turned _ _ (Same-yesterdays n (Holds t a)))));
   }
   norm_holds (Unary (EventuallyIn m n) a) = let r = norm_holds a in record {
     yes' = Same-then _ _ _ (some_next m n (pos_of a)) (Same-eventually_in range m n _ _ r.yes');

@@ -3,11 +3,13 @@ use Rattle.std.proofs.Common.{ℕ, suc, ◌+◌, ◌⊎◌, inl, inr, ◌↔◌,
 use Rattle.ltl_syntax.specs.Formula.{Formula, Unary, Binary}
 use Rattle.ltl_syntax.specs.declared.node.UnaryOp.{UnaryOp}
 use Rattle.ltl_syntax.specs.declared.node.BinaryOp.{BinaryOp}
-use Rattle.ltl_syntax.specs.declared.node.UnaryOp.TheVariants.{Always, AlwaysIn, Eventually, EventuallyIn, Historically, HistoricallyIn, Next, NextTimes, Not, Once, OnceIn, WeakNext, WeakYesterday, Yesterday, YesterdayTimes}
+use Rattle.ltl_syntax.specs.declared.node.UnaryOp.TheVariants.{Always, AlwaysIn, Eventually, EventuallyIn, Historically, HistoricallyIn, Next, NextTimes, Not}
+use Rattle.ltl_syntax.specs.declared.node.UnaryOp.TheVariants.{Once, OnceIn, WeakNext, WeakYesterday, Yesterday, YesterdayTimes}
 use Rattle.ltl_syntax.specs.declared.node.BinaryOp.TheVariants.{And, Iff, Implies, Or, Release, Since, StrongRelease, Trigger, Until, WeakUntil}
 use Rattle.ltl_word.specs.declared.trace.Trace.{Trace}
 use Rattle.ltl_word.specs.Trace.{IsPosition}
-use Rattle.ltl_word.specs.Claims.{Claim, AtNext, AtWeakNext, IsUntil, IsReleased, AtYesterday, AtWeakYesterday, IsSince, IsTriggered, Always', Never, AtNextTimes, AtYesterdayTimes, IsEventuallyIn, IsAlwaysIn, IsOnceIn, IsHistoricallyIn}
+use Rattle.ltl_word.specs.Claims.{Claim, AtNext, AtWeakNext, IsUntil, IsReleased, AtYesterday, AtWeakYesterday, IsSince, IsTriggered, Always', Never}
+use Rattle.ltl_word.specs.Claims.{AtNextTimes, AtYesterdayTimes, IsEventuallyIn, IsAlwaysIn, IsOnceIn, IsHistoricallyIn}
 use Rattle.ltl_word.specs.Holds.{Holds}
 use Rattle.ltl_word.proofs.Expansion.{IsClosed}
 use Rattle.ltl_word.proofs.Decided.{position_below}
@@ -25,7 +27,8 @@ module _ (D P Q : Claim) (closed : IsClosed D) (inside : (i : ℕ) → P i → D
   weak_next-on A C f i d h at = let p = back (suc i) at in f (suc i) (inside (suc i) p) (h p)
 
   until-on : (A B C E : Claim) → GivesOn D A C → GivesOn D B E → GivesOn D (IsUntil P A B) (IsUntil Q C E)
-  until-on A B C E f g i d (j, le, at, b, all) = (j, le, there j at, g j (inside j at) b, λ k low high. f k (closed k j (omega arith) (inside j at)) (all k low high))
+  until-on A B C E f g i d (j, le, at, b, all) =
+      (j, le, there j at, g j (inside j at) b, λ k low high. f k (closed k j (omega arith) (inside j at)) (all k low high))
 
   released-on : (A B C E : Claim) → GivesOn D A C → GivesOn D B E → GivesOn D (IsReleased P A B) (IsReleased Q C E)
   released-on A B C E f g i d h j le at =

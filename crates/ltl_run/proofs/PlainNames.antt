@@ -10,7 +10,8 @@ use Rattle.ltl_syntax.specs.declared.node.BinaryOp.TheVariants as two
 use Rattle.ltl_syntax.specs.Formula.{Atom, Formula, Const, Letter, Unary, Binary}
 use Rattle.ltl_syntax.specs.Table.{Table, IsPlain, IsTable, tree_among, made, trees_after, trees_of, tree_at}
 use Rattle.ltl_word.specs.Propositional.{HasLetter}
-use Rattle.ltl_closure.specs.Norm.{Norm, NConst, NLetter, NNotLetter, NAnd, NOr, NNext, NWeakNext, NYesterday, NWeakYesterday, NUntil, NRelease, NSince, NTrigger, formula_of, times, window, pos_of, neg_of}
+use Rattle.ltl_closure.specs.Norm.{Norm, NConst, NLetter, NNotLetter, NAnd, NOr, NNext, NWeakNext, NYesterday, NWeakYesterday, NUntil, NRelease, NSince}
+use Rattle.ltl_closure.specs.Norm.{NTrigger, formula_of, times, window, pos_of, neg_of}
 use Rattle.ltl_closure.specs.Closure.{walk, closure}
 use Rattle.ltl_closure.proofs.Lists.{Contains-nil, Contains-cons_cases}
 use Rattle.ltl_closure.proofs.Entries.{Contains-walk}
@@ -34,7 +35,8 @@ module _ (p : Atom) where
   over_one : (a : Norm) (own : List Norm) → Contains (walk a ++ own) (NLetter p) → (Contains own (NLetter p) → ⊥) → Contains (walk a) (NLetter p)
   over_one a own c h = elim (Contains-append_cases (walk a) own (NLetter p) c) [ inl l ↦ l | inr r ↦ absurd (h r) ]
 
-  over_two : (a b : Norm) (own : List Norm) → Contains (walk a ++ (walk b ++ own)) (NLetter p) → (Contains own (NLetter p) → ⊥) → Contains (walk a) (NLetter p) ⊎ Contains (walk b) (NLetter p)
+  over_two : (a b : Norm) (own : List Norm) → Contains (walk a ++ (walk b ++ own)) (NLetter p) → (Contains own (NLetter p) → ⊥)
+      → Contains (walk a) (NLetter p) ⊎ Contains (walk b) (NLetter p)
   over_two a b own c h = elim (Contains-append_cases (walk a) (walk b ++ own) (NLetter p) c) [ inl l ↦ inl l | inr r ↦ inr (over_one b own r h) ]
 
   walked : (g : Norm) → Contains (walk g) (NLetter p) → Has g
@@ -58,9 +60,11 @@ module _ (p : Atom) where
     of_times zero c h = h
     of_times (suc n) c h = of_times n c (out (times N n c) h)
 
-    of_window : (J : Norm → Norm → Norm) (b : Bool) → ((c d : Norm) → Has (J c d) → Has c ⊎ Has d) → (m n : ℕ) (c : Norm) → Has (window J (NConst b) N m n c) → Has c
+    of_window : (J : Norm → Norm → Norm) (b : Bool) → ((c d : Norm) → Has (J c d) → Has c ⊎ Has d) → (m n : ℕ) (c : Norm)
+        → Has (window J (NConst b) N m n c) → Has c
     of_window J b join zero zero c h = h
-    of_window J b join zero (suc n) c h = elim (join c (N (window J (NConst b) N zero n c)) h) [ inl l ↦ l | inr r ↦ of_window J b join zero n c (out (window J (NConst b) N zero n c) r) ]
+    of_window J b join zero (suc n) c h =
+        elim (join c (N (window J (NConst b) N zero n c)) h) [ inl l ↦ l | inr r ↦ of_window J b join zero n c (out (window J (NConst b) N zero n c) r) ]
     of_window J b join (suc m) (suc n) c h = of_window J b join m n c (out (window J (NConst b) N m n c) h)
     of_window J b join (suc m) zero c h = absurd h
 
@@ -101,12 +105,18 @@ module _ (p : Atom) where
   from_norm (Unary one.Always a) = spans a (from_norm a)
   from_norm (Unary one.Once a) = spans a (from_norm a)
   from_norm (Unary one.Historically a) = spans a (from_norm a)
-  from_norm (Unary (one.NextTimes n) a) = let r = from_norm a in (λ h. r.0 (of_times NNext (λ c x. x) n (pos_of a) h), λ h. r.1 (of_times NWeakNext (λ c x. x) n (neg_of a) h))
-  from_norm (Unary (one.YesterdayTimes n) a) = let r = from_norm a in (λ h. r.0 (of_times NYesterday (λ c x. x) n (pos_of a) h), λ h. r.1 (of_times NWeakYesterday (λ c x. x) n (neg_of a) h))
-  from_norm (Unary (one.EventuallyIn m n) a) = let r = from_norm a in (λ h. r.0 (some_positions NNext (λ c x. x) m n (pos_of a) h), λ h. r.1 (every_position NWeakNext (λ c x. x) m n (neg_of a) h))
-  from_norm (Unary (one.AlwaysIn m n) a) = let r = from_norm a in (λ h. r.0 (every_position NWeakNext (λ c x. x) m n (pos_of a) h), λ h. r.1 (some_positions NNext (λ c x. x) m n (neg_of a) h))
-  from_norm (Unary (one.OnceIn m n) a) = let r = from_norm a in (λ h. r.0 (some_positions NYesterday (λ c x. x) m n (pos_of a) h), λ h. r.1 (every_position NWeakYesterday (λ c x. x) m n (neg_of a) h))
-  from_norm (Unary (one.HistoricallyIn m n) a) = let r = from_norm a in (λ h. r.0 (every_position NWeakYesterday (λ c x. x) m n (pos_of a) h), λ h. r.1 (some_positions NYesterday (λ c x. x) m n (neg_of a) h))
+  from_norm (Unary (one.NextTimes n) a) = let r = from_norm a in
+      (λ h. r.0 (of_times NNext (λ c x. x) n (pos_of a) h), λ h. r.1 (of_times NWeakNext (λ c x. x) n (neg_of a) h))
+  from_norm (Unary (one.YesterdayTimes n) a) = let r = from_norm a in
+      (λ h. r.0 (of_times NYesterday (λ c x. x) n (pos_of a) h), λ h. r.1 (of_times NWeakYesterday (λ c x. x) n (neg_of a) h))
+  from_norm (Unary (one.EventuallyIn m n) a) = let r = from_norm a in
+      (λ h. r.0 (some_positions NNext (λ c x. x) m n (pos_of a) h), λ h. r.1 (every_position NWeakNext (λ c x. x) m n (neg_of a) h))
+  from_norm (Unary (one.AlwaysIn m n) a) = let r = from_norm a in
+      (λ h. r.0 (every_position NWeakNext (λ c x. x) m n (pos_of a) h), λ h. r.1 (some_positions NNext (λ c x. x) m n (neg_of a) h))
+  from_norm (Unary (one.OnceIn m n) a) = let r = from_norm a in
+      (λ h. r.0 (some_positions NYesterday (λ c x. x) m n (pos_of a) h), λ h. r.1 (every_position NWeakYesterday (λ c x. x) m n (neg_of a) h))
+  from_norm (Unary (one.HistoricallyIn m n) a) = let r = from_norm a in
+      (λ h. r.0 (every_position NWeakYesterday (λ c x. x) m n (pos_of a) h), λ h. r.1 (some_positions NYesterday (λ c x. x) m n (neg_of a) h))
   from_norm (Binary two.And a b) = let r = from_norm a in let q = from_norm b in (both r.0 q.0, both r.1 q.1)
   from_norm (Binary two.Or a b) = let r = from_norm a in let q = from_norm b in (both r.0 q.0, both r.1 q.1)
   from_norm (Binary two.Until a b) = let r = from_norm a in let q = from_norm b in (both r.0 q.0, both r.1 q.1)
@@ -115,8 +125,10 @@ module _ (p : Atom) where
   from_norm (Binary two.Trigger a b) = let r = from_norm a in let q = from_norm b in (both r.0 q.0, both r.1 q.1)
   from_norm (Binary two.Implies a b) = let r = from_norm a in let q = from_norm b in (both r.1 q.0, both r.0 q.1)
   from_norm (Binary two.Iff a b) = let r = from_norm a in let q = from_norm b in (one_of (both r.0 q.0) (both r.1 q.1), one_of (both r.0 q.1) (both r.1 q.0))
-  from_norm (Binary two.WeakUntil a b) = let r = from_norm a in let q = from_norm b in (one_of (λ h. inr (q.0 h)) (both r.0 q.0), one_of (λ h. inr (q.1 h)) (both r.1 q.1))
-  from_norm (Binary two.StrongRelease a b) = let r = from_norm a in let q = from_norm b in (one_of (λ h. inr (q.0 h)) (both r.0 q.0), one_of (λ h. inr (q.1 h)) (both r.1 q.1))
+  from_norm (Binary two.WeakUntil a b) = let r = from_norm a in let q = from_norm b in
+      (one_of (λ h. inr (q.0 h)) (both r.0 q.0), one_of (λ h. inr (q.1 h)) (both r.1 q.1))
+  from_norm (Binary two.StrongRelease a b) = let r = from_norm a in let q = from_norm b in
+      (one_of (λ h. inr (q.0 h)) (both r.0 q.0), one_of (λ h. inr (q.1 h)) (both r.1 q.1))
 
 -- a letter of the closure stands in the formula
 pub closure_letter : (f : Formula) (p : Atom) → Contains (closure f) (NLetter p) → HasLetter f p
@@ -129,23 +141,27 @@ module _ (names : List (List ℕ)) (plain : (i : ℕ) → i < length names → I
     | inr ge ↦ subst IsPlain (sym (get_or_past names n [] ge)) tt
   ]
 
-  made_plain : (trees : List Formula) → ((i : ℕ) → HasPlainNames (tree_among trees i)) → (node : Node) → IsSmallNode node → HasPlainNames (made names trees node)
+  made_plain : (trees : List Formula) → ((i : ℕ) → HasPlainNames (tree_among trees i)) → (node : Node) → IsSmallNode node
+      → HasPlainNames (made names trees node)
   made_plain trees all (nodes.Const b) small p h = absurd h
   made_plain trees all (nodes.Letter n) small p h = subst IsPlainLetter h (name_plain n)
   made_plain trees all (nodes.Fresh n) small p h = subst IsPlainLetter h small
   made_plain trees all (nodes.Unary op a) small p h = all a p h
   made_plain trees all (nodes.Binary op a b) small p h = elim h [ inl l ↦ all a p l | inr r ↦ all b p r ]
 
-  pushed_plain : (trees : List Formula) (f : Formula) → ((i : ℕ) → HasPlainNames (tree_among trees i)) → HasPlainNames f → (i : ℕ) → HasPlainNames (tree_among (trees ++ f ∷ []) i)
+  pushed_plain : (trees : List Formula) (f : Formula) → ((i : ℕ) → HasPlainNames (tree_among trees i)) → HasPlainNames f → (i : ℕ)
+      → HasPlainNames (tree_among (trees ++ f ∷ []) i)
   pushed_plain [] f all h zero = h
   pushed_plain [] f all h (suc i) = all i
   pushed_plain (g ∷ trees) f all h zero = all zero
   pushed_plain (g ∷ trees) f all h (suc i) = pushed_plain trees f (λ j. all (suc j)) h i
 
-  trees_plain : (trees : List Formula) → ((i : ℕ) → HasPlainNames (tree_among trees i)) → (ns : List Node) → All IsSmallNode ns → (i : ℕ) → HasPlainNames (tree_among (trees_after names trees ns) i)
+  trees_plain : (trees : List Formula) → ((i : ℕ) → HasPlainNames (tree_among trees i)) → (ns : List Node) → All IsSmallNode ns → (i : ℕ)
+      → HasPlainNames (tree_among (trees_after names trees ns) i)
   trees_plain trees all [] small i = all i
   trees_plain trees all (n ∷ ns) small i =
-      trees_plain (trees ++ made names trees n ∷ []) (pushed_plain trees (made names trees n) all (made_plain trees all n (small zero n (omega arith)))) ns (λ k d lt. small (suc k) d (omega arith)) i
+      trees_plain (trees ++ made names trees n ∷ []) (pushed_plain trees (made names trees n) all (made_plain trees all n (small zero n (omega arith)))) ns
+      (λ k d lt. small (suc k) d (omega arith)) i
 
 -- the trees of a table have plain names
 pub table_plain : (t : Table) (number : ℕ) → IsTable t.nodes t.names → All IsSmallNode t.nodes → HasPlainNames (tree_at t number)

@@ -4,9 +4,11 @@ use Rattle.ltl_syntax.specs.declared.node.Kind.{Kind}
 use Rattle.ltl_syntax.specs.declared.node.Kind.TheVariants as Kinds
 use Rattle.std.proofs.lemmas.Bool.{cases_lt, or_cases, and_parts}
 use Rattle.ltl_syntax.specs.Formula.{Formula}
-use Rattle.ltl_closure.specs.Norm.{Norm, NConst, NLetter, NNotLetter, NAnd, NOr, NNext, NWeakNext, NYesterday, NWeakYesterday, NUntil, NRelease, NSince, NTrigger}
+use Rattle.ltl_closure.specs.Norm.{Norm, NConst, NLetter, NNotLetter, NAnd, NOr, NNext, NWeakNext, NYesterday, NWeakYesterday, NUntil, NRelease, NSince}
+use Rattle.ltl_closure.specs.Norm.{NTrigger}
 use Rattle.ltl_closure.specs.Closure.{closure, nexts, eventualities, is_next, is_eventuality}
-use Rattle.ltl_closure.specs.Run.{RunState, States, IsRun, val, carry, spliced, rotated, is_pending, is_fulfilled, IsFulfilledIn, IsAccepted, Empty, Loop, End, IsPrunedAt, Triple, Pair}
+use Rattle.ltl_closure.specs.Run.{RunState, States, IsRun, val, carry, spliced, rotated, is_pending, is_fulfilled, IsFulfilledIn, IsAccepted, Empty, Loop, End}
+use Rattle.ltl_closure.specs.Run.{IsPrunedAt, Triple, Pair}
 use Rattle.ltl_run.specs.TraceOf.{ClosesTo}
 use Rattle.ltl_closure.proofs.Lists.{Contains-filter, Contains-from_filter}
 use Rattle.ltl_run.proofs.Carry.{OneCarry-from}
@@ -49,14 +51,16 @@ step_of_until s e a b i v =
     ])
 
 module _ (f : Formula) (k : ℕ) (r : States) (run : IsRun f k r) where
-  pending_step : (n : ℕ) → n < k → (e : Norm) → Contains (eventualities f) e → IsTrue (is_pending (r n) e) → IsTrue (is_fulfilled (r (suc n)) e) ⊎ IsTrue (is_pending (r (suc n)) e)
+  pending_step : (n : ℕ) → n < k → (e : Norm) → Contains (eventualities f) e → IsTrue (is_pending (r n) e)
+      → IsTrue (is_fulfilled (r (suc n)) e) ⊎ IsTrue (is_pending (r (suc n)) e)
   pending_step n lt e c h =
       let w = Contains-from_filter is_eventuality (closure f) e c in
       let u = until_of e w.1 in
       step_of_until (r (suc n)) e u.0 u.1 u.2 (sym (run.next n lt (NNext e) (request_in f e c)) ∙ h)
 
   -- what is pending is fulfilled on the way, or pending at the end of it
-  pub pending_on : (e : Norm) → Contains (eventualities f) e → (fuel n : ℕ) → n + fuel ≤ k → IsTrue (is_pending (r n) e) → IsFulfilledIn r n (n + fuel) e ⊎ IsTrue (is_pending (r (n + fuel)) e)
+  pub pending_on : (e : Norm) → Contains (eventualities f) e → (fuel n : ℕ) → n + fuel ≤ k → IsTrue (is_pending (r n) e)
+      → IsFulfilledIn r n (n + fuel) e ⊎ IsTrue (is_pending (r (n + fuel)) e)
   pending_on e c zero n le h =
       let d : n ≡ n + zero = omega arith in
       inr (subst (λ m. IsTrue (is_pending (r m) e)) d h)
@@ -70,7 +74,8 @@ module _ (f : Formula) (k : ℕ) (r : States) (run : IsRun f k r) where
         ]
       ]
 
-  pub pending_to : (e : Norm) → Contains (eventualities f) e → (n m : ℕ) → n ≤ m → m ≤ k → IsTrue (is_pending (r n) e) → IsFulfilledIn r n m e ⊎ IsTrue (is_pending (r m) e)
+  pub pending_to : (e : Norm) → Contains (eventualities f) e → (n m : ℕ) → n ≤ m → m ≤ k → IsTrue (is_pending (r n) e)
+      → IsFulfilledIn r n m e ⊎ IsTrue (is_pending (r m) e)
   pending_to e c n m le below h =
       let d : n + (m - n) ≡ m = omega arith in
       subst (λ x. IsFulfilledIn r n x e ⊎ IsTrue (is_pending (r x) e)) d (pending_on e c (m - n) n (omega arith) h)
@@ -100,9 +105,16 @@ module _ (f : Formula) (k : ℕ) (r : States) (run : IsRun f k r) where
     shorter_empty none = (b + (k - i), omega arith, spliced r b r i, cutting, Empty (λ e c. (OneCarry-from f _ (r k) cutting_last).next e c ∙ none e c))
 
     shorter_end : ((a : Norm) → Contains (closure f) (NNext a) → IsFalse (r k (NNext a))) → HasShorter Kinds.Finite
-    shorter_end none = (b + (k - i), omega arith, spliced r b r i, cutting, End (λ a c. (OneCarry-from f _ (r k) cutting_last).next (NNext a) (Contains-filter is_next (closure f) (NNext a) c refl) ∙ none a c))
+    shorter_end none = (
+      b + (k - i),
+      omega arith,
+      spliced r b r i,
+      cutting,
+      End (λ a c. (OneCarry-from f _ (r k) cutting_last).next (NNext a) (Contains-filter is_next (closure f) (NNext a) c refl) ∙ none a c),
+    )
 
-    module _ (l : ℕ) (below : l < k) (closes : carry f (r l) ≡ carry f (r k)) (done : (e : Norm) → Contains (eventualities f) e → IsTrue (is_pending (r k) e) → IsFulfilledIn r l k e) where
+    module _ (l : ℕ) (below : l < k) (closes : carry f (r l) ≡ carry f (r k))
+        (done : (e : Norm) → Contains (eventualities f) e → IsTrue (is_pending (r k) e) → IsFulfilledIn r l k e) where
       -- the loop begins at i or later
       shorter_before : i ≤ l → HasShorter Kinds.Infinite
       shorter_before from = (
@@ -119,13 +131,22 @@ module _ (f : Formula) (k : ℕ) (r : States) (run : IsRun f k r) where
           at_l = spliced_last f b r (run_prefix f k r run b (omega arith)) l r (run_prefix f k r run l (omega arith)) i from one
 
       -- the loop begins at a or before; a, b and i have one carry
-      shorter_after : (a : ℕ) → a < b → l ≤ a → ((e : Norm) → Contains (eventualities f) e → IsTrue (is_pending (r i) e) → IsFulfilledIn r b i e → IsFulfilledIn r a b e) → HasShorter Kinds.Infinite
-      shorter_after a ab la pruned = (b + (k - i), omega arith, spliced r b r i, cutting, Loop l (omega arith) (ap (carry f) (kept_low l (omega arith)) ∙ (closes ∙ sym cutting_last)) fulfilled)
+      shorter_after : (a : ℕ)
+          → a < b → l ≤ a → ((e : Norm) → Contains (eventualities f) e → IsTrue (is_pending (r i) e) → IsFulfilledIn r b i e → IsFulfilledIn r a b e)
+          → HasShorter Kinds.Infinite
+      shorter_after a ab la pruned = (
+        b + (k - i),
+        omega arith,
+        spliced r b r i,
+        cutting,
+        Loop l (omega arith) (ap (carry f) (kept_low l (omega arith)) ∙ (closes ∙ sym cutting_last)) fulfilled,
+      )
         where
           low : (e : Norm) → IsFulfilledIn r l b e → IsFulfilledIn (spliced r b r i) l (b + (k - i)) e
           low e w = (w.0, w.1, omega arith, subst (λ s. IsTrue (is_fulfilled s e)) (sym (kept_low w.0 w.2)) w.3)
 
-          fulfilled : (e : Norm) → Contains (eventualities f) e → IsTrue (is_pending (spliced r b r i (b + (k - i))) e) → IsFulfilledIn (spliced r b r i) l (b + (k - i)) e
+          fulfilled : (e : Norm) → Contains (eventualities f) e → IsTrue (is_pending (spliced r b r i (b + (k - i))) e)
+              → IsFulfilledIn (spliced r b r i) l (b + (k - i)) e
           fulfilled e c p =
               let at_k : IsTrue (is_pending (r k) e) = sym (one_pending f _ (r k) cutting_last e c) ∙ p in
               let w = done e c at_k in
@@ -143,7 +164,8 @@ module _ (f : Formula) (k : ℕ) (r : States) (run : IsRun f k r) where
               ]
 
   -- the loop begins between a and i, which have one carry
-  module _ (a i l : ℕ) (al : a < l) (li : l < i) (le : i ≤ k) (one : carry f (r a) ≡ carry f (r i)) (closes : carry f (r l) ≡ carry f (r k)) (done : (e : Norm) → Contains (eventualities f) e → IsTrue (is_pending (r k) e) → IsFulfilledIn r l k e) where
+  module _ (a i l : ℕ) (al : a < l) (li : l < i) (le : i ≤ k) (one : carry f (r a) ≡ carry f (r i)) (closes : carry f (r l) ≡ carry f (r k))
+      (done : (e : Norm) → Contains (eventualities f) e → IsTrue (is_pending (r k) e) → IsFulfilledIn r l k e) where
     m : ℕ
     m = a + (k - i)
 
@@ -213,7 +235,8 @@ module _ (f : Formula) (k : ℕ) (r : States) (run : IsRun f k r) where
         let e : m + (i - l) ≡ a + (k - l) = omega arith in
         subst (λ n. IsRun f n turned × ClosesTo f turned a n) e (turned_runs, turned_closes)
 
-pub shorter : (f : Formula) (k : ℕ) (r : States) → (run : IsRun f k r) (kind : Kind) → IsAccepted f r k kind → (i : ℕ) → i ≤ k → IsPrunedAt f r i kind → HasShorter f k r run kind
+pub shorter : (f : Formula) (k : ℕ) (r : States) → (run : IsRun f k r) (kind : Kind) → IsAccepted f r k kind → (i : ℕ) → i ≤ k → IsPrunedAt f r i kind
+    → HasShorter f k r run kind
 shorter f k r run kind (Empty none) i le (Triple a b ab bi one two pruned) = shorter_empty f k r run b i bi le two none
 shorter f k r run kind (Loop l lt closes done) i le (Triple a b ab bi one two pruned) = elim (cases_lt l i) [
   | inr late ↦ shorter_before f k r run b i bi le two l lt closes done late

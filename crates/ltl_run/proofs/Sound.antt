@@ -1,12 +1,14 @@
 -- Entries that are true in the states hold on the trace.
-use Rattle.std.proofs.Common.{◌≡◌, ℕ, zero, suc, ◌+◌, ◌-◌, ◌<◌, ◌≤◌, ◌⊎◌, inl, inr, subst, arith, sym, refl, List, [], ◌∷◌, Contains, ◌↔◌, false, ◌&&◌, ◌||◌, IsTrue}
+use Rattle.std.proofs.Common.{◌≡◌, ℕ, zero, suc, ◌+◌, ◌-◌, ◌<◌, ◌≤◌, ◌⊎◌, inl, inr, subst, arith, sym, refl, List, [], ◌∷◌, Contains, ◌↔◌, false, ◌&&◌, ◌||◌}
+use Rattle.std.proofs.Common.{IsTrue}
 use Rattle.std.proofs.lemmas.Bool.{cases_lt, and_parts, or_cases, not-true}
 use Rattle.ltl_syntax.specs.Formula.{Atom, Formula}
 use Rattle.ltl_word.specs.declared.trace.Trace.{Trace}
 use Rattle.ltl_word.specs.Trace.{IsPosition, state_at}
 use Rattle.ltl_word.specs.Claims.{Claim}
 use Rattle.ltl_word.specs.Holds.{Holds, name_of}
-use Rattle.ltl_closure.specs.Norm.{Norm, NConst, NLetter, NNotLetter, NAnd, NOr, NNext, NWeakNext, NYesterday, NWeakYesterday, NUntil, NRelease, NSince, NTrigger, formula_of}
+use Rattle.ltl_closure.specs.Norm.{Norm, NConst, NLetter, NNotLetter, NAnd, NOr, NNext, NWeakNext, NYesterday, NWeakYesterday, NUntil, NRelease, NSince}
+use Rattle.ltl_closure.specs.Norm.{NTrigger, formula_of}
 use Rattle.ltl_closure.specs.Closure.{closure}
 use Rattle.ltl_closure.specs.Run.{States, val}
 use Rattle.ltl_word.proofs.Decided.{position_below}
@@ -19,9 +21,12 @@ pub record Follows (f : Formula) (t : Trace) (r : States) (D : Claim) : Type 0 w
   pub position : (i : ℕ) → D i → IsPosition t i
   pub letters : (i : ℕ) → D i → (p : Atom) → Contains (closure f) (NLetter p) → IsTrue (r i (NLetter p)) ↔ Contains (state_at t i) (name_of p)
   pub next : (i : ℕ) → D i → (a : Norm) → Contains (closure f) (NNext a) → IsTrue (r i (NNext a)) → D (suc i) × IsTrue (val (r (suc i)) a)
-  pub weak_next : (i : ℕ) → D i → (a : Norm) → Contains (closure f) (NWeakNext a) → IsTrue (r i (NWeakNext a)) → IsPosition t (suc i) → D (suc i) × IsTrue (val (r (suc i)) a)
-  pub yesterday : (i : ℕ) → D i → (a : Norm) → Contains (closure f) (NYesterday a) → IsTrue (r i (NYesterday a)) → (j : ℕ) × (suc j ≡ i) × D j × IsTrue (val (r j) a)
-  pub weak_yesterday : (i : ℕ) → D i → (a : Norm) → Contains (closure f) (NWeakYesterday a) → IsTrue (r i (NWeakYesterday a)) → (j : ℕ) → suc j ≡ i → D j × IsTrue (val (r j) a)
+  pub weak_next : (i : ℕ) → D i → (a : Norm) → Contains (closure f) (NWeakNext a) → IsTrue (r i (NWeakNext a)) → IsPosition t (suc i)
+      → D (suc i) × IsTrue (val (r (suc i)) a)
+  pub yesterday : (i : ℕ) → D i → (a : Norm) → Contains (closure f) (NYesterday a) → IsTrue (r i (NYesterday a))
+      → (j : ℕ) × (suc j ≡ i) × D j × IsTrue (val (r j) a)
+  pub weak_yesterday : (i : ℕ) → D i → (a : Norm) → Contains (closure f) (NWeakYesterday a) → IsTrue (r i (NWeakYesterday a)) → (j : ℕ)
+      → suc j ≡ i → D j × IsTrue (val (r j) a)
   pub fair : (i : ℕ) → D i → (a b : Norm) → Contains (closure f) (NUntil a b) → IsTrue (val (r i) (NUntil a b)) → (j : ℕ) × (i ≤ j) × IsTrue (val (r j) b)
 
 module _ (f : Formula) (t : Trace) (r : States) (D : Claim) (g : Follows f t r D) where
@@ -33,7 +38,8 @@ module _ (f : Formula) (t : Trace) (r : States) (D : Claim) (g : Follows f t r D
     until_now : (i : ℕ) → D i → IsTrue (val (r i) b) → Holds t (formula_of (NUntil a b)) i
     until_now i d v = (i, omega arith, g.position i d, sb i d v, λ k low high. absurd (omega arith))
 
-    until_steps : Contains (closure f) (NNext (NUntil a b)) → (fuel i : ℕ) → D i → IsTrue (val (r i) (NUntil a b)) → IsTrue (val (r (i + fuel)) b) → Holds t (formula_of (NUntil a b)) i
+    until_steps : Contains (closure f) (NNext (NUntil a b)) → (fuel i : ℕ) → D i → IsTrue (val (r i) (NUntil a b)) → IsTrue (val (r (i + fuel)) b)
+        → Holds t (formula_of (NUntil a b)) i
     until_steps c zero i d v last =
         let e : i + zero ≡ i = omega arith in
         until_now i d (subst (λ n. IsTrue (val (r n) b)) e last)
@@ -59,9 +65,12 @@ module _ (f : Formula) (t : Trace) (r : States) (D : Claim) (g : Follows f t r D
     until_sound c i d v =
         let w = g.fair i d a b c v in
         let e : w.0 ≡ i + (w.0 - i) = omega arith in
-        until_steps (closure_closed f (NUntil a b) (NNext (NUntil a b)) c (Contains-there a (b ∷ NNext (NUntil a b) ∷ []) _ (Contains-there b (NNext (NUntil a b) ∷ []) _ (Contains-here (NNext (NUntil a b)) [])))) (w.0 - i) i d v (subst (λ n. IsTrue (val (r n) b)) e w.2)
+        until_steps (closure_closed f (NUntil a b) (NNext (NUntil a b))
+        c (Contains-there a (b ∷ NNext (NUntil a b) ∷ []) _ (Contains-there b (NNext (NUntil a b) ∷ []) _ (Contains-here (NNext (NUntil a b)) [])))) (w.0 - i)
+        i d v (subst (λ n. IsTrue (val (r n) b)) e w.2)
 
-    release_steps : Contains (closure f) (NWeakNext (NRelease a b)) → (fuel i : ℕ) → D i → IsTrue (val (r i) (NRelease a b)) → (j : ℕ) → j ≡ i + fuel → IsPosition t j → Holds t (formula_of b) j ⊎ ((k : ℕ) × (i ≤ k) × (k < j) × Holds t (formula_of a) k)
+    release_steps : Contains (closure f) (NWeakNext (NRelease a b)) → (fuel i : ℕ) → D i → IsTrue (val (r i) (NRelease a b)) → (j : ℕ)
+        → j ≡ i + fuel → IsPosition t j → Holds t (formula_of b) j ⊎ ((k : ℕ) × (i ≤ k) × (k < j) × Holds t (formula_of a) k)
     release_steps c zero i d v j e at =
         let w = and_parts _ _ v in
         let q : i ≡ j = omega arith in
@@ -80,7 +89,8 @@ module _ (f : Formula) (t : Trace) (r : States) (D : Claim) (g : Follows f t r D
 
     pub release_sound : Contains (closure f) (NRelease a b) → IsSound (NRelease a b)
     release_sound c i d v j le at =
-        release_steps (closure_closed f (NRelease a b) (NWeakNext (NRelease a b)) c (Contains-there a (b ∷ NWeakNext (NRelease a b) ∷ []) _ (Contains-there b (NWeakNext (NRelease a b) ∷ []) _ (Contains-here (NWeakNext (NRelease a b)) [])))) (j - i) i d v j (omega arith) at
+        release_steps (closure_closed f (NRelease a b) (NWeakNext (NRelease a b)) c (Contains-there a (b ∷ NWeakNext (NRelease a b) ∷ []) _
+        (Contains-there b (NWeakNext (NRelease a b) ∷ []) _ (Contains-here (NWeakNext (NRelease a b)) [])))) (j - i) i d v j (omega arith) at
 
     since_extended : (i j : ℕ) → suc j ≡ i → Holds t (formula_of a) i → Holds t (formula_of (NSince a b)) j → Holds t (formula_of (NSince a b)) i
     since_extended i j e x u = (
@@ -93,7 +103,8 @@ module _ (f : Formula) (t : Trace) (r : States) (D : Claim) (g : Follows f t r D
       ],
     )
 
-    since_steps : Contains (closure f) (NYesterday (NSince a b)) → (fuel i : ℕ) → i ≤ fuel → D i → IsTrue (val (r i) (NSince a b)) → Holds t (formula_of (NSince a b)) i
+    since_steps : Contains (closure f) (NYesterday (NSince a b)) → (fuel i : ℕ) → i ≤ fuel → D i → IsTrue (val (r i) (NSince a b))
+        → Holds t (formula_of (NSince a b)) i
     since_steps c zero i le d v = elim (or_cases (val (r i) b) (val (r i) a && r i (NYesterday (NSince a b))) v) [
       | inl now ↦ (i, omega arith, sb i d now, λ k low high. absurd (omega arith))
       | inr both ↦ let step = g.yesterday i d (NSince a b) c (and_parts (val (r i) a) (r i (NYesterday (NSince a b))) both).1 in absurd (omega arith)
@@ -108,10 +119,12 @@ module _ (f : Formula) (t : Trace) (r : States) (D : Claim) (g : Follows f t r D
 
     pub since_sound : Contains (closure f) (NSince a b) → IsSound (NSince a b)
     since_sound c i d v =
-        since_steps (closure_closed f (NSince a b) (NYesterday (NSince a b)) c (Contains-there a (b ∷ NYesterday (NSince a b) ∷ []) _ (Contains-there b (NYesterday (NSince a b) ∷ []) _ (Contains-here (NYesterday (NSince a b)) [])))) i i (omega arith) d v
+        since_steps (closure_closed f (NSince a b) (NYesterday (NSince a b)) c (Contains-there a (b ∷ NYesterday (NSince a b) ∷ []) _
+        (Contains-there b (NYesterday (NSince a b) ∷ []) _ (Contains-here (NYesterday (NSince a b)) [])))) i i (omega arith) d v
 
     -- j lies fuel steps before i
-    trigger_steps : Contains (closure f) (NWeakYesterday (NTrigger a b)) → (fuel i : ℕ) → D i → IsTrue (val (r i) (NTrigger a b)) → (j : ℕ) → j + fuel ≡ i → Holds t (formula_of b) j ⊎ ((k : ℕ) × (j < k) × (k ≤ i) × Holds t (formula_of a) k)
+    trigger_steps : Contains (closure f) (NWeakYesterday (NTrigger a b)) → (fuel i : ℕ) → D i → IsTrue (val (r i) (NTrigger a b)) → (j : ℕ)
+        → j + fuel ≡ i → Holds t (formula_of b) j ⊎ ((k : ℕ) × (j < k) × (k ≤ i) × Holds t (formula_of a) k)
     trigger_steps c zero i d v j e =
         let w = and_parts (val (r i) b) (val (r i) a || r i (NWeakYesterday (NTrigger a b))) v in
         let q : i ≡ j = omega arith in
@@ -130,7 +143,8 @@ module _ (f : Formula) (t : Trace) (r : States) (D : Claim) (g : Follows f t r D
 
     pub trigger_sound : Contains (closure f) (NTrigger a b) → IsSound (NTrigger a b)
     trigger_sound c i d v j le =
-        trigger_steps (closure_closed f (NTrigger a b) (NWeakYesterday (NTrigger a b)) c (Contains-there a (b ∷ NWeakYesterday (NTrigger a b) ∷ []) _ (Contains-there b (NWeakYesterday (NTrigger a b) ∷ []) _ (Contains-here (NWeakYesterday (NTrigger a b)) [])))) (i - j) i d v j (omega arith)
+        trigger_steps (closure_closed f (NTrigger a b) (NWeakYesterday (NTrigger a b)) c (Contains-there a (b ∷ NWeakYesterday (NTrigger a b) ∷ []) _
+        (Contains-there b (NWeakYesterday (NTrigger a b) ∷ []) _ (Contains-here (NWeakYesterday (NTrigger a b)) [])))) (i - j) i d v j (omega arith)
 
   has_first : (a e : Norm) (rest : List Norm) → needs e ≡ a ∷ rest → Contains (closure f) e → Contains (closure f) a
   has_first a e rest n c = closure_closed f e a c (subst (λ z. Contains z a) (sym n) (Contains-here a rest))

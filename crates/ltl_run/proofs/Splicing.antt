@@ -23,7 +23,8 @@ run_prefix f k r run m le = record {
   before = λ i lt. run.before i (omega arith);
 }
 
-module _ (f : Formula) (p : ℕ) (r : States) (first : IsRun f p r) (k : ℕ) (u : States) (second : IsRun f k u) (q : ℕ) (le : q ≤ k) (one : carry f (r p) ≡ carry f (u q)) where
+module _ (f : Formula) (p : ℕ) (r : States) (first : IsRun f p r) (k : ℕ) (u : States) (second : IsRun f k u) (q : ℕ) (le : q ≤ k)
+    (one : carry f (r p) ≡ carry f (u q)) where
   spliced_next : (n : ℕ) → n < p + (k - q) → (e : Norm) → Contains (nexts f) e → spliced r p u q n e ≡ val (spliced r p u q (suc n)) (argument e)
   spliced_next n h e in' = elim (cases_order n p) [
     | inl same ↦
@@ -43,7 +44,8 @@ module _ (f : Formula) (p : ℕ) (r : States) (first : IsRun f p r) (k : ℕ) (u
     | inl same ↦
         let c = OneCarry-from f (r p) (u q) one in
         let move : suc n - p + q ≡ suc q = omega arith in
-        rw (spliced_low r p u q n (omega arith), spliced_high r p u q (suc n) (omega arith), move, same) (second.before q (omega arith) e in' ∙ sym (c.before e in'))
+        rw (spliced_low r p u q n (omega arith), spliced_high r p u q (suc n) (omega arith), move, same)
+        (second.before q (omega arith) e in' ∙ sym (c.before e in'))
     | inr w ↦ elim w [
       | inl below ↦ rw (spliced_low r p u q n (omega arith), spliced_low r p u q (suc n) (omega arith)) (first.before n below e in')
       | inr above ↦

@@ -1,5 +1,6 @@
 -- A trace that satisfies a formula gives an accepted run.
-use Rattle.std.proofs.Common.{◌≡◌, ℕ, zero, suc, ◌+◌, ◌-◌, ◌*◌, ◌<◌, ◌≤◌, ◌⊎◌, inl, inr, subst, arith, refl, List, [], ◌∷◌, ◌++◌, length, Contains, All, Decides, Bool, not, IsTrue, ◌&&◌, ◌||◌}
+use Rattle.std.proofs.Common.{◌≡◌, ℕ, zero, suc, ◌+◌, ◌-◌, ◌*◌, ◌<◌, ◌≤◌, ◌⊎◌, inl, inr, subst, arith, refl, List, [], ◌∷◌, ◌++◌, length, Contains, All}
+use Rattle.std.proofs.Common.{Decides, Bool, not, IsTrue, ◌&&◌, ◌||◌}
 use Rattle.ltl_syntax.specs.declared.node.Kind.TheVariants as Kinds
 use Rattle.std.proofs.lemmas.Bool.{cases_lt, and_parts, and_from, or_cases, or_left, or_right, not-true, false_from_ne_true, not_from_false}
 use Rattle.std.proofs.lemmas.List.Elements.{All-append, All-cons, All-nil, All-contains}
@@ -11,7 +12,8 @@ use Rattle.ltl_word.specs.declared.trace.Trace.TheVariants.{Infinite, Finite}
 use Rattle.ltl_word.specs.Trace.{IsPosition, IsTrace, Names}
 use Rattle.ltl_word.specs.Holds.{Holds}
 use Rattle.ltl_word.specs.Depth.{past_depth}
-use Rattle.ltl_closure.specs.Norm.{Norm, NConst, NLetter, NNotLetter, NAnd, NOr, NNext, NWeakNext, NYesterday, NWeakYesterday, NUntil, NRelease, NSince, NTrigger, pos_of, formula_of}
+use Rattle.ltl_closure.specs.Norm.{Norm, NConst, NLetter, NNotLetter, NAnd, NOr, NNext, NWeakNext, NYesterday, NWeakYesterday, NUntil, NRelease, NSince}
+use Rattle.ltl_closure.specs.Norm.{NTrigger, pos_of, formula_of}
 use Rattle.ltl_closure.specs.Closure.{closure, argument, walk, is_next, is_yesterday, is_eventuality}
 use Rattle.ltl_closure.specs.Run.{States, IsRun, val, carry, is_pending, IsFulfilledIn, Loop, End, HasAccepted}
 use Rattle.ltl_word.proofs.Repeats.{Repeats, moved_down}
@@ -33,7 +35,8 @@ Decides-to : {P Q : Type 0} {b : Bool} → Decides b P → (P → Q) → (Q → 
 Decides-to d f g = (λ e. f (d.0 e), λ q. d.1 (g q))
 
 Decides-or : {P Q : Type 0} (b c : Bool) → Decides b P → Decides c Q → Decides (b || c) (P ⊎ Q)
-Decides-or b c d e = (λ h. elim (or_cases b c h) [ inl x ↦ inl (d.0 x) | inr y ↦ inr (e.0 y) ], λ w. elim w [ inl p ↦ or_left b c (d.1 p) | inr q ↦ or_right b c (e.1 q) ])
+Decides-or b c d e =
+    (λ h. elim (or_cases b c h) [ inl x ↦ inl (d.0 x) | inr y ↦ inr (e.0 y) ], λ w. elim w [ inl p ↦ or_left b c (d.1 p) | inr q ↦ or_right b c (e.1 q) ])
 
 Decides-and : {P Q : Type 0} (b c : Bool) → Decides b P → Decides c Q → Decides (b && c) (P × Q)
 Decides-and b c d e = (λ h. let w = and_parts b c h in (d.0 w.0, e.0 w.1), λ w. and_from b c (d.1 w.0) (e.1 w.1))
@@ -93,9 +96,11 @@ module _ (t : Trace) (good : IsTrace t) where
 
   before_case : (e : Norm) → IsTrue (is_yesterday e) → (i : ℕ) → IsPosition t i → states_of (suc i) e ≡ val (states_of i) (argument e)
   before_case (NYesterday a) h i at =
-      one_answer _ _ (Decides-to (basic (NYesterday a) (suc i)) (λ w. let d : w.0 ≡ i = omega arith in subst (Holds t (formula_of a)) d w.2) (λ x. (i, refl, x))) (val_decides a i at)
+      one_answer _ _ (Decides-to (basic (NYesterday a) (suc i)) (λ w. let d : w.0 ≡ i = omega arith in subst (Holds t (formula_of a)) d w.2)
+      (λ x. (i, refl, x))) (val_decides a i at)
   before_case (NWeakYesterday a) h i at =
-      one_answer _ _ (Decides-to (basic (NWeakYesterday a) (suc i)) (λ g. g i refl) (λ x j e. let d : i ≡ j = omega arith in subst (Holds t (formula_of a)) d x)) (val_decides a i at)
+      one_answer _ _ (Decides-to (basic (NWeakYesterday a) (suc i)) (λ g. g i refl)
+      (λ x j e. let d : i ≡ j = omega arith in subst (Holds t (formula_of a)) d x)) (val_decides a i at)
   before_case (NUntil a b) h i at = cc
   before_case (NConst x) h i at = cc
   before_case (NLetter x) h i at = cc
@@ -132,13 +137,16 @@ shallow_one h xs e a b = All-append (IsShallow h) xs (e ∷ []) a (All-cons (IsS
 shallow_two : (h : ℕ) (xs ys : List Norm) (e : Norm) → All (IsShallow h) xs → All (IsShallow h) ys → IsShallow h e → All (IsShallow h) (xs ++ (ys ++ e ∷ []))
 shallow_two h xs ys e a b c = All-append (IsShallow h) xs (ys ++ e ∷ []) a (shallow_one h ys e b c)
 
-shallow_three : (h : ℕ) (xs ys : List Norm) (e d : Norm) → All (IsShallow h) xs → All (IsShallow h) ys → IsShallow h e → IsShallow h d → All (IsShallow h) (xs ++ (ys ++ e ∷ d ∷ []))
-shallow_three h xs ys e d a b c g = All-append (IsShallow h) xs (ys ++ e ∷ d ∷ []) a (All-append (IsShallow h) ys (e ∷ d ∷ []) b (All-cons (IsShallow h) e (d ∷ []) c (All-cons (IsShallow h) d [] g (All-nil (IsShallow h)))))
+shallow_three : (h : ℕ) (xs ys : List Norm) (e d : Norm) → All (IsShallow h) xs → All (IsShallow h) ys → IsShallow h e → IsShallow h d
+    → All (IsShallow h) (xs ++ (ys ++ e ∷ d ∷ []))
+shallow_three h xs ys e d a b c g = All-append (IsShallow h) xs (ys ++ e ∷ d ∷ []) a
+    (All-append (IsShallow h) ys (e ∷ d ∷ []) b (All-cons (IsShallow h) e (d ∷ []) c (All-cons (IsShallow h) d [] g (All-nil (IsShallow h)))))
 
 walk_shallow : (g : Norm) (h : ℕ) → past_depth (formula_of g) ≤ h → All (IsShallow h) (walk g)
 walk_shallow (NConst b) h le = All-cons (IsShallow h) (NConst b) [] le (All-nil (IsShallow h))
 walk_shallow (NLetter p) h le = All-cons (IsShallow h) (NLetter p) [] le (All-nil (IsShallow h))
-walk_shallow (NNotLetter p) h le = All-cons (IsShallow h) (NLetter p) (NNotLetter p ∷ []) le (All-cons (IsShallow h) (NNotLetter p) [] le (All-nil (IsShallow h)))
+walk_shallow (NNotLetter p) h le =
+    All-cons (IsShallow h) (NLetter p) (NNotLetter p ∷ []) le (All-cons (IsShallow h) (NNotLetter p) [] le (All-nil (IsShallow h)))
 walk_shallow (NAnd a b) h le = shallow_two h _ _ (NAnd a b) (walk_shallow a h (omega arith)) (walk_shallow b h (omega arith)) le
 walk_shallow (NOr a b) h le = shallow_two h _ _ (NOr a b) (walk_shallow a h (omega arith)) (walk_shallow b h (omega arith)) le
 walk_shallow (NNext a) h le = shallow_one h _ (NNext a) (walk_shallow a h le) le
@@ -146,9 +154,12 @@ walk_shallow (NWeakNext a) h le = shallow_one h _ (NWeakNext a) (walk_shallow a 
 walk_shallow (NYesterday a) h le = shallow_one h _ (NYesterday a) (walk_shallow a h (omega arith)) (omega arith)
 walk_shallow (NWeakYesterday a) h le = shallow_one h _ (NWeakYesterday a) (walk_shallow a h (omega arith)) (omega arith)
 walk_shallow (NUntil a b) h le = shallow_three h _ _ (NUntil a b) (NNext (NUntil a b)) (walk_shallow a h (omega arith)) (walk_shallow b h (omega arith)) le le
-walk_shallow (NRelease a b) h le = shallow_three h _ _ (NRelease a b) (NWeakNext (NRelease a b)) (walk_shallow a h (omega arith)) (walk_shallow b h (omega arith)) le le
-walk_shallow (NSince a b) h le = shallow_three h _ _ (NSince a b) (NYesterday (NSince a b)) (walk_shallow a h (omega arith)) (walk_shallow b h (omega arith)) le le
-walk_shallow (NTrigger a b) h le = shallow_three h _ _ (NTrigger a b) (NWeakYesterday (NTrigger a b)) (walk_shallow a h (omega arith)) (walk_shallow b h (omega arith)) le le
+walk_shallow (NRelease a b) h le =
+    shallow_three h _ _ (NRelease a b) (NWeakNext (NRelease a b)) (walk_shallow a h (omega arith)) (walk_shallow b h (omega arith)) le le
+walk_shallow (NSince a b) h le =
+    shallow_three h _ _ (NSince a b) (NYesterday (NSince a b)) (walk_shallow a h (omega arith)) (walk_shallow b h (omega arith)) le le
+walk_shallow (NTrigger a b) h le =
+    shallow_three h _ _ (NTrigger a b) (NWeakYesterday (NTrigger a b)) (walk_shallow a h (omega arith)) (walk_shallow b h (omega arith)) le le
 
 module _ (f : Formula) (stem loop_part : List Names) (some : 0 < length loop_part) where
   abbrev t : Trace
@@ -194,14 +205,17 @@ module _ (f : Formula) (stem loop_part : List Names) (some : 0 < length loop_par
   })
 
   -- a right operand that holds after the loop's first round holds within it
-  met_within : (b : Norm) → Repeats (Holds t (formula_of b)) (length loop_part) from → (fuel j : ℕ) → j ≤ fuel → from < j → Holds t (formula_of b) j → (v : ℕ) × (from < v) × (v ≤ from + length loop_part) × Holds t (formula_of b) v
+  met_within : (b : Norm) → Repeats (Holds t (formula_of b)) (length loop_part) from → (fuel j : ℕ) → j ≤ fuel → from < j → Holds t (formula_of b) j
+      → (v : ℕ) × (from < v) × (v ≤ from + length loop_part) × Holds t (formula_of b) v
   met_within b w zero j le lt x = absurd (omega arith)
   met_within b w (suc fuel) j le lt x = elim (cases_lt (from + length loop_part) j) [
     | inr within ↦ (j, lt, within, x)
-    | inl past ↦ met_within b w fuel (j - length loop_part) (omega arith) (omega arith) (moved_down (Holds t (formula_of b)) (length loop_part) from w j (omega arith) x)
+    | inl past ↦
+        met_within b w fuel (j - length loop_part) (omega arith) (omega arith) (moved_down (Holds t (formula_of b)) (length loop_part) from w j (omega arith) x)
   ]
 
-  fulfils : (e : Norm) → IsTrue (is_eventuality e) → IsShallow h e → IsTrue (is_pending (r (from + length loop_part)) e) → IsFulfilledIn r from (from + length loop_part) e
+  fulfils : (e : Norm) → IsTrue (is_eventuality e) → IsShallow h e → IsTrue (is_pending (r (from + length loop_part)) e)
+      → IsFulfilledIn r from (from + length loop_part) e
   fulfils (NUntil a b) i le p =
       let k = from + length loop_part in
       let x = (val_decides t some (NNext (NUntil a b)) (from + length loop_part) tt).0 p in
@@ -226,7 +240,8 @@ module _ (f : Formula) (stem loop_part : List Names) (some : 0 < length loop_par
   pub trace_accepted : Holds t (formula_of (pos_of f)) 0 → (k : ℕ) × HasAccepted f Kinds.Infinite k
   trace_accepted x = let w = lasso_runs x in (_, (w.0, w.1, Loop _ w.2.earlier w.2.one w.2.fulfilled))
 
-pub finite_accepted : (f : Formula) (states : List Names) (k : ℕ) → length states ≡ suc k → Holds (Finite states) (formula_of (pos_of f)) 0 → HasAccepted f Kinds.Finite k
+pub finite_accepted : (f : Formula) (states : List Names) (k : ℕ) → length states ≡ suc k → Holds (Finite states) (formula_of (pos_of f)) 0
+    → HasAccepted f Kinds.Finite k
 finite_accepted f states k e x =
     let good : 0 < length states = omega arith in (
       states_of (Finite states) good,

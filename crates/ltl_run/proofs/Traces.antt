@@ -46,7 +46,8 @@ module _ (f : Formula) (plain : HasPlainNames f) where
   abbrev names_in : RunState → Names
   names_in s = map the_name (filter (is_true_letter s) (closure f))
 
-  letter_named : (s : RunState) (name : List ℕ) → Contains (names_in s) name → (p : Atom) × Contains (closure f) (NLetter p) × IsTrue (s (NLetter p)) × (name ≡ name_of p)
+  letter_named : (s : RunState) (name : List ℕ) → Contains (names_in s) name
+      → (p : Atom) × Contains (closure f) (NLetter p) × IsTrue (s (NLetter p)) × (name ≡ name_of p)
   letter_named s name c =
       let w = map_contains the_name (filter (is_true_letter s) (closure f)) name c in
       let v = Contains-from_filter (is_true_letter s) (closure f) w.0 w.1 in
@@ -72,7 +73,8 @@ module _ (f : Formula) (plain : HasPlainNames f) where
   shown_are : (r : States) (k : ℕ) → AreShown f r k (shown r k)
   shown_are r k = record {
     states_length = length-map-range_with_len (λ i. names_in (r i)) 0 (suc k);
-    first = λ i le. subst (Shows f (r i)) (sym (get_or-map-range_with_len (λ i. names_in (r i)) 0 (suc k) i i [] (omega arith) (omega arith))) (names_show (r i));
+    first =
+        λ i le. subst (Shows f (r i)) (sym (get_or-map-range_with_len (λ i. names_in (r i)) 0 (suc k) i i [] (omega arith) (omega arith))) (names_show (r i));
   }
 
   pub accepted_has_trace : (kind : Kind) (k : ℕ) (r : States) (close : Close) → Accepts close f r k kind → (t : Trace) × GivesTrace f r k close t

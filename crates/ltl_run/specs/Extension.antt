@@ -32,4 +32,5 @@ IsLonger h (Finite states) (Infinite stem' loop_part') = ⊥
 pub record IsExtension (f : Formula) (P : Places) (t u : Trace) : Type 0 where
   pub longer : IsLonger (past_depth f) t u
   pub named : (i : ℕ) (name : List ℕ) → IsPosition t i → IsPlain name → Contains (state_at u i) name ↔ Contains (state_at t i) name
-  pub fresh : (i n : ℕ) → IsPosition t i → n < length (replaced f P) → Contains (state_at u i) (name_of (Fresh n)) ↔ Holds t (slice_index_or (replaced f P) n f) i
+  pub fresh : (i n : ℕ) → IsPosition t i → n < length (replaced f P)
+      → Contains (state_at u i) (name_of (Fresh n)) ↔ Holds t (slice_index_or (replaced f P) n f) i

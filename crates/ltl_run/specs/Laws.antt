@@ -11,7 +11,8 @@ use Rattle.ltl_word.specs.Holds.{Holds, Satisfies}
 use Rattle.ltl_word.specs.Depth.{past_depth}
 use Rattle.ltl_closure.specs.Norm.{Norm, NAnd, NOr, times, chain, some_in, every_in, formula_of, pos_of, neg_of}
 use Rattle.ltl_closure.specs.Closure.{eventualities}
-use Rattle.ltl_closure.specs.Run.{States, IsRun, IsAccepted, IsPrunedAt, IsUnpruned, HasAccepted, Verdict, IsVerdict, Sat, Unsat, Undecided, bound, carry, spliced, rotated}
+use Rattle.ltl_closure.specs.Run.{States, IsRun, IsAccepted, IsPrunedAt, IsUnpruned, HasAccepted, Verdict, IsVerdict, Sat, Unsat, Undecided, bound, carry}
+use Rattle.ltl_closure.specs.Run.{spliced, rotated}
 use Rattle.ltl_run.specs.declared.run_state.Close.{Close}
 use Rattle.ltl_run.specs.TraceOf.{ClosesTo, Accepts, GivesTrace}
 use Rattle.ltl_run.specs.Plain.{HasPlainNames, IsSmallNode}
@@ -41,7 +42,8 @@ RunsSatisfy = (f : Formula) (kind : Kind) (k : ℕ) (r : States) (close : Close)
 abbrev pub RulesAccept : Type 0
 RulesAccept = (f : Formula) (kind : Kind) (k : ℕ) (r : States) → IsAccepted f r k kind ↔ ((close : Close) × Accepts close f r k kind)
 
--- a lasso with a stem of s and a loop of p states that satisfies a formula with past operators nested h deep gives a run that closes from s + h p + p to s + h p
+-- a lasso with a stem of s and a loop of p states that satisfies a formula with past operators nested h deep gives a run that closes from s
+-- + h p + p to s + h p
 abbrev pub LassosRun : Type 0
 LassosRun = (f : Formula) (stem loop_part : List Names) → 0 < length loop_part → Satisfies (Infinite stem loop_part) f
     → (r : States) × IsRun f (length stem + past_depth f * length loop_part + length loop_part) r
@@ -73,7 +75,8 @@ LeastRunsAreUnpruned = (f : Formula) (kind : Kind) (k : ℕ) (r : States) → Is
 
 -- where there is an accepted run, there is one that is no longer and has no pruned state
 abbrev pub HaveUnpruned : Type 0
-HaveUnpruned = (f : Formula) (kind : Kind) (k : ℕ) → HasAccepted f kind k → (m : ℕ) × (m ≤ k) × (r : States) × IsRun f m r × IsAccepted f r m kind × IsUnpruned f r m kind
+HaveUnpruned =
+    (f : Formula) (kind : Kind) (k : ℕ) → HasAccepted f kind k → (m : ℕ) × (m ≤ k) × (r : States) × IsRun f m r × IsAccepted f r m kind × IsUnpruned f r m kind
 
 -- no trace of the kind satisfies a formula whose verdict is UNSAT
 abbrev pub UnsatIsSound : Type 0
@@ -85,7 +88,8 @@ BoundSettles = (f : Formula) (kind : Kind) (limit k : ℕ) → bound f kind ≤ 
 
 -- at such a limit the verdict is SAT where a trace of the kind satisfies the formula
 abbrev pub BoundFinds : Type 0
-BoundFinds = (f : Formula) (kind : Kind) (limit : ℕ) (v : Verdict) (t : Trace) → bound f kind ≤ limit → IsVerdict f kind limit v → IsTrace t → IsOfKind t kind → Satisfies t f
+BoundFinds = (f : Formula) (kind : Kind) (limit : ℕ) (v : Verdict) (t : Trace) → bound f kind ≤ limit → IsVerdict f kind limit v → IsTrace t
+    → IsOfKind t kind → Satisfies t f
     → (k : ℕ) × (v ≡ Sat k)
 
 -- at each limit a formula has at most one verdict
@@ -98,7 +102,8 @@ TreesHavePlainNames = (t : Table) (number : ℕ) → IsTable t.nodes t.names →
 
 -- an accepted run has a trace
 abbrev pub AcceptedRunsHaveTraces : Type 0
-AcceptedRunsHaveTraces = (f : Formula) (kind : Kind) (k : ℕ) (r : States) (close : Close) → HasPlainNames f → Accepts close f r k kind → (t : Trace) × GivesTrace f r k close t
+AcceptedRunsHaveTraces =
+    (f : Formula) (kind : Kind) (k : ℕ) (r : States) (close : Close) → HasPlainNames f → Accepts close f r k kind → (t : Trace) × GivesTrace f r k close t
 
 -- a trace of the kind satisfies the formula
 abbrev pub IsSatisfiable : Formula → Kind → Type 0
@@ -120,7 +125,8 @@ CarriesAreFew = (f : Formula) (k : ℕ) (r : States) → IsRun f k r → ((i : �
 
 -- in the finite kind it comes once
 abbrev pub CarriesComeOnce : Type 0
-CarriesComeOnce = (f : Formula) (k : ℕ) (r : States) → IsUnpruned f r k Kinds.Finite → (c : List Bool) (states : List ℕ) → HaveCarry f r k c states → length states ≤ 1
+CarriesComeOnce =
+    (f : Formula) (k : ℕ) (r : States) → IsUnpruned f r k Kinds.Finite → (c : List Bool) (states : List ℕ) → HaveCarry f r k c states → length states ≤ 1
 
 -- no trace of the kind satisfies the formula
 abbrev pub HasNoTrace : Kind → Formula → Type 0
@@ -128,7 +134,8 @@ HasNoTrace kind f = (t : Trace) → IsTrace t → IsOfKind t kind → Satisfies 
 
 -- each trace has an extension, which is a trace of its kind
 abbrev pub TracesExtend : Type 0
-TracesExtend = (f : Formula) (P : Places) (t : Trace) → IsGiven f → IsTrace t → (u : Trace) × IsTrace u × ((kind : Kind) → IsOfKind t kind → IsOfKind u kind) × IsExtension f P t u
+TracesExtend = (f : Formula) (P : Places) (t : Trace) → IsGiven f → IsTrace t → (u : Trace) × IsTrace u × ((kind : Kind) → IsOfKind t kind → IsOfKind u kind)
+    × IsExtension f P t u
 
 -- on an extension the formula with its occurrences replaced holds where the formula holds on the trace
 abbrev pub ExtensionsAgree : Type 0

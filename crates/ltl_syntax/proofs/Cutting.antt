@@ -1,5 +1,6 @@
 -- How a replacement goes on: marks, nodes with fresh letters written over them, and the table that they make.
-use Rattle.std.proofs.Common.{◌≡◌, ℕ, zero, suc, ◌+◌, ◌<◌, ◌≤◌, ◌⊎◌, inl, inr, subst, ap, arith, sym, refl, ◌∙◌, Bool, true, false, ◌&&◌, lt-ltb, List, [], ◌∷◌, ◌++◌, length, get_or, slice_get, Some, take, set, All, Contains}
+use Rattle.std.proofs.Common.{◌≡◌, ℕ, zero, suc, ◌+◌, ◌<◌, ◌≤◌, ◌⊎◌, inl, inr, subst, ap, arith, sym, refl, ◌∙◌, Bool, true, false, ◌&&◌, lt-ltb, List, [], ◌∷◌}
+use Rattle.std.proofs.Common.{◌++◌, length, get_or, slice_get, Some, take, set, All, Contains}
 use Rattle.std.proofs.lemmas.Bool.{cases_lt, cases_order}
 use Rattle.ltl_syntax.specs.declared.node.Node.{Node}
 use Rattle.ltl_syntax.specs.declared.node.Node.TheVariants as nodes
@@ -119,12 +120,15 @@ long_taken [] (suc k) lt = absurd (omega arith)
 long_taken (n ∷ ns) (suc k) lt = ap suc (long_taken ns k (omega arith))
 
 -- the next of the nodes may follow those before it, and there is room for it
-pub node_follows : (t u : Table) (new : List Node) (k : ℕ) (node : Node) → IsTable t.nodes t.names → AreFreshOrSame t.nodes new → u.names ≡ t.names → u.nodes ≡ take k new → slice_get new k ≡ Some node
+pub node_follows : (t u : Table) (new : List Node) (k : ℕ) (node : Node) → IsTable t.nodes t.names → AreFreshOrSame t.nodes new
+    → u.names ≡ t.names → u.nodes ≡ take k new → slice_get new k ≡ Some node
     → MayFollow u node × (sizes u.nodes + node_size node ≤ 16384)
 node_follows t u new k node is h names so_far e =
     let low = slice_get_within new k node e in
-    let long : length u.nodes ≡ k = ap length so_far ∙ long_taken new k (omega arith) in
-    (follows long low, (let d = ap sizes so_far in let some = sizes_to new k node e in let all = sizes_less t.nodes new h in let room = is.small in omega arith))
+    let long : length u.nodes ≡ k = ap length so_far ∙ long_taken new k (omega arith) in (
+      follows long low,
+      (let d = ap sizes so_far in let some = sizes_to new k node e in let all = sizes_less t.nodes new h in let room = is.small in omega arith),
+    )
   where
     fresh_follows : (n : ℕ) (node : Node) → node ≡ nodes.Fresh n → MayFollow u node
     fresh_follows n node e = subst (MayFollow u) (sym e) tt
@@ -154,13 +158,15 @@ default_free (x ∷ xs) (suc n) d e lt = default_free xs n d e (omega arith)
 
 -- ---- a place with its mark
 
-pub marked_at : (order : List ℕ) (marks : List Bool) (k x : ℕ) (b : Bool) → k < length order → x ≡ get_or order k x → x < length marks → b ≡ get_or marks x b → marked_places order marks k ≡ b
+pub marked_at : (order : List ℕ) (marks : List Bool) (k x : ℕ) (b : Bool) → k < length order → x ≡ get_or order k x → x < length marks → b ≡ get_or marks x b
+    → marked_places order marks k ≡ b
 marked_at order marks k x b low number within mark =
     let here : get_or order k 0 ≡ x = default_free order k 0 x low ∙ sym number in
     ap (λ c. c && get_or marks (get_or order k 0) false) (lt-ltb k (length order) low)
     ∙ (ap (λ i. get_or marks i false) here ∙ (default_free marks x false b within ∙ sym mark))
 
-module _ (order : List ℕ) (marks : List Bool) (old new : List Node) (k x next : ℕ) (low : k < length order) (number : x ≡ get_or order k x) (long : length marks ≡ length old) (within : get_or order k x < length old)
+module _ (order : List ℕ) (marks : List Bool) (old new : List Node) (k x next : ℕ) (low : k < length order) (number : x ≡ get_or order k x)
+    (long : length marks ≡ length old) (within : get_or order k x < length old)
     (h : AreCut order (marked_places order marks) k old new) (counted : next ≡ count_in (marked_places order marks) 0 k) where
   at_place : get_or order k 0 ≡ x
   at_place = default_free order k 0 x low ∙ sym number
@@ -170,12 +176,16 @@ module _ (order : List ℕ) (marks : List Bool) (old new : List Node) (k x next 
 
   more : count_in (marked_places order marks) 0 (k + 1) ≡ count_in (marked_places order marks) 0 k + one_if (marked_places order marks k)
   more = let one : k + 1 ≡ suc k = omega arith in let here : 0 + k ≡ k = omega arith in
-      ap (count_in (marked_places order marks) 0) one ∙ (count_more (marked_places order marks) 0 k ∙ ap (λ m. count_in (marked_places order marks) 0 k + one_if (marked_places order marks m)) here)
+      ap (count_in (marked_places order marks) 0) one
+      ∙ (count_more (marked_places order marks) 0 k ∙ ap (λ m. count_in (marked_places order marks) 0 k + one_if (marked_places order marks m)) here)
 
-  pub unmarked : (b : Bool) → b ≡ get_or marks x b → b ≡ false → AreCut order (marked_places order marks) (k + 1) old new × (next ≡ count_in (marked_places order marks) 0 (k + 1))
+  pub unmarked : (b : Bool) → b ≡ get_or marks x b
+      → b ≡ false → AreCut order (marked_places order marks) (k + 1) old new × (next ≡ count_in (marked_places order marks) 0 (k + 1))
   unmarked b mark e =
-      let p : marked_places order marks k ≡ false = marked_at order marks k x b low number marks_within mark ∙ e in
-      (cut_on order (marked_places order marks) old k new h p, (let m = more in let c = counts_none (marked_places order marks) k p in omega (arith, m, c, counted)))
+      let p : marked_places order marks k ≡ false = marked_at order marks k x b low number marks_within mark ∙ e in (
+        cut_on order (marked_places order marks) old k new h p,
+        (let m = more in let c = counts_none (marked_places order marks) k p in omega (arith, m, c, counted)),
+      )
 
   pub written : (b : Bool) → b ≡ get_or marks x b → b ≡ true → AreDistinct order
       → AreCut order (marked_places order marks) (k + 1) old (set new x (nodes.Fresh next)) × (next + 1 ≡ count_in (marked_places order marks) 0 (k + 1))
@@ -190,8 +200,10 @@ module _ (order : List ℕ) (marks : List Bool) (old new : List Node) (k x next 
 
 -- ---- names in their order
 
-pub name_follows : (old new : Table) (names : List (List ℕ)) (k number : ℕ) (text : List ℕ) → ((i j : ℕ) → i < j → j < length names → get_or names i [] ≡ get_or names j [] → ⊥)
-    → slice_get names k ≡ Some text → Names old text number new → old.nodes ≡ [] → old.names ≡ take k names → (new.nodes ≡ []) × (new.names ≡ take (k + 1) names)
+pub name_follows : (old new : Table) (names : List (List ℕ)) (k number : ℕ) (text : List ℕ)
+    → ((i j : ℕ) → i < j → j < length names → get_or names i [] ≡ get_or names j [] → ⊥)
+    → slice_get names k ≡ Some text → Names old text number new → old.nodes ≡ [] → old.names ≡ take k names
+    → (new.nodes ≡ []) × (new.names ≡ take (k + 1) names)
 name_follows old new names k number text distinct e h nodes so_far =
     let low = slice_get_within names k text e in
     let long : length old.names ≡ k = ap length so_far ∙ length-take-le k names (omega arith) in
@@ -201,7 +213,8 @@ name_follows old new names k number text distinct e h nodes so_far =
 
 -- ---- the whole
 
-pub order_within : (t : Table) (root : ℕ) (order : List ℕ) (ns : List Node) → IsTable t.nodes t.names → root < length t.nodes → order ≡ order_at t root → ns ≡ t.nodes → All (λ number. number < length ns) order
+pub order_within : (t : Table) (root : ℕ) (order : List ℕ) (ns : List Node) → IsTable t.nodes t.names → root < length t.nodes → order ≡ order_at t root
+    → ns ≡ t.nodes → All (λ number. number < length ns) order
 order_within t root order ns is lt same nodes k d low =
     let member : Contains (order_at t root) (get_or order k d) = subst (λ xs. Contains xs (get_or order k d)) same (Contains-get_or order k d low) in
     let i = order_low t is root lt (get_or order k d) member in
@@ -210,14 +223,18 @@ order_within t root order ns is lt same nodes k d low =
 pub order_apart : (t : Table) (root : ℕ) (order : List ℕ) → IsTable t.nodes t.names → root < length t.nodes → order ≡ order_at t root → AreDistinct order
 order_apart t root order is lt same = subst AreDistinct (sym same) (order_distinct t is root lt)
 
-pub replaced_tree : (t u : Table) (root : ℕ) (order numbers : List ℕ) (marks : List Bool) (ns ns' : List Node) → IsTable t.nodes t.names → IsTable u.nodes u.names → root < length t.nodes → order ≡ order_at t root → ns ≡ t.nodes
-    → AreMarked numbers marks → AreCut order (marked_places order marks) (length order) ns ns' → u.nodes ≡ ns' → u.names ≡ t.names → AreApart (tree_at t root) (places_of t root numbers)
+pub replaced_tree : (t u : Table) (root : ℕ) (order numbers : List ℕ) (marks : List Bool) (ns ns' : List Node) → IsTable t.nodes t.names
+    → IsTable u.nodes u.names → root < length t.nodes → order ≡ order_at t root → ns ≡ t.nodes
+    → AreMarked numbers marks → AreCut order (marked_places order marks) (length order) ns ns'
+    → u.nodes ≡ ns' → u.names ≡ t.names → AreApart (tree_at t root) (places_of t root numbers)
     → tree_at u root ≡ rep (tree_at t root) (places_of t root numbers)
 replaced_tree t u root order numbers marks ns ns' is is' lt same old marked cut new names apart =
     let P = marked_places (order_at t root) marks in
-    let one : marked_places (order_at t root) marks ≡ places_of t root numbers = one_set P (places_of t root numbers) (same_places t root numbers marks marked) in
+    let one : marked_places (order_at t root) marks ≡ places_of t root numbers =
+    one_set P (places_of t root numbers) (same_places t root numbers marks marked) in
     let here : AreCut (order_at t root) P (length (order_at t root)) ns ns' = subst (λ xs. AreCut xs (marked_places xs marks) (length xs) ns ns') same cut in
     let there : AreCut (order_at t root) P (length (order_at t root)) t.nodes u.nodes =
-    subst (λ ms. AreCut (order_at t root) P (length (order_at t root)) t.nodes ms) (sym new) (subst (λ ms. AreCut (order_at t root) P (length (order_at t root)) ms ns') old here) in
+    subst (λ ms. AreCut (order_at t root) P (length (order_at t root)) t.nodes ms) (sym new)
+    (subst (λ ms. AreCut (order_at t root) P (length (order_at t root)) ms ns') old here) in
     overwriting_replaces t u is is' root lt P (subst (AreApart (tree_at t root)) (sym one) apart) (record { names = names; cut = there.cut; kept = there.kept })
     ∙ ap (rep (tree_at t root)) one

@@ -1,5 +1,6 @@
 -- No node of a table stands at two places, since no node is the child of two.
-use Rattle.std.proofs.Common.{◌≡◌, ℕ, zero, suc, ◌+◌, ◌-◌, ◌<◌, ◌≤◌, ◌⊎◌, inl, inr, subst, ap, arith, sym, refl, ◌∙◌, Bool, true, false, ◌==◌, ◌↔◌, ltb, lt-ltb, cond, IsTrue, List, [], ◌∷◌, ◌++◌, length, get_or, slice_get, Some, drop, length-drop, Contains, eq-eqb}
+use Rattle.std.proofs.Common.{◌≡◌, ℕ, zero, suc, ◌+◌, ◌-◌, ◌<◌, ◌≤◌, ◌⊎◌, inl, inr, subst, ap, arith, sym, refl, ◌∙◌, Bool, true, false, ◌==◌, ◌↔◌, ltb, lt-ltb}
+use Rattle.std.proofs.Common.{cond, IsTrue, List, [], ◌∷◌, ◌++◌, length, get_or, slice_get, Some, drop, length-drop, Contains, eq-eqb}
 use Rattle.std.specs.List.{count_by, list_any}
 use Rattle.std.proofs.Math.ListN.{get_or-append}
 use Rattle.std.proofs.Math.Seq.{get_or-append_right}
@@ -25,7 +26,8 @@ one_counted p xs i d low has =
     let whole = sum_by-take-drop (λ x. cond (p x) 1 0) xs (i + 1) in
     omega (arith, first, whole)
 
-two_at : {X : Type 0} (p : X → Bool) (xs : List X) (i j : ℕ) (d : X) → i < j → j < length xs → p (get_or xs i d) ≡ true → p (get_or xs j d) ≡ true → 2 ≤ count_by p xs
+two_at : {X : Type 0} (p : X → Bool) (xs : List X) (i j : ℕ) (d : X) → i < j → j < length xs
+    → p (get_or xs i d) ≡ true → p (get_or xs j d) ≡ true → 2 ≤ count_by p xs
 two_at p xs i j d low within hi hj =
     let first = count_by_more_yes p xs i d (omega arith) hi in
     let whole = sum_by-take-drop (λ x. cond (p x) 1 0) xs (i + 1) in
@@ -34,7 +36,8 @@ two_at p xs i j d low within hi hj =
     let second = one_counted p (drop (i + 1) xs) (j - (i + 1)) d (omega (arith, length-drop (i + 1) xs)) (ap p there ∙ hj) in
     omega (arith, first, whole, second)
 
-two_counted : {X : Type 0} (p : X → Bool) (xs : List X) (i j : ℕ) (x y : X) → i < j → slice_get xs i ≡ Some x → slice_get xs j ≡ Some y → p x ≡ true → p y ≡ true → 2 ≤ count_by p xs
+two_counted : {X : Type 0} (p : X → Bool) (xs : List X) (i j : ℕ) (x y : X) → i < j → slice_get xs i ≡ Some x → slice_get xs j ≡ Some y
+    → p x ≡ true → p y ≡ true → 2 ≤ count_by p xs
 two_counted p xs i j x y low gx gy px py =
     two_at p xs i j x low (slice_get_within xs j y gy) (ap p (get_or_from_slice_get xs i x x gx) ∙ px) (ap p (get_or_from_slice_get xs j y x gy) ∙ py)
 
@@ -48,7 +51,8 @@ module _ (t : Table) (is : IsTable t.nodes t.names) where
   low_step k (nodes.Const b) fine all x c = elim (Contains-cons_cases k [] x c) [ inl e ↦ omega arith | inr d ↦ absurd (Contains-nil x d) ]
   low_step k (nodes.Letter n) fine all x c = elim (Contains-cons_cases k [] x c) [ inl e ↦ omega arith | inr d ↦ absurd (Contains-nil x d) ]
   low_step k (nodes.Fresh n) fine all x c = elim (Contains-cons_cases k [] x c) [ inl e ↦ omega arith | inr d ↦ absurd (Contains-nil x d) ]
-  low_step k (nodes.Unary op a) fine all x c = elim (Contains-cons_cases k (order_at t a) x c) [ inl e ↦ omega arith | inr d ↦ let i = all a fine x d in omega arith ]
+  low_step k (nodes.Unary op a) fine all x c =
+      elim (Contains-cons_cases k (order_at t a) x c) [ inl e ↦ omega arith | inr d ↦ let i = all a fine x d in omega arith ]
   low_step k (nodes.Binary op a b) fine all x c = elim (Contains-cons_cases k (order_at t a ++ order_at t b) x c) [
     | inl e ↦ omega arith
     | inr d ↦ elim (Contains-append_cases (order_at t a) (order_at t b) x d) [
@@ -73,7 +77,8 @@ module _ (t : Table) (is : IsTable t.nodes t.names) where
   parent_leaf : (k x : ℕ) → Contains (k ∷ []) x → (x ≡ k) ⊎ HasParent (k ∷ []) x
   parent_leaf k x c = elim (Contains-cons_cases k [] x c) [ inl e ↦ inl (sym e) | inr d ↦ absurd (Contains-nil x d) ]
 
-  parent_step : (k : ℕ) (node : Node) → slice_get t.nodes k ≡ Some node → IsFine (length t.names) k node → ((j : ℕ) → j < k → IsParented j) → (x : ℕ) → Contains (ordered (orders_of t) k node) x → (x ≡ k) ⊎ HasParent (ordered (orders_of t) k node) x
+  parent_step : (k : ℕ) (node : Node) → slice_get t.nodes k ≡ Some node → IsFine (length t.names) k node → ((j : ℕ) → j < k → IsParented j) → (x : ℕ)
+      → Contains (ordered (orders_of t) k node) x → (x ≡ k) ⊎ HasParent (ordered (orders_of t) k node) x
   parent_step k (nodes.Const b) e fine all x c = parent_leaf k x c
   parent_step k (nodes.Letter n) e fine all x c = parent_leaf k x c
   parent_step k (nodes.Fresh n) e fine all x c = parent_leaf k x c
@@ -89,22 +94,26 @@ module _ (t : Table) (is : IsTable t.nodes t.names) where
     | inr d ↦ elim (Contains-append_cases (order_at t a) (order_at t b) x d) [
       | inl l ↦ elim (all a fine.0 x l) [
         | inl is ↦ inr (k, nodes.Binary op a b, Contains-here k (order_at t a ++ order_at t b), e, or_left (a == x) (b == x) (eq-eqb a x (sym is)))
-        | inr w ↦ inr (parent_later (order_at t a) (k ∷ (order_at t a ++ order_at t b)) x (λ y z. Contains-there k (order_at t a ++ order_at t b) y (Contains-append_left (order_at t a) (order_at t b) y z)) w)
+        | inr w ↦ inr (parent_later (order_at t a) (k ∷ (order_at t a ++ order_at t b)) x
+            (λ y z. Contains-there k (order_at t a ++ order_at t b) y (Contains-append_left (order_at t a) (order_at t b) y z)) w)
       ]
       | inr r ↦ elim (all b fine.1 x r) [
         | inl is ↦ inr (k, nodes.Binary op a b, Contains-here k (order_at t a ++ order_at t b), e, or_right (a == x) (b == x) (eq-eqb b x (sym is)))
-        | inr w ↦ inr (parent_later (order_at t b) (k ∷ (order_at t a ++ order_at t b)) x (λ y z. Contains-there k (order_at t a ++ order_at t b) y (Contains-append_right (order_at t a) (order_at t b) y z)) w)
+        | inr w ↦ inr (parent_later (order_at t b) (k ∷ (order_at t a ++ order_at t b)) x
+            (λ y z. Contains-there k (order_at t a ++ order_at t b) y (Contains-append_right (order_at t a) (order_at t b) y z)) w)
       ]
     ]
   ]
 
   order_parented : (k : ℕ) → k < length t.nodes → (x : ℕ) → Contains (order_at t k) x → (x ≡ k) ⊎ HasParent (order_at t k) x
   order_parented = by_children t is IsParented (λ k node e fine all x c.
-      subst (λ xs. (x ≡ k) ⊎ HasParent xs x) (sym (node_order t is k node e)) (parent_step k node e fine all x (subst (λ xs. Contains xs x) (node_order t is k node e) c)))
+      subst (λ xs. (x ≡ k) ⊎ HasParent xs x) (sym (node_order t is k node e))
+      (parent_step k node e fine all x (subst (λ xs. Contains xs x) (node_order t is k node e) c)))
 
   -- ---- where no node is the child of two, no node stands at two places
 
-  pub one_parent : (x c d : ℕ) (m n : Node) → slice_get t.nodes c ≡ Some m → slice_get t.nodes d ≡ Some n → IsTrue (has_child x m) → IsTrue (has_child x n) → c ≡ d
+  pub one_parent : (x c d : ℕ) (m n : Node) → slice_get t.nodes c ≡ Some m → slice_get t.nodes d ≡ Some n → IsTrue (has_child x m)
+      → IsTrue (has_child x n) → c ≡ d
   one_parent x c d m n gc gd hc hd = elim (cases_lt c d) [
     | inl before ↦ let two = two_counted (has_child x) t.nodes c d m n before gc gd hc hd in let one = is.single x in absurd (omega arith)
     | inr ge ↦ elim (cases_lt d c) [
@@ -126,7 +135,8 @@ module _ (t : Table) (is : IsTable t.nodes t.names) where
     ]
 
   -- two children of one node have nothing in common
-  module _ (k : ℕ) (node : Node) (e : slice_get t.nodes k ≡ Some node) (a b : ℕ) (ha : IsTrue (has_child a node)) (hb : IsTrue (has_child b node)) (differ : a ≡ b → ⊥) where
+  module _ (k : ℕ) (node : Node) (e : slice_get t.nodes k ≡ Some node) (a b : ℕ) (ha : IsTrue (has_child a node)) (hb : IsTrue (has_child b node))
+      (differ : a ≡ b → ⊥) where
     before_a : a < k
     before_a = child_before k node e a ha
 
@@ -180,7 +190,8 @@ module _ (t : Table) (is : IsTable t.nodes t.names) where
           | inl before ↦
               let here : get_or xs i 0 ≡ get_or ys (j - length xs) 0 = sym (get_or-append xs ys 0 i before) ∙ (same ∙ get_or-append_right xs ys j 0 after) in
               out (get_or xs i 0) (Contains-get_or xs i 0 before) (subst (Contains ys) (sym here) (Contains-get_or ys (j - length xs) 0 (omega arith)))
-          | inr past ↦ dy (i - length xs) (j - length xs) (omega arith) (omega arith) (sym (get_or-append_right xs ys i 0 past) ∙ (same ∙ get_or-append_right xs ys j 0 after))
+          | inr past ↦ dy (i - length xs) (j - length xs) (omega arith) (omega arith)
+              (sym (get_or-append_right xs ys i 0 past) ∙ (same ∙ get_or-append_right xs ys j 0 after))
         ]
       ]
 
@@ -188,7 +199,8 @@ module _ (t : Table) (is : IsTable t.nodes t.names) where
   unfolding AreDistinct
   distinct_one k i j lt low same = omega arith
 
-  distinct_step : (k : ℕ) (node : Node) → slice_get t.nodes k ≡ Some node → IsFine (length t.names) k node → ((j : ℕ) → j < k → AreDistinct (order_at t j)) → AreDistinct (ordered (orders_of t) k node)
+  distinct_step : (k : ℕ) (node : Node) → slice_get t.nodes k ≡ Some node → IsFine (length t.names) k node → ((j : ℕ) → j < k → AreDistinct (order_at t j))
+      → AreDistinct (ordered (orders_of t) k node)
   distinct_step k (nodes.Const b) e fine all = distinct_one k
   distinct_step k (nodes.Letter n) e fine all = distinct_one k
   distinct_step k (nodes.Fresh n) e fine all = distinct_one k
@@ -207,7 +219,8 @@ module _ (t : Table) (is : IsTable t.nodes t.names) where
 
   pub order_distinct : (k : ℕ) → k < length t.nodes → (i j : ℕ) → i < j → j < length (order_at t k) → node_at t k i ≡ node_at t k j → ⊥
   unfolding AreDistinct
-  order_distinct = by_children t is (λ k. AreDistinct (order_at t k)) (λ k node e fine all. subst AreDistinct (sym (node_order t is k node e)) (distinct_step k node e fine all))
+  order_distinct = by_children t is (λ k. AreDistinct (order_at t k))
+      (λ k node e fine all. subst AreDistinct (sym (node_order t is k node e)) (distinct_step k node e fine all))
 
   -- ---- the nodes at the places of a set stand at these places
 
@@ -238,9 +251,11 @@ module _ (t : Table) (is : IsTable t.nodes t.names) where
       let w = and_parts (ltb n (length (order_at t root))) (list_any (λ m. m == node_at t root n) numbers) e in
       let v = (same (node_at t root n)).0 (among_to (node_at t root n) numbers w.1) in
       subst (λ k. IsTrue (P k)) (one_place root lt v.0 n (low v.0 v.1) (ltb-true n (length (order_at t root)) w.0) v.2) v.1)
-      (λ p. and_from (ltb n (length (order_at t root))) (list_any (λ m. m == node_at t root n) numbers) (lt-ltb n (length (order_at t root)) (low n p)) (among_from (node_at t root n) numbers ((same (node_at t root n)).1 (n, p, refl))))
+      (λ p. and_from (ltb n (length (order_at t root))) (list_any (λ m. m == node_at t root n) numbers) (lt-ltb n (length (order_at t root)) (low n p))
+      (among_from (node_at t root n) numbers ((same (node_at t root n)).1 (n, p, refl))))
     where
-      one_place : (root : ℕ) → root < length t.nodes → (i j : ℕ) → i < length (order_at t root) → j < length (order_at t root) → node_at t root i ≡ node_at t root j → i ≡ j
+      one_place : (root : ℕ) → root < length t.nodes → (i j : ℕ) → i < length (order_at t root) → j < length (order_at t root)
+          → node_at t root i ≡ node_at t root j → i ≡ j
       one_place root lt i j li lj e = elim (cases_lt i j) [
         | inl before ↦ absurd (order_distinct root lt i j before lj e)
         | inr ge ↦ elim (cases_lt j i) [

@@ -24,7 +24,8 @@ all_differ x (y ∷ ys) h = (differ x y (h zero (omega arith)), all_differ x ys 
 distinct_keys : (xs : List ℕ) → AreDistinct xs → IsDistinct eqb xs
 unfolding IsDistinct
 distinct_keys [] h = tt
-distinct_keys (x ∷ xs) h = (all_differ x xs (λ j lt. h zero (suc j) (omega arith) (omega arith)), distinct_keys xs (λ i j lt low. h (suc i) (suc j) (omega arith) (omega arith)))
+distinct_keys (x ∷ xs) h =
+    (all_differ x xs (λ j lt. h zero (suc j) (omega arith) (omega arith)), distinct_keys xs (λ i j lt low. h (suc i) (suc j) (omega arith) (omega arith)))
 
 any_member : (xs : List ℕ) (q : ℕ) → list_any (eqb q) xs ≡ true → Contains xs q
 any_member [] q e = cc

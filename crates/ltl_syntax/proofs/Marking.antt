@@ -1,5 +1,6 @@
 -- Marks for the numbers of a list, and the places at which the marked nodes stand.
-use Rattle.std.proofs.Common.{◌≡◌, ℕ, ◌+◌, ◌<◌, inl, inr, ap, arith, sym, refl, ◌∙◌, Bool, true, false, ◌&&◌, ◌||◌, ◌==◌, ltb, List, [], ◌∷◌, length, get_or, take, set, replicate, eq-eqb, ◌⊎◌}
+use Rattle.std.proofs.Common.{◌≡◌, ℕ, ◌+◌, ◌<◌, inl, inr, ap, arith, sym, refl, ◌∙◌, Bool, true, false, ◌&&◌, ◌||◌, ◌==◌, ltb, List, [], ◌∷◌, length, get_or}
+use Rattle.std.proofs.Common.{take, set, replicate, eq-eqb, ◌⊎◌}
 use Rattle.std.specs.List.{list_any}
 use Rattle.std.proofs.Math.ListN.{get_or-eq_default}
 use Rattle.std.proofs.lemmas.Bool.{cases_lt, cases_order}
@@ -22,7 +23,8 @@ or_false true = refl
 or_false false = refl
 
 -- a mark more
-pub one_marked : (numbers : List ℕ) (k : ℕ) (marks : List Bool) → k < length numbers → get_or numbers k 0 < length marks → AreMarked (take k numbers) marks → AreMarked (take (k + 1) numbers) (set marks (get_or numbers k 0) true)
+pub one_marked : (numbers : List ℕ) (k : ℕ) (marks : List Bool) → k < length numbers → get_or numbers k 0 < length marks → AreMarked (take k numbers) marks
+    → AreMarked (take (k + 1) numbers) (set marks (get_or numbers k 0) true)
 one_marked numbers k marks low within h n =
     let x = get_or numbers k 0 in
     let more : list_any (λ m. m == n) (take (k + 1) numbers) ≡ (list_any (λ m. m == n) (take k numbers) || (x == n || false)) =
@@ -55,5 +57,6 @@ one_marked numbers k marks low within h n =
         ∙ (h n ∙ skip (list_any (λ m. m == n) (take k numbers)) (get_or numbers k 0 == n) (differ n (get_or numbers k 0) other))
 
 -- the marked places are those at which the nodes of the list stand
-pub same_places : (t : Table) (root : ℕ) (numbers : List ℕ) (marks : List Bool) → AreMarked numbers marks → AreSame (marked_places (order_at t root) marks) (places_of t root numbers)
+pub same_places : (t : Table) (root : ℕ) (numbers : List ℕ) (marks : List Bool) → AreMarked numbers marks
+    → AreSame (marked_places (order_at t root) marks) (places_of t root numbers)
 same_places t root numbers marks h n = ap (λ b. ltb n (length (order_at t root)) && b) (h (node_at t root n))

@@ -1,5 +1,6 @@
 -- What a look-up among the keys says about the names, which are the bytes of the keys.
-use Rattle.std.proofs.Common.{◌≡◌, ◌≢◌, ℕ, zero, suc, ◌<◌, Bool, true, false, ◌||◌, List, [], ◌∷◌, ◌++◌, length, map, get_or, Some, position, refl, sym, ◌∙◌, ap, arith, true≢false}
+use Rattle.std.proofs.Common.{◌≡◌, ◌≢◌, ℕ, zero, suc, ◌<◌, Bool, true, false, ◌||◌, List, [], ◌∷◌, ◌++◌, length, map, get_or, Some, position, refl, sym, ◌∙◌}
+use Rattle.std.proofs.Common.{ap, arith, true≢false}
 use Rattle.std.specs.List.{list_any}
 use Rattle.std.specs.Str.{bytes_eq}
 use Rattle.std.proofs.lemmas.Slice.Eq.{bytes_eq-Decides}
@@ -9,14 +10,16 @@ use Rattle.indexmap.specs.IndexSet.{insert_key}
 
 module _ {X : Type 0} (bytes : X → List ℕ) (text : List ℕ) where
   -- a key that is found has the text
-  pub name_found : (keys : List X) (i : ℕ) → position (λ k. bytes_eq text (bytes k)) keys ≡ Some i → (i < length (map bytes keys)) × (get_or (map bytes keys) i [] ≡ text)
+  pub name_found : (keys : List X) (i : ℕ) → position (λ k. bytes_eq text (bytes k)) keys ≡ Some i
+      → (i < length (map bytes keys)) × (get_or (map bytes keys) i [] ≡ text)
   name_found [] i h = absurd (cc)
   name_found (x ∷ keys) i h =
       let at = position-Some (λ k. bytes_eq text (bytes k)) (x ∷ keys) i x h in
       (rw length-map at.0, get_or-map bytes (x ∷ keys) i x [] at.0 ∙ sym ((bytes_eq-Decides text (bytes (get_or (x ∷ keys) i x))).0 at.1))
 
   -- where no key is found, no name is the text
-  pub name_missing : (keys : List X) → list_any (λ k. bytes_eq text (bytes k)) keys ≡ false → (i : ℕ) → i < length (map bytes keys) → get_or (map bytes keys) i [] ≢ text
+  pub name_missing : (keys : List X) → list_any (λ k. bytes_eq text (bytes k)) keys ≡ false → (i : ℕ) → i < length (map bytes keys)
+      → get_or (map bytes keys) i [] ≢ text
   name_missing [] h i lt e = absurd (omega arith)
   name_missing (x ∷ keys) h zero lt e = true≢false (sym ((bytes_eq-Decides text (bytes x)).1 (sym e)) ∙ front (bytes_eq text (bytes x)) _ h) where
     front : (a b : Bool) → (a || b) ≡ false → a ≡ false

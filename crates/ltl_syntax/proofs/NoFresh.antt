@@ -1,5 +1,6 @@
 -- A formula has no fresh letter exactly where no node under its root is one.
-use Rattle.std.proofs.Common.{inl, inr, ◌≤◌, ◌≡◌, ℕ, suc, ◌+◌, ◌-◌, ◌<◌, true, false, List, [], ◌∷◌, ◌++◌, length, get_or, slice_get, Some, All, subst, ap, ◌∙◌, sym, refl, arith}
+use Rattle.std.proofs.Common.{inl, inr, ◌≤◌, ◌≡◌, ℕ, suc, ◌+◌, ◌-◌, ◌<◌, true, false, List, [], ◌∷◌, ◌++◌, length, get_or, slice_get, Some, All, subst, ap, ◌∙◌}
+use Rattle.std.proofs.Common.{sym, refl, arith}
 use Rattle.std.proofs.lemmas.Bool.{cases_lt}
 use Rattle.std.proofs.lemmas.List.{length-append, get_or_append_left, get_or-append_right, get_or_default}
 use Rattle.std.proofs.lemmas.List.Elements.{All-append, All-cons, All-nil}
@@ -28,7 +29,8 @@ module _ (t : Table) (is : IsTable t.nodes t.names) where
   one number named = All-cons (IsNamed t) number [] named (All-nil (IsNamed t))
 
   -- the nodes of a formula without fresh letters are named
-  named_step : (k : ℕ) (node : Node) → slice_get t.nodes k ≡ Some node → IsFine (length t.names) k node → ((j : ℕ) → j < k → HasNoFresh (tree_at t j) → All (IsNamed t) (order_at t j))
+  named_step : (k : ℕ) (node : Node) → slice_get t.nodes k ≡ Some node → IsFine (length t.names) k node
+      → ((j : ℕ) → j < k → HasNoFresh (tree_at t j) → All (IsNamed t) (order_at t j))
       → HasNoFresh (made t.names (trees_of t) node) → All (IsNamed t) (ordered (orders_of t) k node)
   named_step k (nodes.Const b) e fine all none = one k (here t k (nodes.Const b) e refl)
   named_step k (nodes.Letter n) e fine all none = one k (here t k (nodes.Letter n) e refl)
@@ -52,7 +54,8 @@ module _ (t : Table) (is : IsTable t.nodes t.names) where
   right : (xs ys : List ℕ) → All (IsNamed t) (xs ++ ys) → All (IsNamed t) ys
   right xs ys all i d lt = subst (IsNamed t) (get_or_after xs ys i d) (all (length xs + i) d (omega (arith, length-append xs ys)))
 
-  none_step : (k : ℕ) (node : Node) → slice_get t.nodes k ≡ Some node → IsFine (length t.names) k node → ((j : ℕ) → j < k → All (IsNamed t) (order_at t j) → HasNoFresh (tree_at t j))
+  none_step : (k : ℕ) (node : Node) → slice_get t.nodes k ≡ Some node → IsFine (length t.names) k node
+      → ((j : ℕ) → j < k → All (IsNamed t) (order_at t j) → HasNoFresh (tree_at t j))
       → All (IsNamed t) (ordered (orders_of t) k node) → HasNoFresh (made t.names (trees_of t) node)
   none_step k (nodes.Const b) e fine all named = tt
   none_step k (nodes.Letter n) e fine all named = tt
@@ -72,7 +75,8 @@ AreNamedBefore t order place = (i : ℕ) → i < place → IsNamed t (get_or ord
 
 module _ (t : Table) (is : IsTable t.nodes t.names) (root place : ℕ) (order : List ℕ) (low : root < length t.nodes) (same : order ≡ order_at t root) where
   -- one more
-  pub named_on : (node : Node) (number : ℕ) → number ≡ get_or order place 0 → slice_get t.nodes number ≡ Some node → is_fresh node ≡ false → AreNamedBefore t order place → AreNamedBefore t order (place + 1)
+  pub named_on : (node : Node) (number : ℕ) → number ≡ get_or order place 0 → slice_get t.nodes number ≡ Some node
+      → is_fresh node ≡ false → AreNamedBefore t order place → AreNamedBefore t order (place + 1)
   named_on node number at e plain before = λ i lt. elim (cases_lt i place) [
     | inl old ↦ before i old
     | inr new ↦ let here' : i ≡ place = omega arith in rw (here', ← at) (here t number node e plain)
@@ -83,7 +87,8 @@ module _ (t : Table) (is : IsTable t.nodes t.names) (root place : ℕ) (order : 
   all_named before end = none t is root low (subst (All (IsNamed t)) same (λ i d lt. rw (get_or_default order i d 0 lt) (before i (omega arith))))
 
   -- one is fresh
-  pub is_not : (node : Node) (number : ℕ) → number ≡ get_or order place 0 → place < length order → slice_get t.nodes number ≡ Some node → is_fresh node ≡ true → HasNoFresh (tree_at t root) → ⊥
+  pub is_not : (node : Node) (number : ℕ) → number ≡ get_or order place 0 → place < length order → slice_get t.nodes number ≡ Some node
+      → is_fresh node ≡ true → HasNoFresh (tree_at t root) → ⊥
   is_not node number at lt e fresh free =
       let all = subst (All (IsNamed t)) (sym same) (named t is root low free) in
       let plain = all place 0 lt node (rw (← at) e) in cc

@@ -1,5 +1,6 @@
 -- The nodes of a table in the order of their places: as many as the tree has nodes, each standing for the formula at its place.
-use Rattle.std.proofs.Common.{◌≡◌, ℕ, zero, suc, ◌+◌, ◌-◌, ◌<◌, ◌≤◌, inl, inr, subst, ap, ap₂, arith, sym, refl, ◌∙◌, List, [], ◌∷◌, ◌++◌, length, get_or, slice_get, Some, lt-ltb, le-ltb}
+use Rattle.std.proofs.Common.{◌≡◌, ℕ, zero, suc, ◌+◌, ◌-◌, ◌<◌, ◌≤◌, inl, inr, subst, ap, ap₂, arith, sym, refl, ◌∙◌, List, [], ◌∷◌, ◌++◌, length, get_or}
+use Rattle.std.proofs.Common.{slice_get, Some, lt-ltb, le-ltb}
 use Rattle.std.proofs.Math.ListN.{get_or-append}
 use Rattle.std.proofs.Math.Seq.{get_or-append_seam, get_or-append_right}
 use Rattle.std.proofs.lemmas.Bool.{cases_lt, cond-true, cond-false}
@@ -15,7 +16,8 @@ use Rattle.ltl_syntax.specs.Flat.{order_among, ordered, orders_after, orders_of,
 
 -- ---- the order of a node, from those of its children
 
-ordered_same : (m place : ℕ) (old new : List (List ℕ)) → ((i : ℕ) → i < place → order_among new i ≡ order_among old i) → (number : ℕ) (node : Node) → IsFine m place node → ordered new number node ≡ ordered old number node
+ordered_same : (m place : ℕ) (old new : List (List ℕ)) → ((i : ℕ) → i < place → order_among new i ≡ order_among old i) → (number : ℕ) (node : Node)
+    → IsFine m place node → ordered new number node ≡ ordered old number node
 ordered_same m place old new same number (nodes.Const b) f = refl
 ordered_same m place old new same number (nodes.Letter n) f = refl
 ordered_same m place old new same number (nodes.Fresh n) f = refl
@@ -59,7 +61,8 @@ module _ (t : Table) (is : IsTable t.nodes t.names) where
       rw zeroth at (order_after (length t.names) [] t.nodes is.fine number node e)
 
   -- what holds of a node where it holds of its children holds of all
-  module _ (C : ℕ → Type 0) (step : (k : ℕ) (node : Node) → slice_get t.nodes k ≡ Some node → IsFine (length t.names) k node → ((j : ℕ) → j < k → C j) → C k) where
+  module _ (C : ℕ → Type 0)
+      (step : (k : ℕ) (node : Node) → slice_get t.nodes k ≡ Some node → IsFine (length t.names) k node → ((j : ℕ) → j < k → C j) → C k) where
     up_to : (fuel k : ℕ) → k < fuel → k < length t.nodes → C k
     up_to zero k lt low = absurd (omega arith)
     up_to (suc fuel) k lt low =
@@ -77,7 +80,8 @@ module _ (t : Table) (is : IsTable t.nodes t.names) where
   abbrev HasLength : List ℕ → Formula → Type 0
   HasLength xs f = length xs ≡ nodes_in f
 
-  long_step : (k : ℕ) (node : Node) → IsFine (length t.names) k node → ((j : ℕ) → j < k → IsLong j) → HasLength (ordered (orders_of t) k node) (made t.names (trees_of t) node)
+  long_step : (k : ℕ) (node : Node) → IsFine (length t.names) k node → ((j : ℕ) → j < k → IsLong j)
+      → HasLength (ordered (orders_of t) k node) (made t.names (trees_of t) node)
   long_step k (nodes.Const b) fine all = refl
   long_step k (nodes.Letter n) fine all = refl
   long_step k (nodes.Fresh n) fine all = refl
@@ -88,7 +92,8 @@ module _ (t : Table) (is : IsTable t.nodes t.names) where
       let e = length-append (order_at t a) (order_at t b) in omega arith
 
   pub order_long : (k : ℕ) → k < length t.nodes → length (order_at t k) ≡ nodes_in (tree_at t k)
-  order_long = by_children IsLong (λ k node e fine all. ap length (node_order k node e) ∙ (long_step k node fine all ∙ sym (ap nodes_in (node_tree t is k node e))))
+  order_long =
+      by_children IsLong (λ k node e fine all. ap length (node_order k node e) ∙ (long_step k node fine all ∙ sym (ap nodes_in (node_tree t is k node e))))
 
   -- ---- each node stands for the formula at its place
 
@@ -102,7 +107,8 @@ module _ (t : Table) (is : IsTable t.nodes t.names) where
   placed_leaf k f e zero lt = e
   placed_leaf k f e (suc n) lt = absurd (omega arith)
 
-  placed_step : (k : ℕ) (node : Node) → slice_get t.nodes k ≡ Some node → IsFine (length t.names) k node → ((j : ℕ) → j < k → IsPlaced j) → Placed (ordered (orders_of t) k node) (made t.names (trees_of t) node)
+  placed_step : (k : ℕ) (node : Node) → slice_get t.nodes k ≡ Some node → IsFine (length t.names) k node → ((j : ℕ) → j < k → IsPlaced j)
+      → Placed (ordered (orders_of t) k node) (made t.names (trees_of t) node)
   placed_step k (nodes.Const b) e fine all = placed_leaf k (Const b) (node_tree t is k (nodes.Const b) e)
   placed_step k (nodes.Letter n) e fine all = placed_leaf k (made t.names (trees_of t) (nodes.Letter n)) (node_tree t is k (nodes.Letter n) e)
   placed_step k (nodes.Fresh n) e fine all = placed_leaf k (Letter (Fresh n)) (node_tree t is k (nodes.Fresh n) e)
@@ -119,7 +125,8 @@ module _ (t : Table) (is : IsTable t.nodes t.names) where
     by (suc n) lt = elim (cases_lt n (length (order_at t a))) [
       | inl before ↦
           let within : n < nodes_in (tree_at t a) = subst (λ m. n < m) long before in
-          ap (tree_at t) (get_or-append (order_at t a) (order_at t b) 0 n before) ∙ (all a fine.0 n before ∙ sym (cond-true _ _ _ (lt-ltb n (nodes_in (tree_at t a)) within)))
+          ap (tree_at t) (get_or-append (order_at t a) (order_at t b) 0 n before)
+          ∙ (all a fine.0 n before ∙ sym (cond-true _ _ _ (lt-ltb n (nodes_in (tree_at t a)) within)))
       | inr after ↦
           let beyond : nodes_in (tree_at t a) ≤ n = subst (λ m. m ≤ n) long after in
           let e' = length-append (order_at t a) (order_at t b) in
@@ -130,4 +137,5 @@ module _ (t : Table) (is : IsTable t.nodes t.names) where
 
   pub order_part : (k : ℕ) → k < length t.nodes → (n : ℕ) → n < length (order_at t k) → tree_at t (node_at t k n) ≡ part_at (tree_at t k) n
   order_part = by_children IsPlaced (λ k node e fine all.
-      subst (λ f. Placed (order_at t k) f) (sym (node_tree t is k node e)) (subst (λ xs. Placed xs (made t.names (trees_of t) node)) (sym (node_order k node e)) (placed_step k node e fine all)))
+      subst (λ f. Placed (order_at t k) f) (sym (node_tree t is k node e))
+      (subst (λ xs. Placed xs (made t.names (trees_of t) node)) (sym (node_order k node e)) (placed_step k node e fine all)))

@@ -1,5 +1,6 @@
 -- Fresh letters in the place of some nodes of a table replace these occurrences.
-use Rattle.std.proofs.Common.{◌≡◌, ℕ, zero, suc, ◌+◌, ◌-◌, ◌<◌, inl, inr, subst, ap, ap₂, arith, sym, refl, ◌∙◌, Bool, true, false, cond, IsTrue, List, [], ◌∷◌, ◌++◌, length, get_or, slice_get, Some, ◌==◌, eq-eqb, ◌⊎◌}
+use Rattle.std.proofs.Common.{◌≡◌, ℕ, zero, suc, ◌+◌, ◌-◌, ◌<◌, inl, inr, subst, ap, ap₂, arith, sym, refl, ◌∙◌, Bool, true, false, cond, IsTrue, List, [], ◌∷◌}
+use Rattle.std.proofs.Common.{◌++◌, length, get_or, slice_get, Some, ◌==◌, eq-eqb, ◌⊎◌}
 use Rattle.std.proofs.Math.ListN.{get_or-append}
 use Rattle.std.proofs.lemmas.Bool.{cases_Bool, cases_lt, cond-true, cond-false, or_from, or_left, or_right}
 use Rattle.std.specs.List.{list_any}
@@ -105,7 +106,8 @@ module _ (P : Places) where
       let one = ap length (replaced-cut P at f e) in
       let some = nodes_some f in
       let here : at + zero ≡ at = omega arith in
-      let rest = count_none P (suc at) (nodes_in f - 1) (λ m lt. let there : suc at + m ≡ at + suc m = omega arith in ap P there ∙ h zero (omega arith) (ap P here ∙ e) (suc m) (omega arith) (omega arith)) in
+      let rest = count_none P (suc at) (nodes_in f - 1)
+      (λ m lt. let there : suc at + m ≡ at + suc m = omega arith in ap P there ∙ h zero (omega arith) (ap P here ∙ e) (suc m) (omega arith) (omega arith)) in
       let all = count_one P at (nodes_in f - 1) in
       let whole : suc (nodes_in f - 1) ≡ nodes_in f = omega arith in
       let d = ap (count_in P at) whole in
@@ -115,11 +117,13 @@ module _ (P : Places) where
   pub counted : (f : Formula) (at : ℕ) → AreLocal P at f → length (replaced_from P at f) ≡ count_in P at (nodes_in f)
   counted (Const b) at h = elim (cases_Bool (P at)) [
     | inl e ↦ cut_counted (Const b) at h e
-    | inr e ↦ let d = ap length (cond-false (P at) (Const b ∷ []) [] e) in let c = count_one P at 0 in let z = count_zero P (suc at) in let g = counts_none P at e in omega arith
+    | inr e ↦ let d = ap length (cond-false (P at) (Const b ∷ []) [] e) in let c = count_one P at 0 in let z = count_zero P (suc at) in
+        let g = counts_none P at e in omega arith
   ]
   counted (Letter p) at h = elim (cases_Bool (P at)) [
     | inl e ↦ cut_counted (Letter p) at h e
-    | inr e ↦ let d = ap length (cond-false (P at) (Letter p ∷ []) [] e) in let c = count_one P at 0 in let z = count_zero P (suc at) in let g = counts_none P at e in omega arith
+    | inr e ↦ let d = ap length (cond-false (P at) (Letter p ∷ []) [] e) in let c = count_one P at 0 in let z = count_zero P (suc at) in
+        let g = counts_none P at e in omega arith
   ]
   counted (Unary op a) at h = elim (cases_Bool (P at)) [
     | inl e ↦ cut_counted (Unary op a) at h e
@@ -164,9 +168,11 @@ module _ (t u : Table) (is : IsTable t.nodes t.names) (is' : IsTable u.nodes u.n
   first_cut k rest f at next h e =
       let here : at + zero ≡ at = omega arith in
       let there : next + zero ≡ next = omega arith in
-      node_tree u is' k (nodes.Fresh (next + zero)) (h.cut zero (omega arith) (ap P here ∙ e)) ∙ (ap (λ n. Letter (Fresh n)) there ∙ sym (rep-cut P at next f e))
+      node_tree u is' k (nodes.Fresh (next + zero)) (h.cut zero (omega arith) (ap P here ∙ e))
+      ∙ (ap (λ n. Letter (Fresh n)) there ∙ sym (rep-cut P at next f e))
 
-  first_kept : (k : ℕ) (rest : List ℕ) (f : Formula) (at next : ℕ) (node : Node) → slice_get t.nodes k ≡ Some node → IsMarked (k ∷ rest) f at next → P at ≡ false → tree_at u k ≡ made t.names (trees_of u) node
+  first_kept : (k : ℕ) (rest : List ℕ) (f : Formula) (at next : ℕ) (node : Node) → slice_get t.nodes k ≡ Some node → IsMarked (k ∷ rest) f at next
+      → P at ≡ false → tree_at u k ≡ made t.names (trees_of u) node
   first_kept k rest f at next node g h e =
       let here : at + zero ≡ at = omega arith in
       node_tree u is' k node (h.kept zero (omega arith) (ap P here ∙ e) ∙ g) ∙ ap (λ ns. made ns (trees_of u) node) names
@@ -183,7 +189,8 @@ module _ (t u : Table) (is : IsTable t.nodes t.names) (is' : IsTable u.nodes u.n
     apart = local_one P at op f h.apart;
   }
 
-  marked_left : (k : ℕ) (xs ys : List ℕ) (op : _) (f g : Formula) (at next : ℕ) → P at ≡ false → IsMarked (k ∷ (xs ++ ys)) (Binary op f g) at next → IsMarked xs f (suc at) next
+  marked_left : (k : ℕ) (xs ys : List ℕ) (op : _) (f g : Formula) (at next : ℕ) → P at ≡ false → IsMarked (k ∷ (xs ++ ys)) (Binary op f g) at next
+      → IsMarked xs f (suc at) next
   marked_left k xs ys op f g at next e h =
       let l = length-append xs ys in
       record {
@@ -192,14 +199,16 @@ module _ (t u : Table) (is : IsTable t.nodes t.names) (is' : IsTable u.nodes u.n
             let d = counts_none P at e in
             let c = count_one P at j in
             let n : next + count_in P at (suc j) ≡ next + count_in P (suc at) j = omega arith in
-            ap (slice_get u.nodes) (sym (get_or-append xs ys 0 j lt)) ∙ (h.cut (suc j) (omega arith) (subst (λ k. IsTrue (P k)) here p) ∙ ap (λ m. Some (nodes.Fresh m)) n);
+            ap (slice_get u.nodes) (sym (get_or-append xs ys 0 j lt))
+            ∙ (h.cut (suc j) (omega arith) (subst (λ k. IsTrue (P k)) here p) ∙ ap (λ m. Some (nodes.Fresh m)) n);
         kept = λ j lt p.
             let here : at + suc j ≡ suc at + j = omega arith in
             subst (λ m. slice_get u.nodes m ≡ slice_get t.nodes m) (get_or-append xs ys 0 j lt) (h.kept (suc j) (omega arith) (ap P here ∙ p));
         apart = local_left P at op f g h.apart;
       }
 
-  marked_right : (k : ℕ) (xs ys : List ℕ) (op : _) (f g : Formula) (at next : ℕ) → length xs ≡ nodes_in f → P at ≡ false → IsMarked (k ∷ (xs ++ ys)) (Binary op f g) at next
+  marked_right : (k : ℕ) (xs ys : List ℕ) (op : _) (f g : Formula) (at next : ℕ) → length xs ≡ nodes_in f
+      → P at ≡ false → IsMarked (k ∷ (xs ++ ys)) (Binary op f g) at next
       → IsMarked ys g (suc at + nodes_in f) (next + length (replaced_from P (suc at) f))
   marked_right k xs ys op f g at next long e h =
       let l = length-append xs ys in
@@ -212,15 +221,18 @@ module _ (t u : Table) (is : IsTable t.nodes t.names) (is' : IsTable u.nodes u.n
             let both = count_two P (suc at) (length xs) j in
             let first = ap (count_in P (suc at)) long in
             let second : count_in P (suc at + length xs) j ≡ count_in P (suc at + nodes_in f) j = ap (λ m. count_in P (suc at + m) j) long in
-            let n : next + count_in P at (suc (length xs + j)) ≡ next + length (replaced_from P (suc at) f) + count_in P (suc at + nodes_in f) j = omega arith in
-            ap (slice_get u.nodes) (sym (get_or-append-add xs ys j 0)) ∙ (h.cut (suc (length xs + j)) (omega arith) (subst (λ k. IsTrue (P k)) here p) ∙ ap (λ m. Some (nodes.Fresh m)) n);
+            let n : next + count_in P at (suc (length xs + j)) ≡ next + length (replaced_from P (suc at) f) + count_in P (suc at + nodes_in f) j =
+            omega arith in
+            ap (slice_get u.nodes) (sym (get_or-append-add xs ys j 0))
+            ∙ (h.cut (suc (length xs + j)) (omega arith) (subst (λ k. IsTrue (P k)) here p) ∙ ap (λ m. Some (nodes.Fresh m)) n);
         kept = λ j lt p.
             let here : at + suc (length xs + j) ≡ suc at + nodes_in f + j = omega arith in
             subst (λ m. slice_get u.nodes m ≡ slice_get t.nodes m) (get_or-append-add xs ys j 0) (h.kept (suc (length xs + j)) (omega arith) (ap P here ∙ p));
         apart = local_right P at op f g h.apart;
       }
 
-  becomes_step : (k : ℕ) (node : Node) → slice_get t.nodes k ≡ Some node → IsFine (length t.names) k node → ((j : ℕ) → j < k → Becomes j) → (at next : ℕ) → IsMarked (ordered (orders_of t) k node) (made t.names (trees_of t) node) at next
+  becomes_step : (k : ℕ) (node : Node) → slice_get t.nodes k ≡ Some node → IsFine (length t.names) k node → ((j : ℕ) → j < k → Becomes j) → (at next : ℕ)
+      → IsMarked (ordered (orders_of t) k node) (made t.names (trees_of t) node) at next
       → tree_at u k ≡ rep_from P at next (made t.names (trees_of t) node)
   unfolding Becomes
   becomes_step k (nodes.Const b) e fine all at next h = elim (cases_Bool (P at)) [
@@ -229,7 +241,8 @@ module _ (t u : Table) (is : IsTable t.nodes t.names) (is' : IsTable u.nodes u.n
   ]
   becomes_step k (nodes.Letter n) e fine all at next h = elim (cases_Bool (P at)) [
     | inl yes' ↦ first_cut k [] (made t.names (trees_of t) (nodes.Letter n)) at next h yes'
-    | inr no' ↦ first_kept k [] (made t.names (trees_of t) (nodes.Letter n)) at next (nodes.Letter n) e h no' ∙ sym (cond-false (P at) (Letter (Fresh next)) (made t.names (trees_of t) (nodes.Letter n)) no')
+    | inr no' ↦ first_kept k [] (made t.names (trees_of t) (nodes.Letter n)) at next (nodes.Letter n) e h no'
+        ∙ sym (cond-false (P at) (Letter (Fresh next)) (made t.names (trees_of t) (nodes.Letter n)) no')
   ]
   becomes_step k (nodes.Fresh n) e fine all at next h = elim (cases_Bool (P at)) [
     | inl yes' ↦ first_cut k [] (Letter (Fresh n)) at next h yes'
@@ -249,17 +262,20 @@ module _ (t u : Table) (is : IsTable t.nodes t.names) (is' : IsTable u.nodes u.n
         let la = fine.0 in
         let long = order_long t is a (omega arith) in
         let left = all a fine.0 (suc at) next (marked_left k (order_at t a) (order_at t b) op (tree_at t a) (tree_at t b) at next no' h) in
-        let right = all b fine.1 (suc at + nodes_in (tree_at t a)) (next + length (replaced_from P (suc at) (tree_at t a))) (marked_right k (order_at t a) (order_at t b) op (tree_at t a) (tree_at t b) at next long no' h) in
+        let right = all b fine.1 (suc at + nodes_in (tree_at t a)) (next + length (replaced_from P (suc at) (tree_at t a)))
+        (marked_right k (order_at t a) (order_at t b) op (tree_at t a) (tree_at t b) at next long no' h) in
         first_kept k (order_at t a ++ order_at t b) (Binary op (tree_at t a) (tree_at t b)) at next (nodes.Binary op a b) e h no'
         ∙ (ap₂ (Binary op) left right
-        ∙ sym (cond-false (P at) (Letter (Fresh next)) (Binary op (rep_from P (suc at) next (tree_at t a)) (rep_from P (suc at + nodes_in (tree_at t a)) (next + length (replaced_from P (suc at) (tree_at t a))) (tree_at t b))) no'))
+        ∙ sym (cond-false (P at) (Letter (Fresh next)) (Binary op (rep_from P (suc at) next (tree_at t a))
+        (rep_from P (suc at + nodes_in (tree_at t a)) (next + length (replaced_from P (suc at) (tree_at t a))) (tree_at t b))) no'))
   ]
 
   pub becomes : (k : ℕ) → k < length t.nodes → (at next : ℕ) → IsMarked (order_at t k) (tree_at t k) at next → tree_at u k ≡ rep_from P at next (tree_at t k)
   unfolding Becomes
   becomes = by_children t is Becomes (λ k node e fine all at next h.
       let h' : IsMarked (ordered (orders_of t) k node) (made t.names (trees_of t) node) at next =
-      subst (λ f. IsMarked (ordered (orders_of t) k node) f at next) (node_tree t is k node e) (subst (λ xs. IsMarked xs (tree_at t k) at next) (node_order t is k node e) h) in
+      subst (λ f. IsMarked (ordered (orders_of t) k node) f at next) (node_tree t is k node e)
+      (subst (λ xs. IsMarked xs (tree_at t k) at next) (node_order t is k node e) h) in
       becomes_step k node e fine all at next h' ∙ sym (ap (rep_from P at next) (node_tree t is k node e)))
 
 local_from_apart : (f : Formula) (P : Places) → AreApart f P → AreLocal P 0 f
@@ -272,7 +288,8 @@ local_from_apart f P h j lt p m low high =
     ]
 
 -- overwriting the nodes at places of P by fresh letters replaces these occurrences
-pub overwriting_replaces : (t u : Table) → IsTable t.nodes t.names → IsTable u.nodes u.names → (root : ℕ) → root < length t.nodes → (P : Places) → AreApart (tree_at t root) P → IsOverwritten t root P u
+pub overwriting_replaces : (t u : Table) → IsTable t.nodes t.names → IsTable u.nodes u.names → (root : ℕ) → root < length t.nodes → (P : Places)
+    → AreApart (tree_at t root) P → IsOverwritten t root P u
     → tree_at u root ≡ rep (tree_at t root) P
 overwriting_replaces t u is is' root lt P apart w =
     becomes t u is is' P w.names root lt 0 0 (record {
@@ -299,7 +316,8 @@ no_child p [] none = refl
 no_child p (n ∷ ns) none = or_from (p n) (list_any p ns) (none zero n refl) (no_child p ns (λ i node e. none (suc i) node e))
 
 module _ (t u : Table) (is : IsTable t.nodes t.names) (names : u.names ≡ t.names)
-    (each : (i : ℕ) → i < length u.nodes → ((n : ℕ) × (slice_get u.nodes i ≡ Some (nodes.Fresh n))) ⊎ (slice_get u.nodes i ≡ slice_get t.nodes i)) (node : Node) (at : slice_get t.nodes (length u.nodes) ≡ Some node) where
+    (each : (i : ℕ) → i < length u.nodes → ((n : ℕ) × (slice_get u.nodes i ≡ Some (nodes.Fresh n))) ⊎ (slice_get u.nodes i ≡ slice_get t.nodes i)) (node : Node)
+    (at : slice_get t.nodes (length u.nodes) ≡ Some node) where
   still_root : (a : ℕ) → a < length u.nodes → IsTrue (has_child a node) → IsRoot u a
   still_root a lt child = (
     lt,
@@ -314,12 +332,14 @@ module _ (t u : Table) (is : IsTable t.nodes t.names) (names : u.names ≡ t.nam
     ]),
   )
 
-  may_follow_by : (m : Node) → IsFine (length t.names) (length u.nodes) m → HasOrder m → ((a : ℕ) → a < length u.nodes → IsTrue (has_child a m) → IsRoot u a) → MayFollow u m
+  may_follow_by : (m : Node) → IsFine (length t.names) (length u.nodes) m → HasOrder m
+      → ((a : ℕ) → a < length u.nodes → IsTrue (has_child a m) → IsRoot u a) → MayFollow u m
   may_follow_by (nodes.Const b) fine ordered root = tt
   may_follow_by (nodes.Letter n) fine ordered root = let e = ap length names in omega arith
   may_follow_by (nodes.Fresh n) fine ordered root = tt
   may_follow_by (nodes.Unary op a) fine ordered root = (root a fine (eq-eqb a a refl), ordered)
-  may_follow_by (nodes.Binary op a b) fine ordered root = (root a fine.0 (or_left (a == a) (b == a) (eq-eqb a a refl)), root b fine.1 (or_right (a == b) (b == b) (eq-eqb b b refl)), fine.2)
+  may_follow_by (nodes.Binary op a b) fine ordered root =
+      (root a fine.0 (or_left (a == a) (b == a) (eq-eqb a a refl)), root b fine.1 (or_right (a == b) (b == b) (eq-eqb b b refl)), fine.2)
 
   pub may_follow : MayFollow u node
   may_follow = may_follow_by node (node_fine t is (length u.nodes) node at) (order_at_node t.nodes is.ordered (length u.nodes) node at) still_root

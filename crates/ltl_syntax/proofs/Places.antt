@@ -1,9 +1,12 @@
 -- The formula at a place, what adding a place keeps, and which places are kept as they are gone over in order.
-use Rattle.std.proofs.Common.{◌≡◌, ℕ, zero, suc, ◌+◌, ◌-◌, ◌<◌, ◌≤◌, ◌⊎◌, inl, inr, subst, ap, ap₂, arith, sym, refl, ◌∙◌, Bool, true, false, not, ◌&&◌, ◌==◌, IsTrue, IsFalse, ltb, lt-ltb, le-ltb, eq-eqb, [], ◌∷◌}
-use Rattle.std.proofs.lemmas.Bool.{cases_Bool, cases_lt, cases_order, cond-true, cond-false, ltb-true, eqb-true, and_parts, and_from, or_cases, or_left, or_right, not_from_false, not-true}
+use Rattle.std.proofs.Common.{◌≡◌, ℕ, zero, suc, ◌+◌, ◌-◌, ◌<◌, ◌≤◌, ◌⊎◌, inl, inr, subst, ap, ap₂, arith, sym, refl, ◌∙◌, Bool, true, false, not, ◌&&◌, ◌==◌}
+use Rattle.std.proofs.Common.{IsTrue, IsFalse, ltb, lt-ltb, le-ltb, eq-eqb, [], ◌∷◌}
+use Rattle.std.proofs.lemmas.Bool.{cases_Bool, cases_lt, cases_order, cond-true, cond-false, ltb-true, eqb-true, and_parts, and_from, or_cases, or_left}
+use Rattle.std.proofs.lemmas.Bool.{or_right, not_from_false, not-true}
 use mathlib.Core.Path.{fun_ext}
 use Rattle.ltl_syntax.specs.Formula.{Fresh, Formula, Const, Letter, Unary, Binary, nodes_in}
-use Rattle.ltl_syntax.specs.Replacement.{Places, nowhere, AreSame, part_at, size_at, IsUnder, is_under, replaced_from, rep_from, rep, AreApart, IsKept, IsClear, added}
+use Rattle.ltl_syntax.specs.Replacement.{Places, nowhere, AreSame, part_at, size_at, IsUnder, is_under, replaced_from, rep_from, rep, AreApart, IsKept, IsClear}
+use Rattle.ltl_syntax.specs.Replacement.{added}
 
 -- ---- sets
 
@@ -68,7 +71,8 @@ part_of_part (Binary op a b) (suc n) j lt = elim (cases_lt n (nodes_in a)) [
       let lt' : j < nodes_in (part_at b (n - nodes_in a)) = subst (λ g. j < nodes_in g) e lt in
       let here : suc n + j ≡ suc (n + j) = omega arith in
       let there : n + j - nodes_in a ≡ n - nodes_in a + j = omega arith in
-      ap (part_at (Binary op a b)) here ∙ (part_right op a b (n + j) (omega arith) ∙ (ap (part_at b) there ∙ (part_of_part b (n - nodes_in a) j lt' ∙ sym (ap (λ g. part_at g j) e))))
+      ap (part_at (Binary op a b)) here
+      ∙ (part_right op a b (n + j) (omega arith) ∙ (ap (part_at b) there ∙ (part_of_part b (n - nodes_in a) j lt' ∙ sym (ap (λ g. part_at g j) e))))
 ]
 
 -- ---- under
@@ -105,10 +109,11 @@ module _ (f : Formula) where
     added_self = or_left (n == n) (P n && not (is_under f n n)) (eq-eqb n n refl)
 
     pub added_other : (k : ℕ) → IsTrue (P k) → (IsUnder f k n → ⊥) → IsTrue (added f P n k)
-    added_other k p h = or_right (k == n) (P k && not (is_under f k n)) (and_from (P k) (not (is_under f k n)) p (not_from_false (is_under f k n) (elim (cases_Bool (is_under f k n)) [
-      | inl e ↦ absurd (h (under_true k n e))
-      | inr e ↦ e
-    ])))
+    added_other k p h = or_right (k == n) (P k && not (is_under f k n))
+        (and_from (P k) (not (is_under f k n)) p (not_from_false (is_under f k n) (elim (cases_Bool (is_under f k n)) [
+          | inl e ↦ absurd (h (under_true k n e))
+          | inr e ↦ e
+        ])))
 
     pub added_cases : (k : ℕ) → IsTrue (added f P n k) → (k ≡ n) ⊎ (IsTrue (P k) × (IsUnder f k n → ⊥))
     added_cases k e = elim (or_cases (k == n) (P k && not (is_under f k n)) e) [
@@ -166,23 +171,26 @@ same_test true b h k = sym (h refl)
 same_test false true h k = k refl
 same_test false false h k = refl
 
-pub added_by_marks : (f : Formula) (P Q : Places) (n : ℕ) → IsTrue (Q n) → ((k : ℕ) → n < k → k < n + size_at f n → IsFalse (Q k)) → ((k : ℕ) → k < n → Q k ≡ P k) → ((k : ℕ) → n + size_at f n ≤ k → Q k ≡ P k) → AreSame Q (added f P n)
+pub added_by_marks : (f : Formula) (P Q : Places) (n : ℕ) → IsTrue (Q n) → ((k : ℕ) → n < k → k < n + size_at f n → IsFalse (Q k))
+    → ((k : ℕ) → k < n → Q k ≡ P k) → ((k : ℕ) → n + size_at f n ≤ k → Q k ≡ P k) → AreSame Q (added f P n)
 added_by_marks f P Q n here under before behind k = elim (cases_order k n) [
   | inl same ↦ subst (λ z. Q z ≡ added f P n z) (sym same) (here ∙ sym (added_self f P n))
   | inr w ↦ elim w [
-    | inl lt ↦ same_test (Q k) (added f P n k) (λ q. added_other f P n k (sym (before k lt) ∙ q) (λ u. let a = u.0 in omega arith)) (λ a. elim (added_cases f P n k a) [
-      | inl same ↦ absurd (omega arith)
-      | inr v ↦ before k lt ∙ v.0
-    ])
+    | inl lt ↦ same_test (Q k) (added f P n k) (λ q. added_other f P n k (sym (before k lt) ∙ q) (λ u. let a = u.0 in omega arith))
+        (λ a. elim (added_cases f P n k a) [
+          | inl same ↦ absurd (omega arith)
+          | inr v ↦ before k lt ∙ v.0
+        ])
     | inr gt ↦ elim (cases_lt k (n + size_at f n)) [
       | inl inside ↦ same_test (Q k) (added f P n k) (λ q. let x = under k gt inside in cc) (λ a. elim (added_cases f P n k a) [
         | inl same ↦ absurd (omega arith)
         | inr v ↦ absurd (v.1 (gt, inside))
       ])
-      | inr past ↦ same_test (Q k) (added f P n k) (λ q. added_other f P n k (sym (behind k past) ∙ q) (λ u. let a = u.1 in omega arith)) (λ a. elim (added_cases f P n k a) [
-        | inl same ↦ absurd (omega arith)
-        | inr v ↦ behind k past ∙ v.0
-      ])
+      | inr past ↦ same_test (Q k) (added f P n k) (λ q. added_other f P n k (sym (behind k past) ∙ q) (λ u. let a = u.1 in omega arith))
+          (λ a. elim (added_cases f P n k a) [
+            | inl same ↦ absurd (omega arith)
+            | inr v ↦ behind k past ∙ v.0
+          ])
     ]
   ]
 ]

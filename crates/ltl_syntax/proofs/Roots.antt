@@ -1,5 +1,6 @@
 -- A node that was just pushed is a root, and so are the roots that are not its children.
-use Rattle.std.proofs.Common.{◌≡◌, ℕ, ◌+◌, ◌<◌, ◌≤◌, Bool, true, false, not, ◌||◌, ◌&&◌, ◌==◌, List, [], ◌∷◌, ◌++◌, length, get_or, refl, sym, ◌∙◌, ap, ap₂, arith, length-append, ◌⊎◌, inl, inr}
+use Rattle.std.proofs.Common.{◌≡◌, ℕ, ◌+◌, ◌<◌, ◌≤◌, Bool, true, false, not, ◌||◌, ◌&&◌, ◌==◌, List, [], ◌∷◌, ◌++◌, length, get_or, refl, sym, ◌∙◌, ap, ap₂}
+use Rattle.std.proofs.Common.{arith, length-append, ◌⊎◌, inl, inr}
 use Rattle.std.proofs.lemmas.Bool.{cases_lt}
 use Rattle.std.proofs.Math.ListN.{get_or-append}
 use Rattle.std.proofs.Math.Seq.{get_or-append_seam}
@@ -26,13 +27,17 @@ fine_above : (m place : ℕ) (ns : List Node) (k : ℕ) → AreFine m place ns �
 fine_above m place [] k f le = refl
 fine_above m place (n ∷ ns) k f le = ap₂ (λ p q. p || q) (node_above m place n k f.0 (omega arith)) (fine_above m (place + 1) ns k f.1 (omega arith))
 
-pub root_pushed : (t : Table) (node : Node) → IsTable t.nodes t.names → MayFollow t node → IsRoot (record { nodes = t.nodes ++ node ∷ []; names = t.names }) (length t.nodes)
+pub root_pushed : (t : Table) (node : Node) → IsTable t.nodes t.names → MayFollow t node
+    → IsRoot (record { nodes = t.nodes ++ node ∷ []; names = t.names }) (length t.nodes)
 root_pushed t node is may = (
   omega (arith, length-append t.nodes (node ∷ [])),
-  list_any-append (has_child (length t.nodes)) t.nodes (node ∷ []) ∙ ap₂ (λ p q. p || q) (fine_above (length t.names) 0 t.nodes (length t.nodes) is.fine (omega arith)) (ap (λ p. p || false) (node_above (length t.names) (length t.nodes) node (length t.nodes) (fine_node t node may) (omega arith))),
+  list_any-append (has_child (length t.nodes)) t.nodes (node ∷ [])
+      ∙ ap₂ (λ p q. p || q) (fine_above (length t.names) 0 t.nodes (length t.nodes) is.fine (omega arith))
+      (ap (λ p. p || false) (node_above (length t.names) (length t.nodes) node (length t.nodes) (fine_node t node may) (omega arith))),
 )
 
-roots_pushed : (t : Table) (node : Node) (number : ℕ) → IsRoot t number → has_child number node ≡ false → IsRoot (record { nodes = t.nodes ++ node ∷ []; names = t.names }) number
+roots_pushed : (t : Table) (node : Node) (number : ℕ) → IsRoot t number
+    → has_child number node ≡ false → IsRoot (record { nodes = t.nodes ++ node ∷ []; names = t.names }) number
 roots_pushed t node number root none = (
   omega (arith, root.0, length-append t.nodes (node ∷ [])),
   list_any-append (has_child number) t.nodes (node ∷ []) ∙ ap₂ (λ p q. p || q) root.1 (ap (λ p. p || false) none),
@@ -63,7 +68,8 @@ flags_pushed t node flags after is may were count each = record {
   count = omega (arith, count, were.count, length-append t.nodes (node ∷ []), length-append flags (true ∷ []));
   each = λ i h. at i (cases_lt i (length t.nodes)) h;
 } where
-  at : (i : ℕ) → (i < length t.nodes) ⊎ (length t.nodes ≤ i) → i < length (t.nodes ++ node ∷ []) → get_or after i false ≡ not (list_any (has_child i) (t.nodes ++ node ∷ []))
+  at : (i : ℕ) → (i < length t.nodes) ⊎ (length t.nodes ≤ i) → i < length (t.nodes ++ node ∷ [])
+      → get_or after i false ≡ not (list_any (has_child i) (t.nodes ++ node ∷ []))
   at i (inl lt) h =
       let within : i < length flags = rw were.count lt in
       each i

@@ -1,5 +1,6 @@
 -- A table stays a table when a node or a name is added.
-use Rattle.std.proofs.Common.{◌≡◌, ◌≢◌, ℕ, suc, ◌+◌, ◌<◌, ◌≤◌, Bool, true, false, ◌||◌, ◌==◌, List, [], ◌∷◌, ◌++◌, length, get_or, Some, refl, sym, ◌∙◌, ap, subst, arith, length-append, slice_get, cond, ◌⊎◌, inl, inr}
+use Rattle.std.proofs.Common.{◌≡◌, ◌≢◌, ℕ, suc, ◌+◌, ◌<◌, ◌≤◌, Bool, true, false, ◌||◌, ◌==◌, List, [], ◌∷◌, ◌++◌, length, get_or, Some, refl, sym, ◌∙◌, ap}
+use Rattle.std.proofs.Common.{subst, arith, length-append, slice_get, cond, ◌⊎◌, inl, inr}
 use Rattle.std.specs.List.{list_any, count_by}
 use Rattle.std.proofs.lemmas.Bool.{eqb-true, cases_lt}
 use Rattle.std.proofs.lemmas.Grind.{common_steps}
@@ -49,7 +50,8 @@ fine_push m place (x ∷ ns) n f g =
 single_push : (t : Table) (node : Node) → IsTable t.nodes t.names → MayFollow t node → (number : ℕ) → count_by (has_child number) (t.nodes ++ node ∷ []) ≤ 1
 single_push t node is may number = rw (count_by-push (has_child number) t.nodes node) (by_cases (has_child number node) refl) where
   by_cases : (b : Bool) → has_child number node ≡ b → count_by (has_child number) t.nodes + cond b 1 0 ≤ 1
-  by_cases true e = let none : count_by (has_child number) t.nodes ≡ 0 = none_counted (has_child number) t.nodes (child_is_root t node may number e) in omega arith
+  by_cases true e = let none : count_by (has_child number) t.nodes ≡ 0 =
+      none_counted (has_child number) t.nodes (child_is_root t node may number e) in omega arith
   by_cases false e = let one : count_by (has_child number) t.nodes ≤ 1 = is.single number in omega arith
 
 order_node : (t : Table) (node : Node) → MayFollow t node → HasOrder node
@@ -59,7 +61,8 @@ order_node t (nodes.Fresh n) may = tt
 order_node t (nodes.Unary op a) may = may.1
 order_node t (nodes.Binary op a b) may = tt
 
-pub is_table-push : (t : Table) (node : Node) → IsTable t.nodes t.names → MayFollow t node → sizes t.nodes + node_size node ≤ 16384 → IsTable (t.nodes ++ node ∷ []) t.names
+pub is_table-push : (t : Table) (node : Node) → IsTable t.nodes t.names → MayFollow t node
+    → sizes t.nodes + node_size node ≤ 16384 → IsTable (t.nodes ++ node ∷ []) t.names
 is_table-push t node is may room = record {
   few = let small : sizes (t.nodes ++ node ∷ []) ≤ 16384 = omega (arith, sizes-push t.nodes node) in omega (arith, length-sizes (t.nodes ++ node ∷ []), small);
   small = omega (arith, sizes-push t.nodes node);
@@ -71,7 +74,8 @@ is_table-push t node is may room = record {
   plain = is.plain;
 }
 
-trees_of-push : (t : Table) (node : Node) → trees_of (record { nodes = t.nodes ++ node ∷ []; names = t.names }) ≡ trees_of t ++ made t.names (trees_of t) node ∷ []
+trees_of-push : (t : Table) (node : Node)
+    → trees_of (record { nodes = t.nodes ++ node ∷ []; names = t.names }) ≡ trees_of t ++ made t.names (trees_of t) node ∷ []
 unfolding trees_of
 trees_of-push t node = trees_after-push t.names [] t.nodes node
 
@@ -79,11 +83,14 @@ length-trees_of : (t : Table) → length (trees_of t) ≡ length t.nodes
 unfolding trees_of
 length-trees_of t = length-trees_after t.names [] t.nodes ∙ omega arith
 
-pub tree_pushed : (t : Table) (node : Node) → tree_at (record { nodes = t.nodes ++ node ∷ []; names = t.names }) (length t.nodes) ≡ made t.names (trees_of t) node
+pub tree_pushed : (t : Table) (node : Node)
+    → tree_at (record { nodes = t.nodes ++ node ∷ []; names = t.names }) (length t.nodes) ≡ made t.names (trees_of t) node
 tree_pushed t node = rw (trees_of-push t node, ← length-trees_of t) (get_or-append_seam (trees_of t) (made t.names (trees_of t) node) [] (Const false))
 
-pub others_pushed : (t : Table) (node : Node) (number : ℕ) → number < length t.nodes → tree_at (record { nodes = t.nodes ++ node ∷ []; names = t.names }) number ≡ tree_at t number
-others_pushed t node number h = rw (trees_of-push t node) (get_or-append (trees_of t) (made t.names (trees_of t) node ∷ []) (Const false) number (rw length-trees_of h))
+pub others_pushed : (t : Table) (node : Node) (number : ℕ) → number < length t.nodes
+    → tree_at (record { nodes = t.nodes ++ node ∷ []; names = t.names }) number ≡ tree_at t number
+others_pushed t node number h =
+    rw (trees_of-push t node) (get_or-append (trees_of t) (made t.names (trees_of t) node ∷ []) (Const false) number (rw length-trees_of h))
 
 fine_more : (m m' place : ℕ) (ns : List Node) → m ≤ m' → AreFine m place ns → AreFine m' place ns
 fine_more m m' place [] le f = tt
@@ -95,7 +102,8 @@ fine_more m m' place (n ∷ ns) le f = (one n f.0, fine_more m m' (place + 1) ns
   one (nodes.Unary op a) g = g
   one (nodes.Binary op a b) g = g
 
-made_more : (names : List (List ℕ)) (text : List ℕ) (trees : List Formula) (place : ℕ) (n : Node) → IsFine (length names) place n → made (names ++ text ∷ []) trees n ≡ made names trees n
+made_more : (names : List (List ℕ)) (text : List ℕ) (trees : List Formula) (place : ℕ) (n : Node) → IsFine (length names) place n
+    → made (names ++ text ∷ []) trees n ≡ made names trees n
 made_more names text trees place (nodes.Const b) f = refl
 made_more names text trees place (nodes.Letter k) f = ap (λ n. Letter (Name n)) (get_or-append names (text ∷ []) [] k f)
 made_more names text trees place (nodes.Fresh k) f = refl
@@ -113,7 +121,8 @@ trees_after-names names text trees place (n ∷ ns) f =
 name_cases : (names : List (List ℕ)) (text : List ℕ) (i : ℕ) → i < length (names ++ text ∷ []) →
     ((i < length names) × (get_or (names ++ text ∷ []) i [] ≡ get_or names i [])) ⊎ ((i ≡ length names) × (get_or (names ++ text ∷ []) i [] ≡ text))
 name_cases names text i h = choose (cases_lt i (length names)) where
-  choose : (i < length names) ⊎ (length names ≤ i) → ((i < length names) × (get_or (names ++ text ∷ []) i [] ≡ get_or names i [])) ⊎ ((i ≡ length names) × (get_or (names ++ text ∷ []) i [] ≡ text))
+  choose : (i < length names) ⊎ (length names ≤ i)
+      → ((i < length names) × (get_or (names ++ text ∷ []) i [] ≡ get_or names i [])) ⊎ ((i ≡ length names) × (get_or (names ++ text ∷ []) i [] ≡ text))
   choose (inl lt) = inl (lt, get_or-append names (text ∷ []) [] i lt)
   choose (inr le) = let e : i ≡ length names = omega (arith, length-append names (text ∷ [])) in inr (e, rw e (get_or-append_seam names text [] []))
 
@@ -129,11 +138,13 @@ is_table-name t text is room plain new = record {
   distinct = λ i j lt h. differ i j lt (name_cases t.names text j h);
   plain = λ i h. each i (name_cases t.names text i h);
 } where
-  differ : (i j : ℕ) → i < j → ((j < length t.names) × (get_or (t.names ++ text ∷ []) j [] ≡ get_or t.names j [])) ⊎ ((j ≡ length t.names) × (get_or (t.names ++ text ∷ []) j [] ≡ text)) → get_or (t.names ++ text ∷ []) i [] ≢ get_or (t.names ++ text ∷ []) j []
+  differ : (i j : ℕ) → i < j → ((j < length t.names) × (get_or (t.names ++ text ∷ []) j [] ≡ get_or t.names j []))
+      ⊎ ((j ≡ length t.names) × (get_or (t.names ++ text ∷ []) j [] ≡ text)) → get_or (t.names ++ text ∷ []) i [] ≢ get_or (t.names ++ text ∷ []) j []
   differ i j lt (inl w) e = let here : i < length t.names = omega arith in is.distinct i j lt w.0 (sym (get_or-append t.names (text ∷ []) [] i here) ∙ e ∙ w.1)
   differ i j lt (inr w) e = let here : i < length t.names = omega arith in new i here (sym (get_or-append t.names (text ∷ []) [] i here) ∙ e ∙ w.1)
 
-  each : (i : ℕ) → ((i < length t.names) × (get_or (t.names ++ text ∷ []) i [] ≡ get_or t.names i [])) ⊎ ((i ≡ length t.names) × (get_or (t.names ++ text ∷ []) i [] ≡ text)) → IsPlain (get_or (t.names ++ text ∷ []) i [])
+  each : (i : ℕ) → ((i < length t.names) × (get_or (t.names ++ text ∷ []) i [] ≡ get_or t.names i []))
+      ⊎ ((i ≡ length t.names) × (get_or (t.names ++ text ∷ []) i [] ≡ text)) → IsPlain (get_or (t.names ++ text ∷ []) i [])
   each i (inl w) = subst IsPlain (sym w.1) (is.plain i w.0)
   each i (inr w) = subst IsPlain (sym w.1) plain
 
@@ -152,7 +163,8 @@ names_added t text is new = record {
   slice_get_seam (y ∷ names) x = slice_get_seam names x
 
 -- a name that is there keeps its number
-pub names_kept : (t : Table) (text : List ℕ) → IsTable t.nodes t.names → (number : ℕ) → number < length t.names → get_or t.names number [] ≡ text → Names t text number t
+pub names_kept : (t : Table) (text : List ℕ) → IsTable t.nodes t.names → (number : ℕ) → number < length t.names
+    → get_or t.names number [] ≡ text → Names t text number t
 names_kept t text is number there same = record {
   nodes = refl;
   known = λ i h e. (one i h e (cases_lt i number) (cases_lt number i), refl);

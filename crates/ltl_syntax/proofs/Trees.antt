@@ -8,7 +8,8 @@ use Rattle.ltl_syntax.specs.Formula.{Formula, Const, Unary}
 use Rattle.ltl_syntax.specs.Table.{Table, tree_among, made, trees_after, trees_of, tree_at, IsFine, AreFine, IsTable}
 
 -- a node makes the same tree where the trees before its place are the same
-made_same : (names : List (List ℕ)) (m place : ℕ) (old new : List Formula) → ((i : ℕ) → i < place → tree_among new i ≡ tree_among old i) → (node : Node) → IsFine m place node → made names new node ≡ made names old node
+made_same : (names : List (List ℕ)) (m place : ℕ) (old new : List Formula) → ((i : ℕ) → i < place → tree_among new i ≡ tree_among old i) → (node : Node)
+    → IsFine m place node → made names new node ≡ made names old node
 made_same names m place old new same (nodes.Const b) f = refl
 made_same names m place old new same (nodes.Letter n) f = refl
 made_same names m place old new same (nodes.Fresh n) f = refl
@@ -16,14 +17,16 @@ made_same names m place old new same (nodes.Unary op a) f = ap (Unary op) (same 
 made_same names m place old new same (nodes.Binary op a b) f = rw (same a f.0, same b f.1) refl
 
 -- the trees that are there stay at their places
-pub kept : (names : List (List ℕ)) (trees : List Formula) (ns : List Node) (i : ℕ) → i < length trees → tree_among (trees_after names trees ns) i ≡ tree_among trees i
+pub kept : (names : List (List ℕ)) (trees : List Formula) (ns : List Node) (i : ℕ) → i < length trees
+    → tree_among (trees_after names trees ns) i ≡ tree_among trees i
 kept names trees [] i h = refl
 kept names trees (n ∷ ns) i h =
     kept names (trees ++ made names trees n ∷ []) ns i (omega (arith, length-append trees (made names trees n ∷ [])))
     ∙ get_or-append trees (made names trees n ∷ []) (Const false) i h
 
 -- the tree at a node's place is what it makes of all the trees
-pub tree_after : (names : List (List ℕ)) (m : ℕ) (trees : List Formula) (ns : List Node) → AreFine m (length trees) ns → (k : ℕ) (node : Node) → slice_get ns k ≡ Some node
+pub tree_after : (names : List (List ℕ)) (m : ℕ) (trees : List Formula) (ns : List Node) → AreFine m (length trees) ns → (k : ℕ) (node : Node)
+    → slice_get ns k ≡ Some node
     → tree_among (trees_after names trees ns) (length trees + k) ≡ made names (trees_after names trees ns) node
 tree_after names m trees [] f k node e = absurd (cc)
 tree_after names m trees (n ∷ ns) f zero node e =
@@ -62,7 +65,8 @@ fine_at m place (n ∷ ns) f (suc k) node e =
     rw (← moved) (fine_at m (place + 1) ns f.1 k node e)
 
 -- the laws of a table as a whole
-pub node_tree : (t : Table) → IsTable t.nodes t.names → (number : ℕ) (node : Node) → slice_get t.nodes number ≡ Some node → tree_at t number ≡ made t.names (trees_of t) node
+pub node_tree : (t : Table) → IsTable t.nodes t.names → (number : ℕ) (node : Node) → slice_get t.nodes number ≡ Some node
+    → tree_at t number ≡ made t.names (trees_of t) node
 unfolding trees_of
 node_tree t is number node e =
     let zeroth : 0 + number ≡ number = omega arith in

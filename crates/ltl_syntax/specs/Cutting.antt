@@ -27,4 +27,5 @@ AreFreshOrSame old new = (length new ≡ length old)
 pub record AreCut (order : List ℕ) (P : Places) (count : ℕ) (old new : List Node) : Type 0 where
   pub each : AreFreshOrSame old new
   pub cut : (n : ℕ) → n < count → IsTrue (P n) → slice_get new (slice_index_or order n 0) ≡ Some (nodes.Fresh (count_in P 0 n))
-  pub kept : (number : ℕ) → number < length old → ((n : ℕ) → n < count → IsTrue (P n) → slice_index_or order n 0 ≡ number → ⊥) → slice_get new number ≡ slice_get old number
+  pub kept : (number : ℕ) → number < length old → ((n : ℕ) → n < count → IsTrue (P n) → slice_index_or order n 0 ≡ number → ⊥)
+      → slice_get new number ≡ slice_get old number

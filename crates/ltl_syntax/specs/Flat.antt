@@ -1,5 +1,6 @@
 -- The places of a formula in a table: the numbers of its nodes, in the order of their places.
-use Rattle.std.specs.Prelude.{◌≡◌, Bool, true, false, ℕ, zero, suc, ◌+◌, ◌<◌, ◌&&◌, ◌==◌, nat_lt, cond, List, [], ◌∷◌, ◌++◌, length, slice_index_or, slice_get, Some, IsTrue}
+use Rattle.std.specs.Prelude.{◌≡◌, Bool, true, false, ℕ, zero, suc, ◌+◌, ◌<◌, ◌&&◌, ◌==◌, nat_lt, cond, List, [], ◌∷◌, ◌++◌, length, slice_index_or, slice_get}
+use Rattle.std.specs.Prelude.{Some, IsTrue}
 use Rattle.std.specs.List.{list_any}
 use Rattle.ltl_syntax.specs.declared.node.Node.{Node}
 use Rattle.ltl_syntax.specs.declared.node.Node.TheVariants as nodes
@@ -55,4 +56,5 @@ count_in P at (suc n) = count_in P at n + cond (P (at + n)) 1 0
 pub record IsOverwritten (t : Table) (root : ℕ) (P : Places) (u : Table) : Type 0 where
   pub names : u.names ≡ t.names
   pub cut : (n : ℕ) → n < length (order_at t root) → IsTrue (P n) → slice_get u.nodes (node_at t root n) ≡ Some (nodes.Fresh (count_in P 0 n))
-  pub kept : (number : ℕ) → number < length t.nodes → ((n : ℕ) → n < length (order_at t root) → IsTrue (P n) → node_at t root n ≡ number → ⊥) → slice_get u.nodes number ≡ slice_get t.nodes number
+  pub kept : (number : ℕ) → number < length t.nodes → ((n : ℕ) → n < length (order_at t root) → IsTrue (P n) → node_at t root n ≡ number → ⊥)
+      → slice_get u.nodes number ≡ slice_get t.nodes number

@@ -3,7 +3,8 @@ use Rattle.std.proofs.Common.{◌≡◌, ℕ, zero, suc, ◌⊎◌, inl, inr, �
 use Rattle.ltl_word.specs.Claims.{Claim, AtNext, AtWeakNext, IsUntil, IsReleased, IsSince, IsTriggered, AtYesterday, AtWeakYesterday, Always', Never}
 use Rattle.ltl_word.proofs.Search.{IsDecided, ¬_decided}
 use Rattle.ltl_word.proofs.Expansion.{IsClosed}
-use Rattle.ltl_word.proofs.Duality.{Negated, HasHorizon, Released-from_no_until, no_release-from_until, no_until-from_release, Released-from_not, Since_decided, Triggered-from_no_since, no_trigger-from_since, no_since-from_trigger, Triggered-from_not, Until_decided}
+use Rattle.ltl_word.proofs.Duality.{Negated, HasHorizon, Released-from_no_until, no_release-from_until, no_until-from_release, Released-from_not, Since_decided}
+use Rattle.ltl_word.proofs.Duality.{Triggered-from_no_since, no_trigger-from_since, no_since-from_trigger, Triggered-from_not, Until_decided}
 
 -- claims are compared at the numbers that have Q: all positions, and with each number those before it
 pub record IsRange (P Q : Claim) : Type 0 where
@@ -160,14 +161,16 @@ module _ {P Q : Claim} (range : IsRange P Q) where
   }
 
   -- the release of what is not is what is no until
-  pub Same-no_until : (A B C D : Claim) → IsDecided A → IsDecided B → Same Q C (Negated A) → Same Q D (Negated B) → Same Q (IsReleased P C D) (Negated (IsUntil P A B))
+  pub Same-no_until : (A B C D : Claim) → IsDecided A → IsDecided B → Same Q C (Negated A) → Same Q D (Negated B)
+      → Same Q (IsReleased P C D) (Negated (IsUntil P A B))
   Same-no_until A B C D da db f g = record {
     to = λ i q r u. no_until-from_release P A B i (Released-maps range C D _ _ f.to g.to i q r) u;
     back = λ i q h. Released-maps range _ _ C D f.back g.back i q (Released-from_not P A B da db i h);
   }
 
   -- the until of what is not is what is no release
-  pub Same-no_release : (A B C D : Claim) → IsDecided P → IsDecided A → IsDecided B → ((i : ℕ) → HasHorizon P (Negated A) (Negated B) i) → Same Q C (Negated A) → Same Q D (Negated B)
+  pub Same-no_release : (A B C D : Claim) → IsDecided P → IsDecided A → IsDecided B → ((i : ℕ) → HasHorizon P (Negated A) (Negated B) i) → Same Q C (Negated A)
+      → Same Q D (Negated B)
       → Same Q (IsUntil P C D) (Negated (IsReleased P A B))
   Same-no_release A B C D dp da db near f g = record {
     to = λ i q u r. no_release-from_until P A B i (Until-maps range C D _ _ f.to g.to i q u) r;

@@ -3,7 +3,8 @@ use Rattle.std.proofs.Common.{◌≡◌, ℕ, suc, ◌+◌, ◌*◌, ◌-◌, �
 use Rattle.std.proofs.lemmas.Bool.{cases_lt}
 use Rattle.std.proofs.Math.Nat.{mul-le-mul_left}
 use native.Mathlib.Decide.{dec_le}
-use Rattle.ltl_word.specs.Claims.{Claim, AtNext, AtWeakNext, AtYesterday, AtWeakYesterday, AtNextTimes, AtYesterdayTimes, IsEventuallyIn, IsAlwaysIn, IsOnceIn, IsHistoricallyIn}
+use Rattle.ltl_word.specs.Claims.{Claim, AtNext, AtWeakNext, AtYesterday, AtWeakYesterday, AtNextTimes, AtYesterdayTimes, IsEventuallyIn, IsAlwaysIn, IsOnceIn}
+use Rattle.ltl_word.specs.Claims.{IsHistoricallyIn}
 use Rattle.ltl_word.proofs.Search.{IsDecided, ¬_decided, ×_decided, mapped, first_or_none}
 use Rattle.ltl_word.proofs.Expansion.{IsClosed}
 use Rattle.ltl_word.proofs.Duality.{Negated}

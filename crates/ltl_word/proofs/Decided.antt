@@ -2,7 +2,8 @@
 use Rattle.std.proofs.Common.{ℕ, ◌+◌, ◌*◌, arith, length}
 use native.Mathlib.Decide.{dec_lt}
 use Rattle.ltl_syntax.specs.Formula.{Formula, Const, Letter, Unary, Binary}
-use Rattle.ltl_syntax.specs.declared.node.UnaryOp.TheVariants.{Always, AlwaysIn, Eventually, EventuallyIn, Historically, HistoricallyIn, Next, NextTimes, Not, Once, OnceIn, WeakNext, WeakYesterday, Yesterday, YesterdayTimes}
+use Rattle.ltl_syntax.specs.declared.node.UnaryOp.TheVariants.{Always, AlwaysIn, Eventually, EventuallyIn, Historically, HistoricallyIn, Next, NextTimes, Not}
+use Rattle.ltl_syntax.specs.declared.node.UnaryOp.TheVariants.{Once, OnceIn, WeakNext, WeakYesterday, Yesterday, YesterdayTimes}
 use Rattle.ltl_syntax.specs.declared.node.BinaryOp.TheVariants.{And, Iff, Implies, Or, Release, Since, StrongRelease, Trigger, Until, WeakUntil}
 use Rattle.ltl_word.specs.declared.trace.Trace.{Trace}
 use Rattle.ltl_word.specs.declared.trace.Trace.TheVariants.{Infinite, Finite}
@@ -15,7 +16,8 @@ use Rattle.ltl_word.proofs.Periodicity.{Holds-repeats, Position-repeats}
 use Rattle.ltl_word.proofs.Search.{IsDecided, ¬_decided, ×_decided, ⊎_decided, →_decided, IsTrue_decided, Contains_decided}
 use Rattle.ltl_word.proofs.Expansion.{IsClosed}
 use Rattle.ltl_word.proofs.Bounded.{EventuallyIn_decided, AlwaysIn_decided, OnceIn_decided, HistoricallyIn_decided, NextTimes_decided, YesterdayTimes_decided}
-use Rattle.ltl_word.proofs.Duality.{HasHorizon, Until_decided, Released_decided, Since_decided, Triggered_decided, Next_decided, WeakNext_decided, Yesterday_decided, WeakYesterday_decided, Always_decided, Never_decided}
+use Rattle.ltl_word.proofs.Duality.{HasHorizon, Until_decided, Released_decided, Since_decided, Triggered_decided, Next_decided, WeakNext_decided}
+use Rattle.ltl_word.proofs.Duality.{Yesterday_decided, WeakYesterday_decided, Always_decided, Never_decided}
 
 -- what stands before a position is one
 pub position_below : (t : Trace) → IsClosed (IsPosition t)
@@ -29,7 +31,8 @@ Position_decided (Finite states) i = dec_lt i (length states)
 -- until has a horizon on each trace: a period after which its right operand repeats, or the end
 pub horizon : (t : Trace) → IsTrace t → (A : Claim) (b : Formula) (i : ℕ) → HasHorizon (IsPosition t) A (Holds t b) i
 horizon (Infinite stem loop_part) some A b i =
-    horizon_of_period _ A _ (length loop_part) (length stem + past_depth b * length loop_part) some (Position-repeats stem loop_part some _) (Holds-repeats stem loop_part some b (past_depth b) (omega arith)) i
+    horizon_of_period _ A _ (length loop_part) (length stem + past_depth b * length loop_part) some (Position-repeats stem loop_part some _)
+    (Holds-repeats stem loop_part some b (past_depth b) (omega arith)) i
 horizon (Finite states) some A b i = (length states, λ w. (w.0, w.2, w.1, w.2, w.3, w.4))
 
 module _ (t : Trace) (good : IsTrace t) where
@@ -57,7 +60,9 @@ module _ (t : Trace) (good : IsTrace t) where
   Holds_decided (Binary Iff a b) i = ×_decided (→_decided (Holds_decided a i) (Holds_decided b i)) (→_decided (Holds_decided b i) (Holds_decided a i))
   Holds_decided (Binary Until a b) i = Until_decided _ _ _ (Position_decided t) (Holds_decided a) (Holds_decided b) i (horizon t good _ b i)
   Holds_decided (Binary Release a b) i = Released_decided _ _ _ (Position_decided t) (Holds_decided a) (Holds_decided b) i (horizon t good _ (Unary Not b) i)
-  Holds_decided (Binary WeakUntil a b) i = Released_decided _ _ _ (Position_decided t) (Holds_decided b) (λ j. ⊎_decided (Holds_decided a j) (Holds_decided b j)) i (horizon t good _ (Unary Not (Binary Or a b)) i)
-  Holds_decided (Binary StrongRelease a b) i = Until_decided _ _ _ (Position_decided t) (Holds_decided b) (λ j. ×_decided (Holds_decided a j) (Holds_decided b j)) i (horizon t good _ (Binary And a b) i)
+  Holds_decided (Binary WeakUntil a b) i = Released_decided _ _ _ (Position_decided t) (Holds_decided b)
+      (λ j. ⊎_decided (Holds_decided a j) (Holds_decided b j)) i (horizon t good _ (Unary Not (Binary Or a b)) i)
+  Holds_decided (Binary StrongRelease a b) i = Until_decided _ _ _ (Position_decided t) (Holds_decided b)
+      (λ j. ×_decided (Holds_decided a j) (Holds_decided b j)) i (horizon t good _ (Binary And a b) i)
   Holds_decided (Binary Since a b) i = Since_decided _ _ (Holds_decided a) (Holds_decided b) i
   Holds_decided (Binary Trigger a b) i = Triggered_decided _ _ (Holds_decided a) (Holds_decided b) i

@@ -1,5 +1,6 @@
 -- Bytes have one reading, apart from want of memory: the faults exclude each other and a trace, and the trace is determined.
-use Rattle.std.proofs.Common.{◌≡◌, ℕ, zero, suc, ◌⊎◌, inl, inr, ◌↔◌, List, [], ◌∷◌, map, Contains, Some, Ok, Err, Less, Equal, Greater, refl, subst, ap, ap₂, ◌∙◌, sym, arith, Result}
+use Rattle.std.proofs.Common.{◌≡◌, ℕ, zero, suc, ◌⊎◌, inl, inr, ◌↔◌, List, [], ◌∷◌, map, Contains, Some, Ok, Err, Less, Equal, Greater, refl, subst, ap, ap₂}
+use Rattle.std.proofs.Common.{◌∙◌, sym, arith, Result}
 use Rattle.std.proofs.lemmas.Cmp.{nat_list_cmp_total, tied_itself}
 use Rattle.std.proofs.lemmas.List.Elements.{All-contains}
 use Rattle.std.proofs.lemmas.Map.Keys.{sorted_tail}
@@ -54,7 +55,8 @@ same_first x y xs ys h k same = elim (first_or_later y ys x ((same x).0 (here x 
   ]
 ]
 
-rest_within : (x : List ℕ) (xs ys : Names) → IsAscending (x ∷ xs) → ((n : List ℕ) → Contains (x ∷ xs) n → Contains (x ∷ ys) n) → (n : List ℕ) → Contains xs n → Contains ys n
+rest_within : (x : List ℕ) (xs ys : Names) → IsAscending (x ∷ xs) → ((n : List ℕ) → Contains (x ∷ xs) n → Contains (x ∷ ys) n) → (n : List ℕ)
+    → Contains xs n → Contains ys n
 rest_within x xs ys h same n c = elim (first_or_later x ys n (same n (later x xs n c))) [
   | inl e ↦ absurd (not_below_itself x (subst (below x) (sym e) (first_below x xs n h c)))
   | inr d ↦ d
@@ -162,7 +164,8 @@ one_of_value d (Err EmptyStates) (Err EmptyStates) h k m n = refl
 abbrev OfValue : List ℕ → Result Trace TraceFault → Type 0
 OfValue bytes r = (d : Data) × IsJson bytes d × IsTraceReading d r
 
-of_value : (bytes : List ℕ) (r : Result Trace TraceFault) → IsReading bytes r → (IsMemory r → ⊥) → ((r ≡ Err NotJson) × ((d : Data) → IsJson bytes d → ⊥)) ⊎ OfValue bytes r
+of_value : (bytes : List ℕ) (r : Result Trace TraceFault) → IsReading bytes r → (IsMemory r → ⊥)
+    → ((r ≡ Err NotJson) × ((d : Data) → IsJson bytes d → ⊥)) ⊎ OfValue bytes r
 of_value bytes (Ok t) h m = inr (trace_data h.0, h.1, (h.0, refl, h.2, h.3))
 of_value bytes (Err NotJson) h m = inl (refl, h)
 of_value bytes (Err NotTrace) h m = inr (h.0, h.1, h.2)

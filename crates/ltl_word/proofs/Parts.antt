@@ -1,5 +1,6 @@
 -- From the parts of a value to the whole: members, states and faults.
-use Rattle.std.proofs.Common.{◌≡◌, ℕ, ◌<◌, List, [], ◌∷◌, ◌++◌, length, String, Global, string_bytes, codes, Bool, true, false, not, refl, subst, ap, ◌∙◌, sym, arith, Result, Ok, Err, IsErr}
+use Rattle.std.proofs.Common.{◌≡◌, ℕ, ◌<◌, List, [], ◌∷◌, ◌++◌, length, String, Global, string_bytes, codes, Bool, true, false, not, refl, subst, ap, ◌∙◌, sym}
+use Rattle.std.proofs.Common.{arith, Result, Ok, Err, IsErr}
 use Rattle.std.specs.Result.{IsErrAnd}
 use Rattle.std.specs.Str.{bytes_eq}
 use Rattle.std.proofs.lemmas.Slice.Eq.{bytes_eq-Decides}
@@ -26,15 +27,20 @@ key_is xs ys e = (bytes_eq-Decides xs ys).0 (key_by (bytes_eq xs ys) e)
 abbrev pub Entry : Type 0
 Entry = String Global × Value
 
-one_member : (ms rest : List Entry) (k : String Global) (v : Value) (key : List ℕ) (d : Data) → ms ≡ (k, v) ∷ rest → string_bytes k ≡ key → view v ≡ d → members_view ms ≡ member key d (members_view rest)
-one_member ms rest k v key d is same value = ap members_view is ∙ (ap (λ n. member n (view v) (members_view rest)) same ∙ ap (λ x. member key x (members_view rest)) value)
+one_member : (ms rest : List Entry) (k : String Global) (v : Value) (key : List ℕ) (d : Data)
+    → ms ≡ (k, v) ∷ rest → string_bytes k ≡ key → view v ≡ d → members_view ms ≡ member key d (members_view rest)
+one_member ms rest k v key d is same value =
+    ap members_view is ∙ (ap (λ n. member n (view v) (members_view rest)) same ∙ ap (λ x. member key x (members_view rest)) value)
 
-pub finite_value : (ms rest : List Entry) (k : String Global) (v : Value) (all : List Names) → ms ≡ (k, v) ∷ rest → rest ≡ [] → string_bytes k ≡ codes "states" → view v ≡ states_data all
+pub finite_value : (ms rest : List Entry) (k : String Global) (v : Value) (all : List Names) → ms ≡ (k, v) ∷ rest → rest ≡ [] → string_bytes k ≡ codes "states"
+    → view v ≡ states_data all
     → object (member (codes "kind") (string (codes "finite")) (members_view ms)) ≡ trace_data (Finite all)
 finite_value ms rest k v all is none same value =
-    ap (λ us. object (member (codes "kind") (string (codes "finite")) us)) (one_member ms rest k v (codes "states") (states_data all) is same value ∙ ap (λ us. member (codes "states") (states_data all) (members_view us)) none)
+    ap (λ us. object (member (codes "kind") (string (codes "finite")) us))
+    (one_member ms rest k v (codes "states") (states_data all) is same value ∙ ap (λ us. member (codes "states") (states_data all) (members_view us)) none)
 
-pub infinite_value : (ms rest rest' : List Entry) (k l : String Global) (v w : Value) (loop_part stem : List Names) → ms ≡ (k, v) ∷ rest → rest ≡ (l, w) ∷ rest' → rest' ≡ []
+pub infinite_value : (ms rest rest' : List Entry) (k l : String Global) (v w : Value) (loop_part stem : List Names)
+    → ms ≡ (k, v) ∷ rest → rest ≡ (l, w) ∷ rest' → rest' ≡ []
     → string_bytes k ≡ codes "loop" → string_bytes l ≡ codes "stem" → view v ≡ states_data loop_part → view w ≡ states_data stem
     → object (member (codes "kind") (string (codes "infinite")) (members_view ms)) ≡ trace_data (Infinite stem loop_part)
 infinite_value ms rest rest' k l v w loop_part stem is is' none same same' value value' =
@@ -51,7 +57,8 @@ sets_push [] (x ∷ states) names state h s = absurd h
 sets_push (n ∷ all) [] names state h s = absurd h
 sets_push (n ∷ all) (x ∷ states) names state h s = (h.0, sets_push all states names state h.1 s)
 
-pub sets_more : (all states more : List Names) (names state : Names) → AreSetsOf all states → IsSetOf names state → more ≡ states ++ state ∷ [] → AreSetsOf (all ++ names ∷ []) more
+pub sets_more : (all states more : List Names) (names state : Names) → AreSetsOf all states → IsSetOf names state
+    → more ≡ states ++ state ∷ [] → AreSetsOf (all ++ names ∷ []) more
 sets_more all states more names state h s is = subst (AreSetsOf (all ++ names ∷ [])) (sym is) (sets_push all states names state h s)
 
 pub sets_of_none : (all states : List Names) → AreSetsOf all states → states ≡ [] → all ≡ []
@@ -67,7 +74,8 @@ sets_of_some (n ∷ all) states h some = omega arith
 -- ---- faults
 
 -- a fault of a state is one of the states
-pub states_fault : (d part : Data) (e : TraceFault) (r : Result (List Names) TraceFault) → ((all : List Names) → ((names : Names) → part ≡ state_data names → ⊥) → d ≡ states_data all → ⊥)
+pub states_fault : (d part : Data) (e : TraceFault) (r : Result (List Names) TraceFault)
+    → ((all : List Names) → ((names : Names) → part ≡ state_data names → ⊥) → d ≡ states_data all → ⊥)
     → IsStateReading part (Err e) → IsErr r × IsErrAnd r (λ x. x ≡ e) → IsStatesReading d r
 states_fault d part e (Ok x) up h w = let ok = w.0 in cc
 states_fault d part e (Err x) up h w = subst (λ y. IsStatesReading d (Err y)) (sym w.1) (by_fault e h) where

@@ -200,11 +200,13 @@ module _ (P A : Claim) (p n : ℕ) (rp : Repeats P p n) (ra : Repeats A p n) whe
 -- what repeats has a horizon
 module _ (P A B : Claim) (p n : ℕ) (some : 0 < p) (rp : Repeats P p n) (rb : Repeats B p n) (i : ℕ) where
   -- a witness moves down by whole periods, and keeps what stands before it
-  lowered : (fuel j : ℕ) → j ≤ fuel → i ≤ j → P j → B j → ((k : ℕ) → i ≤ k → k < j → A k) → (v : ℕ) × (v < max i n + p) × (i ≤ v) × P v × B v × ((k : ℕ) → i ≤ k → k < v → A k)
+  lowered : (fuel j : ℕ) → j ≤ fuel → i ≤ j → P j → B j → ((k : ℕ) → i ≤ k → k < j → A k)
+      → (v : ℕ) × (v < max i n + p) × (i ≤ v) × P v × B v × ((k : ℕ) → i ≤ k → k < v → A k)
   lowered zero j le low at b all = (j, omega arith, low, at, b, all)
   lowered (suc fuel) j le low at b all = elim (cases_lt j (max i n + p)) [
     | inl lt ↦ (j, lt, low, at, b, all)
-    | inr ge ↦ lowered fuel (j - p) (omega arith) (omega arith) (moved_down P p n rp j (omega arith) at) (moved_down B p n rb j (omega arith) b) (λ k l h. all k l (omega arith))
+    | inr ge ↦ lowered fuel (j - p) (omega arith) (omega arith) (moved_down P p n rp j (omega arith) at) (moved_down B p n rb j (omega arith) b)
+        (λ k l h. all k l (omega arith))
   ]
 
   pub horizon_of_period : HasHorizon P A B i

@@ -2,11 +2,13 @@
 use Rattle.std.specs.Prelude.{ℕ, List, ◌∷◌, ◌++◌, [], ◌⊎◌, ◌↔◌, IsTrue, Contains}
 use Rattle.std.specs.Fmt.{decimal}
 use Rattle.ltl_syntax.specs.Formula.{Atom, Name, Fresh, Formula, Const, Letter, Unary, Binary}
-use Rattle.ltl_syntax.specs.declared.node.UnaryOp.TheVariants.{Always, AlwaysIn, Eventually, EventuallyIn, Historically, HistoricallyIn, Next, NextTimes, Not, Once, OnceIn, WeakNext, WeakYesterday, Yesterday, YesterdayTimes}
+use Rattle.ltl_syntax.specs.declared.node.UnaryOp.TheVariants.{Always, AlwaysIn, Eventually, EventuallyIn, Historically, HistoricallyIn, Next, NextTimes, Not}
+use Rattle.ltl_syntax.specs.declared.node.UnaryOp.TheVariants.{Once, OnceIn, WeakNext, WeakYesterday, Yesterday, YesterdayTimes}
 use Rattle.ltl_syntax.specs.declared.node.BinaryOp.TheVariants.{And, Iff, Implies, Or, Release, Since, StrongRelease, Trigger, Until, WeakUntil}
 use Rattle.ltl_word.specs.declared.trace.Trace.{Trace}
 use Rattle.ltl_word.specs.Trace.{IsPosition, state_at}
-use Rattle.ltl_word.specs.Claims.{Claim, Always', Never, AtNext, AtWeakNext, IsUntil, IsReleased, AtYesterday, AtWeakYesterday, IsSince, IsTriggered, AtNextTimes, AtYesterdayTimes, IsEventuallyIn, IsAlwaysIn, IsOnceIn, IsHistoricallyIn}
+use Rattle.ltl_word.specs.Claims.{Claim, Always', Never, AtNext, AtWeakNext, IsUntil, IsReleased, AtYesterday, AtWeakYesterday, IsSince, IsTriggered}
+use Rattle.ltl_word.specs.Claims.{AtNextTimes, AtYesterdayTimes, IsEventuallyIn, IsAlwaysIn, IsOnceIn, IsHistoricallyIn}
 
 -- the name of a letter: a fresh letter n is {n}
 abbrev pub name_of : Atom → List ℕ

@@ -21,7 +21,8 @@ states_data states = array (items_of (map state_data states))
 
 -- a trace is an object with its kind and its states, by keys in ascending order
 abbrev pub trace_data : Trace → Data
-trace_data (Infinite stem loop_part) = object (member (codes "kind") (string (codes "infinite")) (member (codes "loop") (states_data loop_part) (member (codes "stem") (states_data stem) no_members)))
+trace_data (Infinite stem loop_part) = object
+    (member (codes "kind") (string (codes "infinite")) (member (codes "loop") (states_data loop_part) (member (codes "stem") (states_data stem) no_members)))
 trace_data (Finite states) = object (member (codes "kind") (string (codes "finite")) (member (codes "states") (states_data states) no_members))
 
 -- what is written for a trace
@@ -82,4 +83,5 @@ abbrev pub IsStateReading : Data → Result Names TraceFault → Type 0
 IsStateReading d r = IsPartReading (λ state. (names : Names) × (d ≡ state_data names) × IsSetOf names state) ((names : Names) → d ≡ state_data names → ⊥) r
 
 abbrev pub IsStatesReading : Data → Result (List Names) TraceFault → Type 0
-IsStatesReading d r = IsPartReading (λ states. (all : List Names) × (d ≡ states_data all) × AreSetsOf all states) ((all : List Names) → d ≡ states_data all → ⊥) r
+IsStatesReading d r =
+    IsPartReading (λ states. (all : List Names) × (d ≡ states_data all) × AreSetsOf all states) ((all : List Names) → d ≡ states_data all → ⊥) r

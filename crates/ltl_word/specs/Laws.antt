@@ -35,7 +35,8 @@ DependsOnState = (t u : Trace) (f : Formula) (i j : ℕ) → IsPropositional f �
 
 -- and of it on its own letters alone
 abbrev pub DependsOnLetters : Type 0
-DependsOnLetters = (t u : Trace) (f : Formula) (i j : ℕ) → IsPropositional f → ((p : Atom) → HasLetter f p → Contains (state_at t i) (name_of p) ↔ Contains (state_at u j) (name_of p))
+DependsOnLetters = (t u : Trace) (f : Formula) (i j : ℕ) → IsPropositional f
+    → ((p : Atom) → HasLetter f p → Contains (state_at t i) (name_of p) ↔ Contains (state_at u j) (name_of p))
     → Holds t f i ↔ Holds u f j
 
 -- two readings of the same bytes are one, where memory was not wanting

@@ -23,7 +23,8 @@ pub same_items : (xs ys : List Data) → array (items_of xs) ≡ array (items_of
 unfolding items_in
 same_items xs ys e = sym (list_of-items_of xs) ∙ (ap (λ d. items_in (as_array d)) e ∙ list_of-items_of ys)
 
-differs_at : {A B : Type 0} (f : A → Data) (g : B → Data) (i : ℕ) (xs : List A) (d : A) (ys : List B) → i < length xs → map f xs ≡ map g ys → ((y : B) → f (get_or xs i d) ≡ g y → ⊥) → ⊥
+differs_at : {A B : Type 0} (f : A → Data) (g : B → Data) (i : ℕ) (xs : List A) (d : A) (ys : List B) → i < length xs → map f xs ≡ map g ys
+    → ((y : B) → f (get_or xs i d) ≡ g y → ⊥) → ⊥
 differs_at f g i [] d ys lt e no' = absurd (omega arith)
 differs_at f g i (x ∷ xs) d [] lt e no' = cc
 differs_at f g zero (x ∷ xs) d (y ∷ ys) lt e no' = let head : f x ≡ g y = cc in no' y head
@@ -41,8 +42,10 @@ pub no_string : (d : Data) → None ≡ as_str d → (s : List ℕ) → d ≡ st
 no_string d e s is = let there : as_str d ≡ Some s = ap as_str is in cc
 
 -- an array one of whose items is no g is not the array of g's
-pub no_array_of : {B : Type 0} (g : B → Data) (d : Data) (vs ws : List Value) (i : ℕ) (v : Value) → Some (items_view vs) ≡ as_array d → ws ≡ vs → i < length ws → v ≡ get_or ws i v → ((y : B) → view v ≡ g y → ⊥)
+pub no_array_of : {B : Type 0} (g : B → Data) (d : Data) (vs ws : List Value) (i : ℕ) (v : Value) → Some (items_view vs) ≡ as_array d → ws ≡ vs → i < length ws
+    → v ≡ get_or ws i v → ((y : B) → view v ≡ g y → ⊥)
     → (ys : List B) → d ≡ array (items_of (map g ys)) → ⊥
 no_array_of {B} g d vs ws i v is same lt at no' ys e =
-    let both : array (items_of (map view ws)) ≡ array (items_of (map g ys)) = ap (λ us. array (items_of (map view us))) same ∙ (sym (array_from d (items_view vs) is) ∙ e) in
+    let both : array (items_of (map view ws)) ≡ array (items_of (map g ys)) =
+    ap (λ us. array (items_of (map view us))) same ∙ (sym (array_from d (items_view vs) is) ∙ e) in
     differs_at view g i ws v ys lt (same_items (map view ws) (map g ys) both) (subst (λ u. (y : B) → view u ≡ g y → ⊥) at no')

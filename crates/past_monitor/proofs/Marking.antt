@@ -1,5 +1,6 @@
 -- The walk that marks the nodes under a root, none of which looks ahead.
-use Rattle.std.proofs.Common.{◌≡◌, ℕ, suc, ◌+◌, ◌<◌, ◌≤◌, Bool, true, false, ◌||◌, ◌==◌, List, length, replicate, set, length-set, slice_get, Some, refl, sym, ◌∙◌, ap, subst, arith, true≢false, ◌⊎◌, inl, inr}
+use Rattle.std.proofs.Common.{◌≡◌, ℕ, suc, ◌+◌, ◌<◌, ◌≤◌, Bool, true, false, ◌||◌, ◌==◌, List, length, replicate, set, length-set, slice_get, Some, refl, sym}
+use Rattle.std.proofs.Common.{◌∙◌, ap, subst, arith, true≢false, ◌⊎◌, inl, inr}
 use Rattle.std.proofs.lemmas.Bool.{cases_lt, eqb-true}
 use Rattle.std.proofs.lemmas.Bool.Decides.{eqb_tells}
 use Rattle.std.proofs.lemmas.List.{get_or-set_other, get_or-set_same, get_or-replicate, get_or_past, length-replicate}
@@ -19,7 +20,8 @@ pub record IsMarking (t : Table) (root : ℕ) (from : ℕ) (marks : List Bool) :
   pub top : value_at marks root ≡ true
   pub under : (i : ℕ) → value_at marks i ≡ true → IsUnder t root i
   pub past : (i : ℕ) (node : Node) → from ≤ i → value_at marks i ≡ true → slice_get t.nodes i ≡ Some node → IsPastNode node
-  pub closed : (i : ℕ) (node : Node) (child : ℕ) → from ≤ i → value_at marks i ≡ true → slice_get t.nodes i ≡ Some node → has_child child node ≡ true → value_at marks child ≡ true
+  pub closed : (i : ℕ) (node : Node) (child : ℕ) → from ≤ i → value_at marks i ≡ true → slice_get t.nodes i ≡ Some node
+      → has_child child node ≡ true → value_at marks child ≡ true
   pub sound : (i : ℕ) → value_at marks i ≡ true → IsPast (tree_at t root) → IsPast (tree_at t i)
 
 -- no place of a row of false is true
@@ -29,7 +31,8 @@ unmarked n i = elim (cases_lt i n) [
   | inr ge ↦ get_or_past (replicate n false) i false (omega (arith, length-replicate n false))
 ]
 
-pub begun : (t : Table) (root : ℕ) (none marks : List Bool) → length none ≡ root + 1 → ((i : ℕ) → value_at none i ≡ false) → marks ≡ set none root true → IsMarking t root (root + 1) marks
+pub begun : (t : Table) (root : ℕ) (none marks : List Bool) → length none ≡ root + 1 → ((i : ℕ) → value_at none i ≡ false) → marks ≡ set none root true
+    → IsMarking t root (root + 1) marks
 begun t root none marks long all e =
     let top : value_at marks root ≡ true = ap (λ ms. value_at ms root) e ∙ get_or-set_same none root true false (omega (arith, long)) in
     let alone : (i : ℕ) → value_at marks i ≡ true → i ≡ root = λ i h. elim (eqb_tells i root) [
@@ -84,7 +87,8 @@ past_node names trees (nodes.Fresh n) p = tt
 past_node names trees (nodes.Unary op a) p = p.0
 past_node names trees (nodes.Binary op a b) p = p.0
 
-past_child : (names : List (List ℕ)) (trees : List Formula) (node : Node) (child : ℕ) → IsPast (made names trees node) → has_child child node ≡ true → IsPast (tree_among trees child)
+past_child : (names : List (List ℕ)) (trees : List Formula) (node : Node) (child : ℕ) → IsPast (made names trees node)
+    → has_child child node ≡ true → IsPast (tree_among trees child)
 past_child names trees (nodes.Const b) child p h = absurd (cc)
 past_child names trees (nodes.Letter n) child p h = absurd (cc)
 past_child names trees (nodes.Fresh n) child p h = absurd (cc)
@@ -105,17 +109,20 @@ child_below names k (nodes.Binary op a b) child fine has = elim (or_cases (a == 
 ]
 
 -- a marked node that looks ahead is one under the root
-pub refused : (t : Table) (root k : ℕ) (marks : List Bool) (node : Node) → IsMarking t root (suc k) marks → value_at marks k ≡ true → tree_at t k ≡ made t.names (trees_of t) node → (IsPastNode node → ⊥)
+pub refused : (t : Table) (root k : ℕ) (marks : List Bool) (node : Node) → IsMarking t root (suc k) marks
+    → value_at marks k ≡ true → tree_at t k ≡ made t.names (trees_of t) node → (IsPastNode node → ⊥)
     → IsPast (tree_at t root) → ⊥
 refused t root k marks node is marked tree ahead past = ahead (past_node t.names (trees_of t) node (subst IsPast tree (is.sound k marked past)))
 
 -- a marked node that does not look ahead, with its children marked
-pub marked : (t : Table) (root k : ℕ) (marks new : List Bool) (node : Node) → IsMarking t root (suc k) marks → value_at marks k ≡ true → slice_get t.nodes k ≡ Some node
+pub marked : (t : Table) (root k : ℕ) (marks new : List Bool) (node : Node) → IsMarking t root (suc k) marks
+    → value_at marks k ≡ true → slice_get t.nodes k ≡ Some node
     → IsFine (length t.names) k node → tree_at t k ≡ made t.names (trees_of t) node → IsPastNode node → length new ≡ length marks
     → ((i : ℕ) → value_at new i ≡ (value_at marks i || has_child i node)) → IsMarking t root k new
 marked t root k marks new node is mark at fine tree past long each =
     let still : (i : ℕ) → value_at marks i ≡ true → value_at new i ≡ true = λ i h. each i ∙ or_left (value_at marks i) (has_child i node) h in
-    let was : (i : ℕ) → k ≤ i → value_at new i ≡ true → value_at marks i ≡ true = λ i le h. elim (or_cases (value_at marks i) (has_child i node) (sym (each i) ∙ h)) [
+    let was : (i : ℕ) → k ≤ i → value_at new i ≡ true → value_at marks i ≡ true =
+    λ i le h. elim (or_cases (value_at marks i) (has_child i node) (sym (each i) ∙ h)) [
       | inl e ↦ e
       | inr e ↦ let low = child_below (length t.names) k node i fine e in absurd (omega arith)
     ] in
@@ -136,7 +143,8 @@ marked t root k marks new node is mark at fine tree past long each =
         | inl lt ↦ still child (is.closed i n child (omega arith) (was i le h) e has)
         | inr ge ↦
             let eq : i ≡ k = omega arith in
-            each child ∙ or_right (value_at marks child) (has_child child node) (subst (λ m. has_child child m ≡ true) (sym (only n (subst (λ j. slice_get t.nodes j ≡ Some n) eq e))) has)
+            each child ∙ or_right (value_at marks child) (has_child child node)
+            (subst (λ m. has_child child m ≡ true) (sym (only n (subst (λ j. slice_get t.nodes j ≡ Some n) eq e))) has)
       ];
       sound = λ i h p. elim (or_cases (value_at marks i) (has_child i node) (sym (each i) ∙ h)) [
         | inl e ↦ is.sound i e p

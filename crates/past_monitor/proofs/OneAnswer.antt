@@ -1,5 +1,6 @@
 -- A text has one answer.
-use Rattle.std.proofs.Common.{◌≡◌, ◌≢◌, inl, inr, ℕ, ◌-◌, ◌<◌, Bool, true, false, List, [], ◌∷◌, length, slice_index_or, Result, Ok, Err, IsTrue, refl, sym, subst, ap, ap₂, ◌∙◌, arith, true≢false}
+use Rattle.std.proofs.Common.{◌≡◌, ◌≢◌, inl, inr, ℕ, ◌-◌, ◌<◌, Bool, true, false, List, [], ◌∷◌, length, slice_index_or, Result, Ok, Err, IsTrue, refl, sym}
+use Rattle.std.proofs.Common.{subst, ap, ap₂, ◌∙◌, arith, true≢false}
 use Rattle.std.proofs.lemmas.Bool.{cases_lt}
 use Rattle.std.proofs.lemmas.List.{same_lists, get_or_default}
 use Rattle.ltl_syntax.specs.Formula.{Formula}
@@ -44,12 +45,14 @@ one_list_of_answers f states xs ys h k = same_lists xs ys (omega (arith, h.count
     let low : i < length states = omega (arith, h.count) in
     let a = h.each i low in
     let b = k.each i low in
-    get_or_default xs i d false lt ∙ (same_truth (slice_index_or xs i false) (slice_index_or ys i false) (λ x. b.1 (a.0 x)) (λ x. a.1 (b.0 x)) ∙ get_or_default ys i false d (omega (arith, h.count, k.count))))
+    get_or_default xs i d false lt ∙ (same_truth (slice_index_or xs i false) (slice_index_or ys i false) (λ x. b.1 (a.0 x)) (λ x. a.1 (b.0 x))
+    ∙ get_or_default ys i false d (omega (arith, h.count, k.count))))
 
 not_both : (lines : List (List ℕ)) (states : List Names) (n : ℕ) → AreStates lines states → IsFirstBad lines n → ⊥
 not_both lines states n h k = none_bad lines states h (n - 1) (omega (arith, k.some, k.there)) k.bad
 
-pub one_answer : (f : Formula) (text : List ℕ) (r s : Result (List Bool) WatchRefused) → IsWatched f text r → IsWatched f text s → r ≢ Err NoMemory → s ≢ Err NoMemory → r ≡ s
+pub one_answer : (f : Formula) (text : List ℕ) (r s : Result (List Bool) WatchRefused) → IsWatched f text r → IsWatched f text s → r ≢ Err NoMemory
+    → s ≢ Err NoMemory → r ≡ s
 one_answer f text (Ok xs) (Ok ys) h k m n =
     let same : h.1.0 ≡ k.1.0 = one_states (lines_of text) h.1.0 k.1.0 h.1.1 k.1.1 in
     ap Ok (one_list_of_answers f k.1.0 xs ys (subst (λ (ss : List Names). AreAnswers f ss xs) same h.1.2) k.1.2)

@@ -1,5 +1,6 @@
 -- A line is one state at most.
-use Rattle.std.proofs.Common.{◌≡◌, ℕ, zero, suc, ◌⊎◌, inl, inr, ◌↔◌, List, [], ◌∷◌, map, Contains, Some, Less, Equal, Greater, refl, subst, ap, ap₂, ◌∙◌, sym, arith}
+use Rattle.std.proofs.Common.{◌≡◌, ℕ, zero, suc, ◌⊎◌, inl, inr, ◌↔◌, List, [], ◌∷◌, map, Contains, Some, Less, Equal, Greater, refl, subst, ap, ap₂, ◌∙◌, sym}
+use Rattle.std.proofs.Common.{arith}
 use Rattle.std.proofs.lemmas.Cmp.{nat_list_cmp_total, tied_itself}
 use Rattle.std.proofs.lemmas.List.Elements.{All-contains}
 use Rattle.std.proofs.lemmas.Map.Keys.{sorted_tail}
@@ -52,7 +53,8 @@ same_first x y xs ys h k same = elim (first_or_later y ys x ((same x).0 (here x 
   ]
 ]
 
-rest_within : (x : List ℕ) (xs ys : Names) → IsAscending (x ∷ xs) → ((n : List ℕ) → Contains (x ∷ xs) n → Contains (x ∷ ys) n) → (n : List ℕ) → Contains xs n → Contains ys n
+rest_within : (x : List ℕ) (xs ys : Names) → IsAscending (x ∷ xs) → ((n : List ℕ) → Contains (x ∷ xs) n → Contains (x ∷ ys) n) → (n : List ℕ)
+    → Contains xs n → Contains ys n
 rest_within x xs ys h same n c = elim (first_or_later x ys n (same n (later x xs n c))) [
   | inl e ↦ absurd (not_below_itself x (subst (below x) (sym e) (first_below x xs n h c)))
   | inr d ↦ d

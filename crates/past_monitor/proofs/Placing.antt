@@ -1,5 +1,6 @@
 -- The walk that makes a part of each marked node.
-use Rattle.std.proofs.Common.{◌≡◌, ℕ, zero, suc, ◌+◌, ◌-◌, ◌<◌, ◌≤◌, Bool, true, false, ◌==◌, List, [], ◌∷◌, ◌++◌, length, length-append, take, cond, slice_get, slice_index_or, Some, refl, sym, ◌∙◌, ap, ap₂, subst, arith, eq-eqb, true≢false, inl, inr}
+use Rattle.std.proofs.Common.{◌≡◌, ℕ, zero, suc, ◌+◌, ◌-◌, ◌<◌, ◌≤◌, Bool, true, false, ◌==◌, List, [], ◌∷◌, ◌++◌, length, length-append, take, cond, slice_get}
+use Rattle.std.proofs.Common.{slice_index_or, Some, refl, sym, ◌∙◌, ap, ap₂, subst, arith, eq-eqb, true≢false, inl, inr}
 use Rattle.std.proofs.Math.ListN.{get_or-append}
 use Rattle.std.proofs.Math.Seq.{get_or-append_seam}
 use Rattle.std.specs.List.{count_by}
@@ -64,9 +65,12 @@ begun t marks = record {
 }
 
 -- a node over places is the same formula
-module _ (t : Table) (formulas : List Formula) (places : List ℕ) (number : ℕ) (past : (place : ℕ) → place < length formulas → IsPast (formula_at formulas place)) where
-  pub moved_right : (node : Node) → IsFine (length t.names) number node → IsPastNode node → ((child : ℕ) → child < number → has_child child node ≡ true → IsAt t formulas (place_at places child) child)
-      → HasChildrenBelow (length formulas) (moved places node) × (made t.names formulas (moved places node) ≡ made t.names (trees_of t) node) × IsPast (made t.names formulas (moved places node))
+module _ (t : Table) (formulas : List Formula) (places : List ℕ) (number : ℕ)
+    (past : (place : ℕ) → place < length formulas → IsPast (formula_at formulas place)) where
+  pub moved_right : (node : Node) → IsFine (length t.names) number node → IsPastNode node
+      → ((child : ℕ) → child < number → has_child child node ≡ true → IsAt t formulas (place_at places child) child)
+      → HasChildrenBelow (length formulas)
+      (moved places node) × (made t.names formulas (moved places node) ≡ made t.names (trees_of t) node) × IsPast (made t.names formulas (moved places node))
   moved_right (nodes.Const b) fine p at = (tt, refl, tt)
   moved_right (nodes.Letter n) fine p at = (tt, refl, tt)
   moved_right (nodes.Fresh n) fine p at = (tt, refl, tt)
@@ -92,12 +96,14 @@ fresh_values node r e = ap (λ (s : RingValue). s.values) e ∙ new_values node
 fresh_ring : (node : Node) (r : RingValue) → r ≡ ring_of node [] → r ≡ ring_of node r.values
 fresh_ring node r e = e ∙ ap (ring_of node) (sym (fresh_values node r e))
 
-module _ (t : Table) (marks : List Bool) (number : ℕ) (places places' : List ℕ) (parts : List Part) (is : ArePlaced t marks number places parts) (more : places' ≡ places ++ length parts ∷ []) where
+module _ (t : Table) (marks : List Bool) (number : ℕ) (places places' : List ℕ) (parts : List Part) (is : ArePlaced t marks number places parts)
+    (more : places' ≡ places ++ length parts ∷ []) where
   still : (i : ℕ) → i < number → place_at places' i ≡ place_at places i
   still i lt = ap (λ ps. place_at ps i) more ∙ get_or-append places (length parts ∷ []) 0 i (omega (arith, is.long))
 
   new_place : place_at places' number ≡ length parts
-  new_place = ap (λ ps. place_at ps number) more ∙ subst (λ k. place_at (places ++ length parts ∷ []) k ≡ length parts) is.long (get_or-append_seam places (length parts) [] 0)
+  new_place = ap (λ ps. place_at ps number) more
+      ∙ subst (λ k. place_at (places ++ length parts ∷ []) k ≡ length parts) is.long (get_or-append_seam places (length parts) [] 0)
 
   longer : length places' ≡ suc number
   longer = ap length more ∙ (length-append places (length parts ∷ []) ∙ omega (arith, is.long))
@@ -121,7 +127,8 @@ module _ (t : Table) (marks : List Bool) (number : ℕ) (places places' : List �
   }
 
   -- a marked node, and its part
-  pub added : (root : ℕ) (node : Node) (p : Part) (parts' : List Part) → AreMarked t root marks → value_at marks number ≡ true → slice_get t.nodes number ≡ Some node
+  pub added : (root : ℕ) (node : Node) (p : Part) (parts' : List Part) → AreMarked t root marks
+      → value_at marks number ≡ true → slice_get t.nodes number ≡ Some node
       → IsFine (length t.names) number node → tree_at t number ≡ made t.names (trees_of t) node
       → p.node ≡ moved places' node → IsNamed t.names (moved places' node) p.name → p.kept ≡ ring_of (moved places' node) [] → parts' ≡ parts ++ p ∷ []
       → ArePlaced t marks (suc number) places' parts'
@@ -136,10 +143,12 @@ module _ (t : Table) (marks : List Bool) (number : ℕ) (places places' : List �
       let old_formula : (i : ℕ) → i < length parts → formula_at (formulas_of t.names parts') i ≡ formula_at formulas i = λ i lt.
       ap (λ fs. formula_at fs i) pushed ∙ get_or-append formulas (made t.names formulas (moved places' node) ∷ []) (Const false) i (omega (arith, count)) in
       let new_formula : formula_at (formulas_of t.names parts') (length parts) ≡ made t.names formulas (moved places' node) =
-      ap (λ fs. formula_at fs (length parts)) pushed ∙ subst (λ k. formula_at (formulas ++ made t.names formulas (moved places' node) ∷ []) k ≡ made t.names formulas (moved places' node)) count
+      ap (λ fs. formula_at fs (length parts)) pushed
+      ∙ subst (λ k. formula_at (formulas ++ made t.names formulas (moved places' node) ∷ []) k ≡ made t.names formulas (moved places' node)) count
       (get_or-append_seam formulas (made t.names formulas (moved places' node)) [] (Const false)) in
       let blank : Part = record { node = nodes.Const false; name = []; kept = no_ring [] } in
-      let old_part : (i : ℕ) → i < length parts → part_at parts' i ≡ part_at parts i = λ i lt. ap (λ ps. part_at ps i) e ∙ get_or-append parts (p ∷ []) blank i lt in
+      let old_part : (i : ℕ) → i < length parts → part_at parts' i ≡ part_at parts i =
+      λ i lt. ap (λ ps. part_at ps i) e ∙ get_or-append parts (p ∷ []) blank i lt in
       let new_part : part_at parts' (length parts) ≡ p = ap (λ ps. part_at ps (length parts)) e ∙ get_or-append_seam parts p [] blank in
       let below : HasChildrenBelow (length parts) (moved places' node) = subst (λ k. HasChildrenBelow k (moved places' node)) count right.0 in
       let part_fine : IsPart t.names (length parts) p = record {
@@ -154,11 +163,13 @@ module _ (t : Table) (marks : List Bool) (number : ℕ) (places places' : List �
         are = record {
           each = λ i lt. elim (cases_lt i (length parts)) [
             | inl less ↦ subst (IsPart t.names i) (sym (old_part i less)) (is.are.each i less)
-            | inr ge ↦ let f : length parts ≡ i = omega (arith, long') in subst (λ k. IsPart t.names k (part_at parts' k)) f (subst (IsPart t.names (length parts)) (sym new_part) part_fine)
+            | inr ge ↦ let f : length parts ≡ i = omega (arith, long') in
+                subst (λ k. IsPart t.names k (part_at parts' k)) f (subst (IsPart t.names (length parts)) (sym new_part) part_fine)
           ];
           past = λ i lt. elim (cases_lt i (length parts)) [
             | inl less ↦ subst IsPast (sym (old_formula i less)) (is.are.past i less)
-            | inr ge ↦ let f : length parts ≡ i = omega (arith, long') in subst (λ k. IsPast (formula_at (formulas_of t.names parts') k)) f (subst IsPast (sym new_formula) right.2)
+            | inr ge ↦ let f : length parts ≡ i = omega (arith, long') in
+                subst (λ k. IsPast (formula_at (formulas_of t.names parts') k)) f (subst IsPast (sym new_formula) right.2)
           ];
         };
         fresh = λ i lt. elim (cases_lt i (length parts)) [
@@ -174,14 +185,18 @@ module _ (t : Table) (marks : List Bool) (number : ℕ) (places places' : List �
               (omega (arith, low, length-formulas t.names parts', long'), old_formula (place_at places' i) low ∙ w.1)
           | inr ge ↦
               let f : number ≡ i = omega arith in
-              subst (λ k. IsAt t (formulas_of t.names parts') (place_at places' k) k) f
-              (omega (arith, new_place, length-formulas t.names parts', long'), ap (formula_at (formulas_of t.names parts')) new_place ∙ (new_formula ∙ (right.1 ∙ sym tree)))
+              subst (λ k. IsAt t (formulas_of t.names parts') (place_at places' k) k) f (
+                omega (arith, new_place, length-formulas t.names parts', long'),
+                ap (formula_at (formulas_of t.names parts')) new_place ∙ (new_formula ∙ (right.1 ∙ sym tree)),
+              )
         ];
-        last = λ i f m. let g : i ≡ number = omega arith in let h : place_at places' i ≡ length parts = ap (place_at places') g ∙ new_place in omega (arith, h, long');
+        last = λ i f m. let g : i ≡ number = omega arith in let h : place_at places' i ≡ length parts = ap (place_at places') g ∙ new_place in
+            omega (arith, h, long');
       }
 
 -- the parts of all nodes up to the root, which is the last
-module _ (t : Table) (root : ℕ) (marks : List Bool) (places : List ℕ) (parts : List Part) (number : ℕ) (end : number ≡ root + 1) (are : AreMarked t root marks) (is : ArePlaced t marks number places parts) where
+module _ (t : Table) (root : ℕ) (marks : List Bool) (places : List ℕ) (parts : List Part) (number : ℕ) (end : number ≡ root + 1) (are : AreMarked t root marks)
+    (is : ArePlaced t marks number places parts) where
   pub some_parts : 0 < length parts
   some_parts = let l = is.last root (omega (arith, end)) are.top in omega arith
 

@@ -1,14 +1,16 @@
 -- Whether a formula that does not look ahead holds at a position depends on the states up to it alone.
 use Rattle.std.proofs.Common.{◌<◌, ◌++◌, List, [], length, Contains, sym, subst, arith}
 use Rattle.std.proofs.Math.ListN.{get_or-append}
-use Rattle.ltl_syntax.specs.declared.node.UnaryOp.TheVariants.{Always, AlwaysIn, Eventually, EventuallyIn, Historically, HistoricallyIn, Next, NextTimes, Not, Once, OnceIn, WeakNext, WeakYesterday, Yesterday, YesterdayTimes}
+use Rattle.ltl_syntax.specs.declared.node.UnaryOp.TheVariants.{Always, AlwaysIn, Eventually, EventuallyIn, Historically, HistoricallyIn, Next, NextTimes, Not}
+use Rattle.ltl_syntax.specs.declared.node.UnaryOp.TheVariants.{Once, OnceIn, WeakNext, WeakYesterday, Yesterday, YesterdayTimes}
 use Rattle.ltl_syntax.specs.declared.node.BinaryOp.TheVariants.{And, Iff, Implies, Or, Release, Since, StrongRelease, Trigger, Until, WeakUntil}
 use Rattle.ltl_syntax.specs.Formula.{Formula, Const, Letter, Unary, Binary}
 use Rattle.ltl_word.specs.declared.trace.Trace.TheVariants.{Finite}
 use Rattle.ltl_word.specs.Trace.{Names}
 use Rattle.ltl_word.specs.Claims.{Claim, Always', Never}
 use Rattle.ltl_word.specs.Holds.{Holds, name_of}
-use Rattle.ltl_word.proofs.Agreement.{IsRange, Same, Same-self, Same-then, Same-turned, Same-not, Same-and, Same-or, Same-implies, Same-iff, Same-since, Same-triggered, Same-yesterday, Same-weak_yesterday}
+use Rattle.ltl_word.proofs.Agreement.{IsRange, Same, Same-self, Same-then, Same-turned, Same-not, Same-and, Same-or, Same-implies, Same-iff, Same-since}
+use Rattle.ltl_word.proofs.Agreement.{Same-triggered, Same-yesterday, Same-weak_yesterday}
 use Rattle.ltl_word.proofs.Bounded.{Same-once_in, Same-historically_in, Same-yesterdays}
 use Rattle.past_monitor.specs.Past.{IsPast}
 
@@ -35,7 +37,8 @@ module _ (t later : List Names) where
   prefix (Unary Once a) w = Same-since range _ _ _ _ (Same-self Always') (prefix a w.1)
   prefix (Unary Historically a) w = Same-triggered range _ _ _ _ (Same-self Never) (prefix a w.1)
   prefix (Unary (NextTimes n) a) w = absurd w.0
-  prefix (Unary (YesterdayTimes n) a) w = Same-then _ _ _ (Same-yesterdays n _) (Same-then _ _ _ (Same-once_in range n n _ _ (prefix a w.1)) (Same-turned _ _ (Same-yesterdays n (Holds (Finite t) a))))
+  prefix (Unary (YesterdayTimes n) a) w = Same-then _ _ _ (Same-yesterdays n _)
+      (Same-then _ _ _ (Same-once_in range n n _ _ (prefix a w.1)) (Same-turned _ _ (Same-yesterdays n (Holds (Finite t) a))))
   prefix (Unary (EventuallyIn m n) a) w = absurd w.0
   prefix (Unary (AlwaysIn m n) a) w = absurd w.0
   prefix (Unary (OnceIn m n) a) w = Same-once_in range m n _ _ (prefix a w.1)

@@ -1,5 +1,6 @@
 -- How the number of values in a window changes when a value joins the front of a list and the last one goes.
-use Rattle.std.proofs.Common.{◌≡◌, true≢false, ℕ, zero, suc, ◌+◌, ◌-◌, ◌<◌, ◌≤◌, Bool, true, false, not, cond, List, [], ◌∷◌, length, take, drop, slice_index_or, refl, sym, ◌∙◌, ap, subst, arith, nat_lt, length-take, length-drop}
+use Rattle.std.proofs.Common.{◌≡◌, true≢false, ℕ, zero, suc, ◌+◌, ◌-◌, ◌<◌, ◌≤◌, Bool, true, false, not, cond, List, [], ◌∷◌, length, take, drop}
+use Rattle.std.proofs.Common.{slice_index_or, refl, sym, ◌∙◌, ap, subst, arith, nat_lt, length-take, length-drop}
 use Rattle.std.specs.List.{count_by}
 use Rattle.std.proofs.lemmas.List.Sums.{sum_by-cons, count_by-le-length}
 use Rattle.past_monitor.specs.Ring.{same, found_in, RingValue, IsRing, counted_at, value_back, shows}
@@ -48,7 +49,8 @@ module _ (p : Bool → Bool) (b : Bool) (fails : p b ≡ false) where
   found_some (suc k) [] h = absurd (omega arith)
   found_some (suc k) (x ∷ xs) h = let w = found_some k xs h in (suc w.0, omega arith, w.2)
   found_some zero (x ∷ xs) h = by_first (p x) refl (found_some zero xs) where
-    by_first : (v : Bool) → p x ≡ v → (0 < count_by p xs → (j : ℕ) × (0 ≤ j) × (p (slice_index_or xs j b) ≡ true)) → (j : ℕ) × (0 ≤ j) × (p (slice_index_or (x ∷ xs) j b) ≡ true)
+    by_first : (v : Bool) → p x ≡ v → (0 < count_by p xs → (j : ℕ) × (0 ≤ j) × (p (slice_index_or xs j b) ≡ true))
+        → (j : ℕ) × (0 ≤ j) × (p (slice_index_or (x ∷ xs) j b) ≡ true)
     by_first true e later = (0, omega arith, e)
     by_first false e later =
         let f : Bool → ℕ = λ v. cond v 1 0 in
@@ -78,7 +80,8 @@ at_most_one r age present = by_value (same r.sought (value_back r age present)) 
   by_value false = omega arith
 
 -- a ring takes a value x, where s is what contracts see of it
-module _ (room first : ℕ) (sought : Bool) (found : ℕ) (values : List Bool) (capacity : ℕ) (is : IsRing room first sought found values capacity) (s : RingValue) (seen : record { room = room; first = first; sought = sought; values = values } ≡ s) (x : Bool) where
+module _ (room first : ℕ) (sought : Bool) (found : ℕ) (values : List Bool) (capacity : ℕ) (is : IsRing room first sought found values capacity) (s : RingValue)
+    (seen : record { room = room; first = first; sought = sought; values = values } ≡ s) (x : Bool) where
   here : (age n : ℕ) → n ≡ counted_at s age x → n ≡ counted_at (record { room = room; first = first; sought = sought; values = values }) age x
   here age n e = subst (λ (r : RingValue). n ≡ counted_at r age x) (sym seen) e
 

@@ -17,7 +17,8 @@ abbrev node_at : List Node → ℕ → Node
 node_at ns k = slice_index_or ns k (nodes.Const false)
 
 -- a node makes the same formula where the formulas before its place are the same
-pub made_same : (names : List (List ℕ)) (place : ℕ) (old new : List Formula) → ((i : ℕ) → i < place → formula_at new i ≡ formula_at old i) → (node : Node) → HasChildrenBelow place node
+pub made_same : (names : List (List ℕ)) (place : ℕ) (old new : List Formula) → ((i : ℕ) → i < place → formula_at new i ≡ formula_at old i) → (node : Node)
+    → HasChildrenBelow place node
     → made names new node ≡ made names old node
 made_same names place old new same (nodes.Const b) f = refl
 made_same names place old new same (nodes.Letter n) f = refl
@@ -26,14 +27,16 @@ made_same names place old new same (nodes.Unary op a) f = ap (Unary op) (same a 
 made_same names place old new same (nodes.Binary op a b) f = rw (same a f.0, same b f.1) refl
 
 -- the formulas that are there stay at their places
-stays : (names : List (List ℕ)) (trees : List Formula) (ns : List Node) (i : ℕ) → i < length trees → formula_at (trees_after names trees ns) i ≡ formula_at trees i
+stays : (names : List (List ℕ)) (trees : List Formula) (ns : List Node) (i : ℕ) → i < length trees
+    → formula_at (trees_after names trees ns) i ≡ formula_at trees i
 stays names trees [] i h = refl
 stays names trees (n ∷ ns) i h =
     stays names (trees ++ made names trees n ∷ []) ns i (omega (arith, length-append trees (made names trees n ∷ [])))
     ∙ get_or-append trees (made names trees n ∷ []) (Const false) i h
 
 -- the formula at a node's place is what it makes of all the formulas
-tree_after : (names : List (List ℕ)) (trees : List Formula) (ns : List Node) → ((k : ℕ) → k < length ns → HasChildrenBelow (length trees + k) (node_at ns k)) → (k : ℕ) → k < length ns
+tree_after : (names : List (List ℕ)) (trees : List Formula) (ns : List Node) → ((k : ℕ) → k < length ns → HasChildrenBelow (length trees + k) (node_at ns k))
+    → (k : ℕ) → k < length ns
     → formula_at (trees_after names trees ns) (length trees + k) ≡ made names (trees_after names trees ns) (node_at ns k)
 tree_after names trees [] f k lt = absurd (omega arith)
 tree_after names trees (n ∷ ns) f zero lt =
@@ -47,7 +50,8 @@ tree_after names trees (n ∷ ns) f (suc k) lt =
     let longer : length (trees ++ made names trees n ∷ []) ≡ length trees + 1 = length-append trees (made names trees n ∷ []) in
     let moved : length (trees ++ made names trees n ∷ []) + k ≡ length trees + suc k = omega arith in
     rw (← moved) (tree_after names (trees ++ made names trees n ∷ []) ns
-    (λ j less. let place : length trees + suc j ≡ length (trees ++ made names trees n ∷ []) + j = omega arith in subst (λ p. HasChildrenBelow p (node_at ns j)) place (f (suc j) (omega arith)))
+    (λ j less. let place : length trees + suc j ≡ length (trees ++ made names trees n ∷ []) + j = omega arith in
+    subst (λ p. HasChildrenBelow p (node_at ns j)) place (f (suc j) (omega arith)))
     k (omega arith))
 
 trees_after-push : (names : List (List ℕ)) (trees : List Formula) (ns : List Node) (n : Node)
@@ -65,16 +69,20 @@ length-trees_after names trees (n ∷ ns) =
 pub node_of_part : (parts : List Part) (i : ℕ) → node_at (nodes_of parts) i ≡ (part_at parts i).node
 node_of_part parts i = get_or-map (λ (p : Part). p.node) parts i (record { node = nodes.Const false; name = []; kept = no_ring [] })
 
-pub made_at : (names : List (List ℕ)) (parts : List Part) → HaveChildrenBelow parts → (i : ℕ) → i < length parts → formula_at (formulas_of names parts) i ≡ made names (formulas_of names parts) (part_at parts i).node
+pub made_at : (names : List (List ℕ)) (parts : List Part) → HaveChildrenBelow parts → (i : ℕ) → i < length parts
+    → formula_at (formulas_of names parts) i ≡ made names (formulas_of names parts) (part_at parts i).node
 made_at names parts below i lt =
     let same = length-map parts (λ (p : Part). p.node) in
     let zeroth : 0 + i ≡ i = omega arith in
     let whole = tree_after names [] (nodes_of parts)
-    (λ k less. let at : 0 + k ≡ k = omega arith in subst (λ j. HasChildrenBelow j (node_at (nodes_of parts) k)) (sym at) (subst (HasChildrenBelow k) (sym (node_of_part parts k)) (below k (omega (arith, same)))))
+    (λ k less. let at : 0 + k ≡ k = omega arith in subst (λ j. HasChildrenBelow j (node_at (nodes_of parts) k)) (sym at)
+    (subst (HasChildrenBelow k) (sym (node_of_part parts k)) (below k (omega (arith, same)))))
     i (omega (arith, same)) in
-    subst (λ j. formula_at (formulas_of names parts) j ≡ made names (formulas_of names parts) (part_at parts i).node) zeroth (whole ∙ ap (made names (formulas_of names parts)) (node_of_part parts i))
+    subst (λ j. formula_at (formulas_of names parts) j ≡ made names (formulas_of names parts) (part_at parts i).node) zeroth
+    (whole ∙ ap (made names (formulas_of names parts)) (node_of_part parts i))
 
-pub formulas_of-push : (names : List (List ℕ)) (parts : List Part) (p : Part) → formulas_of names (parts ++ p ∷ []) ≡ formulas_of names parts ++ made names (formulas_of names parts) p.node ∷ []
+pub formulas_of-push : (names : List (List ℕ)) (parts : List Part) (p : Part)
+    → formulas_of names (parts ++ p ∷ []) ≡ formulas_of names parts ++ made names (formulas_of names parts) p.node ∷ []
 formulas_of-push names parts p =
     ap (trees_after names []) (map-append (λ (q : Part). q.node) parts (p ∷ [])) ∙ trees_after-push names [] (nodes_of parts) p.node
 

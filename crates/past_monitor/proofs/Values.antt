@@ -1,10 +1,12 @@
 -- The value of each operator at a new state, from the values that are kept.
-use Rattle.std.proofs.Common.{◌≡◌, ℕ, zero, suc, ◌-◌, ◌<◌, ◌≤◌, ◌⊎◌, inl, inr, ◌↔◌, refl, sym, subst, ap, ◌∙◌, arith, true≢false, Bool, true, false, not, ◌&&◌, ◌||◌, nat_lt, List, [], ◌∷◌, ◌++◌, length, length-append, take, slice_index_or, IsTrue}
+use Rattle.std.proofs.Common.{◌≡◌, ℕ, zero, suc, ◌-◌, ◌<◌, ◌≤◌, ◌⊎◌, inl, inr, ◌↔◌, refl, sym, subst, ap, ◌∙◌, arith, true≢false, Bool, true, false, not, ◌&&◌}
+use Rattle.std.proofs.Common.{◌||◌, nat_lt, List, [], ◌∷◌, ◌++◌, length, length-append, take, slice_index_or, IsTrue}
 use Rattle.std.proofs.lemmas.Bool.{cases_lt, ltb-true, lt-ltb}
 use Rattle.std.proofs.lemmas.List.{length-take, get_or-take}
 use Rattle.ltl_syntax.specs.declared.node.UnaryOp.{UnaryOp}
 use Rattle.ltl_syntax.specs.declared.node.BinaryOp.{BinaryOp}
-use Rattle.ltl_syntax.specs.declared.node.UnaryOp.TheVariants.{Always, AlwaysIn, Eventually, EventuallyIn, Historically, HistoricallyIn, Next, NextTimes, Not, Once, OnceIn, WeakNext, WeakYesterday, Yesterday, YesterdayTimes}
+use Rattle.ltl_syntax.specs.declared.node.UnaryOp.TheVariants.{Always, AlwaysIn, Eventually, EventuallyIn, Historically, HistoricallyIn, Next, NextTimes, Not}
+use Rattle.ltl_syntax.specs.declared.node.UnaryOp.TheVariants.{Once, OnceIn, WeakNext, WeakYesterday, Yesterday, YesterdayTimes}
 use Rattle.ltl_syntax.specs.declared.node.BinaryOp.TheVariants.{And, Iff, Implies, Or, Release, Since, StrongRelease, Trigger, Until, WeakUntil}
 use Rattle.ltl_syntax.specs.Formula.{Formula, Unary, Binary}
 use Rattle.ltl_word.specs.declared.trace.Trace.TheVariants.{Finite}
@@ -153,7 +155,8 @@ module _ (t : List Names) (state : Names) where
     historically_back m = let s = not_is (nat_lt 0 (found_in false m front)) in (
       λ x j low high.
           let e : n - (n - j) ≡ j = omega arith in
-          let seen = turned (slice_index_or front (n - j) true) (λ f. s.0 x (lt-ltb 0 (found_in false m front) (some_found (same false) true refl m front (n - j) (omega arith) f))) in
+          let seen = turned (slice_index_or front (n - j) true)
+          (λ f. s.0 x (lt-ltb 0 (found_in false m front) (some_found (same false) true refl m front (n - j) (omega arith) f))) in
           subst (U g) e ((back_true (n - j) (omega arith)).0 seen (omega arith)),
       λ f. s.1 (λ x.
           let w = found_some (same false) true refl m front (ltb-true 0 (found_in false m front) x) in
@@ -189,7 +192,8 @@ module _ (t : List Names) (state : Names) where
         ]
 
   -- the value of an operator at the new state
-  pub one_right : (op : UnaryOp) (a : Formula) (values : List Bool) (v : Bool) → IsPast (Unary op a) → AreLast t (watched₁ op a) (reach₁ op) values → (IsTrue v ↔ U a n) → IsTrue (value₁ op (ring₁ op values) v) ↔ U (Unary op a) n
+  pub one_right : (op : UnaryOp) (a : Formula) (values : List Bool) (v : Bool) → IsPast (Unary op a) → AreLast t (watched₁ op a) (reach₁ op) values
+      → (IsTrue v ↔ U a n) → IsTrue (value₁ op (ring₁ op values) v) ↔ U (Unary op a) n
   one_right Not a values v p k r = let e = not_is v in (λ x h. e.0 x (r.1 h), λ h. e.1 (λ x. h (r.0 x)))
   one_right Next a values v p k r = absurd p.0
   one_right WeakNext a values v p k r = absurd p.0
@@ -216,9 +220,11 @@ module _ (t : List Names) (state : Names) where
   one_right (OnceIn m j) a values v p k r = once_back a p.1 j values k v r m
   one_right (HistoricallyIn m j) a values v p k r = historically_back a p.1 j values k v r m
 
-  pub two_right : (op : BinaryOp) (a b : Formula) (values : List Bool) (v w : Bool) → IsPast (Binary op a b) → AreLast t (Binary op a b) (reach₂ op) values → (IsTrue v ↔ U a n) → (IsTrue w ↔ U b n) → IsTrue (value₂ op (ring₂ op values) v w) ↔ U (Binary op a b) n
+  pub two_right : (op : BinaryOp) (a b : Formula) (values : List Bool) (v w : Bool) → IsPast (Binary op a b) → AreLast t (Binary op a b) (reach₂ op) values
+      → (IsTrue v ↔ U a n) → (IsTrue w ↔ U b n) → IsTrue (value₂ op (ring₂ op values) v w) ↔ U (Binary op a b) n
   two_right And a b values v w p k r s = let e = and_is v w in (λ x. let y = e.0 x in (r.0 y.0, s.0 y.1), λ h. e.1 (r.1 h.0, s.1 h.1))
-  two_right Or a b values v w p k r s = let e = or_is v w in (λ x. elim (e.0 x) [ inl y ↦ inl (r.0 y) | inr y ↦ inr (s.0 y) ], λ h. e.1 (elim h [ inl y ↦ inl (r.1 y) | inr y ↦ inr (s.1 y) ]))
+  two_right Or a b values v w p k r s = let e = or_is v w in
+      (λ x. elim (e.0 x) [ inl y ↦ inl (r.0 y) | inr y ↦ inr (s.0 y) ], λ h. e.1 (elim h [ inl y ↦ inl (r.1 y) | inr y ↦ inr (s.1 y) ]))
   two_right Implies a b values v w p k r s = implies_is v w (U a n) (U b n) r s
   two_right Iff a b values v w p k r s = iff_is v w (U a n) (U b n) r s
   two_right Until a b values v w p k r s = absurd p.0
@@ -237,11 +243,13 @@ module _ (t : List Names) (state : Names) where
       let e = or_is v (slice_index_or values 0 true) in
       let l = last_true (Binary Trigger a b) p values k in (
         λ x. let y = o.0 x in trigger_in (U a) (U b) n (s.0 y.0, elim (e.0 y.1) [ inl z ↦ inl (r.0 z) | inr z ↦ inr (l.0 z) ]),
-        λ h. let y = trigger_out (U a) (U b) n (Holds_decided (Finite (t ++ state ∷ [])) some a n) h in o.1 (s.1 y.0, e.1 (elim y.1 [ inl z ↦ inl (r.1 z) | inr f ↦ inr (l.1 f) ])),
+        λ h. let y = trigger_out (U a) (U b) n (Holds_decided (Finite (t ++ state ∷ [])) some a n) h in
+            o.1 (s.1 y.0, e.1 (elim y.1 [ inl z ↦ inl (r.1 z) | inr f ↦ inr (l.1 f) ])),
       )
 
   -- the value that joins the ring is that of the formula whose values are kept
-  pub joins_right : (op : UnaryOp) (a : Formula) (v w : Bool) → (IsTrue v ↔ U a n) → (IsTrue w ↔ U (Unary op a) n) → IsTrue (joining₁ op v w) ↔ U (watched₁ op a) n
+  pub joins_right : (op : UnaryOp) (a : Formula) (v w : Bool) → (IsTrue v ↔ U a n) → (IsTrue w ↔ U (Unary op a) n)
+      → IsTrue (joining₁ op v w) ↔ U (watched₁ op a) n
   joins_right Not a v w r s = s
   joins_right Next a v w r s = s
   joins_right WeakNext a v w r s = s

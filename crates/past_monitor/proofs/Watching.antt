@@ -1,5 +1,6 @@
 -- The loop over the lines of a text.
-use Rattle.std.proofs.Common.{◌≡◌, inl, inr, ℕ, zero, suc, ◌+◌, ◌-◌, ◌<◌, ◌≤◌, ◌↔◌, Bool, true, false, List, [], ◌∷◌, ◌++◌, length, length-append, take, slice_index_or, Option, Some, None, Result, Ok, Err, IsErr, IfErr, IsTrue, refl, sym, subst, ap, ◌∙◌, arith, true≢false}
+use Rattle.std.proofs.Common.{◌≡◌, inl, inr, ℕ, zero, suc, ◌+◌, ◌-◌, ◌<◌, ◌≤◌, ◌↔◌, Bool, true, false, List, [], ◌∷◌, ◌++◌, length, length-append, take}
+use Rattle.std.proofs.Common.{slice_index_or, Option, Some, None, Result, Ok, Err, IsErr, IfErr, IsTrue, refl, sym, subst, ap, ◌∙◌, arith, true≢false}
 use Rattle.std.specs.Result.{IsErrAnd}
 use Rattle.std.proofs.Math.ListN.{get_or-append}
 use Rattle.std.proofs.Math.Seq.{get_or-append_seam}
@@ -43,7 +44,8 @@ begun f text m past formula stands = record {
   answered = record { count = refl; each = λ k lt. absurd (omega arith) };
 }
 
-blank_more : (lines : List (List ℕ)) (states : List Names) (line : List ℕ) → AreStates lines states → is_blank line ≡ true → AreStates (lines ++ line ∷ []) states
+blank_more : (lines : List (List ℕ)) (states : List Names) (line : List ℕ) → AreStates lines states
+    → is_blank line ≡ true → AreStates (lines ++ line ∷ []) states
 blank_more [] [] line h b = inl (b, tt)
 blank_more [] (s ∷ states) line h b = absurd h
 blank_more (x ∷ lines) states line h b = elim h [
@@ -51,7 +53,8 @@ blank_more (x ∷ lines) states line h b = elim h [
   | inr w ↦ inr (w.0, (w.1.0, w.1.1, w.1.2, w.1.3, blank_more lines w.1.1 line w.1.4 b))
 ]
 
-state_more : (lines : List (List ℕ)) (states : List Names) (line : List ℕ) (s : Names) → AreStates lines states → is_blank line ≡ false → IsStateOf line (Some s) → AreStates (lines ++ line ∷ []) (states ++ s ∷ [])
+state_more : (lines : List (List ℕ)) (states : List Names) (line : List ℕ) (s : Names) → AreStates lines states
+    → is_blank line ≡ false → IsStateOf line (Some s) → AreStates (lines ++ line ∷ []) (states ++ s ∷ [])
 state_more [] [] line s h b is = inr (b, (s, [], refl, is, tt))
 state_more [] (r ∷ states) line s h b is = absurd h
 state_more (x ∷ lines) states line s h b is = elim h [
@@ -71,7 +74,8 @@ none_bad (x ∷ lines) states h (suc i) lt bad = elim h [
   | inr w ↦ none_bad lines w.1.1 w.1.4 i (omega arith) bad
 ]
 
-answer_more : (f : Formula) (states : List Names) (answers : List Bool) (s : Names) (a : Bool) → AreAnswers f states answers → IsTrue a ↔ Holds (Finite (states ++ s ∷ [])) f (length states)
+answer_more : (f : Formula) (states : List Names) (answers : List Bool) (s : Names) (a : Bool) → AreAnswers f states answers
+    → IsTrue a ↔ Holds (Finite (states ++ s ∷ [])) f (length states)
     → AreAnswers f (states ++ s ∷ []) (answers ++ a ∷ [])
 answer_more f states answers s a h right = record {
   count = omega (arith, length-append answers (a ∷ []), length-append states (s ∷ []), h.count);
@@ -79,8 +83,10 @@ answer_more f states answers s a h right = record {
     | inl less ↦
         let old = h.each k less in
         let e : slice_index_or (answers ++ a ∷ []) k false ≡ slice_index_or answers k false = get_or-append answers (a ∷ []) false k (omega (arith, h.count)) in
-        let t : take (suc k) (states ++ s ∷ []) ≡ take (suc k) states = take_front (suc k) states (omega arith) in
-        (λ x. subst (λ (ts : List Names). Holds (Finite ts) f k) (sym t) (old.0 (subst IsTrue e x)), λ x. subst IsTrue (sym e) (old.1 (subst (λ (ts : List Names). Holds (Finite ts) f k) t x)))
+        let t : take (suc k) (states ++ s ∷ []) ≡ take (suc k) states = take_front (suc k) states (omega arith) in (
+          λ x. subst (λ (ts : List Names). Holds (Finite ts) f k) (sym t) (old.0 (subst IsTrue e x)),
+          λ x. subst IsTrue (sym e) (old.1 (subst (λ (ts : List Names). Holds (Finite ts) f k) t x)),
+        )
     | inr ge ↦
         let k_is : length states ≡ k = omega (arith, length-append states (s ∷ [])) in
         subst (λ j. IsTrue (slice_index_or (answers ++ a ∷ []) j false) ↔ Holds (Finite (take (suc j) (states ++ s ∷ []))) f j) k_is last
@@ -97,12 +103,16 @@ answer_more f states answers s a h right = record {
 
   last : IsTrue (slice_index_or (answers ++ a ∷ []) (length states) false) ↔ Holds (Finite (take (suc (length states)) (states ++ s ∷ []))) f (length states)
   last =
-      let e : slice_index_or (answers ++ a ∷ []) (length states) false ≡ a = subst (λ j. slice_index_or (answers ++ a ∷ []) j false ≡ a) h.count (get_or-append_seam answers a [] false) in
-      let t = take_whole states in
-      (λ x. subst (λ (ts : List Names). Holds (Finite ts) f (length states)) (sym t) (right.0 (subst IsTrue e x)), λ x. subst IsTrue (sym e) (right.1 (subst (λ (ts : List Names). Holds (Finite ts) f (length states)) t x)))
+      let e : slice_index_or (answers ++ a ∷ []) (length states) false ≡ a =
+      subst (λ j. slice_index_or (answers ++ a ∷ []) j false ≡ a) h.count (get_or-append_seam answers a [] false) in
+      let t = take_whole states in (
+        λ x. subst (λ (ts : List Names). Holds (Finite ts) f (length states)) (sym t) (right.0 (subst IsTrue e x)),
+        λ x. subst IsTrue (sym e) (right.1 (subst (λ (ts : List Names). Holds (Finite ts) f (length states)) t x)),
+      )
 
 -- one line more, where t is the text that was left
-module _ (f : Formula) (text t : List ℕ) (m : MonitorValue) (answers : List Bool) (number : ℕ) (is : IsWatching f text (Some t) m answers number) (line : List ℕ) (rest : Option (List ℕ)) (first : lines_of t ≡ line ∷ lines_left rest) where
+module _ (f : Formula) (text t : List ℕ) (m : MonitorValue) (answers : List Bool) (number : ℕ) (is : IsWatching f text (Some t) m answers number)
+    (line : List ℕ) (rest : Option (List ℕ)) (first : lines_of t ≡ line ∷ lines_left rest) where
   whole_next : lines_of text ≡ (is.done ++ line ∷ []) ++ lines_left rest
   whole_next = is.whole ∙ (ap (λ ls. is.done ++ ls) first ∙ sym (append_assoc is.done (line ∷ []) (lines_left rest)))
 
@@ -123,7 +133,8 @@ module _ (f : Formula) (text t : List ℕ) (m : MonitorValue) (answers : List Bo
     answered = is.answered;
   }
 
-  pub state_taken : (new : MonitorValue) (s : Names) (a : Bool) (answers' : List Bool) → bytes_left rest ≤ length t → is_blank line ≡ false → IsStateOf line (Some s) → IsStep m s a new → answers' ≡ answers ++ a ∷ []
+  pub state_taken : (new : MonitorValue) (s : Names) (a : Bool) (answers' : List Bool) → bytes_left rest ≤ length t
+      → is_blank line ≡ false → IsStateOf line (Some s) → IsStep m s a new → answers' ≡ answers ++ a ∷ []
       → IsWatching f text rest new answers' (number + 1)
   state_taken new s a answers' less b state step e =
       let right = subst (λ (g : Formula). IsTrue a ↔ Holds (Finite (is.states ++ s ∷ [])) g (length is.states)) is.formula (step.right is.states is.stands) in
@@ -144,31 +155,37 @@ module _ (f : Formula) (text t : List ℕ) (m : MonitorValue) (answers : List Bo
   first_bad bad =
       let whole : lines_of text ≡ is.done ++ (line ∷ lines_left rest) = is.whole ∙ ap (λ ls. is.done ++ ls) first in
       let long = length-append is.done (line ∷ lines_left rest) in
-      let at : slice_index_or (is.done ++ (line ∷ lines_left rest)) number [] ≡ line = subst (λ k. slice_index_or (is.done ++ (line ∷ lines_left rest)) k [] ≡ line) (sym is.counted) (get_or-append_seam is.done line (lines_left rest) []) in
+      let at : slice_index_or (is.done ++ (line ∷ lines_left rest)) number [] ≡ line =
+      subst (λ k. slice_index_or (is.done ++ (line ∷ lines_left rest)) k [] ≡ line) (sym is.counted) (get_or-append_seam is.done line (lines_left rest) []) in
       let place : number + 1 - 1 ≡ number = omega arith in
       record {
         some = omega arith;
         there = let e : length (lines_of text) ≡ length (is.done ++ (line ∷ lines_left rest)) = ap length whole in omega (arith, long, is.counted);
-        bad = subst IsBad (sym (ap (λ ls. line_at ls (number + 1)) whole ∙ (ap (λ k. slice_index_or (is.done ++ (line ∷ lines_left rest)) k []) place ∙ at))) bad;
+        bad =
+            subst IsBad (sym (ap (λ ls. line_at ls (number + 1)) whole ∙ (ap (λ k. slice_index_or (is.done ++ (line ∷ lines_left rest)) k []) place ∙ at))) bad;
         before = λ n some less worse.
             let low : n - 1 < length is.done = omega (arith, is.counted) in
-            let e : line_at (lines_of text) n ≡ slice_index_or is.done (n - 1) [] = ap (λ ls. line_at ls n) whole ∙ get_or-append is.done (line ∷ lines_left rest) [] (n - 1) low in
+            let e : line_at (lines_of text) n ≡ slice_index_or is.done (n - 1) [] =
+            ap (λ ls. line_at ls n) whole ∙ get_or-append is.done (line ∷ lines_left rest) [] (n - 1) low in
             none_bad is.done is.states is.are (n - 1) low (subst IsBad e worse);
       }
 
 -- all lines are done
-pub all_done : (f : Formula) (text : List ℕ) (rest : Option (List ℕ)) (m : MonitorValue) (answers : List Bool) (number : ℕ) → rest ≡ None → IsWatching f text rest m answers number
+pub all_done : (f : Formula) (text : List ℕ) (rest : Option (List ℕ)) (m : MonitorValue) (answers : List Bool) (number : ℕ)
+    → rest ≡ None → IsWatching f text rest m answers number
     → IsPast f × ((states : List Names) × AreStates (lines_of text) states × AreAnswers f states answers)
 all_done f text rest m answers number e is =
     let whole : lines_of text ≡ is.done = is.whole ∙ (ap (λ r. is.done ++ lines_left r) e ∙ append-nil is.done) in
     (is.past, (is.states, subst (λ ls. AreStates ls is.states) (sym whole) is.are, is.answered))
 
 -- a refusal of a line is one of the text
-pub refused_line : {A : Type 0} (f : Formula) (text : List ℕ) (e : WatchRefused) (r : Result A WatchRefused) → ¬ (e ≡ refusals.Future) → ((n : ℕ) → e ≡ refusals.State n → IsPast f × IsFirstBad (lines_of text) n)
+pub refused_line : {A : Type 0} (f : Formula) (text : List ℕ) (e : WatchRefused) (r : Result A WatchRefused) → ¬ (e ≡ refusals.Future)
+    → ((n : ℕ) → e ≡ refusals.State n → IsPast f × IsFirstBad (lines_of text) n)
     → IsErr r × IsErrAnd r (λ x. x ≡ e) → IfErr r (λ refused. IsWatched f text (Err refused))
 refused_line f text e (Ok x) never bad w = let ok = w.0 in cc
 refused_line f text e (Err x) never bad w = subst (λ y. IsWatched f text (Err y)) (sym w.1) (by_refusal e never bad) where
-  by_refusal : (e : WatchRefused) → ¬ (e ≡ refusals.Future) → ((n : ℕ) → e ≡ refusals.State n → IsPast f × IsFirstBad (lines_of text) n) → IsWatched f text (Err e)
+  by_refusal : (e : WatchRefused) → ¬ (e ≡ refusals.Future) → ((n : ℕ) → e ≡ refusals.State n → IsPast f × IsFirstBad (lines_of text) n)
+      → IsWatched f text (Err e)
   by_refusal refusals.Future never bad = absurd (never refl)
   by_refusal (refusals.State n) never bad = bad n refl
   by_refusal refusals.NoMemory never bad = tt

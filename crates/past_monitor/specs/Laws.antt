@@ -29,4 +29,5 @@ RunsAreRight = (m : MonitorValue) (states : List Names) (answers : List Bool) �
 
 -- two answers to the same text are one, where memory was not wanting
 abbrev pub HasOneAnswer : Type 0
-HasOneAnswer = (f : Formula) (text : List ℕ) (r s : Result (List Bool) WatchRefused) → IsWatched f text r → IsWatched f text s → r ≢ Err NoMemory → s ≢ Err NoMemory → r ≡ s
+HasOneAnswer = (f : Formula) (text : List ℕ) (r s : Result (List Bool) WatchRefused) → IsWatched f text r → IsWatched f text s → r ≢ Err NoMemory
+    → s ≢ Err NoMemory → r ≡ s

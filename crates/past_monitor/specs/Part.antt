@@ -1,5 +1,6 @@
 -- The formulas of a monitor, each made of earlier ones, and the value of each at a state.
-use Rattle.std.specs.Prelude.{◌≡◌, ℕ, ◌+◌, ◌-◌, ◌<◌, ◌≤◌, ⊤, Bool, true, false, not, ◌&&◌, ◌||◌, List, [], map, length, slice_index_or, slice_get, Some, ◌↔◌, IsTrue, Contains}
+use Rattle.std.specs.Prelude.{◌≡◌, ℕ, ◌+◌, ◌-◌, ◌<◌, ◌≤◌, ⊤, Bool, true, false, not, ◌&&◌, ◌||◌, List, [], map, length, slice_index_or, slice_get, Some, ◌↔◌}
+use Rattle.std.specs.Prelude.{IsTrue, Contains}
 use Rattle.ltl_syntax.specs.declared.node.UnaryOp.{UnaryOp}
 use Rattle.ltl_syntax.specs.declared.node.BinaryOp.{BinaryOp}
 use Rattle.ltl_syntax.specs.declared.node.UnaryOp.TheVariants as one
@@ -227,7 +228,8 @@ pub record AreMarked (t : Table) (root : ℕ) (marks : List Bool) : Type 0 where
   pub top : value_at marks root ≡ true
   pub under : (i : ℕ) → value_at marks i ≡ true → IsUnder t root i
   pub past : (i : ℕ) (node : Node) → value_at marks i ≡ true → slice_get t.nodes i ≡ Some node → IsPastNode node
-  pub closed : (i : ℕ) (node : Node) (child : ℕ) → value_at marks i ≡ true → slice_get t.nodes i ≡ Some node → has_child child node ≡ true → value_at marks child ≡ true
+  pub closed : (i : ℕ) (node : Node) (child : ℕ) → value_at marks i ≡ true → slice_get t.nodes i ≡ Some node
+      → has_child child node ≡ true → value_at marks child ≡ true
 
 -- the node over the places of its children
 abbrev pub moved : List ℕ → Node → Node

@@ -1,5 +1,6 @@
 -- The states of a text, one a line, and what is answered to them.
-use Rattle.std.specs.Prelude.{◌≡◌, ◌⊎◌, ℕ, suc, ◌+◌, ◌-◌, ◌<◌, ◌≤◌, ◌↔◌, ⊤, Bool, true, false, ◌==◌, List, [], ◌∷◌, length, take, slice_index_or, Option, Some, None, Result, Ok, Err, IsTrue}
+use Rattle.std.specs.Prelude.{◌≡◌, ◌⊎◌, ℕ, suc, ◌+◌, ◌-◌, ◌<◌, ◌≤◌, ◌↔◌, ⊤, Bool, true, false, ◌==◌, List, [], ◌∷◌, length, take, slice_index_or, Option, Some}
+use Rattle.std.specs.Prelude.{None, Result, Ok, Err, IsTrue}
 use Rattle.std.specs.List.{list_all, slice_split}
 use Rattle.ltl_syntax.specs.Formula.{Formula}
 use Rattle.ltl_lexer.specs.Tokens.{is_white}

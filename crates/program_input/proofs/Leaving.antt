@@ -24,7 +24,8 @@ whole_left most text (Some told) after (left, whole, is, inr l) h = absurd (omeg
 whole_left most text None after t h = tt
 
 -- the answer to the parts of what was taken from a source is that to the parts of what it had left
-pub parted_left : (Answer : Type 0) (refused : Fault → Answer) (Claim : Formula → List ℕ → Answer → Type 0) (most : ℕ) (text : List ℕ) (rest after : Option (List ℕ)) (a : Answer)
+pub parted_left : (Answer : Type 0) (refused : Fault → Answer) (Claim : Formula → List ℕ → Answer → Type 0) (most : ℕ) (text : List ℕ)
+    (rest after : Option (List ℕ)) (a : Answer)
     → TakesWhole most text rest after → length text ≤ most → IsParted Answer refused Claim text a → IsLeft Answer (IsParted Answer refused Claim) rest a
 parted_left Answer refused Claim most text rest after a read short h = record { bytes = text; left = whole_left most text rest after read short; lawful = h }
 
@@ -42,11 +43,13 @@ told_left None bytes left e is = absurd (cc)
 
 -- ---- what is left behind what was read
 
-pub taken_up_to : (limit : ℕ) (text : List ℕ) (rest after : Option (List ℕ)) → TakesWhole limit text rest after → length text ≤ limit + 65536 → IsTakenUpTo limit rest after
+pub taken_up_to : (limit : ℕ) (text : List ℕ) (rest after : Option (List ℕ)) → TakesWhole limit text rest after
+    → length text ≤ limit + 65536 → IsTakenUpTo limit rest after
 taken_up_to limit text None after read few = tt
 taken_up_to limit text (Some told) after (left, whole, is, end) few = (text, left, whole, is, few, end)
 
-pub taken_whole : (text : List ℕ) (rest after : Option (List ℕ)) → TakesWhole 18446744073709551615 text rest after → length text ≤ 18446744073709551615 → IsTakenWhole rest after
+pub taken_whole : (text : List ℕ) (rest after : Option (List ℕ)) → TakesWhole 18446744073709551615 text rest after
+    → length text ≤ 18446744073709551615 → IsTakenWhole rest after
 taken_whole text None after read few = tt
 taken_whole text (Some told) after (left, whole, is, inl end) few = is ∙ ap Some end
 taken_whole text (Some told) after (left, whole, is, inr more) few = absurd (omega (arith, more, few))

@@ -1,5 +1,6 @@
 -- Each input is cut at a separator line or has none, and each formula part is accepted or refused.
-use Rattle.std.proofs.Common.{◌≡◌, ◌≢◌, ◌∙◌, ℕ, zero, suc, ◌+◌, ◌-◌, ◌<◌, ◌≤◌, ◌⊎◌, inl, inr, Bool, true, false, List, [], ◌∷◌, ◌++◌, length, take, drop, get_or, codes, refl, sym, ap, subst, arith, length-append, append_assoc}
+use Rattle.std.proofs.Common.{◌≡◌, ◌≢◌, ◌∙◌, ℕ, zero, suc, ◌+◌, ◌-◌, ◌<◌, ◌≤◌, ◌⊎◌, inl, inr, Bool, true, false, List, [], ◌∷◌, ◌++◌, length, take, drop}
+use Rattle.std.proofs.Common.{get_or, codes, refl, sym, ap, subst, arith, length-append, append_assoc}
 use Rattle.std.specs.Str.{bytes_eq}
 use Rattle.std.proofs.lemmas.Bool.{cases_lt}
 use Rattle.std.proofs.lemmas.List.{take-append-drop}
@@ -47,9 +48,11 @@ no_start bytes start more other second h = by h.begins
     by (inr e) =
         let n = ap length e in
         let p = h.place in
-        let whole : bytes ≡ (h.text ++ newline) ++ (h.line ++ h.after) = h.whole ∙ append_assoc h.before h.line h.after ∙ ap (λ b. b ++ (h.line ++ h.after)) e in
+        let whole : bytes ≡ (h.text ++ newline) ++ (h.line ++ h.after) =
+        h.whole ∙ append_assoc h.before h.line h.after ∙ ap (λ b. b ++ (h.line ++ h.after)) e in
         let at : length h.text ≡ start - 1 = omega (arith, length-append h.text newline) in
-        other (ap (λ b. get_or b (start - 1) 0) whole ∙ subst (λ i. get_or ((h.text ++ newline) ++ (h.line ++ h.after)) i 0 ≡ 10) at (newline_there h.text (h.line ++ h.after)))
+        other (ap (λ b. get_or b (start - 1) 0) whole
+        ∙ subst (λ i. get_or ((h.text ++ newline) ++ (h.line ++ h.after)) i 0 ≡ 10) at (newline_there h.text (h.line ++ h.after)))
 
 start_or_not : (bytes : List ℕ) (start : ℕ) → IsStart bytes start ⊎ OpensNothing bytes start
 start_or_not bytes start = elim (cases_lt 0 start) [
@@ -69,10 +72,12 @@ no_dashes bytes start other second h = elim h.separator [
 abbrev IsTold : List ℕ → ℕ → Type 0
 IsTold bytes start = ((second : List ℕ) × OpensSecond bytes start second) ⊎ OpensNothing bytes start
 
-behind_dashes : (bytes : List ℕ) (start : ℕ) (after : List ℕ) → start ≤ length bytes → IsStart bytes start → drop start bytes ≡ codes "---" ++ after → IsTold bytes start
+behind_dashes : (bytes : List ℕ) (start : ℕ) (after : List ℕ) → start ≤ length bytes → IsStart bytes start
+    → drop start bytes ≡ codes "---" ++ after → IsTold bytes start
 behind_dashes bytes start after low at e = elim (same_bytes (take 1 after) (13 ∷ [])) [
   | inl is ↦
-      let whole : drop start bytes ≡ codes "---" ++ 13 ∷ drop 1 after = e ∙ ap (λ a. codes "---" ++ a) (sym (take-append-drop 1 after) ∙ ap (λ l. l ++ drop 1 after) is) in
+      let whole : drop start bytes ≡ codes "---" ++ 13 ∷ drop 1 after =
+      e ∙ ap (λ a. codes "---" ++ a) (sym (take-append-drop 1 after) ∙ ap (λ l. l ++ drop 1 after) is) in
       elim (begins_or_not (drop 1 after)) [
         | inl w ↦ inl (w.0, return_opens bytes start (drop 1 after) w.0 low at whole w.1)
         | inr none ↦ inr (no_end_return bytes start (drop 1 after) whole none)
@@ -88,7 +93,8 @@ opens_or_not : (bytes : List ℕ) (start : ℕ) → start ≤ length bytes → I
 opens_or_not bytes start low = elim (start_or_not bytes start) [
   | inr none ↦ inr none
   | inl at ↦ elim (same_bytes (take 3 (drop start bytes)) (codes "---")) [
-    | inl e ↦ behind_dashes bytes start (drop 3 (drop start bytes)) low at (sym (take-append-drop 3 (drop start bytes)) ∙ ap (λ l. l ++ drop 3 (drop start bytes)) e)
+    | inl e ↦
+        behind_dashes bytes start (drop 3 (drop start bytes)) low at (sym (take-append-drop 3 (drop start bytes)) ∙ ap (λ l. l ++ drop 3 (drop start bytes)) e)
     | inr other ↦ inr (no_dashes bytes start other)
   ]
 ]
@@ -118,7 +124,8 @@ accepted_or_refused outcome part = elim (accepted_or_fault outcome part) [
 abbrev pub HasSome : (Answer : Type 0) → (Formula → List ℕ → Answer → Type 0) → Type 0
 HasSome Answer Claim = (part second : List ℕ) (f : Formula) → IsAccepted part f → (a : Answer) × Claim f second a
 
-pub some_parted : EachHasOutcome → (Answer : Type 0) (refused : Fault → Answer) (Claim : Formula → List ℕ → Answer → Type 0) → HasSome Answer Claim → (bytes : List ℕ) → (a : Answer) × IsParted Answer refused Claim bytes a
+pub some_parted : EachHasOutcome → (Answer : Type 0) (refused : Fault → Answer) (Claim : Formula → List ℕ → Answer → Type 0) → HasSome Answer Claim
+    → (bytes : List ℕ) → (a : Answer) × IsParted Answer refused Claim bytes a
 some_parted outcome Answer refused Claim some bytes = elim (cut_or_not bytes) [
   | inr none ↦ (refused faults.NoSeparator, uncut none)
   | inl (part, second, cut) ↦ elim (accepted_or_refused outcome part) [

@@ -16,7 +16,8 @@ use Rattle.report.proofs.Statuses.{is_refusal, not_refused}
 abbrev pub HasOne : (Answer : Type 0) → (Formula → List ℕ → Answer → Type 0) → Type 0
 HasOne Answer Claim = (f : Formula) (text : List ℕ) (a b : Answer) → Claim f text a → Claim f text b → a ≡ b
 
-pub one_parted : (Answer : Type 0) (refused : Fault → Answer) (Claim : Formula → List ℕ → Answer → Type 0) → HasOne Answer Claim → (bytes : List ℕ) → TextLaws → (a b : Answer)
+pub one_parted : (Answer : Type 0) (refused : Fault → Answer) (Claim : Formula → List ℕ → Answer → Type 0) → HasOne Answer Claim → (bytes : List ℕ)
+    → TextLaws → (a b : Answer)
     → IsParted Answer refused Claim bytes a → IsParted Answer refused Claim bytes b → a ≡ b
 one_parted Answer refused Claim one bytes laws a b (uncut n) (uncut m) = refl
 one_parted Answer refused Claim one bytes laws a b (uncut n) (unread part second fault cut h) = absurd (cut_or_none bytes part second cut n)
@@ -40,7 +41,8 @@ one_parted Answer refused Claim one bytes laws a b (accepted part second f answe
 
 -- what is claimed of two parts comes of them, and of an accepted formula, where the status is that of no refusal
 pub parted : (Answer : Type 0) (refused : Fault → Answer) (status_of : Answer → Status) → ((fault : Fault) → status_of (refused fault) ≡ fault_status fault)
-    → (Claim : Formula → List ℕ → Answer → Type 0) (bytes : List ℕ) (a : Answer) (s : Status) → IsParted Answer refused Claim bytes a → is_refusal s ≡ false → s ≡ status_of a
+    → (Claim : Formula → List ℕ → Answer → Type 0) (bytes : List ℕ) (a : Answer) (s : Status) → IsParted Answer refused Claim bytes a
+    → is_refusal s ≡ false → s ≡ status_of a
     → (part second : List ℕ) × (f : Formula) × IsCut bytes part second × IsAccepted part f × Claim f second a
 parted Answer refused status_of own Claim bytes a s (uncut none) not e = absurd (not_refused s faults.NoSeparator not (e ∙ own faults.NoSeparator))
 parted Answer refused status_of own Claim bytes a s (unread part second fault cut refuses) not e = absurd (not_refused s fault not (e ∙ own fault))

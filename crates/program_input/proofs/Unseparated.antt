@@ -1,6 +1,7 @@
 -- A text that has tokens has no separator line: no token begins with two dashes, and none has a newline in it. So what is joined to such a text
 -- by a separator line is cut there.
-use Rattle.std.proofs.Common.{◌≡◌, ◌∙◌, ◌⊎◌, ℕ, ◌<◌, ◌≤◌, inl, inr, Bool, true, false, ◌&&◌, ◌||◌, ◌==◌, List, [], ◌∷◌, ◌++◌, length, codes, refl, sym, ap, ap₂, subst, arith, append_assoc, length-append}
+use Rattle.std.proofs.Common.{◌≡◌, ◌∙◌, ◌⊎◌, ℕ, ◌<◌, ◌≤◌, inl, inr, Bool, true, false, ◌&&◌, ◌||◌, ◌==◌, List, [], ◌∷◌, ◌++◌, length, codes, refl, sym, ap, ap₂}
+use Rattle.std.proofs.Common.{subst, arith, append_assoc, length-append}
 use Rattle.std.specs.Prelude.{Option, Some, None, if◌then◌else◌, bytes_eq, not}
 use Rattle.std.specs.Fmt.{decimal}
 use Rattle.std.specs.List.{list_all, list_any}
@@ -165,9 +166,11 @@ no_arrow after rest e = cc
 in_token : (bytes rest d c after : List ℕ) (kind : TokenKind) → Spells bytes kind → AtStart c → bytes ≡ c ++ 45 ∷ d → 45 ∷ 45 ∷ after ≡ d ++ rest → ⊥
 in_token bytes rest d c after kind s (inl none) e f =
     no_arrow after rest (f ∙ ap (λ z. z ++ rest) (dash_of_arrow bytes kind s d (e ∙ ap (λ z. z ++ 45 ∷ d) none)))
-in_token bytes rest d c after kind s (inr (text, line)) e f = no_newline bytes kind s text (45 ∷ d) (e ∙ ap (λ z. z ++ 45 ∷ d) line ∙ append_assoc text (10 ∷ []) (45 ∷ d))
+in_token bytes rest d c after kind s (inr (text, line)) e f =
+    no_newline bytes kind s text (45 ∷ d) (e ∙ ap (λ z. z ++ 45 ∷ d) line ∙ append_assoc text (10 ∷ []) (45 ∷ d))
 
-no_dashes : (ts : List Token) (place : ℕ) (text before after : List ℕ) → AreTokens place text ts None → AtStart before → text ≡ before ++ 45 ∷ 45 ∷ 45 ∷ after → ⊥
+no_dashes : (ts : List Token) (place : ℕ) (text before after : List ℕ) → AreTokens place text ts None → AtStart before
+    → text ≡ before ++ 45 ∷ 45 ∷ 45 ∷ after → ⊥
 no_dashes [] place text before after blank at e = dash_not_white before (45 ∷ 45 ∷ after) (subst AreWhite e blank)
 no_dashes (t ∷ ts) place text before after (rest, next, more) at e =
     elim (cut_within next.white (next.bytes ++ rest) before 45 (45 ∷ 45 ∷ after) (sym next.whole ∙ e)) [
@@ -205,7 +208,8 @@ two_more [] more behind e = absurd (cc)
 two_more (x ∷ []) more behind e = absurd (cc)
 two_more (x ∷ y ∷ c) more behind e = (c, (cc))
 
-no_earlier : (text behind before more : List ℕ) (ts : List Token) → AreTokens 0 text ts None → AtStart before → text ++ 10 ∷ behind ≡ before ++ 45 ∷ 45 ∷ 45 ∷ more → length text < length before
+no_earlier : (text behind before more : List ℕ) (ts : List Token) → AreTokens 0 text ts None → AtStart before
+    → text ++ 10 ∷ behind ≡ before ++ 45 ∷ 45 ∷ 45 ∷ more → length text < length before
 no_earlier text behind before more ts lexed at e = elim (cut_within text (10 ∷ behind) before 45 (45 ∷ 45 ∷ more) e) [
   | inl c ↦ let r = two_more c.0 more behind c.2 in absurd (no_dashes ts 0 text before r.0 lexed at (c.1 ∙ ap (λ z. before ++ 45 ∷ z) r.1))
   | inr c ↦ behind_newline c.0 c.1 c.2
@@ -221,7 +225,8 @@ joined_cut text second ts lexed = record {
   before = text ++ newline;
   line = codes "---";
   after = newline ++ second;
-  whole = append_assoc text (codes "\n---\n") second ∙ sym (append_assoc text newline (codes "---\n" ++ second)) ∙ sym (append_assoc (text ++ newline) (codes "---") (newline ++ second));
+  whole = append_assoc text (codes "\n---\n") second ∙ sym (append_assoc text newline (codes "---\n" ++ second))
+      ∙ sym (append_assoc (text ++ newline) (codes "---") (newline ++ second));
   separator = inl refl;
   begins = inr refl;
   ends = inr refl;

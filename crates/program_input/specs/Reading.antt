@@ -31,7 +31,8 @@ pub data RefusesPart (part : List ℕ) : Fault → Type 0 where
 -- the text is read as a formula, of which the table has the nodes and no others, or refused
 abbrev pub IsPartReading : List ℕ → Reading → Type 0
 IsPartReading text (readings.Formula table root) =
-    (root < length table.nodes) × IsAccepted text (tree_at table root) × (length table.nodes ≡ nodes_in (tree_at table root)) × (sizes table.nodes ≡ formula_size (tree_at table root))
+    (root < length table.nodes) × IsAccepted text (tree_at table root) × (length table.nodes ≡ nodes_in (tree_at table root))
+    × (sizes table.nodes ≡ formula_size (tree_at table root))
 IsPartReading text (readings.Refused fault) = RefusesPart text fault
 
 -- the answer to an input of two parts, in a type of answers that has refusals: the input has no separator, the formula part
@@ -39,4 +40,5 @@ IsPartReading text (readings.Refused fault) = RefusesPart text fault
 pub data IsParted (Answer : Type 0) (refused : Fault → Answer) (Claim : Formula → List ℕ → Answer → Type 0) (bytes : List ℕ) : Answer → Type 0 where
   uncut : HasNoSeparator bytes → IsParted Answer refused Claim bytes (refused faults.NoSeparator)
   unread : (part second : List ℕ) (fault : Fault) → IsCut bytes part second → RefusesPart part fault → IsParted Answer refused Claim bytes (refused fault)
-  accepted : (part second : List ℕ) (f : Formula) (answer : Answer) → IsCut bytes part second → IsAccepted part f → Claim f second answer → IsParted Answer refused Claim bytes answer
+  accepted : (part second : List ℕ) (f : Formula) (answer : Answer) → IsCut bytes part second → IsAccepted part f → Claim f second answer
+      → IsParted Answer refused Claim bytes answer

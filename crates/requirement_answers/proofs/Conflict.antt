@@ -1,5 +1,6 @@
 -- Conflicts: each has a member, so what is left grows less; and how they follow one another.
-use Rattle.std.proofs.Common.{◌≡◌, ◌∙◌, ℕ, zero, suc, ◌<◌, ◌≤◌, Bool, true, false, not, ◌||◌, List, [], ◌∷◌, ◌++◌, length, refl, ap, subst, arith, Contains, cond}
+use Rattle.std.proofs.Common.{◌≡◌, ◌∙◌, ℕ, zero, suc, ◌<◌, ◌≤◌, Bool, true, false, not, ◌||◌, List, [], ◌∷◌, ◌++◌, length, refl, ap, subst, arith, Contains}
+use Rattle.std.proofs.Common.{cond}
 use Rattle.std.specs.Global.{Box}
 use Rattle.std.specs.List.{All, filter}
 use Rattle.std.proofs.lemmas.Bool.{eq-eqb}
@@ -58,12 +59,15 @@ less_without (m ∷ ms) left some all =
     let here : is_among (places (m ∷ ms)) m.given ≡ true = ap (λ b. b || is_among (places ms) m.given) (eq-eqb m.given m.given refl) in
     drops (λ n. not (is_among (places (m ∷ ms)) n)) left m.given (All-head (Contains left) m.given (places ms) all) (ap not here)
 
-pub less_left : (d : DocumentValue) (left : List ℕ) (b : Because) → IsReason d left [] b → 0 < length b.members.items → length (without (places b.members.items) left) < length left
+pub less_left : (d : DocumentValue) (left : List ℕ) (b : Because) → IsReason d left [] b → 0 < length b.members.items
+    → length (without (places b.members.items) left) < length left
 less_left d left b w some = less_without b.members.items left some w.among
 
 -- ---- one conflict more
 
-pub conflicts_more : (d : DocumentValue) (given left : List ℕ) (found : List (Box Because)) (b : Box Because) → AreConflicts d given found left → IsReason d left [] b.value → 0 < length b.value.members.items
+pub conflicts_more : (d : DocumentValue) (given left : List ℕ) (found : List (Box Because)) (b : Box Because) → AreConflicts d given found left
+    → IsReason d left [] b.value → 0 < length b.value.members.items
     → AreConflicts d given (found ++ b ∷ []) (without (places b.value.members.items) left)
 conflicts_more d given left [] b same w some = (subst (λ xs. IsReason d xs [] b.value) same w, some, ap (without (places b.value.members.items)) same)
-conflicts_more d given left (x ∷ found) b before w some = (before.0, before.1, conflicts_more d (without (places x.value.members.items) given) left found b before.2 w some)
+conflicts_more d given left (x ∷ found) b before w some =
+    (before.0, before.1, conflicts_more d (without (places x.value.members.items) given) left found b before.2 w some)

@@ -10,7 +10,8 @@ pub at_most_one : (b : Bool) → one_if b ≤ 1
 at_most_one true = omega arith
 at_most_one false = omega arith
 
-pub count_more : {X : Type 0} (p : X → Bool) (xs : List X) (k : ℕ) (d : X) (b : Bool) → k < length xs → b ≡ p (get_or xs k d) → count_by p (take k xs) + one_if b ≡ count_by p (take (k + 1) xs)
+pub count_more : {X : Type 0} (p : X → Bool) (xs : List X) (k : ℕ) (d : X) (b : Bool) → k < length xs → b ≡ p (get_or xs k d)
+    → count_by p (take k xs) + one_if b ≡ count_by p (take (k + 1) xs)
 count_more p xs k d true lt e = sym (count_by_more_yes p xs k d lt (sym e))
 count_more p xs k d false lt e = omega (arith, count_by_more_no p xs k d lt (sym e))
 

@@ -18,7 +18,8 @@ use Rattle.requirement_answers.specs.Inner.{alone_if, AreItems}
 
 range_last : (a n : ℕ) → range_with_len a (suc n) ≡ range_with_len a n ++ (a + n) ∷ []
 range_last a zero = let same : a ≡ a + 0 = omega arith in ap (λ k. k ∷ []) same
-range_last a (suc n) = let same : (a + 1) + n ≡ a + suc n = omega arith in ap (λ l. a ∷ l) (range_last (a + 1) n ∙ ap (λ k. range_with_len (a + 1) n ++ k ∷ []) same)
+range_last a (suc n) = let same : (a + 1) + n ≡ a + suc n = omega arith in
+    ap (λ l. a ∷ l) (range_last (a + 1) n ∙ ap (λ k. range_with_len (a + 1) n ++ k ∷ []) same)
 
 pub range_more : (k : ℕ) → range_with_len 0 (k + 1) ≡ range_with_len 0 k ++ k ∷ []
 range_more k =
@@ -29,7 +30,8 @@ range_more k =
 pub filter_more : (p : ℕ → Bool) (k : ℕ) → filter p (range_with_len 0 (k + 1)) ≡ filter p (range_with_len 0 k) ++ alone_if (p k) k
 filter_more p k = ap (filter p) (range_more k) ∙ filter-append p (range_with_len 0 k) (k ∷ [])
 
-pub without_more : (away xs : List ℕ) (i d : ℕ) → i < length xs → without away (take (i + 1) xs) ≡ without away (take i xs) ++ alone_if (not (is_among away (get_or xs i d))) (get_or xs i d)
+pub without_more : (away xs : List ℕ) (i d : ℕ) → i < length xs
+    → without away (take (i + 1) xs) ≡ without away (take i xs) ++ alone_if (not (is_among away (get_or xs i d))) (get_or xs i d)
 without_more away xs i d lt = ap (without away) (take_more xs i d lt) ∙ filter-append (λ n. not (is_among away n)) (take i xs) (get_or xs i d ∷ [])
 
 -- ---- what stands at a number
@@ -39,10 +41,12 @@ module _ (d : Document) (n : ℕ) (i : Item) (lt : n < length d.items.items) (is
   there = omega (arith, lt, length-map d.items.items item_in)
 
   pub role_at : role_of (document_in d) n ≡ i.role
-  role_at = get_or-map (λ v. v.role) (map item_in d.items.items) n (item_in i) roles.Assume there ∙ ap (λ v. v.role) (get_or-map item_in d.items.items n i (item_in i) lt ∙ ap item_in (sym is))
+  role_at = get_or-map (λ v. v.role) (map item_in d.items.items) n (item_in i) roles.Assume there
+      ∙ ap (λ v. v.role) (get_or-map item_in d.items.items n i (item_in i) lt ∙ ap item_in (sym is))
 
   pub formula_at : formula_of (document_in d) n ≡ tree_at i.table i.root
-  formula_at = get_or-map (λ v. v.formula) (map item_in d.items.items) n (item_in i) (Const true) there ∙ ap (λ v. v.formula) (get_or-map item_in d.items.items n i (item_in i) lt ∙ ap item_in (sym is))
+  formula_at = get_or-map (λ v. v.formula) (map item_in d.items.items) n (item_in i) (Const true) there
+      ∙ ap (λ v. v.formula) (get_or-map item_in d.items.items n i (item_in i) lt ∙ ap item_in (sym is))
 
 -- ---- numbers of items
 
@@ -51,7 +55,8 @@ given_items d =
     let many = length d.items in
     let p : ℕ → Bool = λ n. is_given (role_of d n) in
     record {
-      inside = All-filter p (λ n. n < many) (range_with_len 0 many) (λ k e lt. omega (arith, lt, length-range_with_len 0 many, get_or-range_with_len 0 many k e (omega (arith, lt, length-range_with_len 0 many))));
+      inside = All-filter p (λ n. n < many) (range_with_len 0 many)
+          (λ k e lt. omega (arith, lt, length-range_with_len 0 many, get_or-range_with_len 0 many k e (omega (arith, lt, length-range_with_len 0 many))));
       ascend = IsStrictlyIncreasing-filter p (range_with_len 0 many) (λ k lt.
           let long = length-range_with_len 0 many in
           omega (arith, get_or-range_with_len 0 many k 0 (omega (arith, lt, long)), get_or-range_with_len 0 many (k + 1) 0 (omega (arith, lt, long))));
@@ -64,5 +69,6 @@ without_items d away numbers w =
 
 -- ---- one more at the end
 
-pub mapped_more : {A B : Type 0} (f : A → B) (xs : List A) (k : ℕ) (d : A) (old new : List B) → k < length xs → new ≡ old ++ f (get_or xs k d) ∷ [] → old ≡ map f (take k xs) → new ≡ map f (take (k + 1) xs)
+pub mapped_more : {A B : Type 0} (f : A → B) (xs : List A) (k : ℕ) (d : A) (old new : List B) → k < length xs
+    → new ≡ old ++ f (get_or xs k d) ∷ [] → old ≡ map f (take k xs) → new ≡ map f (take (k + 1) xs)
 mapped_more f xs k d old new lt grown was = grown ∙ (ap (λ ys. ys ++ f (get_or xs k d) ∷ []) was ∙ sym (map_more f xs k d lt))

@@ -1,5 +1,6 @@
 -- Questions that are shared out: what answers of one part and of the next come to, by rounds and by pieces.
-use Rattle.std.proofs.Common.{◌≡◌, ◌∙◌, ℕ, zero, suc, ◌+◌, ◌*◌, ◌/◌, ◌%◌, ◌<◌, ◌≤◌, min, List, [], ◌∷◌, ◌++◌, length, take, drop, get_or, Result, Ok, Err, IsOk, IfOk, refl, sym, ap, ap₂, subst, arith}
+use Rattle.std.proofs.Common.{◌≡◌, ◌∙◌, ℕ, zero, suc, ◌+◌, ◌*◌, ◌/◌, ◌%◌, ◌<◌, ◌≤◌, min, List, [], ◌∷◌, ◌++◌, length, take, drop, get_or, Result, Ok, Err, IsOk}
+use Rattle.std.proofs.Common.{IfOk, refl, sym, ap, ap₂, subst, arith}
 use Rattle.std.specs.Global.{Vec}
 use Rattle.std.specs.List.{All, flat_map}
 use Rattle.std.specs.declared.alloc.AllocError.{AllocError}
@@ -56,7 +57,8 @@ piece_more pieces v found new w grown = record {
   joined = grown ∙ (ap₂ (λ xs ys. xs ++ ys) w.joined (sym (append-nil v.items)) ∙ sym (flat_map-append of_piece pieces (Ok v ∷ [])));
 }
 
-module _ (d : DocumentValue) (left : List ℕ) (asks : List Asking) (size : ℕ) (pieces : List (Result (Vec Reply) AllocError)) (each : (n : ℕ) (e : Result (Vec Reply) AllocError) → n < length pieces
+module _ (d : DocumentValue) (left : List ℕ) (asks : List Asking) (size : ℕ) (pieces : List (Result (Vec Reply) AllocError))
+    (each : (n : ℕ) (e : Result (Vec Reply) AllocError) → n < length pieces
     → IfOk (get_or pieces n e) (λ v. AreReplies d left (slice_chunk asks size n) v.items)) (whole : All IsOk pieces) where
   in_piece : (xs : List Asking) (r : Result (Vec Reply) AllocError) → IsOk r → IfOk r (λ v. AreReplies d left xs v.items) → AreReplies d left xs (of_piece r)
   in_piece xs (Ok v) is w = w
@@ -75,16 +77,19 @@ module _ (d : DocumentValue) (left : List ℕ) (asks : List Asking) (size : ℕ)
       let on : n + 1 ≡ suc n = omega arith in
       let long : n * size + size ≡ suc n * size = omega arith in
       let grown : flat_map of_piece (take (suc n) pieces) ≡ flat_map of_piece (take n pieces) ++ of_piece r =
-      ap (λ k. flat_map of_piece (take k pieces)) (sym on) ∙ (ap (flat_map of_piece) (take_more pieces n e lt) ∙ (flat_map-append of_piece (take n pieces) (r ∷ []) ∙ ap (λ xs. flat_map of_piece (take n pieces) ++ xs) (append-nil (of_piece r)))) in
+      ap (λ k. flat_map of_piece (take k pieces)) (sym on) ∙ (ap (flat_map of_piece) (take_more pieces n e lt)
+      ∙ (flat_map-append of_piece (take n pieces) (r ∷ []) ∙ ap (λ xs. flat_map of_piece (take n pieces) ++ xs) (append-nil (of_piece r)))) in
       subst (λ k. AreReplies d left (take k asks) (flat_map of_piece (take (suc n) pieces))) long
-      (round_more d left asks (slice_chunk asks size n) (n * size) size (flat_map of_piece (take n pieces)) (of_piece r) (flat_map of_piece (take (suc n) pieces)) before refl here grown)
+      (round_more d left asks (slice_chunk asks size n) (n * size) size (flat_map of_piece (take n pieces)) (of_piece r)
+      (flat_map of_piece (take (suc n) pieces)) before refl here grown)
 
   pub all_pieces : (found : List Reply) → 1 ≤ size → length pieces ≡ length asks / size + min 1 (length asks % size) → found ≡ flat_map of_piece pieces
       → AreReplies d left asks found
   all_pieces found some many joined =
       let all : length asks ≤ length pieces * size = subst (λ n. length asks ≤ n * size) (sym many) (div_ceil_times (length asks) size some).0 in
       let first = first_pieces (Err none) (length pieces) (omega arith) in
-      let same : flat_map of_piece (take (length pieces) pieces) ≡ found = ap (flat_map of_piece) (take_all (length pieces) pieces (omega arith)) ∙ sym joined in
+      let same : flat_map of_piece (take (length pieces) pieces) ≡ found =
+      ap (flat_map of_piece) (take_all (length pieces) pieces (omega arith)) ∙ sym joined in
       all_rounds d left asks (length pieces * size) found all (subst (AreReplies d left (take (length pieces * size) asks)) same first)
 
 pub shared_out : (d : DocumentValue) (left : List ℕ) (asks : List Asking) (size : ℕ) (pieces : List (Result (Vec Reply) AllocError))

@@ -37,7 +37,8 @@ as_many : (d : DocumentValue) (b : Because) → length (formulas_of d (places b.
 as_many d b = length-map (places b.members.items) (formula_of d) ∙ length-map b.members.items (λ m. m.given)
 
 pub is_told : (d : DocumentValue) (b : Box Because) (c : Option (Box Core)) → SaysMembers d b
-    → IfSome c (λ c. (formulas : List Formula) → length formulas ≡ length b.value.members.items → tree_at b.value.table b.value.root ≡ all_of formulas → IsCoreOf d.kind formulas c.value)
+    → IfSome c (λ c. (formulas : List Formula) → length formulas ≡ length b.value.members.items → tree_at b.value.table b.value.root ≡ all_of formulas
+    → IsCoreOf d.kind formulas c.value)
     → IsTold d b c
 is_told d b None w h = h
 is_told d b (Some c) w h = h (formulas_of d (places b.value.members.items)) (as_many d b.value) w.formula

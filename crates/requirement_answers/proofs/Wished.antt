@@ -1,5 +1,6 @@
 -- What the verdict says where it is as wished.
-use Rattle.std.proofs.Common.{◌≡◌, ◌∙◌, inl, inr, ℕ, zero, suc, ◌<◌, Bool, true, false, ◌||◌, List, [], ◌∷◌, ◌++◌, map, length, get_or, refl, sym, ap, subst, arith, Contains, if◌then◌else◌}
+use Rattle.std.proofs.Common.{◌≡◌, ◌∙◌, inl, inr, ℕ, zero, suc, ◌<◌, Bool, true, false, ◌||◌, List, [], ◌∷◌, ◌++◌, map, length, get_or, refl, sym, ap, subst}
+use Rattle.std.proofs.Common.{arith, Contains, if◌then◌else◌}
 use Rattle.std.specs.List.{All, filter, flat_map, list_any, range_with_len}
 use Rattle.std.proofs.lemmas.List.Elements.{All-append, All-cons, All-nil, All-head, All-tail, All-contains, Contains-append_left, Contains-append_right}
 use Rattle.std.proofs.lemmas.List.FromFn.{length-range_with_len, get_or-range_with_len}
@@ -32,7 +33,8 @@ use Rattle.requirement_answers.proofs.Renumbered.{each_formula}
 
 -- ---- tests that are false
 
-neither : (a b : Bool) → (if a then verdicts.NotAsWished else (if b then verdicts.Undecided else verdicts.AsWished)) ≡ verdicts.AsWished → (a ≡ false) × (b ≡ false)
+neither : (a b : Bool)
+    → (if a then verdicts.NotAsWished else (if b then verdicts.Undecided else verdicts.AsWished)) ≡ verdicts.AsWished → (a ≡ false) × (b ≡ false)
 neither true b e = absurd (cc)
 neither false true e = absurd (cc)
 neither false false e = (refl, refl)
@@ -75,20 +77,23 @@ all_behaviours (n ∷ ns) = ap (λ xs. n ∷ xs) (all_behaviours ns)
 in_row : (many b : ℕ) → b < many → Contains (range_with_len 0 many) b
 in_row many b lt = (b, omega (arith, lt, length-range_with_len 0 many), omega (arith, get_or-range_with_len 0 many b b lt))
 
-is_asked : (d : DocumentValue) (left : List ℕ) (n : ℕ) (role : Role) (a : Asking) → Contains (numbers_of d) n → role_of d n ≡ role → Contains (asks_of d left n role) a → Contains (questions_of d scopes.All left) a
+is_asked : (d : DocumentValue) (left : List ℕ) (n : ℕ) (role : Role) (a : Asking) → Contains (numbers_of d) n
+    → role_of d n ≡ role → Contains (asks_of d left n role) a → Contains (questions_of d scopes.All left) a
 is_asked d left n role a there is here =
     let one : Contains (asks_about d left n) a = subst (λ r. Contains (asks_of d left n r) a) (sym is) here in
     subst (λ ns. Contains (flat_map (asks_about d left) ns) a) (sym (all_items (numbers_of d))) (in_flat (asks_about d left) (numbers_of d) n a there one)
 
 -- ---- what answers say
 
-can_be : (d : DocumentValue) (given : List ℕ) (asked : List Formula) (a : Answer) → IsAnswerTo d given asked a → is_cannot a ≡ false → is_undecided a ≡ false → (t : Trace) × CanBe d given asked t
+can_be : (d : DocumentValue) (given : List ℕ) (asked : List Formula) (a : Answer) → IsAnswerTo d given asked a
+    → is_cannot a ≡ false → is_undecided a ≡ false → (t : Trace) × CanBe d given asked t
 can_be d given asked (answers.Can t) h can decided = (t, h)
 can_be d given asked (answers.Cannot b) h can decided = absurd (cc)
 can_be d given asked answers.Undecided h can decided = absurd (cc)
 can_be d given asked (answers.TooLarge size) h can decided = absurd (cc)
 
-cannot_be : (d : DocumentValue) (given : List ℕ) (asked : List Formula) (a : Answer) → IsAnswerTo d given asked a → is_can a ≡ false → is_undecided a ≡ false → (b : Because) × IsReason d given asked b
+cannot_be : (d : DocumentValue) (given : List ℕ) (asked : List Formula) (a : Answer) → IsAnswerTo d given asked a
+    → is_can a ≡ false → is_undecided a ≡ false → (b : Because) × IsReason d given asked b
 cannot_be d given asked (answers.Can t) h cannot decided = absurd (cc)
 cannot_be d given asked (answers.Cannot b) h cannot decided = (b.value, h)
 cannot_be d given asked answers.Undecided h cannot decided = absurd (cc)
@@ -104,12 +109,14 @@ not_cannot (answers.TooLarge size) h = refl
 each_given : (P : Formula → Type 0) (d : DocumentValue) (given : List ℕ) → All P (formulas_of d given ++ []) → All (λ n. P (formula_of d n)) given
 each_given P d [] all = All-nil (λ n. P (formula_of d n))
 each_given P d (n ∷ ns) all =
-    All-cons (λ m. P (formula_of d m)) n ns (All-head P (formula_of d n) (formulas_of d ns ++ []) all) (each_given P d ns (All-tail P (formula_of d n) (formulas_of d ns ++ []) all))
+    All-cons (λ m. P (formula_of d m)) n ns (All-head P (formula_of d n) (formulas_of d ns ++ []) all)
+    (each_given P d ns (All-tail P (formula_of d n) (formulas_of d ns ++ []) all))
 
 each_member : (P : ℕ → Type 0) (given members : List ℕ) → All P given → All (Contains given) members → All P members
 each_member P given members all among k e lt = All-contains P given (get_or members k e) all (among k e lt)
 
-holds : EachIsDecided → (d : DocumentValue) (given : List ℕ) (f : Formula) (b : Because) → IsReason d given (Unary Not f ∷ []) b → (t : Trace) → CanBe d given [] t → Satisfies t f
+holds : EachIsDecided → (d : DocumentValue) (given : List ℕ) (f : Formula) (b : Because) → IsReason d given (Unary Not f ∷ []) b → (t : Trace)
+    → CanBe d given [] t → Satisfies t f
 holds law d given f b w t s = elim (law t f 0 s.trace) [
   | inl h ↦ h
   | inr no' ↦
@@ -124,9 +131,11 @@ holds law d given f b w t s = elim (law t f 0 s.trace) [
 
 -- ---- behaviours without a break
 
-kept_each : (d : DocumentValue) (t : Trace) (ns : List ℕ) (found : List Break) → found ≡ [] → AreFindings d t ns found → All (λ n. Satisfies t (formula_of d n)) ns
+kept_each : (d : DocumentValue) (t : Trace) (ns : List ℕ) (found : List Break) → found ≡ [] → AreFindings d t ns found
+    → All (λ n. Satisfies t (formula_of d n)) ns
 kept_each d t [] found none w = All-nil (λ n. Satisfies t (formula_of d n))
-kept_each d t (n ∷ ns) found none ([], others, same, is, rest) = All-cons (λ m. Satisfies t (formula_of d m)) n ns is (kept_each d t ns others (sym same ∙ none) rest)
+kept_each d t (n ∷ ns) found none ([], others, same, is, rest) =
+    All-cons (λ m. Satisfies t (formula_of d m)) n ns is (kept_each d t ns others (sym same ∙ none) rest)
 kept_each d t (n ∷ ns) found none (x ∷ first, others, same, is, rest) = absurd (cc)
 
 -- ---- the law
@@ -142,7 +151,8 @@ module _ (law : EachIsDecided) (d : DocumentValue) (r : Report) (w : IsReport d 
   further = both_false (list_any wrong_reply r.replies.items) (list_any has_break r.checks.items) (both_false (are_some r.conflicts.items) _ wrong).1
 
   all_left : r.left.items ≡ given_numbers d
-  all_left = subst (λ xs. AreConflicts d (given_numbers d) xs r.left.items) (none_of r.conflicts.items (both_false (are_some r.conflicts.items) _ wrong).0) w.conflicts
+  all_left =
+      subst (λ xs. AreConflicts d (given_numbers d) xs r.left.items) (none_of r.conflicts.items (both_false (are_some r.conflicts.items) _ wrong).0) w.conflicts
 
   undecided : (is_undecided r.together ≡ false) × (list_any open_reply r.replies.items ≡ false)
   undecided = both_false (is_undecided r.together) (list_any open_reply r.replies.items) open'
@@ -182,6 +192,8 @@ module _ (law : EachIsDecided) (d : DocumentValue) (r : Report) (w : IsReport d 
         let found = in_map (λ c. c.behaviour) r.checks.items b (subst (λ xs. Contains xs b) (sym w.recorded) row) in
         let c = found.0 in
         let none = none_of c.breaks.items (each_false has_break r.checks.items c further.1 found.1) in
-        let check = subst (λ m. AreFindings d (trace_of d m) (given_numbers d) c.breaks.items) found.2 (All-contains (IsCheck d) r.checks.items c w.checked found.1) in
-        All-contains (λ m. Satisfies (trace_of d b) (formula_of d m)) (given_numbers d) n (kept_each d (trace_of d b) (given_numbers d) c.breaks.items none check) given;
+        let check = subst (λ m. AreFindings d (trace_of d m) (given_numbers d) c.breaks.items) found.2
+        (All-contains (IsCheck d) r.checks.items c w.checked found.1) in
+        All-contains (λ m. Satisfies (trace_of d b) (formula_of d m)) (given_numbers d) n
+        (kept_each d (trace_of d b) (given_numbers d) c.breaks.items none check) given;
   }

@@ -38,7 +38,8 @@ pub record IsReason (d : DocumentValue) (given : List ℕ) (asked : List Formula
   pub formula : tree_at b.table b.root ≡ all_of (formulas_of d (places b.members.items) ++ asked)
   pub lawful : IsLawful (tree_at b.table b.root) d.kind (certificate_in b.certificate)
   pub none : CannotBe d (places b.members.items) asked
-  pub needed : (k : ℕ) (m : Member) → slice_get b.members.items k ≡ Some m → m.needed ≡ true → (t : Trace) × CanBe d (places (members.without k b.members.items)) asked t
+  pub needed : (k : ℕ) (m : Member) → slice_get b.members.items k ≡ Some m
+      → m.needed ≡ true → (t : Trace) × CanBe d (places (members.without k b.members.items)) asked t
 
 -- a trace that satisfies the given items and what is asked; some of them that cannot be with it; or the formula that says all of it has this size, which is
 -- above the limit. It may be open for each question whose formula is within the limit
@@ -55,7 +56,8 @@ IsReply d left r = IsAnswerTo d (given_for left r.asking) (asked_of d r.asking) 
 -- items that cannot be met together, each time among what is left without the members of those before; and what is left in the end
 abbrev pub AreConflicts : DocumentValue → List ℕ → List (Box Because) → List ℕ → Type 0
 AreConflicts d given [] left = left ≡ given
-AreConflicts d given (b ∷ rest) left = IsReason d given [] b.value × (0 < length b.value.members.items) × AreConflicts d (without (places b.value.members.items) given) rest left
+AreConflicts d given (b ∷ rest) left =
+    IsReason d given [] b.value × (0 < length b.value.members.items) × AreConflicts d (without (places b.value.members.items) given) rest left
 
 -- what of the members of each conflict matters for it, where that is told
 abbrev pub AreCores : DocumentValue → List (Box Because) → List (Option (Box Core)) → Type 0

@@ -24,7 +24,8 @@ IsFinding d t n (x ∷ y ∷ rest) = ⊥
 -- what is found of each of these items, in their order
 abbrev pub AreFindings : DocumentValue → Trace → List ℕ → List Break → Type 0
 AreFindings d t [] found = found ≡ []
-AreFindings d t (n ∷ rest) found = (first : List Break) × (others : List Break) × (found ≡ first ++ others) × IsFinding d t n first × AreFindings d t rest others
+AreFindings d t (n ∷ rest) found =
+    (first : List Break) × (others : List Break) × (found ≡ first ++ others) × IsFinding d t n first × AreFindings d t rest others
 
 -- what is found of these items on the behaviour
 abbrev pub IsCheckAgainst : DocumentValue → List ℕ → Check → Type 0

@@ -8,7 +8,8 @@ use Rattle.requirement_questions.specs.declared.answering.Answer.TheVariants as 
 use Rattle.requirement_answers.specs.declared.asking.Asking.{Asking}
 use Rattle.requirement_answers.specs.declared.findings.Report.{Report}
 use Rattle.requirement_answers.specs.declared.findings.Scope.{Scope}
-use Rattle.requirement_certificate.specs.Chosen.{HasNoConflict, IsFirstConflict, IsCannot, IsOther, IsFirstReply, HasNoReply, IsFirstBecause, of_reply, HasNoBecause}
+use Rattle.requirement_certificate.specs.Chosen.{HasNoConflict, IsFirstConflict, IsCannot, IsOther, IsFirstReply, HasNoReply, IsFirstBecause, of_reply}
+use Rattle.requirement_certificate.specs.Chosen.{HasNoBecause}
 use Rattle.requirement_certificate.specs.Text.{HasFormula, AnswerHasFormula, HaveFormulas}
 
 -- what holds of each holds of the one at a place
@@ -25,7 +26,8 @@ before_or_at (suc j) (suc k) lt = elim (before_or_at j k (omega (arith, lt))) [
 ]
 
 -- what holds of those before a place, and of the one at it, holds of those before the next place
-pub before_more : {X : Type 0} (P : X → Type 0) (xs : List X) (k : ℕ) (x : X) → slice_get xs k ≡ Some x → P x → ((j : ℕ) (y : X) → j < k → slice_get xs j ≡ Some y → P y)
+pub before_more : {X : Type 0} (P : X → Type 0) (xs : List X) (k : ℕ) (x : X) → slice_get xs k ≡ Some x → P x
+    → ((j : ℕ) (y : X) → j < k → slice_get xs j ≡ Some y → P y)
     → (j : ℕ) (y : X) → j < k + 1 → slice_get xs j ≡ Some y → P y
 before_more P xs k x there holds before j y lt e = elim (before_or_at j k lt) [
   | inl h ↦ before j y h e
@@ -41,7 +43,8 @@ other_than (answers.TooLarge size) not = tt
 
 module _ (r : Report) where
   -- an answer without a conflict is that of a reply, or there is none
-  pub by_replies : {A : Type 0} (scope : Scope) (now : A → Because) (o : Option A) → HasNoConflict r scope → MatchOption o (HasNoReply r) (λ b. (asking : Asking) × IsFirstReply r asking (now b))
+  pub by_replies : {A : Type 0} (scope : Scope) (now : A → Because) (o : Option A) → HasNoConflict r scope
+      → MatchOption o (HasNoReply r) (λ b. (asking : Asking) × IsFirstReply r asking (now b))
       → MatchOption o (HasNoBecause r scope) (λ b. (asking : Asking) × IsFirstBecause r scope asking (now b))
   by_replies scope now None none h = (none, h)
   by_replies scope now (Some b) none (asking, h) = (asking, of_reply asking (now b) none h)
@@ -56,7 +59,8 @@ module _ (r : Report) where
   answer_formula answers.Undecided b has cannot = absurd cannot
   answer_formula (answers.TooLarge size) b has cannot = absurd cannot
 
-  pub replies_have : {A : Type 0} (now : A → Because) (o : Option A) → HaveFormulas r → MatchOption o (HasNoReply r) (λ b. (asking : Asking) × IsFirstReply r asking (now b)) → MatchOption o (Unit {0}) (λ b. HasFormula (now b))
+  pub replies_have : {A : Type 0} (now : A → Because) (o : Option A) → HaveFormulas r
+      → MatchOption o (HasNoReply r) (λ b. (asking : Asking) × IsFirstReply r asking (now b)) → MatchOption o (Unit {0}) (λ b. HasFormula (now b))
   replies_have now None have h = tt
   replies_have now (Some b) have (asking, h) =
       answer_formula h.reply.answer (now b) (one_of (λ p. AnswerHasFormula p.answer) r.replies.items h.place h.reply have.replies h.there) h.cannot

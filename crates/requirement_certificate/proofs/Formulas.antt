@@ -25,12 +25,14 @@ use Rattle.requirement_certificate.specs.Text.{HasFormula, AnswerHasFormula, Hav
 abbrev pub IsReasonFor : DocumentValue → Asking → Because → Type 0
 IsReasonFor d asking b = (given : List ℕ) × IsReason d given (asked_of d asking) b
 
-conflict_reasons : (d : DocumentValue) (given : List ℕ) (bs : List (Box Because)) (left : List ℕ) → AreConflicts d given bs left → All (λ c. IsReasonFor d askings.Together c.value) bs
+conflict_reasons : (d : DocumentValue) (given : List ℕ) (bs : List (Box Because)) (left : List ℕ) → AreConflicts d given bs left
+    → All (λ c. IsReasonFor d askings.Together c.value) bs
 conflict_reasons d given [] left are = All-nil (λ c. IsReasonFor d askings.Together c.value)
 conflict_reasons d given (b ∷ bs) left (is, some, rest) =
     All-cons (λ c. IsReasonFor d askings.Together c.value) b bs (given, is) (conflict_reasons d (without (places b.value.members.items) given) bs left rest)
 
-answer_reason : (d : DocumentValue) (given : List ℕ) (asked : List Formula) (a : Answer) (b : Because) → IsAnswerTo d given asked a → IsCannot a b → IsReason d given asked b
+answer_reason : (d : DocumentValue) (given : List ℕ) (asked : List Formula) (a : Answer) (b : Because) → IsAnswerTo d given asked a → IsCannot a b
+    → IsReason d given asked b
 answer_reason d given asked (answers.Can t) b is cannot = absurd cannot
 answer_reason d given asked (answers.Cannot c) b is cannot = subst (IsReason d given asked) cannot is
 answer_reason d given asked answers.Undecided b is cannot = absurd cannot
@@ -40,7 +42,8 @@ module _ (d : DocumentValue) (scope : Scope) (r : Report) (is : IsReport d scope
   conflict_reason : (b : Because) → IsFirstConflict r scope b → IsReasonFor d askings.Together b
   conflict_reason b h =
       subst (IsReasonFor d askings.Together) h.same
-      (one_of (λ c. IsReasonFor d askings.Together c.value) r.conflicts.items h.place h.conflict (conflict_reasons d _ r.conflicts.items r.left.items is.conflicts) h.there)
+      (one_of (λ c. IsReasonFor d askings.Together c.value) r.conflicts.items h.place h.conflict
+      (conflict_reasons d _ r.conflicts.items r.left.items is.conflicts) h.there)
 
   reply_reason : (asking : Asking) (b : Because) → IsFirstReply r asking b → IsReasonFor d asking b
   reply_reason asking b h =
@@ -55,7 +58,8 @@ module _ (d : DocumentValue) (scope : Scope) (r : Report) (is : IsReport d scope
 
 -- ---- each of them has its formula
 
-conflicts_have : (d : DocumentValue) (given : List ℕ) (bs : List (Box Because)) (left : List ℕ) → AreConflicts d given bs left → All (λ c. HasFormula c.value) bs
+conflicts_have : (d : DocumentValue) (given : List ℕ) (bs : List (Box Because)) (left : List ℕ) → AreConflicts d given bs left
+    → All (λ c. HasFormula c.value) bs
 conflicts_have d given [] left are = All-nil (λ c. HasFormula c.value)
 conflicts_have d given (b ∷ bs) left (is, some, rest) =
     All-cons (λ c. HasFormula c.value) b bs is.there (conflicts_have d (without (places b.value.members.items) given) bs left rest)

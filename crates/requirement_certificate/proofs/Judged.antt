@@ -34,7 +34,8 @@ pub uncut_not_verified : (kind : Kind) (bytes : List ℕ) → HasNoSeparator byt
 uncut_not_verified kind bytes none h = cut_or_none bytes h.part h.second h.cut none
 
 -- nor are those whose formula is refused
-pub refused_not_verified : (kind : Kind) (bytes part second : List ℕ) (fault : Fault) → TextLaws → IsCut bytes part second → RefusesPart part fault → ¬ IsVerified kind bytes
+pub refused_not_verified : (kind : Kind) (bytes part second : List ℕ) (fault : Fault) → TextLaws → IsCut bytes part second → RefusesPart part fault
+    → ¬ IsVerified kind bytes
 refused_not_verified kind bytes part second fault laws cut refuses h =
     let same = cut_one bytes h.part h.second part second h.cut cut in
     refused_not_accepted part laws fault h.formula refuses (subst (λ p. IsAccepted p h.formula) same.0 h.accepted)

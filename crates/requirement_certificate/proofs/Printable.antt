@@ -31,14 +31,16 @@ ReadArePrintable = (text : List ℕ) (f : Formula) → ReadsText text f → IsPr
 
 -- ---- what is put in
 
-either_printable : (name : List ℕ) (f : Formula) (rest : Option Formula) (t : Bool) → IsPrintable f → IsPrintable (or_letter name rest) → IsPrintable (or_letter name (if t then Some f else rest))
+either_printable : (name : List ℕ) (f : Formula) (rest : Option Formula) (t : Bool) → IsPrintable f → IsPrintable (or_letter name rest)
+    → IsPrintable (or_letter name (if t then Some f else rest))
 either_printable name f rest true p q = p
 either_printable name f rest false p q = q
 
 found_printable : (ds : Definitions) (name : List ℕ) → DefinedArePrintable ds → IsPrintable (Letter (Name name)) → IsPrintable (or_letter name (found ds name))
 found_printable [] name all p = p
 found_printable (d ∷ ds) name all p =
-    either_printable name d.1 (found ds name) (bytes_eq name d.0) (All-head (λ x. IsPrintable x.1) d ds all) (found_printable ds name (All-tail (λ x. IsPrintable x.1) d ds all) p)
+    either_printable name d.1 (found ds name) (bytes_eq name d.0) (All-head (λ x. IsPrintable x.1) d ds all)
+    (found_printable ds name (All-tail (λ x. IsPrintable x.1) d ds all) p)
 
 put_printable : (ds : Definitions) (f : Formula) → DefinedArePrintable ds → IsPrintable f → IsPrintable (substituted ds f)
 put_printable ds (Const b) all p = p
@@ -53,14 +55,16 @@ module _ (law : ReadArePrintable) where
 
   -- ---- the items of a document
 
-  defined_printable : (before : Definitions) (es : List Data) (all : Definitions) → AreDefined before es all → DefinedArePrintable before → DefinedArePrintable all
+  defined_printable : (before : Definitions) (es : List Data) (all : Definitions) → AreDefined before es all → DefinedArePrintable before
+      → DefinedArePrintable all
   defined_printable before [] all same known = subst DefinedArePrintable (sym same) known
   defined_printable before (e ∷ es) all (new, is, rest) known =
       defined_printable (before ++ new ∷ []) es all rest
       (All-append (λ d. IsPrintable d.1) before (new ∷ []) known
       (All-cons (λ d. IsPrintable d.1) new [] (read_printable before is.text new.1 known is.put) (All-nil (λ d. IsPrintable d.1))))
 
-  items_printable : (role : Role) (ds : Definitions) (taken : List (List ℕ)) (es : List Data) (is : List ItemValue) → DefinedArePrintable ds → AreItems role ds taken es is → ItemsArePrintable is
+  items_printable : (role : Role) (ds : Definitions) (taken : List (List ℕ)) (es : List Data) (is : List ItemValue) → DefinedArePrintable ds
+      → AreItems role ds taken es is → ItemsArePrintable is
   items_printable role ds taken [] [] all are = All-nil (λ i. IsPrintable i.formula)
   items_printable role ds taken [] (i ∷ is) all are = absurd are
   items_printable role ds taken (e ∷ es) [] all are = absurd are
@@ -90,7 +94,8 @@ item_printable (i ∷ is) (suc n) all = item_printable is n (All-tail (λ x. IsP
 
 formulas_printable : (d : DocumentValue) (numbers : List ℕ) → ItemsArePrintable d.items → All IsPrintable (formulas_of d numbers)
 formulas_printable d [] all = All-nil IsPrintable
-formulas_printable d (n ∷ numbers) all = All-cons IsPrintable (formula_of d n) (formulas_of d numbers) (item_printable d.items n all) (formulas_printable d numbers all)
+formulas_printable d (n ∷ numbers) all =
+    All-cons IsPrintable (formula_of d n) (formulas_of d numbers) (item_printable d.items n all) (formulas_printable d numbers all)
 
 alone : (f : Formula) → IsPrintable f → All IsPrintable (f ∷ [])
 alone f p = All-cons IsPrintable f [] p (All-nil IsPrintable)

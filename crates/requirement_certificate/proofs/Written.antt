@@ -22,7 +22,8 @@ PrintedReads = (f : Formula) → IsPrintable f → ReadsText (text_of f) f
 abbrev pub ReadIsPrintable : Type 0
 ReadIsPrintable = (text : List ℕ) (f : Formula) → ReadsText text f → IsPrintable f
 
-reason_taken : PrintedReads → (d : DocumentValue) (asking : Asking) (b : Because) → IsReasonFor d asking b → IsPrintable (formula_for d asking b) → IsTaken d asking b
+reason_taken : PrintedReads → (d : DocumentValue) (asking : Asking) (b : Because) → IsReasonFor d asking b → IsPrintable (formula_for d asking b)
+    → IsTaken d asking b
 reason_taken printed d asking b (given, is) p =
     let f = formula_for d asking b in
     let reads : ReadsText (formula_text b) f = subst (λ g. ReadsText (text_of g) f) (sym is.formula) (printed f p) in

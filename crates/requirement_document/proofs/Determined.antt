@@ -1,5 +1,6 @@
 -- A text is one document at most.
-use Rattle.std.proofs.Common.{◌≡◌, ℕ, zero, suc, ◌⊎◌, inl, inr, List, [], ◌∷◌, ◌++◌, map, Contains, Option, Some, None, Less, Equal, Greater, codes, refl, sym, subst, ap, ap₂, ◌∙◌, arith}
+use Rattle.std.proofs.Common.{◌≡◌, ℕ, zero, suc, ◌⊎◌, inl, inr, List, [], ◌∷◌, ◌++◌, map, Contains, Option, Some, None, Less, Equal, Greater, codes, refl, sym}
+use Rattle.std.proofs.Common.{subst, ap, ap₂, ◌∙◌, arith}
 use Rattle.std.proofs.lemmas.Cmp.{nat_list_cmp_total, tied_itself}
 use Rattle.std.proofs.lemmas.List.Elements.{All-contains}
 use Rattle.std.proofs.lemmas.Map.Keys.{sorted_tail}
@@ -20,7 +21,8 @@ use Rattle.requirement_document.specs.declared.fault.Section.TheVariants as sect
 use Rattle.requirement_document.specs.Substitution.{Definitions, substituted}
 use Rattle.requirement_document.specs.Values.{ItemValue, BehaviourValue, DocumentValue}
 use Rattle.requirement_document.specs.Entry.{IsSentence, IsPutIn, IsItem, HasTrace, IsBehaviour, state_data, states_data}
-use Rattle.requirement_document.specs.Document.{entries, section_of, name_at, in_list, taken_before, AreDefined, AreItems, AreBehaviours, HasDefinitions, HasItems, HasBehaviours, IsDocumentOf, IsDocument}
+use Rattle.requirement_document.specs.Document.{entries, section_of, name_at, in_list, taken_before, AreDefined, AreItems, AreBehaviours, HasDefinitions}
+use Rattle.requirement_document.specs.Document.{HasItems, HasBehaviours, IsDocumentOf, IsDocument}
 use Rattle.requirement_document.proofs.Stating.{same_items}
 use Rattle.requirement_document.proofs.Good.{IsOneOutcome}
 use Rattle.requirement_document.proofs.Excluding.{same_definitions, same_list}
@@ -85,7 +87,8 @@ one_list (x ∷ xs) (y ∷ ys) h k up down =
     let k' : IsAscending (x ∷ ys) = subst (λ z. IsAscending (z ∷ ys)) (sym e) k in
     let up' : AreWithin (x ∷ xs) (x ∷ ys) = subst (λ z. AreWithin (x ∷ xs) (z ∷ ys)) (sym e) up in
     let down' : AreWithin (x ∷ ys) (x ∷ xs) = subst (λ z. AreWithin (z ∷ ys) (x ∷ xs)) (sym e) down in
-    let rest = one_list xs ys (sorted_tail (slice_cmp nat_cmp) x xs h) (sorted_tail (slice_cmp nat_cmp) x ys k') (rest_within x xs ys h up') (rest_within x ys xs k' down') in
+    let rest = one_list xs ys (sorted_tail (slice_cmp nat_cmp) x xs h) (sorted_tail (slice_cmp nat_cmp) x ys k') (rest_within x xs ys h up')
+    (rest_within x ys xs k' down') in
     ap₂ ◌∷◌ e rest
 
 same_sets : (all s t : List Names) → AreSetsOf all s → AreSetsOf all t → s ≡ t
@@ -132,7 +135,8 @@ no_value o v a b = absurd (let both : Some v ≡ None = sym a ∙ b in cc)
 
 same_written : (d : Data) (v w : Trace) → HasTrace d v → HasTrace d w → v ≡ w
 same_written d (Infinite a b) (Infinite a' b') h k =
-    ap₂ Infinite (same_states a a' (same_value (get (codes "stem") d) (states_data a) (states_data a') h.1 k.1)) (same_states b b' (same_value (get (codes "loop") d) (states_data b) (states_data b') h.2 k.2))
+    ap₂ Infinite (same_states a a' (same_value (get (codes "stem") d) (states_data a) (states_data a') h.1 k.1))
+    (same_states b b' (same_value (get (codes "loop") d) (states_data b) (states_data b') h.2 k.2))
 same_written d (Infinite a b) (Finite c) h k = no_value (get (codes "states") d) (states_data c) k.0 h.0
 same_written d (Finite c) (Infinite a b) h k = no_value (get (codes "states") d) (states_data c) h.0 k.0
 same_written d (Finite c) (Finite c') h k = ap Finite (same_states c c' (same_value (get (codes "states") d) (states_data c) (states_data c') h.0 k.0))
@@ -154,7 +158,8 @@ same_put o ds text f g p q = p.put ∙ ap (substituted ds) (o.formula text p.wri
 an_item : Role → List ℕ → Option (List ℕ) → List ℕ → Formula → ItemValue
 an_item r n s t f = record { role = r; name = n; sentence = s; text = t; formula = f }
 
-same_item : IsOneOutcome → (role : Role) (ds : Definitions) (taken : List (List ℕ)) (d : Data) (i j : ItemValue) → IsItem role ds taken d i → IsItem role ds taken d j → i ≡ j
+same_item : IsOneOutcome → (role : Role) (ds : Definitions) (taken : List (List ℕ)) (d : Data) (i j : ItemValue) → IsItem role ds taken d i
+    → IsItem role ds taken d j → i ≡ j
 unfolding an_item
 same_item o role ds taken d i j h k =
     let text : i.text ≡ j.text = same_string (get (codes "formula") d) i.text j.text h.formula k.formula in
@@ -165,13 +170,15 @@ same_item o role ds taken d i j h k =
     ∙ ap (λ t. an_item j.role j.name j.sentence t i.formula) text
     ∙ ap (λ f. an_item j.role j.name j.sentence j.text f) formula
 
-are_same_items : IsOneOutcome → (role : Role) (ds : Definitions) (taken : List (List ℕ)) (es : List Data) (is js : List ItemValue) → AreItems role ds taken es is → AreItems role ds taken es js → is ≡ js
+are_same_items : IsOneOutcome → (role : Role) (ds : Definitions) (taken : List (List ℕ)) (es : List Data) (is js : List ItemValue)
+    → AreItems role ds taken es is → AreItems role ds taken es js → is ≡ js
 are_same_items o role ds taken [] [] [] h k = refl
 are_same_items o role ds taken [] [] (j ∷ js) h k = absurd k
 are_same_items o role ds taken [] (i ∷ is) js h k = absurd h
 are_same_items o role ds taken (e ∷ es) [] js h k = absurd h
 are_same_items o role ds taken (e ∷ es) (i ∷ is) [] h k = absurd k
-are_same_items o role ds taken (e ∷ es) (i ∷ is) (j ∷ js) h k = ap₂ ◌∷◌ (same_item o role ds taken e i j h.0 k.0) (are_same_items o role ds (taken ++ in_list (name_at e)) es is js h.1 k.1)
+are_same_items o role ds taken (e ∷ es) (i ∷ is) (j ∷ js) h k =
+    ap₂ ◌∷◌ (same_item o role ds taken e i j h.0 k.0) (are_same_items o role ds (taken ++ in_list (name_at e)) es is js h.1 k.1)
 
 a_behaviour : List ℕ → Option (List ℕ) → Trace → BehaviourValue
 a_behaviour n s t = record { name = n; sentence = s; trace = t }
@@ -191,14 +198,16 @@ are_same_behaviours taken [] [] (b ∷ bs) h k = absurd k
 are_same_behaviours taken [] (a ∷ cs) bs h k = absurd h
 are_same_behaviours taken (e ∷ es) [] bs h k = absurd h
 are_same_behaviours taken (e ∷ es) (a ∷ cs) [] h k = absurd k
-are_same_behaviours taken (e ∷ es) (a ∷ cs) (b ∷ bs) h k = ap₂ ◌∷◌ (same_behaviour taken e a b h.0 k.0) (are_same_behaviours (taken ++ in_list (name_at e)) es cs bs h.1 k.1)
+are_same_behaviours taken (e ∷ es) (a ∷ cs) (b ∷ bs) h k =
+    ap₂ ◌∷◌ (same_behaviour taken e a b h.0 k.0) (are_same_behaviours (taken ++ in_list (name_at e)) es cs bs h.1 k.1)
 
 has_same_definitions : IsOneOutcome → (root : Data) (a b : Definitions) → HasDefinitions root a → HasDefinitions root b → a ≡ b
 has_same_definitions o root a b h k =
     let e : h.0 ≡ k.0 = same_list (entries sections.Define root) h.0 k.0 h.1 k.1 in
     same_definitions o [] k.0 a b (subst (λ es. AreDefined [] es a) e h.2) k.2
 
-has_same_items : IsOneOutcome → (role : Role) (root : Data) (ds es : Definitions) (is js : List ItemValue) → ds ≡ es → HasItems role ds root is → HasItems role es root js → is ≡ js
+has_same_items : IsOneOutcome → (role : Role) (root : Data) (ds es : Definitions) (is js : List ItemValue) → ds ≡ es → HasItems role ds root is
+    → HasItems role es root js → is ≡ js
 has_same_items o role root ds es is js same h k =
     let taken = taken_before (section_of role) root in
     let e : h.0 ≡ k.0 = same_list (entries (section_of role) root) h.0 k.0 h.1 k.1 in

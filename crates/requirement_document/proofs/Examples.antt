@@ -25,13 +25,16 @@ use Rattle.requirement_document.specs.Worked.{letter_b, small_text, small, recor
 -- ---- the tables
 
 abbrev small_table : Members
-small_table = member (codes "allow") (array (item (table (member (codes "formula") (string (codes "b")) (member (codes "name") (string (codes "it")) no_members))) no_items))
+small_table = member (codes "allow")
+    (array (item (table (member (codes "formula") (string (codes "b")) (member (codes "name") (string (codes "it")) no_members))) no_items))
     (member (codes "define") (array (item (table (member (codes "formula") (string (codes "b")) (member (codes "name") (string (codes "a")) no_members)))
     (item (table (member (codes "formula") (string (codes "X a")) (member (codes "name") (string (codes "b")) no_members))) no_items))) no_members)
 
 abbrev recorded_table : Members
-recorded_table = member (codes "behaviour") (array (item (table (member (codes "loop") (array (item (array (item (string (codes "p")) no_items)) (item (array no_items) no_items)))
-    (member (codes "name") (string (codes "it")) (member (codes "stem") (array no_items) no_members)))) no_items)) (member (codes "traces") (string (codes "finite")) no_members)
+recorded_table = member (codes "behaviour")
+    (array (item (table (member (codes "loop") (array (item (array (item (string (codes "p")) no_items)) (item (array no_items) no_items)))
+    (member (codes "name") (string (codes "it")) (member (codes "stem") (array no_items) no_members)))) no_items))
+    (member (codes "traces") (string (codes "finite")) no_members)
 
 abbrev twice_table : Members
 twice_table = member (codes "assume") (array (item it no_items)) (member (codes "ensure") (array (item it no_items)) no_members)

@@ -1,5 +1,6 @@
 -- No text is a document and has a fault.
-use Rattle.std.proofs.Common.{◌≡◌, ℕ, zero, suc, List, [], ◌∷◌, ◌++◌, take, string_bytes, Option, Some, None, sym, ap, ap₂, subst, ◌∙◌, arith, append_assoc, append-nil}
+use Rattle.std.proofs.Common.{◌≡◌, ℕ, zero, suc, List, [], ◌∷◌, ◌++◌, take, string_bytes, Option, Some, None, sym, ap, ap₂, subst, ◌∙◌, arith, append_assoc}
+use Rattle.std.proofs.Common.{append-nil}
 use Rattle.std.specs.List.{slice_get}
 use Rattle.toml.specs.Data.{Data, Members, string, table, get}
 use Rattle.ltl_syntax.specs.Formula.{Formula}
@@ -15,13 +16,16 @@ use Rattle.requirement_document.specs.Keys.{section_word, knows, knows_document,
 use Rattle.requirement_document.specs.Substitution.{Definitions, substituted, names_defined}
 use Rattle.requirement_document.specs.Values.{ItemValue, BehaviourValue, DocumentValue}
 use Rattle.requirement_document.specs.Entry.{IsPutIn, IsDefinition, IsItem, IsBehaviour, HasCause}
-use Rattle.requirement_document.specs.Document.{entries, section_of, name_at, in_list, names_of, taken_before, AreDefined, AreItems, AreBehaviours, HasDefinitions, HasItems, IsDocumentOf, IsWritten, IsDocument, defined_before, taken_at, HasDocumentCause, HasFaultOf, as_whole, in_entry, HasTextCause, HasFault, of_text, of_document}
+use Rattle.requirement_document.specs.Document.{entries, section_of, name_at, in_list, names_of, taken_before, AreDefined, AreItems, AreBehaviours}
+use Rattle.requirement_document.specs.Document.{HasDefinitions, HasItems, IsDocumentOf, IsWritten, IsDocument, defined_before, taken_at, HasDocumentCause}
+use Rattle.requirement_document.specs.Document.{HasFaultOf, as_whole, in_entry, HasTextCause, HasFault, of_text, of_document}
 use Rattle.requirement_document.proofs.Looking.{entries_refused, entries_many}
 use Rattle.requirement_document.proofs.Good.{IsOneOutcome, IsGood, good_has_none}
 
 -- ---- each kind of entry is good
 
-good_definition : (ds : Definitions) (d : Data) (new : List ℕ × Formula) → IsDefinition ds d new → IsGood (record { section = sections.Define; definitions = ds; taken = names_defined ds }) d
+good_definition : (ds : Definitions) (d : Data) (new : List ℕ × Formula) → IsDefinition ds d new
+    → IsGood (record { section = sections.Define; definitions = ds; taken = names_defined ds }) d
 good_definition ds d new h = record {
   known = h.known;
   sentence = h.sentence;
@@ -33,7 +37,8 @@ good_definition ds d new h = record {
   trace = λ e. absurd (cc);
 }
 
-good_item : (role : Role) (ds : Definitions) (taken : List (List ℕ)) (d : Data) (i : ItemValue) → IsItem role ds taken d i → IsGood (record { section = section_of role; definitions = ds; taken = taken }) d
+good_item : (role : Role) (ds : Definitions) (taken : List (List ℕ)) (d : Data) (i : ItemValue) → IsItem role ds taken d i
+    → IsGood (record { section = section_of role; definitions = ds; taken = taken }) d
 good_item role ds taken d i h = record {
   known = keys_of role h.known;
   sentence = i.sentence;
@@ -62,7 +67,8 @@ good_item role ds taken d i h = record {
   no_behaviour roles.Allow e = cc
   no_behaviour roles.Ensure e = cc
 
-good_behaviour : (ds : Definitions) (taken : List (List ℕ)) (d : Data) (b : BehaviourValue) → IsBehaviour taken d b → IsGood (record { section = sections.Behaviour; definitions = ds; taken = taken }) d
+good_behaviour : (ds : Definitions) (taken : List (List ℕ)) (d : Data) (b : BehaviourValue) → IsBehaviour taken d b
+    → IsGood (record { section = sections.Behaviour; definitions = ds; taken = taken }) d
 good_behaviour ds taken d b h = record {
   known = h.known;
   sentence = b.sentence;
@@ -92,15 +98,18 @@ same_definitions o before [] a b h k = h ∙ sym k
 same_definitions o before (e ∷ es) a b h k =
     same_definitions o (before ++ k.0 ∷ []) es a b (subst (λ n. AreDefined (before ++ n ∷ []) es a) (same_definition o before e h.0 k.0 h.1 k.1) h.2) k.2
 
-defined_there : IsOneOutcome → (before : Definitions) (es : List Data) (i : ℕ) (d : Data) (all part : Definitions) → AreDefined before es all → AreDefined before (take i es) part → slice_get es i ≡ Some d
+defined_there : IsOneOutcome → (before : Definitions) (es : List Data) (i : ℕ) (d : Data) (all part : Definitions) → AreDefined before es all
+    → AreDefined before (take i es) part → slice_get es i ≡ Some d
     → (new : List ℕ × Formula) × IsDefinition part d new
 defined_there o before [] i d all part h k at = absurd (cc)
 defined_there o before (e ∷ es) zero d all part h k at =
     let same : e ≡ d = cc in (h.0, subst (λ b. IsDefinition b d h.0) (sym k) (subst (λ x. IsDefinition before x h.0) same h.1))
 defined_there o before (e ∷ es) (suc i) d all part h k at =
-    defined_there o (before ++ k.0 ∷ []) es i d all part (subst (λ n. AreDefined (before ++ n ∷ []) es all) (same_definition o before e h.0 k.0 h.1 k.1) h.2) k.2 at
+    defined_there o (before ++ k.0 ∷ []) es i d all part
+    (subst (λ n. AreDefined (before ++ n ∷ []) es all) (same_definition o before e h.0 k.0 h.1 k.1) h.2) k.2 at
 
-item_there : (role : Role) (ds : Definitions) (taken : List (List ℕ)) (es : List Data) (is : List ItemValue) (i : ℕ) (d : Data) → AreItems role ds taken es is → slice_get es i ≡ Some d
+item_there : (role : Role) (ds : Definitions) (taken : List (List ℕ)) (es : List Data) (is : List ItemValue) (i : ℕ) (d : Data) → AreItems role ds taken es is
+    → slice_get es i ≡ Some d
     → (x : ItemValue) × IsItem role ds (taken ++ names_of (take i es)) d x
 item_there role ds taken [] is i d h at = absurd (cc)
 item_there role ds taken (e ∷ es) [] i d h at = absurd h
@@ -127,23 +136,27 @@ same_list o a b p q = let both : Some a ≡ Some b = sym p ∙ q in cc
 
 module _ (o : IsOneOutcome) (root : Data) (index : ℕ) (all : List Data) (d : Data) (define : List Data) (ds : Definitions) (c : Cause)
     (at : slice_get all index ≡ Some d) (defines : entries sections.Define root ≡ Some define) where
-  item_excluded : (role : Role) (definitions : Definitions) (is : List ItemValue) → HasDefinitions root definitions → HasItems role definitions root is → entries (section_of role) root ≡ Some all → AreDefined [] define ds
+  item_excluded : (role : Role) (definitions : Definitions) (is : List ItemValue) → HasDefinitions root definitions → HasItems role definitions root is
+      → entries (section_of role) root ≡ Some all → AreDefined [] define ds
       → HasCause (record { section = section_of role; definitions = ds; taken = taken_before (section_of role) root ++ names_of (take index all) }) d c → ⊥
   item_excluded role definitions is h k w a wrong =
       let e : h.0 ≡ define = same_list (entries sections.Define root) h.0 define h.1 defines in
       let f : k.0 ≡ all = same_list (entries (section_of role) root) k.0 all k.1 w in
       let g : definitions ≡ ds = same_definitions o [] define definitions ds (subst (λ es. AreDefined [] es definitions) e h.2) a in
       let items : AreItems role ds (taken_before (section_of role) root) all is =
-      subst (λ x. AreItems role x (taken_before (section_of role) root) all is) g (subst (λ es. AreItems role definitions (taken_before (section_of role) root) es is) f k.2) in
+      subst (λ x. AreItems role x (taken_before (section_of role) root) all is) g
+      (subst (λ es. AreItems role definitions (taken_before (section_of role) root) es is) f k.2) in
       let i = item_there role ds (taken_before (section_of role) root) all is index d items at in
-      good_has_none o (record { section = section_of role; definitions = ds; taken = taken_before (section_of role) root ++ names_of (take index all) }) d (good_item role ds _ d i.0 i.1) c wrong
+      good_has_none o (record { section = section_of role; definitions = ds; taken = taken_before (section_of role) root ++ names_of (take index all) }) d
+      (good_item role ds _ d i.0 i.1) c wrong
 
   entry_excluded : (doc : DocumentValue) → IsDocumentOf root doc → (s : Section) → entries s root ≡ Some all → AreDefined [] (defined_before s index define) ds
       → HasCause (record { section = s; definitions = ds; taken = taken_at s ds root (take index all) }) d c → ⊥
   entry_excluded doc h sections.Define w a wrong =
       let e : h.defined.0 ≡ define = same_list (entries sections.Define root) h.defined.0 define h.defined.1 defines in
       let f : define ≡ all = same_list (entries sections.Define root) define all defines w in
-      let n = defined_there o [] define index d h.definitions ds (subst (λ es. AreDefined [] es h.definitions) e h.defined.2) a (subst (λ es. slice_get es index ≡ Some d) (sym f) at) in
+      let n = defined_there o [] define index d h.definitions ds (subst (λ es. AreDefined [] es h.definitions) e h.defined.2) a
+      (subst (λ es. slice_get es index ≡ Some d) (sym f) at) in
       good_has_none o (record { section = sections.Define; definitions = ds; taken = names_defined ds }) d (good_definition ds d n.0 n.1) c wrong
   entry_excluded doc h sections.Assume w a wrong = item_excluded roles.Assume h.definitions h.assume h.defined h.assumed w a wrong
   entry_excluded doc h sections.Require w a wrong = item_excluded roles.Require h.definitions h.require h.defined h.required w a wrong
@@ -151,8 +164,10 @@ module _ (o : IsOneOutcome) (root : Data) (index : ℕ) (all : List Data) (d : D
   entry_excluded doc h sections.Ensure w a wrong = item_excluded roles.Ensure h.definitions h.ensure h.defined h.ensured w a wrong
   entry_excluded doc h sections.Behaviour w a wrong =
       let f : h.behaviours.0 ≡ all = same_list (entries sections.Behaviour root) h.behaviours.0 all h.behaviours.1 w in
-      let b = behaviour_there (taken_before sections.Behaviour root) all doc.behaviours index d (subst (λ es. AreBehaviours (taken_before sections.Behaviour root) es doc.behaviours) f h.behaviours.2) at in
-      good_has_none o (record { section = sections.Behaviour; definitions = ds; taken = taken_before sections.Behaviour root ++ names_of (take index all) }) d (good_behaviour ds _ d b.0 b.1) c wrong
+      let b = behaviour_there (taken_before sections.Behaviour root) all doc.behaviours index d
+      (subst (λ es. AreBehaviours (taken_before sections.Behaviour root) es doc.behaviours) f h.behaviours.2) at in
+      good_has_none o (record { section = sections.Behaviour; definitions = ds; taken = taken_before sections.Behaviour root ++ names_of (take index all) }) d
+      (good_behaviour ds _ d b.0 b.1) c wrong
 
 no_list : (o : Option (List Data)) (es : List Data) → o ≡ Some es → o ≡ None → ⊥
 no_list o es p q = let both : Some es ≡ None = sym p ∙ q in cc
@@ -176,7 +191,8 @@ whole_excluded root doc h c u = absurd u
 
 fault_excluded : IsOneOutcome → (root : Data) (doc : DocumentValue) (f : DocumentFault) → IsDocumentOf root doc → HasFaultOf root f → ⊥
 fault_excluded o root doc f h (as_whole p u) = whole_excluded root doc h f.cause u
-fault_excluded o root doc f h (in_entry e) = entry_excluded o root e.index e.all e.entry e.define e.definitions f.cause e.there e.defines doc h e.section e.written e.defined e.wrong
+fault_excluded o root doc f h (in_entry e) =
+    entry_excluded o root e.index e.all e.entry e.define e.definitions f.cause e.there e.defines doc h e.section e.written e.defined e.wrong
 
 text_excluded : (text : List ℕ) (ms : Members) → IsWritten text ms → (c : Cause) → HasTextCause text c → ⊥
 text_excluded text ms w causes.TooLong h = absurd (omega (arith, w.short))

@@ -1,5 +1,6 @@
 -- The map of definitions, and the list that it stands for.
-use Rattle.std.proofs.Common.{◌≡◌, ℕ, Bool, true, false, ◌||◌, cond, List, [], ◌∷◌, ◌++◌, Option, Some, None, option_map, is_some, Bor, String, Global, string_bytes, if◌then◌else◌, refl, sym, ap, ◌∙◌}
+use Rattle.std.proofs.Common.{◌≡◌, ℕ, Bool, true, false, ◌||◌, cond, List, [], ◌∷◌, ◌++◌, Option, Some, None, option_map, is_some, Bor, String, Global}
+use Rattle.std.proofs.Common.{string_bytes, if◌then◌else◌, refl, sym, ap, ◌∙◌}
 use Rattle.std.specs.Option.{MatchOption, option_copied}
 use Rattle.std.specs.Str.{bytes_eq}
 use Rattle.std.specs.Map.{lookup}
@@ -18,12 +19,14 @@ pub found_in : (text : List ℕ) (es : List Entry) → found (defined_in es) tex
 found_in text [] = refl
 found_in text (e ∷ es) = by (bytes_eq text (string_bytes e.0)) (found_in text es) where
   by : (b : Bool) → found (defined_in es) text ≡ option_map tree_in (lookup (λ k. bytes_eq text (string_bytes k)) es)
-      → (if b then Some (tree_in e.1) else found (defined_in es) text) ≡ option_map tree_in (cond b (Some e.1) (lookup (λ k. bytes_eq text (string_bytes k)) es))
+      → (if b then Some (tree_in e.1) else found (defined_in es) text) ≡ option_map tree_in
+      (cond b (Some e.1) (lookup (λ k. bytes_eq text (string_bytes k)) es))
   by true h = refl
   by false h = h
 
 -- a look-up by cases
-pub found_by : (r : Option (Bor Tree)) (o : Option Tree) (f : Option Formula) → option_copied r ≡ o → f ≡ option_map tree_in o → MatchOption r (f ≡ None) (λ t. f ≡ Some (tree_in t.now))
+pub found_by : (r : Option (Bor Tree)) (o : Option Tree) (f : Option Formula) → option_copied r ≡ o → f ≡ option_map tree_in o
+    → MatchOption r (f ≡ None) (λ t. f ≡ Some (tree_in t.now))
 found_by None o f e h = h ∙ ap (option_map tree_in) (sym e)
 found_by (Some t) o f e h = h ∙ ap (option_map tree_in) (sym e)
 
@@ -31,7 +34,8 @@ found_by (Some t) o f e h = h ∙ ap (option_map tree_in) (sym e)
 pub among_defined : (ds : Definitions) (name : List ℕ) → is_among name (names_defined ds) ≡ is_some (found ds name)
 among_defined [] name = refl
 among_defined (d ∷ ds) name = by (bytes_eq name d.0) (among_defined ds name) where
-  by : (b : Bool) → is_among name (names_defined ds) ≡ is_some (found ds name) → (b || is_among name (names_defined ds)) ≡ is_some (if b then Some d.1 else found ds name)
+  by : (b : Bool) → is_among name (names_defined ds) ≡ is_some (found ds name)
+      → (b || is_among name (names_defined ds)) ≡ is_some (if b then Some d.1 else found ds name)
   by true h = refl
   by false h = h
 
@@ -45,7 +49,8 @@ no_tree None e = refl
 no_tree (Some t) e = absurd (cc)
 
 -- a name that is not defined is no key of the map
-pub not_there : (es : List Entry) (name : List ℕ) → is_among name (names_defined (defined_in es)) ≡ false → lookup (λ k. bytes_eq name (string_bytes k)) es ≡ None
+pub not_there : (es : List Entry) (name : List ℕ)
+    → is_among name (names_defined (defined_in es)) ≡ false → lookup (λ k. bytes_eq name (string_bytes k)) es ≡ None
 not_there es name h = no_tree (lookup (λ k. bytes_eq name (string_bytes k)) es) (sym h ∙ among_defined (defined_in es) name ∙ ap is_some (found_in name es))
 
 -- one more entry is one more definition

@@ -15,7 +15,8 @@ use Rattle.requirement_document.specs.declared.fault.Cause.{Cause}
 use Rattle.requirement_document.specs.declared.fault.Cause.TheVariants as causes
 use Rattle.requirement_document.specs.Keys.{key_word, knows, unknown_in, HasKeys, HasUnknown, HasFormulas, IsWanted}
 use Rattle.requirement_document.specs.Substitution.{Definitions, substituted}
-use Rattle.requirement_document.specs.Entry.{Context, HasText, IsSentence, IsNewName, IsPutIn, IsLetter, HasTrace, states_data, has_form, is_among, DoesNotFit, IsFormulaCause, HasFormulaCause, HasCause}
+use Rattle.requirement_document.specs.Entry.{Context, HasText, IsSentence, IsNewName, IsPutIn, IsLetter, HasTrace, states_data, has_form, is_among, DoesNotFit}
+use Rattle.requirement_document.specs.Entry.{IsFormulaCause, HasFormulaCause, HasCause}
 
 -- a text has one formula, or a fault
 pub record IsOneOutcome : Type 0 where
@@ -43,7 +44,8 @@ formula_excluded o ds text f p (causes.Grammar byte) h = o.grammar text byte p.w
 formula_excluded o ds text f p (causes.Size count) h =
     let same : h.0 ≡ p.written = o.formula text h.0 p.written h.2 p.accepted.reads in
     by h.3 (ap formula_size same) (ap (λ g. formula_size (substituted ds g)) same ∙ sym (ap formula_size p.put)) h.4 where
-      by : (count ≡ formula_size h.0) ⊎ (count ≡ formula_size (substituted ds h.0)) → formula_size h.0 ≡ formula_size p.written → formula_size (substituted ds h.0) ≡ formula_size f → 16384 < count → ⊥
+      by : (count ≡ formula_size h.0) ⊎ (count ≡ formula_size (substituted ds h.0)) → formula_size h.0 ≡ formula_size p.written
+          → formula_size (substituted ds h.0) ≡ formula_size f → 16384 < count → ⊥
       by (inl e) a b many = omega (arith, e, p.accepted.few)
       by (inr e) a b many = omega (arith, e, p.few)
 formula_excluded o ds text f p c h = absurd h
@@ -100,9 +102,11 @@ loop_fits d (Finite states) v h e no' = not_there (get (codes "loop") d) v e h.2
 loop_fits d (Infinite stem loop_part) v h e no' = fits_states (get (codes "loop") d) v loop_part e h.2 no'
 
 formed : (d : Data) (t : Trace) → HasTrace d t → has_form (get (codes "states") d) (get (codes "stem") d) (get (codes "loop") d) ≡ false → ⊥
-formed d (Finite states) h e = true≢false (sym (same_form (get (codes "states") d) (get (codes "stem") d) (get (codes "loop") d) (Some (states_data states)) None None h.0 h.1 h.2) ∙ e)
+formed d (Finite states) h e =
+    true≢false (sym (same_form (get (codes "states") d) (get (codes "stem") d) (get (codes "loop") d) (Some (states_data states)) None None h.0 h.1 h.2) ∙ e)
 formed d (Infinite stem loop_part) h e =
-    true≢false (sym (same_form (get (codes "states") d) (get (codes "stem") d) (get (codes "loop") d) None (Some (states_data stem)) (Some (states_data loop_part)) h.0 h.1 h.2) ∙ e)
+    true≢false (sym (same_form (get (codes "states") d) (get (codes "stem") d) (get (codes "loop") d) None (Some (states_data stem))
+    (Some (states_data loop_part)) h.0 h.1 h.2) ∙ e)
 
 has_state : (d : Data) (t : Trace) → HasTrace d t → IsTrace t → get (codes "states") d ≡ Some (states_data []) → ⊥
 has_state d (Finite states) h some e = some_states states some (unlike (get (codes "states") d) (states_data states) (states_data []) h.0 e)

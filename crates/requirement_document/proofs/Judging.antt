@@ -41,4 +41,5 @@ same_name own name e = cc
 
 -- the letter of a name is that of another where the names are the same
 pub letter_is : (f : Formula) (own name : List ℕ) → f ≡ Letter (Name own) → IsTrue (bytes_eq own name) ↔ (f ≡ Letter (Name name))
-letter_is f own name e = (λ h. e ∙ ap (λ n. Letter (Name n)) ((bytes_eq-Decides own name).0 h), λ g. (bytes_eq-Decides own name).1 (same_name own name (sym e ∙ g)))
+letter_is f own name e =
+    (λ h. e ∙ ap (λ n. Letter (Name n)) ((bytes_eq-Decides own name).0 h), λ g. (bytes_eq-Decides own name).1 (same_name own name (sym e ∙ g)))

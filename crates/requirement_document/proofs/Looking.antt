@@ -1,5 +1,6 @@
 -- What a value is, from what its accessors find.
-use Rattle.std.proofs.Common.{◌≡◌, ℕ, ◌<◌, ◌≤◌, List, [], ◌∷◌, length, nat_lt, false, if◌then◌else◌, Option, Some, None, option_map, Bor, refl, sym, ap, subst, ◌∙◌}
+use Rattle.std.proofs.Common.{◌≡◌, ℕ, ◌<◌, ◌≤◌, List, [], ◌∷◌, length, nat_lt, false, if◌then◌else◌, Option, Some, None, option_map, Bor, refl, sym, ap, subst}
+use Rattle.std.proofs.Common.{◌∙◌}
 use Rattle.std.specs.Option.{MatchOption}
 use Rattle.std.proofs.lemmas.Bool.{lt-ltb, le-ltb}
 use Rattle.toml.specs.Data.{Data, Items, string, array, as_str, as_array}
@@ -45,5 +46,6 @@ pub entries_many : (o : Option Data) (ds : Items) → o ≡ Some (array ds) → 
 entries_many o ds e many = ap entries_at e ∙ ap (λ b. if b then None else Some (listed ds)) (lt-ltb 1024 (length (listed ds)) many)
 
 -- the array whose entries are too many
-pub many_given : (o : Option Data) (d : Data) (ds : List Data) → o ≡ Some d → Some (items_of ds) ≡ as_array d → 1024 < length ds → (is : Items) × (o ≡ Some (array is)) × (1024 < length (listed is))
+pub many_given : (o : Option Data) (d : Data) (ds : List Data) → o ≡ Some d → Some (items_of ds) ≡ as_array d → 1024 < length ds
+    → (is : Items) × (o ≡ Some (array is)) × (1024 < length (listed is))
 many_given o d ds e a many = (items_of ds, e ∙ ap Some (array_given d (items_of ds) a), subst (λ es. 1024 < length es) (sym (listed_items ds)) many)

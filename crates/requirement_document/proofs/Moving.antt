@@ -1,5 +1,6 @@
 -- A tree that is put together again behind the nodes of a table.
-use Rattle.std.proofs.Common.{◌≡◌, ℕ, zero, suc, ◌<◌, ◌⊎◌, false, inl, inr, List, [], ◌∷◌, ◌++◌, length, get_or, Some, refl, sym, ap, ap₂, subst, ◌∙◌, arith, le_refl}
+use Rattle.std.proofs.Common.{◌≡◌, ℕ, zero, suc, ◌<◌, ◌⊎◌, false, inl, inr, List, [], ◌∷◌, ◌++◌, length, get_or, Some, refl, sym, ap, ap₂, subst, ◌∙◌, arith}
+use Rattle.std.proofs.Common.{le_refl}
 use Rattle.std.specs.List.{slice_get}
 use Rattle.std.proofs.lemmas.List.{get_or-map, length-append}
 use Rattle.std.proofs.lemmas.Option.{slice_get-get_or}
@@ -46,14 +47,16 @@ pub none_yet : (image : ℕ → Formula) (t : Table) → AreAt image t []
 none_yet image t i n e = absurd (cc)
 
 -- one node more, in a table that keeps the others
-pub are_more : (image : ℕ → Formula) (t u : Table) (numbers more : List ℕ) (n : ℕ) → AreAt image t numbers → Keeps t u → IsAt u (image (length numbers)) n → more ≡ numbers ++ n ∷ [] → AreAt image u more
+pub are_more : (image : ℕ → Formula) (t u : Table) (numbers more : List ℕ) (n : ℕ) → AreAt image t numbers → Keeps t u → IsAt u (image (length numbers)) n
+    → more ≡ numbers ++ n ∷ [] → AreAt image u more
 are_more image t u numbers more n all k a e i m h = on (get_more numbers n i m (subst (λ ns. slice_get ns i ≡ Some m) e h)) where
   on : (slice_get numbers i ≡ Some m) ⊎ ((i ≡ length numbers) × (m ≡ n)) → IsAt u (image i) m
   on (inl g) = at_kept t u (image i) m k (all i m g)
   on (inr g) = subst (λ j. IsAt u (image j) m) (sym g.0) (subst (λ x. IsAt u (image (length numbers)) x) (sym g.1) a)
 
 -- the trees under the numbers are the images
-pub under_are : (image : ℕ → Formula) (t : Table) (numbers : List ℕ) (i : ℕ) → AreAt image t numbers → i < length numbers → tree_among (trees_under t numbers) i ≡ image i
+pub under_are : (image : ℕ → Formula) (t : Table) (numbers : List ℕ) (i : ℕ) → AreAt image t numbers → i < length numbers
+    → tree_among (trees_under t numbers) i ≡ image i
 under_are image t numbers i all h =
     get_or-map (tree_at t) numbers i 0 (Const false) h ∙ (all i (get_or numbers i 0) (slice_get-get_or numbers i 0 h)).tree
 
@@ -80,21 +83,26 @@ pub size_defined : (ds : Definitions) (name : List ℕ) (f : Formula) (n : ℕ) 
 size_defined ds name f n e s = s ∙ sym (ap (λ o. formula_size (or_letter name o)) e)
 
 -- one node of the source more: copied, or with what is defined put in
-pub copied_on : (source t u : Table) (numbers more : List ℕ) (number : ℕ) (node : Node) (n : ℕ) → length numbers ≡ number → AreAt (tree_at source) t numbers → Keeps t u
+pub copied_on : (source t u : Table) (numbers more : List ℕ) (number : ℕ) (node : Node) (n : ℕ)
+    → length numbers ≡ number → AreAt (tree_at source) t numbers → Keeps t u
     → tree_at source number ≡ made source.names (trees_of source) node → IsFine (length source.names) number node
     → IsAt u (made source.names (trees_under t numbers) node) n → more ≡ numbers ++ n ∷ [] → AreAt (tree_at source) u more
 copied_on source t u numbers more number node n count all k tree fine at is =
     let same : made source.names (trees_under t numbers) node ≡ tree_at source (length numbers) =
-    made_same source.names (trees_under t numbers) (trees_of source) (length source.names) number node fine (λ i h. under_are (tree_at source) t numbers i all (omega (arith, count, h)))
+    made_same source.names (trees_under t numbers) (trees_of source) (length source.names) number node fine
+    (λ i h. under_are (tree_at source) t numbers i all (omega (arith, count, h)))
     ∙ sym tree ∙ ap (tree_at source) (sym count) in
-    are_more (tree_at source) t u numbers more n all k (at_same u (made source.names (trees_under t numbers) node) (tree_at source (length numbers)) n same at) is
+    are_more (tree_at source) t u numbers more n all k
+    (at_same u (made source.names (trees_under t numbers) node) (tree_at source (length numbers)) n same at) is
 
-pub put_on : (ds : Definitions) (source t u : Table) (numbers more : List ℕ) (number : ℕ) (node : Node) (n : ℕ) → length numbers ≡ number → AreAt (λ i. substituted ds (tree_at source i)) t numbers → Keeps t u
+pub put_on : (ds : Definitions) (source t u : Table) (numbers more : List ℕ) (number : ℕ) (node : Node) (n : ℕ)
+    → length numbers ≡ number → AreAt (λ i. substituted ds (tree_at source i)) t numbers → Keeps t u
     → tree_at source number ≡ made source.names (trees_of source) node → IsFine (length source.names) number node
     → IsAt u (put_over ds source.names (trees_under t numbers) node) n → more ≡ numbers ++ n ∷ [] → AreAt (λ i. substituted ds (tree_at source i)) u more
 put_on ds source t u numbers more number node n count all k tree fine at is =
     let image : ℕ → Formula = λ i. substituted ds (tree_at source i) in
     let same : put_over ds source.names (trees_under t numbers) node ≡ image (length numbers) =
-    put_same ds source.names (trees_under t numbers) (trees_of source) (length source.names) number node fine (λ i h. under_are image t numbers i all (omega (arith, count, h)))
+    put_same ds source.names (trees_under t numbers) (trees_of source) (length source.names) number node fine
+    (λ i h. under_are image t numbers i all (omega (arith, count, h)))
     ∙ ap (substituted ds) (sym tree) ∙ ap image (sym count) in
     are_more image t u numbers more n all k (at_same u (put_over ds source.names (trees_under t numbers) node) (image (length numbers)) n same at) is

@@ -17,7 +17,8 @@ use Rattle.requirement_document.specs.declared.fault.Refusal.TheVariants as refu
 use Rattle.requirement_document.specs.Keys.{knows, knows_formula, HasKeys, HasFormulas}
 use Rattle.requirement_document.specs.Substitution.{Definitions}
 use Rattle.requirement_document.specs.Entry.{HasText, HasCause, IsFormulaCause}
-use Rattle.requirement_document.specs.Document.{entries, section_of, AreDefined, defined_before, names_of, taken_before, taken_at, in_entry, IsWritten, IsRefused, IsRefusedOf, of_document}
+use Rattle.requirement_document.specs.Document.{entries, section_of, AreDefined, defined_before, names_of, taken_before, taken_at, in_entry, IsWritten}
+use Rattle.requirement_document.specs.Document.{IsRefused, IsRefusedOf, of_document}
 use Rattle.requirement_document.specs.Inner.{IsRefusedAt, IsRefusedText, IsPlaced}
 
 -- what is wrong with the text of the formula of an entry is wrong with the entry
@@ -79,16 +80,22 @@ refused_text text ms refused.NoMemory w h = tt
 refused_text text ms (refused.Fault f) w h = of_document ms w h
 
 -- an item that is refused, and a behaviour, where the names of the entries before it are taken
-pub item_refused : (root : Data) (role : Role) (index : ℕ) (all : List Data) (d : Data) (define : List Data) (ds : Definitions) (taken : List (List ℕ)) (refusal : Refusal) (r : Refused)
+pub item_refused : (root : Data) (role : Role) (index : ℕ) (all : List Data) (d : Data) (define : List Data) (ds : Definitions) (taken : List (List ℕ))
+    (refusal : Refusal) (r : Refused)
     → entries (section_of role) root ≡ Some all → slice_get all index ≡ Some d → entries sections.Define root ≡ Some define → AreDefined [] define ds
     → taken ≡ taken_before (section_of role) root ++ names_of (take index all)
     → IsRefusedAt (section_of role) ds taken d refusal → IsPlaced (section_of role) index d refusal r → IsRefusedOf root r
-item_refused root roles.Assume index all d define ds taken refusal r w t e a same h p = refused_at root sections.Assume index all d define ds refusal r w t e a (subst (λ n. IsRefusedAt sections.Assume ds n d refusal) same h) p
-item_refused root roles.Require index all d define ds taken refusal r w t e a same h p = refused_at root sections.Require index all d define ds refusal r w t e a (subst (λ n. IsRefusedAt sections.Require ds n d refusal) same h) p
-item_refused root roles.Allow index all d define ds taken refusal r w t e a same h p = refused_at root sections.Allow index all d define ds refusal r w t e a (subst (λ n. IsRefusedAt sections.Allow ds n d refusal) same h) p
-item_refused root roles.Ensure index all d define ds taken refusal r w t e a same h p = refused_at root sections.Ensure index all d define ds refusal r w t e a (subst (λ n. IsRefusedAt sections.Ensure ds n d refusal) same h) p
+item_refused root roles.Assume index all d define ds taken refusal r w t e a same h p =
+    refused_at root sections.Assume index all d define ds refusal r w t e a (subst (λ n. IsRefusedAt sections.Assume ds n d refusal) same h) p
+item_refused root roles.Require index all d define ds taken refusal r w t e a same h p =
+    refused_at root sections.Require index all d define ds refusal r w t e a (subst (λ n. IsRefusedAt sections.Require ds n d refusal) same h) p
+item_refused root roles.Allow index all d define ds taken refusal r w t e a same h p =
+    refused_at root sections.Allow index all d define ds refusal r w t e a (subst (λ n. IsRefusedAt sections.Allow ds n d refusal) same h) p
+item_refused root roles.Ensure index all d define ds taken refusal r w t e a same h p =
+    refused_at root sections.Ensure index all d define ds refusal r w t e a (subst (λ n. IsRefusedAt sections.Ensure ds n d refusal) same h) p
 
-pub behaviour_refused : (root : Data) (index : ℕ) (all : List Data) (d : Data) (define : List Data) (ds : Definitions) (taken : List (List ℕ)) (refusal : Refusal) (r : Refused)
+pub behaviour_refused : (root : Data) (index : ℕ) (all : List Data) (d : Data) (define : List Data) (ds : Definitions) (taken : List (List ℕ))
+    (refusal : Refusal) (r : Refused)
     → entries sections.Behaviour root ≡ Some all → slice_get all index ≡ Some d → entries sections.Define root ≡ Some define → AreDefined [] define ds
     → taken ≡ taken_before sections.Behaviour root ++ names_of (take index all)
     → IsRefusedAt sections.Behaviour ds taken d refusal → IsPlaced sections.Behaviour index d refusal r → IsRefusedOf root r

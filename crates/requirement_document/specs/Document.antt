@@ -1,5 +1,6 @@
 -- The document that a text is, and what may be wrong with a text.
-use Rattle.std.specs.Prelude.{◌≡◌, ℕ, ◌+◌, ◌<◌, ◌≤◌, List, [], ◌∷◌, ◌++◌, length, take, slice_get, codes, string_bytes, bytes_eq, Option, Some, None, option_map, option_and_then, if◌then◌else◌, nat_lt, IsUtf8, ⊤}
+use Rattle.std.specs.Prelude.{◌≡◌, ℕ, ◌+◌, ◌<◌, ◌≤◌, List, [], ◌∷◌, ◌++◌, length, take, slice_get, codes, string_bytes, bytes_eq, Option, Some, None}
+use Rattle.std.specs.Prelude.{option_map, option_and_then, if◌then◌else◌, nat_lt, IsUtf8, ⊤}
 use Rattle.std.specs.List.{flat_map}
 use Rattle.std.specs.Option.{unwrap_or}
 use Rattle.std.specs.Str.Lossy.{utf8_valid_len}
@@ -44,7 +45,8 @@ entries s root = entries_at (get (section_word s) root)
 -- the kind of the traces, which are infinite where nothing is said
 abbrev pub kind_at : Option Data → Option Kind
 kind_at None = Some Kinds.Infinite
-kind_at (Some (toml.string s)) = if bytes_eq s (codes "infinite") then Some Kinds.Infinite else (if bytes_eq s (codes "finite") then Some Kinds.Finite else None)
+kind_at (Some (toml.string s)) =
+    if bytes_eq s (codes "infinite") then Some Kinds.Infinite else (if bytes_eq s (codes "finite") then Some Kinds.Finite else None)
 kind_at (Some _) = None
 
 abbrev pub section_of : Role → Section
@@ -80,7 +82,8 @@ taken_before sections.Assume root = []
 taken_before sections.Require root = names_in sections.Assume root
 taken_before sections.Allow root = names_in sections.Assume root ++ names_in sections.Require root
 taken_before sections.Ensure root = (names_in sections.Assume root ++ names_in sections.Require root) ++ names_in sections.Allow root
-taken_before sections.Behaviour root = ((names_in sections.Assume root ++ names_in sections.Require root) ++ names_in sections.Allow root) ++ names_in sections.Ensure root
+taken_before sections.Behaviour root =
+    ((names_in sections.Assume root ++ names_in sections.Require root) ++ names_in sections.Allow root) ++ names_in sections.Ensure root
 
 -- entries are definitions, of which each is put in into those behind it. These stand before them
 abbrev pub AreDefined : Definitions → List Data → Definitions → Type 0

@@ -1,5 +1,6 @@
 -- What an entry is read as, and what may be wrong with it.
-use Rattle.std.specs.Prelude.{◌≡◌, ◌≢◌, ℕ, ◌<◌, ◌≤◌, ◌⊎◌, List, [], map, codes, string_bytes, bytes_eq, Bool, true, false, ◌&&◌, ◌||◌, not, Option, Some, None, is_some}
+use Rattle.std.specs.Prelude.{◌≡◌, ◌≢◌, ℕ, ◌<◌, ◌≤◌, ◌⊎◌, List, [], map, codes, string_bytes, bytes_eq, Bool, true, false, ◌&&◌, ◌||◌, not, Option, Some, None}
+use Rattle.std.specs.Prelude.{is_some}
 use Rattle.std.specs.List.{list_any}
 use Rattle.toml.specs.Data.{Data, string, array, get, as_str, as_table}
 use Rattle.toml.specs.View.{items_of}
@@ -130,7 +131,8 @@ HasFormulaCause x d cause = HasFormulas x.section × (text : List ℕ) × HasTex
 
 -- whether the states stand alone, or the stem and the loop do
 abbrev pub has_form : Option Data → Option Data → Option Data → Bool
-has_form states stem loop_part = (is_some states && not (is_some stem) && not (is_some loop_part)) || (not (is_some states) && is_some stem && is_some loop_part)
+has_form states stem loop_part =
+    (is_some states && not (is_some stem) && not (is_some loop_part)) || (not (is_some states) && is_some stem && is_some loop_part)
 
 -- this is wrong with the entry
 abbrev pub HasCause : Context → Data → Cause → Type 0

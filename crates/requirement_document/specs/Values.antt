@@ -28,7 +28,13 @@ pub record DocumentValue : Type 0 where
   pub behaviours : List BehaviourValue
 
 abbrev pub item_in : Item → ItemValue
-item_in i = record { role = i.role; name = string_bytes i.name; sentence = option_map string_bytes i.sentence; text = string_bytes i.formula; formula = tree_at i.table i.root }
+item_in i = record {
+  role = i.role;
+  name = string_bytes i.name;
+  sentence = option_map string_bytes i.sentence;
+  text = string_bytes i.formula;
+  formula = tree_at i.table i.root;
+}
 
 abbrev pub behaviour_in : Behaviour → BehaviourValue
 behaviour_in b = record { name = string_bytes b.name; sentence = option_map string_bytes b.sentence; trace = b.trace }

@@ -1,10 +1,12 @@
 -- What serde_json writes without layout has no newline: those of a text are escaped.
-use Rattle.std.proofs.Common.{◌≡◌, ℕ, zero, suc, ◌+◌, ◌/◌, ◌%◌, ◌<◌, ◌==◌, ◌||◌, nat_lt, cond, Bool, true, false, List, [], ◌∷◌, ◌++◌, flat_map, pos, negsuc, refl, ◌∙◌, arith, ne_eqb}
+use Rattle.std.proofs.Common.{◌≡◌, ℕ, zero, suc, ◌+◌, ◌/◌, ◌%◌, ◌<◌, ◌==◌, ◌||◌, nat_lt, cond, Bool, true, false, List, [], ◌∷◌, ◌++◌, flat_map, pos, negsuc}
+use Rattle.std.proofs.Common.{refl, ◌∙◌, arith, ne_eqb}
 use Rattle.std.proofs.lemmas.List.Folds.{list_any-append}
 use Rattle.std.specs.Char.{digit_char}
 use Rattle.std.specs.Fmt.{digit_glyph, digits_onto, digits, decimal}
 use Rattle.json.specs.Print.{escape_letter, escape_byte, escape, quoted}
-use Rattle.serde_json.specs.Data.{Num, unsigned, negative, float, Data, null, boolean, number, string, array, object, Items, no_items, item, Members, no_members, member}
+use Rattle.serde_json.specs.Data.{Num, unsigned, negative, float, Data, null, boolean, number, string, array, object, Items, no_items, item, Members}
+use Rattle.serde_json.specs.Data.{no_members, member}
 use Rattle.serde_json.specs.Written.{number_text, comma_if, compact_text, items_text, members_text}
 use Rattle.requirement_json.specs.Laws.{has_newline}
 
@@ -43,7 +45,10 @@ byte_line : (x : ℕ) → has_newline (escape_byte x) ≡ false
 unfolding escape_byte
 byte_line x =
     one_of_texts (nat_lt 0 (escape_letter x)) (92 ∷ escape_letter x ∷ []) _ (λ e. rw (letter_line x) refl)
-    (λ e. one_of_texts (nat_lt x 32) (92 ∷ 117 ∷ 48 ∷ 48 ∷ digit_char (x / 16) ∷ digit_char (x % 16) ∷ []) (x ∷ []) (λ h. rw (digit_line (x / 16), digit_line (x % 16)) refl)
+    (λ e. one_of_texts (nat_lt x 32) (92 ∷ 117 ∷ 48 ∷ 48 ∷ digit_char (x / 16) ∷ digit_char (x % 16) ∷ []) (x ∷ []) (λ h. rw (
+      digit_line (x / 16),
+      digit_line (x % 16),
+    ) refl)
     (λ h. rw (printed_line x h) refl))
 
 escape_line : (s : List ℕ) → has_newline (escape s) ≡ false
@@ -94,10 +99,12 @@ mutual
   items_line : (later : Bool) (ds : Items) → has_newline (items_text later ds) ≡ false
   items_line later no_items = refl
   items_line later (item d ds) =
-      both (comma_if later) (compact_text d ++ items_text true ds) (comma_line later) (both (compact_text d) (items_text true ds) (value_line d) (items_line true ds))
+      both (comma_if later) (compact_text d ++ items_text true ds) (comma_line later)
+      (both (compact_text d) (items_text true ds) (value_line d) (items_line true ds))
 
   members_line : (later : Bool) (ms : Members) → has_newline (members_text later ms) ≡ false
   members_line later no_members = refl
   members_line later (member k d ms) =
       both (comma_if later) (quoted k ++ 58 ∷ (compact_text d ++ members_text true ms)) (comma_line later)
-      (both (quoted k) (58 ∷ (compact_text d ++ members_text true ms)) (quoted_line k) (both (compact_text d) (members_text true ms) (value_line d) (members_line true ms)))
+      (both (quoted k) (58 ∷ (compact_text d ++ members_text true ms)) (quoted_line k)
+      (both (compact_text d) (members_text true ms) (value_line d) (members_line true ms)))

@@ -18,9 +18,11 @@ or_second : (a b : Bool) → a || b ≡ false → b ≡ false
 or_second true b h = absurd (true≢false h)
 or_second false b h = h
 
-pub append_plain : (xs ys : List Data) → items_have_float (items_of xs) ≡ false → items_have_float (items_of ys) ≡ false → items_have_float (items_of (xs ++ ys)) ≡ false
+pub append_plain : (xs ys : List Data)
+    → items_have_float (items_of xs) ≡ false → items_have_float (items_of ys) ≡ false → items_have_float (items_of (xs ++ ys)) ≡ false
 append_plain [] ys h g = g
-append_plain (x ∷ xs) ys h g = rw (or_first (has_float x) (items_have_float (items_of xs)) h) (append_plain xs ys (or_second (has_float x) (items_have_float (items_of xs)) h) g)
+append_plain (x ∷ xs) ys h g =
+    rw (or_first (has_float x) (items_have_float (items_of xs)) h) (append_plain xs ys (or_second (has_float x) (items_have_float (items_of xs)) h) g)
 
 choice_plain : (o : Ordering) (a b c : Members) → members_have_float a ≡ false → members_have_float b ≡ false → members_have_float c ≡ false
     → members_have_float (match_ordering o a b c) ≡ false
@@ -34,4 +36,5 @@ put_plain k d no_members h g = rw h refl
 put_plain k d (member l e ms) h g =
     let first = or_first (has_float e) (members_have_float ms) g in
     let others = or_second (has_float e) (members_have_float ms) g in
-    choice_plain (slice_cmp nat_cmp k l) (member k d (member l e ms)) (member l d ms) (member l e (put k d ms)) (rw h g) (rw h others) (rw first (put_plain k d ms h others))
+    choice_plain (slice_cmp nat_cmp k l) (member k d (member l e ms)) (member l d ms) (member l e (put k d ms)) (rw h g) (rw h others)
+    (rw first (put_plain k d ms h others))

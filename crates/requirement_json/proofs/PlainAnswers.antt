@@ -29,7 +29,8 @@ use Rattle.serde_json.specs.Data.{Data, number, unsigned, string, Members, put}
 use Rattle.serde_json.specs.View.{items_of}
 use Rattle.serde_json.specs.Written.{has_float, items_have_float, members_have_float}
 use Rattle.requirement_json.specs.Items.{kind_text, text_data, item_data, name_data, names_data, items_data}
-use Rattle.requirement_json.specs.Because.{member_members, with_part, member_data, members_from, members_data, lines_behind, claim_data, claims_data, with_because}
+use Rattle.requirement_json.specs.Because.{member_members, with_part, member_data, members_from, members_data, lines_behind, claim_data, claims_data}
+use Rattle.requirement_json.specs.Because.{with_because}
 use Rattle.requirement_json.specs.Answers.{question_text, said, with_found, with_name, answer_data, reply_data, conflict_data, conflicts_from}
 use Rattle.requirement_json.specs.Checks.{with_asked, with_asked_of, place_members, break_data, breaks_data, behaviour_data, check_data}
 use Rattle.requirement_json.specs.Letters.{use_data, letters_data, nearly_data, slip_data, slips_data}
@@ -79,7 +80,8 @@ part_plain (Some part) ms h = put_plain (codes "matters") (string part) ms refl 
 member_plain : (d : DocumentValue) (part : Option (List ℕ)) (m : Member) → has_float (member_data d part m) ≡ false
 member_plain d part m = part_plain part (member_members d m) refl
 
-members_plain : (d : DocumentValue) (parts : ℕ → Option (List ℕ)) (k : ℕ) (members : List Member) → items_have_float (items_of (members_from d parts k members)) ≡ false
+members_plain : (d : DocumentValue) (parts : ℕ → Option (List ℕ)) (k : ℕ) (members : List Member)
+    → items_have_float (items_of (members_from d parts k members)) ≡ false
 members_plain d parts k [] = refl
 members_plain d parts k (m ∷ ms) = rw (member_plain d (parts k) m) (members_plain d parts (k + 1) ms)
 
@@ -110,7 +112,8 @@ answer_plain d steps a answer =
 conflict_plain : (d : DocumentValue) (core : Option Core) (b : Because) → has_float (conflict_data d core b) ≡ false
 conflict_plain d core b = because_plain d (part_of core) b.members.items (nevers_of b) (said (codes "conflict") (codes "consistent")) refl
 
-conflicts_plain : (d : DocumentValue) (cores : List (Option (Box Core))) (k : ℕ) (bs : List (Box Because)) → items_have_float (items_of (conflicts_from d cores k bs)) ≡ false
+conflicts_plain : (d : DocumentValue) (cores : List (Option (Box Core))) (k : ℕ) (bs : List (Box Because))
+    → items_have_float (items_of (conflicts_from d cores k bs)) ≡ false
 conflicts_plain d cores k [] = refl
 conflicts_plain d cores k (b ∷ bs) = rw (conflict_plain d (core_at cores k) b.value) (conflicts_plain d cores (k + 1) bs)
 
@@ -118,7 +121,8 @@ conflicts_plain d cores k (b ∷ bs) = rw (conflict_plain d (core_at cores k) b.
 
 asked_plain : (f : Formula) (ms : Members) → members_have_float ms ≡ false → members_have_float (with_asked f ms) ≡ false
 asked_plain (Unary Always (Binary Implies a b)) ms h =
-    put_plain (codes "asked") (string (bare a)) (put (codes "unanswered") (string (bare b)) ms) refl (put_plain (codes "unanswered") (string (bare b)) ms refl h)
+    put_plain (codes "asked") (string (bare a)) (put (codes "unanswered") (string (bare b)) ms) refl
+    (put_plain (codes "unanswered") (string (bare b)) ms refl h)
 asked_plain f ms h = h
 
 asked_of_plain : (i : Option ItemValue) (ms : Members) → members_have_float ms ≡ false → members_have_float (with_asked_of i ms) ≡ false
@@ -140,7 +144,8 @@ check_plain d c = rw (breaks_plain d c.breaks.items, behaviour_plain (slice_get 
 
 -- ---- the whole
 
-later_plain : (d : DocumentValue) (r : Report) (steps : ℕ) → items_have_float (items_of (map (reply_data d steps) r.replies.items ++ map (check_data d) r.checks.items)) ≡ false
+later_plain : (d : DocumentValue) (r : Report) (steps : ℕ)
+    → items_have_float (items_of (map (reply_data d steps) r.replies.items ++ map (check_data d) r.checks.items)) ≡ false
 later_plain d r steps =
     append_plain (map (reply_data d steps) r.replies.items) (map (check_data d) r.checks.items)
     (map_plain (reply_data d steps) (λ p. answer_plain d steps p.asking p.answer) r.replies.items) (map_plain (check_data d) (check_plain d) r.checks.items)
@@ -153,7 +158,8 @@ answers_plain d r steps =
 
 letters_plain : (d : DocumentValue) (ms : Members) → members_have_float ms ≡ false → members_have_float (with_letters d ms) ≡ false
 letters_plain d ms h =
-    put_plain (codes "letters") (letters_data d (uses_of d)) (put (codes "slips") (slips_data d (slips_of d)) ms) (map_plain (use_data d) (use_plain d) (uses_of d))
+    put_plain (codes "letters") (letters_data d (uses_of d)) (put (codes "slips") (slips_data d (slips_of d)) ms)
+    (map_plain (use_data d) (use_plain d) (uses_of d))
     (put_plain (codes "slips") (slips_data d (slips_of d)) ms (map_plain (slip_data d) (slip_plain d) (slips_of d)) h)
 
 document_plain : (d : DocumentValue) (ms : Members) → members_have_float ms ≡ false → members_have_float (with_document d ms) ≡ false
@@ -168,4 +174,5 @@ told_plain d answers aside v h = rw (h, map_plain (λ (m : Member). name_data d 
 
 pub report_plain : (d : DocumentValue) (r : Report) (steps : ℕ) → has_float (json_of d r steps) ≡ false
 report_plain d r steps =
-    document_plain d (told d (answers_of d r steps) (set_aside d r) (verdict r)) (told_plain d (answers_of d r steps) (set_aside d r) (verdict r) (answers_plain d r steps))
+    document_plain d (told d (answers_of d r steps) (set_aside d r) (verdict r))
+    (told_plain d (answers_of d r steps) (set_aside d r) (verdict r) (answers_plain d r steps))

@@ -1,8 +1,10 @@
 -- A page has no marks but its own, since each of its pieces has none.
-use Rattle.std.proofs.Common.{◌≡◌, ℕ, ◌+◌, ◌-◌, ◌*◌, Bool, true, false, List, [], ◌∷◌, ◌++◌, length, slice_get, codes, Option, Some, None, refl, sym, ◌∙◌, subst, append_assoc, nat_le, ◌==◌}
+use Rattle.std.proofs.Common.{◌≡◌, ℕ, ◌+◌, ◌-◌, ◌*◌, Bool, true, false, List, [], ◌∷◌, ◌++◌, length, slice_get, codes, Option, Some, None, refl, sym, ◌∙◌}
+use Rattle.std.proofs.Common.{subst, append_assoc, nat_le, ◌==◌}
 use Rattle.std.specs.Global.{Box}
 use Rattle.std.specs.Prelude.{slice_index_or}
-use Rattle.ltl_syntax.specs.declared.node.UnaryOp.TheVariants.{Always, AlwaysIn, Eventually, EventuallyIn, Historically, HistoricallyIn, Next, NextTimes, Not, Once, OnceIn, WeakNext, WeakYesterday, Yesterday, YesterdayTimes}
+use Rattle.ltl_syntax.specs.declared.node.UnaryOp.TheVariants.{Always, AlwaysIn, Eventually, EventuallyIn, Historically, HistoricallyIn, Next, NextTimes, Not}
+use Rattle.ltl_syntax.specs.declared.node.UnaryOp.TheVariants.{Once, OnceIn, WeakNext, WeakYesterday, Yesterday, YesterdayTimes}
 use Rattle.ltl_syntax.specs.declared.node.BinaryOp.TheVariants.{And, Iff, Implies, Or, Release, Since, StrongRelease, Trigger, Until, WeakUntil}
 use Rattle.ltl_syntax.specs.Formula.{Formula, Const, Letter, Unary, Binary}
 use Rattle.ltl_word.specs.declared.trace.Trace.{Trace}
@@ -35,20 +37,25 @@ use Rattle.requirement_report.specs.Parts.{part_of, core_at}
 use Rattle.requirement_report.specs.Pictures.{letters_in, grid_of}
 use Rattle.requirement_report.specs.Slips.{SlipValue, slips_of}
 use Rattle.requirement_report.specs.Subjects.{name_of, sentence_of, written_of, behaviour_name, behaviour_sentence, perhaps}
-use Rattle.requirement_report.specs.Text.{question_words, can_word, cannot_word, word_of, item_asked, is_all, is_hidden, bare, keeps_word, nevers_of, verdict_text, set_aside}
+use Rattle.requirement_report.specs.Text.{question_words, can_word, cannot_word, word_of, item_asked, is_all, is_hidden, bare, keeps_word, nevers_of}
+use Rattle.requirement_report.specs.Text.{verdict_text, set_aside}
 use Rattle.requirement_page.specs.Marks.{turned, said, code, paragraph, paragraph_if, link, item_link, behaviour_link, badge, begun, ended}
 use Rattle.requirement_page.specs.Style.{style}
 use Rattle.requirement_page.specs.Pictures.{picture}
-use Rattle.requirement_page.specs.Reasons.{described, member_link, behind_comma, member_links, because_of, without, claim_begins, claim_byte, left_behind, claims_from, more, claims, matters, member_described, members_described, conflict_article}
+use Rattle.requirement_page.specs.Reasons.{described, member_link, behind_comma, member_links, because_of, without, claim_begins, claim_byte, left_behind}
+use Rattle.requirement_page.specs.Reasons.{claims_from, more, claims, matters, member_described, members_described, conflict_article}
 use Rattle.requirement_page.specs.Answers.{can_sort, cannot_sort, sort_of, undecided, tried, large, answered, together_article, reply_article}
 use Rattle.requirement_page.specs.Checks.{keeps_sort, asked, asked_in, broken_item, behaviour_picture, check_article}
 use Rattle.requirement_page.specs.Places.{next_number, together_number, first_reply, first_check}
 use Rattle.requirement_page.specs.Slips.{alone, suspected, slip_item, slip_list, slips_part}
-use Rattle.requirement_page.specs.Items.{linked_note, conflict_notes, answer_note, reply_notes, check_notes, notes, item_notes, behaviour_notes, item_begun, role_word, role_in, item_article, behaviour_article, all_items}
+use Rattle.requirement_page.specs.Items.{linked_note, conflict_notes, answer_note, reply_notes, check_notes, notes, item_notes, behaviour_notes, item_begun}
+use Rattle.requirement_page.specs.Items.{role_word, role_in, item_article, behaviour_article, all_items}
 use Rattle.requirement_page.specs.Counts.{row, row_if, table}
 use Rattle.requirement_page.specs.Laws.{HasOnlyMarks}
-use Rattle.requirement_page.specs.Page.{verdict_sort, declared, titled, styled, judged, head, conflict_articles, reply_articles, check_articles, answer_articles, page_of, IsPage}
-use Rattle.requirement_page.proofs.Harmless.{Tame, Drawn, drawn, go_on, has_only_marks, join, word, nothing, each, each_below, either, behind_byte, decimal_tame, number, escaped_byte_tame, escaped_tame}
+use Rattle.requirement_page.specs.Page.{verdict_sort, declared, titled, styled, judged, head, conflict_articles, reply_articles, check_articles}
+use Rattle.requirement_page.specs.Page.{answer_articles, page_of, IsPage}
+use Rattle.requirement_page.proofs.Harmless.{Tame, Drawn, drawn, go_on, has_only_marks, join, word, nothing, each, each_below, either, behind_byte}
+use Rattle.requirement_page.proofs.Harmless.{decimal_tame, number, escaped_byte_tame, escaped_tame}
 
 -- ---- pictures
 

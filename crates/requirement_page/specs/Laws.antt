@@ -24,7 +24,8 @@ marks_of_body =
 
 abbrev pub marks_of_pictures : List (List ℕ)
 marks_of_pictures =
-    codes "svg xmlns='http://www.w3.org/2000/svg' version='1.1' width='" ∷ codes "/svg>" ∷ codes "title>" ∷ codes "style type='text/css'>" ∷ codes "rect class='"
+    codes "svg xmlns='http://www.w3.org/2000/svg' version='1.1' width='" ∷ codes "/svg>" ∷ codes "title>" ∷ codes "style type='text/css'>"
+    ∷ codes "rect class='"
     ∷ codes "path class='" ∷ codes "text class='" ∷ codes "/text>" ∷ []
 
 abbrev pub marks : List (List ℕ)

@@ -1,5 +1,6 @@
 -- Where `G f` fails, `f` fails at one of the positions that tell all about it.
-use Rattle.std.proofs.Common.{◌≡◌, inl, inr, ℕ, zero, suc, ◌+◌, ◌-◌, ◌*◌, ◌<◌, ◌≤◌, ◌↔◌, Bool, true, ◌==◌, List, length, slice_get, Some, IsTrue, refl, sym, subst, arith}
+use Rattle.std.proofs.Common.{◌≡◌, inl, inr, ℕ, zero, suc, ◌+◌, ◌-◌, ◌*◌, ◌<◌, ◌≤◌, ◌↔◌, Bool, true, ◌==◌, List, length, slice_get, Some, IsTrue, refl, sym}
+use Rattle.std.proofs.Common.{subst, arith}
 use Rattle.std.proofs.lemmas.Bool.{cases_lt}
 use Rattle.std.proofs.lemmas.Bool.Decides.{nat_tests}
 use Rattle.ltl_syntax.specs.declared.node.Node.TheVariants as nodes
@@ -31,7 +32,8 @@ all_positions (Infinite stem loop_part) a some all i at = up_to (suc i) i (omega
           let back : (i - length loop_part) + length loop_part ≡ i = omega arith in
           let later : length stem + past_depth a * length loop_part ≤ i - length loop_part = omega arith in
           subst (Holds (Infinite stem loop_part) a) back
-          ((Holds-repeats stem loop_part some a (past_depth a) (omega arith)).later (i - length loop_part) later (up_to fuel (i - length loop_part) (omega arith)))
+          ((Holds-repeats stem loop_part some a (past_depth a) (omega arith)).later (i - length loop_part) later
+          (up_to fuel (i - length loop_part) (omega arith)))
     ]
 
 -- each column is a position
@@ -46,7 +48,8 @@ few_columns t f few = some (nodes_in f) (nodes_some f) few
     some zero lt le = absurd (omega arith)
     some (suc n) lt le = omega arith
 
-pub always_fails : (t : Trace) (a : Formula) (row : List Bool) (j : ℕ) → IsTrace t → IsRow (positions t (Unary Always a)) (Holds t a) row → IsFirstFalse row j → ¬ Satisfies t (Unary Always a) → FailsFirst t (Unary Always a) j
+pub always_fails : (t : Trace) (a : Formula) (row : List Bool) (j : ℕ) → IsTrace t → IsRow (positions t (Unary Always a)) (Holds t a) row → IsFirstFalse row j
+    → ¬ Satisfies t (Unary Always a) → FailsFirst t (Unary Always a) j
 always_fails t a row j good is first fails = elim (cases_lt j (length row)) [
   | inl lt ↦ (
     is_position t (past_depth a) j (subst (λ n. j < n) is.count lt),
@@ -74,11 +77,14 @@ module _ (s : Table) (root : ℕ) (t : Trace) (rows : List (List Bool)) (values 
 
   module _ (part : ℕ) (is : slice_get s.nodes root ≡ Some (nodes.Unary Always part)) (tree : tree_at s root ≡ Unary Always (tree_at s part)) where
     part_row : IsRow (positions t (Unary Always (tree_at s part))) (Holds t (tree_at s part)) (row_at rows part)
-    part_row = subst (λ f. IsRow (positions t f) (Holds t (tree_at s part)) (row_at rows part)) tree (values part (Below root part (nodes.Unary Always part) (Here root refl) is (itself part)))
+    part_row = subst (λ f. IsRow (positions t f) (Holds t (tree_at s part)) (row_at rows part)) tree
+        (values part (Below root part (nodes.Unary Always part) (Here root refl) is (itself part)))
 
     pub few_in_row : cells t (tree_at s root) ≤ max_cells → length (row_at rows part) < 4294967295
-    few_in_row few = subst (λ n. n < 4294967295) (sym part_row.count) (few_columns t (Unary Always (tree_at s part)) (subst (λ f. cells t f ≤ max_cells) tree few))
+    few_in_row few =
+        subst (λ n. n < 4294967295) (sym part_row.count) (few_columns t (Unary Always (tree_at s part)) (subst (λ f. cells t f ≤ max_cells) tree few))
 
     pub fails_first : (j : ℕ) → IsTrace t → IsFirstFalse (row_at rows part) j → ¬ Satisfies t (tree_at s root) → FailsFirst t (tree_at s root) j
     fails_first j good first fails =
-        subst (λ f. FailsFirst t f j) (sym tree) (always_fails t (tree_at s part) (row_at rows part) j good part_row first (subst (λ f. ¬ Satisfies t f) tree fails))
+        subst (λ f. FailsFirst t f j) (sym tree)
+        (always_fails t (tree_at s part) (row_at rows part) j good part_row first (subst (λ f. ¬ Satisfies t f) tree fails))

@@ -27,10 +27,12 @@ stands (m ∷ ms) n (suc k, lt, e) =
     record { at = suc w.at; member = w.member; there = w.there; given = w.given }
 
 -- what satisfies the given formula of each number
-each_chosen : (P : Formula → Type 0) (q : Question) (numbers : List ℕ) → ((n : ℕ) → Contains numbers n → P (given_at q n)) → All P (chosen (given_formulas q) numbers)
+each_chosen : (P : Formula → Type 0) (q : Question) (numbers : List ℕ) → ((n : ℕ) → Contains numbers n → P (given_at q n))
+    → All P (chosen (given_formulas q) numbers)
 each_chosen P q [] h = All-nil P
 each_chosen P q (n ∷ ns) h =
-    All-cons P (given_at q n) (chosen (given_formulas q) ns) (h n (zero, omega arith, refl)) (each_chosen P q ns (λ m c. h m (suc c.0, omega (arith, c.1), c.2)))
+    All-cons P (given_at q n) (chosen (given_formulas q) ns) (h n (zero, omega arith, refl))
+    (each_chosen P q ns (λ m c. h m (suc c.0, omega (arith, c.1), c.2)))
 
 pub marked_least : (q : Question) (b : Because) → IsBecause q b → ((k : ℕ) (m : Member) → slice_get b.members.items k ≡ Some m → m.needed ≡ true)
     → (fewer : List ℕ) → All (Contains (places b.members.items)) fewer → (lacks : ℕ) → Contains (places b.members.items) lacks → ¬ Contains fewer lacks
@@ -50,6 +52,8 @@ marked_least q b because all fewer among lacks there none =
       record {
         trace = needed.trace;
         of_kind = needed.of_kind;
-        each = All-append (Satisfies needed.t) (chosen (given_formulas q) fewer) (asked_formulas q.asked) (each_chosen (Satisfies needed.t) q fewer here) needed.asked;
+        each =
+            All-append (Satisfies needed.t) (chosen (given_formulas q) fewer) (asked_formulas q.asked)
+            (each_chosen (Satisfies needed.t) q fewer here) needed.asked;
       },
     )

@@ -1,5 +1,6 @@
 -- Members of which some are left out, or one is marked as needed.
-use Rattle.std.proofs.Common.{◌≡◌, ◌≢◌, ◌∙◌, ◌⊎◌, inl, inr, ℕ, zero, suc, ◌+◌, ◌<◌, ◌≤◌, true, false, List, [], ◌∷◌, ◌++◌, length, take, drop, set, get_or, slice_get, Some, refl, sym, ap, ap₂, subst, arith, length-append, add-one}
+use Rattle.std.proofs.Common.{◌≡◌, ◌≢◌, ◌∙◌, ◌⊎◌, inl, inr, ℕ, zero, suc, ◌+◌, ◌<◌, ◌≤◌, true, false, List, [], ◌∷◌, ◌++◌, length, take, drop, set, get_or}
+use Rattle.std.proofs.Common.{slice_get, Some, refl, sym, ap, ap₂, subst, arith, length-append, add-one}
 use Rattle.std.specs.List.{All}
 use Rattle.std.proofs.lemmas.Bool.{cases_lt}
 use Rattle.std.proofs.lemmas.Option.{slice_get-get_or}
@@ -129,10 +130,12 @@ some_needed q k (suc count) ms w =
 pub members_all : (q : Question) (ms : List Member) → AreMembers q ms → All (λ m. m.given < length q.given.now) ms
 members_all q ms w k d lt = w.there k (get_or ms k d) (slice_get-get_or ms k d lt)
 
-pub rest_all : (q : Question) (k count : ℕ) (ms rest : List Member) → AreMembers q ms → rest ≡ without_some k count ms → All (λ m. m.given < length q.given.now) rest
+pub rest_all : (q : Question) (k count : ℕ) (ms rest : List Member) → AreMembers q ms → rest ≡ without_some k count ms
+    → All (λ m. m.given < length q.given.now) rest
 rest_all q k count ms rest w e = subst (All (λ m. m.given < length q.given.now)) (sym e) (members_all q (without_some k count ms) (some_are q k count ms w))
 
-pub left_many : (k count : ℕ) (ms rest : List Member) (r : Refuted) (b : Because) → k + count ≤ length ms → rest ≡ without_some k count ms → IsMade rest r b → length ms ≤ length b.members.items + count
+pub left_many : (k count : ℕ) (ms rest : List Member) (r : Refuted) (b : Because) → k + count ≤ length ms → rest ≡ without_some k count ms → IsMade rest r b
+    → length ms ≤ length b.members.items + count
 left_many k count ms rest r b le e made =
     let long = without_some_length k count ms le in
     let same : length b.members.items ≡ length (without_some k count ms) = ap length (made.members ∙ e) in omega (arith, long, same)
@@ -152,11 +155,14 @@ shows_needed q k ms t w = record {
 
 -- ---- what refutes
 
-none_of : (q : Question) (numbers : List ℕ) (c : Certificate) (t : Table) (root : ℕ) → LawfulHasNoTrace → IsRefuted q numbers c t root → NoneSatisfies q.kind (some_formulas q numbers)
+none_of : (q : Question) (numbers : List ℕ) (c : Certificate) (t : Table) (root : ℕ) → LawfulHasNoTrace → IsRefuted q numbers c t root
+    → NoneSatisfies q.kind (some_formulas q numbers)
 none_of q numbers c t root law w trace s =
-    law (tree_at t root) q.kind (certificate_in c) w.lawful trace s.trace s.of_kind (subst (Satisfies trace) (sym w.formula) (each_says_all trace (some_formulas q numbers) s.each))
+    law (tree_at t root) q.kind (certificate_in c) w.lawful trace s.trace s.of_kind
+    (subst (Satisfies trace) (sym w.formula) (each_says_all trace (some_formulas q numbers) s.each))
 
-module _ (q : Question) (ms : List Member) (r : Refuted) (b : Because) (law : LawfulHasNoTrace) (made : IsMade ms r b) (w : IsRefuted q (places ms) r.certificate r.table r.root) where
+module _ (q : Question) (ms : List Member) (r : Refuted) (b : Because) (law : LawfulHasNoTrace) (made : IsMade ms r b)
+    (w : IsRefuted q (places ms) r.certificate r.table r.root) where
   refuted_here : IsRefuted q (places b.members.items) b.certificate b.table b.root
   refuted_here =
       let at_root = subst (λ n. IsRefuted q (places ms) r.certificate r.table n) (sym made.root) w in
@@ -175,10 +181,12 @@ module _ (q : Question) (ms : List Member) (r : Refuted) (b : Because) (law : La
   }
 
 -- some are left out
-pub left_out : (q : Question) (k count : ℕ) (before after : Because) (r : Refuted) → LawfulHasNoTrace → IsBecause q before → IsMade (without_some k count before.members.items) r after
+pub left_out : (q : Question) (k count : ℕ) (before after : Because) (r : Refuted) → LawfulHasNoTrace → IsBecause q before
+    → IsMade (without_some k count before.members.items) r after
     → IsRefuted q (places (without_some k count before.members.items)) r.certificate r.table r.root → IsBecause q after
 left_out q k count before after r law w made refuted =
-    is_because q (without_some k count before.members.items) r after law made refuted (some_are q k count before.members.items w.members) (some_needed q k count before.members.items w.needed)
+    is_because q (without_some k count before.members.items) r after law made refuted (some_are q k count before.members.items w.members)
+    (some_needed q k count before.members.items w.needed)
 
 -- ---- one marked as needed
 
@@ -231,7 +239,8 @@ marked_needed q k j ms w = record {
   asked = w.asked;
 }
 
-is_marked : (q : Question) (k : ℕ) (before after : Because) → IsBecause q before → IsNeeded q before.members.items k → after.members.items ≡ marked k before.members.items → after.certificate ≡ before.certificate → after.table ≡ before.table → after.root ≡ before.root
+is_marked : (q : Question) (k : ℕ) (before after : Because) → IsBecause q before → IsNeeded q before.members.items k
+    → after.members.items ≡ marked k before.members.items → after.certificate ≡ before.certificate → after.table ≡ before.table → after.root ≡ before.root
     → IsBecause q after
 is_marked q k before after w shown e certificate table root =
     let numbers : places after.members.items ≡ places before.members.items = ap places e ∙ same_places k before.members.items in
@@ -240,26 +249,33 @@ is_marked q k before after w shown e certificate table root =
       there = subst (λ t. after.root < length t.nodes) (sym table) (subst (λ n. n < length before.table.nodes) (sym root) w.there);
       formula = ap₂ tree_at table root ∙ (w.formula ∙ ap (λ ns. all_of (some_formulas q ns)) (sym numbers));
       lawful = let same : tree_at after.table after.root ≡ tree_at before.table before.root = ap₂ tree_at table root in
-          subst (λ c. IsLawful (tree_at after.table after.root) q.kind (certificate_in c)) (sym certificate) (subst (λ f. IsLawful f q.kind (certificate_in before.certificate)) (sym same) w.lawful);
+          subst (λ c. IsLawful (tree_at after.table after.root) q.kind (certificate_in c)) (sym certificate)
+          (subst (λ f. IsLawful f q.kind (certificate_in before.certificate)) (sym same) w.lawful);
       none = subst (λ ns. NoneSatisfies q.kind (some_formulas q ns)) (sym numbers) w.none;
       needed = λ j m at y.
           let h = was k j before.members.items m (subst (λ xs. slice_get xs j ≡ Some m) e at) in
-          subst (λ xs. IsNeeded q xs j) (sym e) (marked_needed q k j before.members.items (elim (h.needed y) [ inl was_so ↦ w.needed j h.before h.there was_so | inr here ↦ subst (IsNeeded q before.members.items) (sym here) shown ]));
+          subst (λ xs. IsNeeded q xs j) (sym e) (marked_needed q k j before.members.items (elim (h.needed y) [
+            | inl was_so ↦ w.needed j h.before h.there was_so
+            | inr here ↦ subst (IsNeeded q before.members.items) (sym here) shown
+          ]));
     }
 
-same_because : (q : Question) (before after : Because) → IsBecause q before → after.members.items ≡ before.members.items → after.certificate ≡ before.certificate → after.table ≡ before.table → after.root ≡ before.root → IsBecause q after
+same_because : (q : Question) (before after : Because) → IsBecause q before → after.members.items ≡ before.members.items
+    → after.certificate ≡ before.certificate → after.table ≡ before.table → after.root ≡ before.root → IsBecause q after
 same_because q before after w e certificate table root = record {
   members = subst (AreMembers q) (sym e) w.members;
   there = subst (λ t. after.root < length t.nodes) (sym table) (subst (λ n. n < length before.table.nodes) (sym root) w.there);
   formula = ap₂ tree_at table root ∙ (w.formula ∙ ap (λ ms. all_of (some_formulas q (places ms))) (sym e));
   lawful = let same : tree_at after.table after.root ≡ tree_at before.table before.root = ap₂ tree_at table root in
-      subst (λ c. IsLawful (tree_at after.table after.root) q.kind (certificate_in c)) (sym certificate) (subst (λ f. IsLawful f q.kind (certificate_in before.certificate)) (sym same) w.lawful);
+      subst (λ c. IsLawful (tree_at after.table after.root) q.kind (certificate_in c)) (sym certificate)
+      (subst (λ f. IsLawful f q.kind (certificate_in before.certificate)) (sym same) w.lawful);
   none = subst (λ ms. NoneSatisfies q.kind (some_formulas q (places ms))) (sym e) w.none;
   needed = subst (AreNeeded q) (sym e) w.needed;
 }
 
 -- one is noted as needed where what satisfies the others was found
-pub is_noted : (q : Question) (k count : ℕ) (before after : Because) (t : Trace) → IsBecause q before → SatisfiesEach q.kind (some_formulas q (places (without_some k count before.members.items))) t → IsNoted before k count after → IsBecause q after
+pub is_noted : (q : Question) (k count : ℕ) (before after : Because) (t : Trace) → IsBecause q before
+    → SatisfiesEach q.kind (some_formulas q (places (without_some k count before.members.items))) t → IsNoted before k count after → IsBecause q after
 is_noted q k zero before after t w found noted = same_because q before after w noted.members noted.certificate noted.table noted.root
 is_noted q k (suc zero) before after t w found noted =
     is_marked q k before after w (shows_needed q k before.members.items t found) noted.members noted.certificate noted.table noted.root
@@ -313,14 +329,17 @@ picked_counted : (q : Question) (n : ℕ) → n ≤ length (given_formulas q) �
 picked_counted q zero le = refl
 picked_counted q (suc n) le =
     picked_append q (counted n) (record { given = n; needed = false } ∷ [])
-    ∙ (ap (λ fs. fs ++ given_at q n ∷ []) (picked_counted q n (omega arith)) ∙ (sym (take_more (given_formulas q) n (Const true) (omega arith)) ∙ ap (λ k. take k (given_formulas q)) (add-one n)))
+    ∙ (ap (λ fs. fs ++ given_at q n ∷ []) (picked_counted q n (omega arith))
+    ∙ (sym (take_more (given_formulas q) n (Const true) (omega arith)) ∙ ap (λ k. take k (given_formulas q)) (add-one n)))
 
 pub all_picked : (q : Question) → some_formulas q (places (counted (length q.given.now))) ≡ all_formulas q
 all_picked q =
     let long : length (given_formulas q) ≡ length q.given.now = length-map q.given.now formula_in in
-    ap (λ fs. fs ++ asked_formulas q.asked) (picked_counted q (length q.given.now) (omega arith) ∙ take_all (length q.given.now) (given_formulas q) (omega arith))
+    ap (λ fs. fs ++ asked_formulas q.asked)
+    (picked_counted q (length q.given.now) (omega arith) ∙ take_all (length q.given.now) (given_formulas q) (omega arith))
 
-pub all_because_of : (q : Question) (members : List Member) (r : Refuted) (b : Because) → LawfulHasNoTrace → members ≡ counted (length q.given.now) → IsMade members r b → IsRefuted q (places members) r.certificate r.table r.root → IsBecause q b
+pub all_because_of : (q : Question) (members : List Member) (r : Refuted) (b : Because) → LawfulHasNoTrace → members ≡ counted (length q.given.now)
+    → IsMade members r b → IsRefuted q (places members) r.certificate r.table r.root → IsBecause q b
 all_because_of q members r b law e made w =
     is_because q members r b law made w (subst (AreMembers q) (sym e) (all_are q))
     (λ k m at y. subst (λ xs. IsNeeded q xs k) (sym e) (none_needed q (length q.given.now) k m (subst (λ xs. slice_get xs k ≡ Some m) e at) y))

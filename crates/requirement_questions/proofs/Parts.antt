@@ -62,7 +62,8 @@ pub cut_more : (t : Table) (root number left right : ℕ) (behind more : List �
     → IsCut t root number behind → IsJoint t number left right → more ≡ behind ++ right ∷ [] → IsCut t root left more
 cut_more t root number left right behind more cut joint e = record {
   low = joint.left_there;
-  there = subst (All (λ n. n < length t.nodes)) (sym (back behind more right e)) (All-cons (λ n. n < length t.nodes) right (reverse behind) joint.right_there cut.there);
+  there = subst (All (λ n. n < length t.nodes)) (sym (back behind more right e))
+      (All-cons (λ n. n < length t.nodes) right (reverse behind) joint.right_there cut.there);
   all = subst (λ xs. joined_to (tree_at t left) (map (tree_at t) xs) ≡ tree_at t root) (sym (back behind more right e))
       (ap (λ f. joined_to f (map (tree_at t) (reverse behind))) (sym joint.tree) ∙ cut.all);
 }

@@ -47,7 +47,8 @@ module _ (task : Task) (is : IsTask task) where
     pub before_next : AreBefore task marks (at + 1)
     before_next = record {
       are = before.are;
-      clear = subst (IsClear (formula_of task) (marked marks)) (let e : suc at ≡ at + 1 = omega arith in e) (clear_next (formula_of task) (marked marks) at before.clear (before.off at (omega arith)));
+      clear = subst (IsClear (formula_of task) (marked marks)) (let e : suc at ≡ at + 1 = omega arith in e)
+          (clear_next (formula_of task) (marked marks) at before.clear (before.off at (omega arith)));
       off = λ k low. before.off k (omega arith);
       within = omega arith;
     }
@@ -63,7 +64,8 @@ module _ (task : Task) (is : IsTask task) where
         let end = size_within task is at lt in
         record {
           are = added_marks task is marks new at before.are before_kept long same;
-          clear = subst (IsClear f (marked new)) (ap (λ n. at + n) (sym sized)) (subst (λ P. IsClear f P (at + size_at f at)) (sym one) (clear_after f (marked marks) at before.clear));
+          clear = subst (IsClear f (marked new)) (ap (λ n. at + n) (sym sized))
+              (subst (λ P. IsClear f P (at + size_at f at)) (sym one) (clear_after f (marked marks) at before.clear));
           off = λ k low. same k ∙ off_after f (marked marks) at k before.off (omega arith);
           within = omega arith;
         }

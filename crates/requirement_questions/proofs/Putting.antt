@@ -23,7 +23,8 @@ tree_stands s old t root number h = record {
   names = h.1.names;
 }
 
-pub not_stands : (f : Formula) (old middle t : Table) (number at : ℕ) → StandsIn f old middle number → (at ≡ length middle.nodes) → Pushes middle (nodes.Unary Not number) t → StandsIn (Unary Not f) old t at
+pub not_stands : (f : Formula) (old middle t : Table) (number at : ℕ) → StandsIn f old middle number → (at ≡ length middle.nodes)
+    → Pushes middle (nodes.Unary Not number) t → StandsIn (Unary Not f) old t at
 not_stands f old middle t number at w e p = record {
   behind = omega (arith, w.behind, w.is_root.0, e);
   is_root = subst (IsRoot t) (sym e) p.root;
@@ -36,14 +37,16 @@ not_stands f old middle t number at w e p = record {
 
 -- ---- joined to what was there
 
-pub may_join : (f : Formula) (old middle : Table) (before number : ℕ) → IsBuilt old (Some before) → StandsIn f old middle number → MayFollow middle (nodes.Binary And before number)
+pub may_join : (f : Formula) (old middle : Table) (before number : ℕ) → IsBuilt old (Some before) → StandsIn f old middle number
+    → MayFollow middle (nodes.Binary And before number)
 may_join f old middle before number b w = (
   w.roots before b.there,
   w.is_root,
   λ e. let lt = b.there.0 in omega (arith, w.behind, e),
 )
 
-pub joined : (f : Formula) (old middle t : Table) (before number at : ℕ) → IsBuilt old (Some before) → StandsIn f old middle number → (at ≡ length middle.nodes) → Pushes middle (nodes.Binary And before number) t
+pub joined : (f : Formula) (old middle t : Table) (before number at : ℕ) → IsBuilt old (Some before) → StandsIn f old middle number → (at ≡ length middle.nodes)
+    → Pushes middle (nodes.Binary And before number) t
     → IsAdded (joined_at old (Some before)) f t (Some at)
 joined f old middle t before number at b w e p =
     let tree : tree_at t at ≡ Binary And (tree_at old before) f =
@@ -58,11 +61,13 @@ joined f old middle t before number at b w e p =
 
 -- ---- what comes of a node on top
 
-pub not_put : (f : Formula) (old middle t : Table) (number : ℕ) (r : Option ℕ) → StandsIn f old middle number → IsPutOn (nodes.Unary Not number) middle t r → IsPartPut (Unary Not f) old t r
+pub not_put : (f : Formula) (old middle t : Table) (number : ℕ) (r : Option ℕ) → StandsIn f old middle number → IsPutOn (nodes.Unary Not number) middle t r
+    → IsPartPut (Unary Not f) old t r
 not_put f old middle t number (Some at) w h = not_stands f old middle t number at w h.0 h.1
 not_put f old middle t number None w h = omega (arith, w.sizes, h.1)
 
-pub and_put : (f : Formula) (old middle t : Table) (before number : ℕ) (r : Option ℕ) → IsBuilt old (Some before) → StandsIn f old middle number → IsPutOn (nodes.Binary And before number) middle t r
+pub and_put : (f : Formula) (old middle t : Table) (before number : ℕ) (r : Option ℕ) → IsBuilt old (Some before) → StandsIn f old middle number
+    → IsPutOn (nodes.Binary And before number) middle t r
     → IsAdded (joined_at old (Some before)) f t r
 and_put f old middle t before number (Some at) b w h = joined f old middle t before number at b w h.0 h.1
 and_put f old middle t before number None b w h = omega (arith, w.sizes, b.sizes, h.1)

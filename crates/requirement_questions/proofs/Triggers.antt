@@ -109,24 +109,28 @@ module _ (names : List (List ℕ)) (trees : List Formula) where
 
 -- ---- the trigger of a tree of a table
 
-pub has_trigger : (s : Table) (root body a b : ℕ) → tree_at s root ≡ made s.names (trees_of s) (nodes.Unary one.Always body) → tree_at s body ≡ made s.names (trees_of s) (nodes.Binary two.Implies a b)
+pub has_trigger : (s : Table) (root body a b : ℕ) → tree_at s root ≡ made s.names (trees_of s) (nodes.Unary one.Always body)
+    → tree_at s body ≡ made s.names (trees_of s) (nodes.Binary two.Implies a b)
     → trigger_of (tree_at s root) ≡ Some (Unary one.Eventually (tree_at s a))
 has_trigger s root body a b always implies =
     let whole : tree_at s root ≡ Unary one.Always (Binary two.Implies (tree_at s a) (tree_at s b)) = always ∙ ap (Unary one.Always) implies in
     ap trigger_of whole
 
-pub no_body : (s : Table) (root body : ℕ) (node : Node) → tree_at s root ≡ made s.names (trees_of s) (nodes.Unary one.Always body) → tree_at s body ≡ made s.names (trees_of s) node → condition_child node ≡ None
+pub no_body : (s : Table) (root body : ℕ) (node : Node) → tree_at s root ≡ made s.names (trees_of s) (nodes.Unary one.Always body)
+    → tree_at s body ≡ made s.names (trees_of s) node → condition_child node ≡ None
     → trigger_of (tree_at s root) ≡ None
 no_body s root body node always tree none = ap trigger_of (always ∙ ap (Unary one.Always) tree) ∙ no_condition s.names (trees_of s) node none
 
 -- `F` on top of a copy
-pub eventually_on : (s middle t : Table) (number copy at : ℕ) → tree_at middle copy ≡ tree_at s number → (at ≡ length middle.nodes) → Pushes middle (nodes.Unary one.Eventually copy) t
+pub eventually_on : (s middle t : Table) (number copy at : ℕ) → tree_at middle copy ≡ tree_at s number → (at ≡ length middle.nodes)
+    → Pushes middle (nodes.Unary one.Eventually copy) t
     → (at < length t.nodes) × (tree_at t at ≡ Unary one.Eventually (tree_at s number))
 eventually_on s middle t number copy at e is p =
     (subst (λ n. n < length t.nodes) (sym is) p.root.0, ap (tree_at t) is ∙ (p.tree ∙ ap (Unary one.Eventually) e))
 
 -- what is found under the `G`
-pub condition_found : (s : Table) (root body : ℕ) (node : Node) (r : Option ℕ) → body < length s.nodes → tree_at s root ≡ made s.names (trees_of s) (nodes.Unary one.Always body) → tree_at s body ≡ made s.names (trees_of s) node
+pub condition_found : (s : Table) (root body : ℕ) (node : Node) (r : Option ℕ) → body < length s.nodes
+    → tree_at s root ≡ made s.names (trees_of s) (nodes.Unary one.Always body) → tree_at s body ≡ made s.names (trees_of s) node
     → IsFine (length s.names) body node → r ≡ condition_child node → HasTrigger s root r
 condition_found s root body node None lt always tree fine e = no_body s root body node always tree (sym e)
 condition_found s root body node (Some a) lt always tree fine e =

@@ -1,5 +1,6 @@
 -- Names in ascending order, each once: the function that puts them so, and that there is one such list.
-use Rattle.std.proofs.Common.{◌≡◌, ◌↔◌, ℕ, zero, suc, ◌+◌, ◌<◌, ◌⊎◌, inl, inr, List, [], ◌∷◌, length, get_or, Contains, Ordering, Less, Equal, Greater, refl, sym, ap, ◌∙◌, subst, arith}
+use Rattle.std.proofs.Common.{◌≡◌, ◌↔◌, ℕ, zero, suc, ◌+◌, ◌<◌, ◌⊎◌, inl, inr, List, [], ◌∷◌, length, get_or, Contains, Ordering, Less, Equal, Greater, refl}
+use Rattle.std.proofs.Common.{sym, ap, ◌∙◌, subst, arith}
 use Rattle.std.specs.Ordering.{nat_cmp, ordering_reverse, is_eq}
 use Rattle.std.specs.Cmp.Lexicographic.{slice_cmp}
 use Rattle.std.proofs.lemmas.Cmp.{nat_list_cmp_total}
@@ -135,7 +136,8 @@ one_rest : (x : List ℕ) (xs : Names) (y : List ℕ) (ys : Names) → IsAscendi
     → ((n : List ℕ) → Contains (x ∷ xs) n → Contains (y ∷ ys) n) → (n : List ℕ) → Contains xs n → Contains ys n
 unfolding below
 one_rest x xs y ys a first h n c = elim (first_or_later y ys n (h n (later x xs n c))) [
-  | inl e ↦ let low : slice_cmp nat_cmp n n ≡ Less = subst (λ m. slice_cmp nat_cmp m n ≡ Less) (first ∙ e) (first_below x xs n a c) in absurd (not_both n n low low)
+  | inl e ↦ let low : slice_cmp nat_cmp n n ≡ Less = subst (λ m. slice_cmp nat_cmp m n ≡ Less) (first ∙ e) (first_below x xs n a c) in
+      absurd (not_both n n low low)
   | inr d ↦ d
 ]
 

@@ -1,5 +1,6 @@
 -- The letters of a trace, and its grid: there is one of each.
-use Rattle.std.proofs.Common.{◌≡◌, ◌↔◌, ℕ, zero, suc, ◌-◌, ◌<◌, ◌≤◌, Bool, true, false, ◌||◌, ◌⊎◌, Option, codes, Result, Ok, Err, IfOk, List, [], ◌∷◌, ◌++◌, map, length, length-append, get_or, All, Contains, bytes_eq, refl, sym, ap, ◌∙◌, subst, arith, inl, inr, lt-ltb, le-ltb}
+use Rattle.std.proofs.Common.{◌≡◌, ◌↔◌, ℕ, zero, suc, ◌-◌, ◌<◌, ◌≤◌, Bool, true, false, ◌||◌, ◌⊎◌, Option, codes, Result, Ok, Err, IfOk, List, [], ◌∷◌, ◌++◌}
+use Rattle.std.proofs.Common.{map, length, length-append, get_or, All, Contains, bytes_eq, refl, sym, ap, ◌∙◌, subst, arith, inl, inr, lt-ltb, le-ltb}
 use Rattle.std.specs.declared.alloc.AllocError.{AllocError}
 use Rattle.std.proofs.Math.Nat.{mod-eq_of_lt}
 use Rattle.std.proofs.lemmas.Bool.{cases_lt, cond-true, cond-false, le-leb, lt-leb}
@@ -29,7 +30,8 @@ state_is (Infinite stem loop_part) i lt = elim (cases_lt i (length stem)) [
   | inl low ↦ cond-true _ _ _ (lt-ltb i (length stem) low) ∙ sym (get_or_append_left stem loop_part [] i low)
   | inr high ↦
       let less : i - length stem < length loop_part = omega arith in
-      cond-false _ _ _ (le-ltb i (length stem) high) ∙ ap (λ k. get_or loop_part k []) (mod-eq_of_lt less) ∙ sym (get_or-append_right stem loop_part (length stem) i [] refl high)
+      cond-false _ _ _ (le-ltb i (length stem) high) ∙ ap (λ k. get_or loop_part k []) (mod-eq_of_lt less)
+      ∙ sym (get_or-append_right stem loop_part (length stem) i [] refl high)
 ]
 
 -- ---- letters
@@ -57,7 +59,8 @@ occurs t name = (
 pub letters_are : (t : Trace) (letters : Names) → IsAscending letters → ((name : List ℕ) → Contains letters name ↔ Occurs t name) → letters ≡ letters_in t
 letters_are t letters a h = is_ascending (all_names (states_of t)) letters a (λ n. (λ c. (occurs t n).0 ((h n).0 c), λ c. (h n).1 ((occurs t n).1 c)))
 
-pub letters_found : (t : Trace) (found : Result Names AllocError) → IfOk found IsAscending → IfOk found (λ letters. (name : List ℕ) → Contains letters name ↔ Occurs t name)
+pub letters_found : (t : Trace) (found : Result Names AllocError) → IfOk found IsAscending
+    → IfOk found (λ letters. (name : List ℕ) → Contains letters name ↔ Occurs t name)
     → IfOk found (λ letters. letters ≡ letters_in t)
 letters_found t (Ok letters) a h = letters_are t letters a h
 letters_found t (Err e) a h = h
@@ -94,7 +97,8 @@ bool_is true b f g = sym (f refl)
 bool_is false true f g = g refl
 bool_is false false f g = refl
 
-cell_is : (t : Trace) (row : RowValue) → IsRowOf t row → (i : ℕ) → i < states_in t → get_or row.cells i false ≡ get_or (map (has row.name) (states_of t)) i false
+cell_is : (t : Trace) (row : RowValue) → IsRowOf t row → (i : ℕ) → i < states_in t
+    → get_or row.cells i false ≡ get_or (map (has row.name) (states_of t)) i false
 cell_is t row h i lt =
     let state = get_or (states_of t) i [] in
     let at : state_at t i ≡ state = state_is t i lt in
@@ -130,7 +134,8 @@ grid_is t letters g h =
 pub shown_rows : (t : Trace) (letters : Names) (g : GridValue) (old new lines : List ℕ) → IsGridOf t letters g → cells_for t letters ≤ 16777216
     → lines ≡ view.text g 76 → new ≡ old ++ indented true lines → new ≡ old ++ picture_with t letters
 shown_rows t letters g old new lines h few text put =
-    put ∙ ap (λ ls. old ++ indented true ls) (text ∙ ap (λ x. view.text x 76) (grid_is t letters g h)) ∙ ap (λ x. old ++ x) (sym (cond-true _ _ _ (le-leb _ _ few)))
+    put ∙ ap (λ ls. old ++ indented true ls) (text ∙ ap (λ x. view.text x 76) (grid_is t letters g h))
+    ∙ ap (λ x. old ++ x) (sym (cond-true _ _ _ (le-leb _ _ few)))
 
 pub no_rows : (t : Trace) (letters : Names) (old new : List ℕ) → 16777216 < cells_for t letters
     → new ≡ old ++ inner (codes "limit cells 16777216") → new ≡ old ++ picture_with t letters

@@ -20,7 +20,8 @@ use Rattle.requirement_report.specs.Shown.{CanBeShown, AnswerCanBeShown, ReportC
 because_shown : LawfulCanBeShown → (d : DocumentValue) (given : List ℕ) (asked : List Formula) (b : Because) → IsReason d given asked b → CanBeShown b
 because_shown law d given asked b is = law b d.kind is.there is.lawful
 
-conflicts_shown : LawfulCanBeShown → (d : DocumentValue) (given : List ℕ) (bs : List (Box Because)) (left : List ℕ) → AreConflicts d given bs left → All (λ b. CanBeShown b.value) bs
+conflicts_shown : LawfulCanBeShown → (d : DocumentValue) (given : List ℕ) (bs : List (Box Because)) (left : List ℕ) → AreConflicts d given bs left
+    → All (λ b. CanBeShown b.value) bs
 conflicts_shown law d given [] left are = All-nil (λ b. CanBeShown b.value)
 conflicts_shown law d given (b ∷ bs) left (is, some, rest) =
     All-cons (λ c. CanBeShown c.value) b bs (because_shown law d given [] b.value is)

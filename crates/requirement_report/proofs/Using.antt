@@ -1,5 +1,6 @@
 -- Sets of letters: what they have is what their items have.
-use Rattle.std.proofs.Common.{◌≡◌, ◌↔◌, ℕ, zero, suc, ◌<◌, ◌≤◌, Bool, if◌then◌else◌, List, [], ◌∷◌, ◌++◌, map, length, get_or, flat_map, slice_get, Contains, IsTrue, Result, Ok, Err, IfOk, refl, sym, ap, ◌∙◌, arith}
+use Rattle.std.proofs.Common.{◌≡◌, ◌↔◌, ℕ, zero, suc, ◌<◌, ◌≤◌, Bool, if◌then◌else◌, List, [], ◌∷◌, ◌++◌, map, length, get_or, flat_map, slice_get, Contains}
+use Rattle.std.proofs.Common.{IsTrue, Result, Ok, Err, IfOk, refl, sym, ap, ◌∙◌, arith}
 use Rattle.std.specs.declared.alloc.AllocError.{AllocError}
 use Rattle.std.proofs.lemmas.List.{length-map}
 use Rattle.std.proofs.lemmas.List.Folds.{flat_map-map}
@@ -9,7 +10,8 @@ use Rattle.requirement_document.specs.declared.document.Item.{Item}
 use Rattle.requirement_document.specs.declared.document.Document.{Document}
 use Rattle.requirement_document.specs.Values.{ItemValue, DocumentValue, item_in, document_in}
 use Rattle.requirement_report.specs.Pictures.{has, ascending}
-use Rattle.requirement_report.specs.Letters.{UseValue, item_letters, item_has, users_below, use_of, uses_of, all_letters, set_of, user_among, users_among, use_among}
+use Rattle.requirement_report.specs.Letters.{UseValue, item_letters, item_has, users_below, use_of, uses_of, all_letters, set_of, user_among, users_among}
+use Rattle.requirement_report.specs.Letters.{use_among}
 use Rattle.requirement_report.proofs.Ascending.{ordered, is_ascending}
 use Rattle.requirement_report.proofs.Gridded.{has_some, some_has, bool_is}
 

@@ -1,5 +1,6 @@
 -- The letters of a document, and the items that have them.
-use Rattle.std.specs.Prelude.{ℕ, zero, suc, if◌then◌else◌, Bool, false, List, [], ◌∷◌, ◌++◌, map, length, slice_get, slice_index_or, string_bytes, codes, Option, Some, None}
+use Rattle.std.specs.Prelude.{ℕ, zero, suc, if◌then◌else◌, Bool, false, List, [], ◌∷◌, ◌++◌, map, length, slice_get, slice_index_or, string_bytes, codes}
+use Rattle.std.specs.Prelude.{Option, Some, None}
 use Rattle.std.specs.List.{flat_map}
 use Rattle.ltl_syntax.specs.Formula.{Name, Fresh, Formula, Const, Letter, Unary, Binary}
 use Rattle.ltl_word.specs.Trace.{Names}

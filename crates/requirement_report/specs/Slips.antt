@@ -1,5 +1,6 @@
 -- Letters that may be slips: they stand in one item alone, or are nearly another one.
-use Rattle.std.specs.Prelude.{ℕ, ◌+◌, ◌==◌, ◌&&◌, ◌||◌, not, nat_le, Bool, true, false, if◌then◌else◌, List, [], ◌∷◌, length, bytes_eq, chars, string_bytes, Option, Some, None, option_map}
+use Rattle.std.specs.Prelude.{ℕ, ◌+◌, ◌==◌, ◌&&◌, ◌||◌, not, nat_le, Bool, true, false, if◌then◌else◌, List, [], ◌∷◌, length, bytes_eq, chars, string_bytes}
+use Rattle.std.specs.Prelude.{Option, Some, None, option_map}
 use Rattle.std.specs.List.{flat_map}
 use Rattle.strsim.specs.Edits.{osa_table}
 use Rattle.requirement_document.specs.Values.{DocumentValue}

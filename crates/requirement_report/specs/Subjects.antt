@@ -1,5 +1,6 @@
 -- The items and behaviours of a document by their numbers, from 0.
-use Rattle.std.specs.Prelude.{ℕ, zero, suc, ◌&&◌, ◌==◌, not, Bool, true, false, if◌then◌else◌, List, [], ◌∷◌, ◌++◌, length, slice_get, codes, Option, Some, None}
+use Rattle.std.specs.Prelude.{ℕ, zero, suc, ◌&&◌, ◌==◌, not, Bool, true, false, if◌then◌else◌, List, [], ◌∷◌, ◌++◌, length, slice_get, codes, Option, Some}
+use Rattle.std.specs.Prelude.{None}
 use Rattle.std.specs.List.{flat_map, list_any}
 use Rattle.requirement_document.specs.declared.document.Role.{Role}
 use Rattle.requirement_document.specs.declared.document.Role.TheVariants as roles

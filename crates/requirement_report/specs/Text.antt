@@ -1,5 +1,6 @@
 -- The text of a report.
-use Rattle.std.specs.Prelude.{◌≡◌, ℕ, ◌+◌, ◌-◌, ◌==◌, ◌&&◌, nat_le, Bool, true, false, if◌then◌else◌, List, [], ◌∷◌, ◌++◌, map, length, slice_get, codes, Option, Some, None}
+use Rattle.std.specs.Prelude.{◌≡◌, ℕ, ◌+◌, ◌-◌, ◌==◌, ◌&&◌, nat_le, Bool, true, false, if◌then◌else◌, List, [], ◌∷◌, ◌++◌, map, length, slice_get, codes}
+use Rattle.std.specs.Prelude.{Option, Some, None}
 use Rattle.std.specs.Global.{Box}
 use Rattle.std.specs.List.{flat_map}
 use Rattle.ltl_syntax.specs.declared.node.UnaryOp.TheVariants.{Always}
@@ -170,7 +171,8 @@ named_head word name sentence = codes "\n" ++ (head word (flat name) ++ inner_if
 abbrev pub reply_block : DocumentValue → Scope → ℕ → Reply → List ℕ
 reply_block d scope steps r =
     if is_hidden scope r.asking r.answer then []
-    else (named_head (word_of r.asking r.answer) (name_of d (item_asked r.asking)) (sentence_of d (item_asked r.asking)) ++ answer_lines d steps r.asking r.answer)
+    else
+    (named_head (word_of r.asking r.answer) (name_of d (item_asked r.asking)) (sentence_of d (item_asked r.asking)) ++ answer_lines d steps r.asking r.answer)
 
 -- the text of a formula without parentheses around the whole
 abbrev pub bare : Formula → List ℕ

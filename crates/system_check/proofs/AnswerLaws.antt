@@ -59,16 +59,19 @@ module _ (start step goal : Formula) (limit : ℕ) where
 
   module _ (is : IsSystem start step) where
     pub no_path : (k : ℕ) (t : Trace) → IsAnswer start step goal limit (answers.NoPath k) → ¬ IsPath start step t
-    no_path k t unsat p = unsat_has_no_trace (system_of start step) Kinds.Infinite limit k t unsat p.trace p.infinite ((system_paths t p.trace p.infinite start step is).1 p)
+    no_path k t unsat p =
+        unsat_has_no_trace (system_of start step) Kinds.Infinite limit k t unsat p.trace p.infinite ((system_paths t p.trace p.infinite start step is).1 p)
 
     -- where the whole formula is refuted, each path satisfies the goal
     pub refuted_holds : (k : ℕ) (t : Trace) → Says (whole_of start step goal) limit (Unsat k) → IsPath start step t → Satisfies t goal
     refuted_holds k t unsat p = elim (Holds_decided t p.trace goal 0) [
       | yes h ↦ h
-      | no n ↦ absurd (unsat_has_no_trace (whole_of start step goal) Kinds.Infinite limit k t unsat p.trace p.infinite ((whole_paths t p.trace p.infinite start step is goal).1 (p, n)))
+      | no n ↦ absurd (unsat_has_no_trace (whole_of start step goal) Kinds.Infinite limit k t unsat p.trace p.infinite
+          ((whole_paths t p.trace p.infinite start step is goal).1 (p, n)))
     ]
 
-    pub holds_on : (k : ℕ) (log : DerivationValue) (targets : Vec ℕ Global) (t : Trace) → IsAnswer start step goal limit (answers.Holds k log targets) → IsPath start step t → Satisfies t goal
+    pub holds_on : (k : ℕ) (log : DerivationValue) (targets : Vec ℕ Global) (t : Trace) → IsAnswer start step goal limit (answers.Holds k log targets)
+        → IsPath start step t → Satisfies t goal
     holds_on k log targets t w p = refuted_holds k t w.1 p
 
     pub fails_on : (k : ℕ) (t : Trace) → IsTraceOfRun (whole_of start step goal) Kinds.Infinite k t → IsPath start step t × (¬ Satisfies t goal)
@@ -76,7 +79,8 @@ module _ (start step goal : Formula) (limit : ℕ) where
         let m = run_trace (whole_of start step goal) Kinds.Infinite k t w in
         (whole_paths t m.0 m.1 start step is goal).0 m.2
 
-    pub sat_fails : (k : ℕ) (t : Trace) → Says (whole_of start step goal) limit (Sat k) → IsTraceOfRun (whole_of start step goal) Kinds.Infinite k t → IsAnswer start step goal limit (answers.Fails k t)
+    pub sat_fails : (k : ℕ) (t : Trace) → Says (whole_of start step goal) limit (Sat k) → IsTraceOfRun (whole_of start step goal) Kinds.Infinite k t
+        → IsAnswer start step goal limit (answers.Fails k t)
     sat_fails k t sat w = (λ j unsat. no_path j t unsat (fails_on k t w).0, sat, w)
 
   -- ---- the answer is one
@@ -107,11 +111,14 @@ module _ (start step goal : Formula) (limit : ℕ) where
 module _ (start step goal : Formula) (limit : ℕ) (j : Joined) (is : IsJoined start step goal j) where
   -- the answer on the formulas of the table is that on the system and the goal
   pub on_system : (a : SystemAnswer) → IsAnswerOf (tree_at j.table j.system) (tree_at j.table j.whole) limit a → IsAnswer start step goal limit a
-  on_system a w = subst (λ f. IsAnswerOf f (whole_of start step goal) limit a) is.formulas.system_is (subst (λ f. IsAnswerOf (tree_at j.table j.system) f limit a) is.formulas.whole_is w)
+  on_system a w = subst (λ f. IsAnswerOf f (whole_of start step goal) limit a) is.formulas.system_is
+      (subst (λ f. IsAnswerOf (tree_at j.table j.system) f limit a) is.formulas.whole_is w)
 
   -- where the whole formula has an accepted run, the system formula needs no decision
-  pub shown_fails : (k : ℕ) (t : Trace) → IsDecision (tree_at j.table j.whole) Kinds.Infinite limit (decisions.Sat k t) → IsAnswer start step goal limit (answers.Fails k t)
-  shown_fails k t d = let e = subst (λ f. IsDecision f Kinds.Infinite limit (decisions.Sat k t)) is.formulas.whole_is d in sat_fails start step goal limit is.forms k t e.0 e.1
+  pub shown_fails : (k : ℕ) (t : Trace) → IsDecision (tree_at j.table j.whole) Kinds.Infinite limit (decisions.Sat k t)
+      → IsAnswer start step goal limit (answers.Fails k t)
+  shown_fails k t d = let e = subst (λ f. IsDecision f Kinds.Infinite limit (decisions.Sat k t)) is.formulas.whole_is d in
+      sat_fails start step goal limit is.forms k t e.0 e.1
 
   -- the limit that fits the whole formula fits the system formula
   pub system_fits : (d : ℕ) → Fits (layout (tree_at j.table j.whole) Kinds.Infinite) d → Fits (layout (tree_at j.table j.system) Kinds.Infinite) d

@@ -7,7 +7,8 @@ use Rattle.system_check.specs.declared.joining.JoinRefused.TheVariants.{Nodes, S
 use Rattle.system_check.specs.Joining.{IsJoining, HasMemory, refusal_of}
 
 module _ (start step goal : Formula) where
-  pub joining_one : (r s : Result Joined JoinRefused) → HasMemory r → HasMemory s → IsJoining start step goal r → IsJoining start step goal s → refusal_of r ≡ refusal_of s
+  pub joining_one : (r s : Result Joined JoinRefused) → HasMemory r → HasMemory s → IsJoining start step goal r → IsJoining start step goal s
+      → refusal_of r ≡ refusal_of s
   joining_one (Err NoMemory) s h k v w = absurd h
   joining_one (Ok i) (Err NoMemory) h k v w = absurd k
   joining_one (Err (Nodes n)) (Err NoMemory) h k v w = absurd k

@@ -1,5 +1,6 @@
 -- The closure of the system formula is the first part of that of the whole formula, so it has no more entries of any kind.
-use Rattle.std.proofs.Common.{◌≡◌, ℕ, ◌+◌, ◌*◌, ◌/◌, ◌^◌, ◌≤◌, Bool, true, false, List, [], ◌∷◌, ◌++◌, length, filter, map, refl, sym, ap, ◌∙◌, arith, length-append, if◌then◌else◌, append_assoc}
+use Rattle.std.proofs.Common.{◌≡◌, ℕ, ◌+◌, ◌*◌, ◌/◌, ◌^◌, ◌≤◌, Bool, true, false, List, [], ◌∷◌, ◌++◌, length, filter, map, refl, sym, ap, ◌∙◌, arith}
+use Rattle.std.proofs.Common.{length-append, if◌then◌else◌, append_assoc}
 use Rattle.std.proofs.lemmas.List.{append-nil, length-map}
 use Rattle.std.proofs.lemmas.List.Elements.{filter-append}
 use Rattle.std.proofs.lemmas.Nat.{mul-le}
@@ -9,7 +10,8 @@ use Rattle.ltl_syntax.specs.declared.node.Kind.TheVariants as Kinds
 use Rattle.ltl_syntax.specs.Formula.{Formula, Binary}
 use Rattle.ltl_syntax.specs.declared.node.BinaryOp.TheVariants.{And}
 use Rattle.ltl_closure.specs.Norm.{Norm, NAnd, pos_of}
-use Rattle.ltl_closure.specs.Closure.{closure, walk, with_new, added, holds_entry, nexts, yesterdays, eventualities, is_next, is_yesterday, is_eventuality, argument}
+use Rattle.ltl_closure.specs.Closure.{closure, walk, with_new, added, holds_entry, nexts, yesterdays, eventualities, is_next, is_yesterday, is_eventuality}
+use Rattle.ltl_closure.specs.Closure.{argument}
 use Rattle.ltl_closure.specs.Run.{bound}
 use Rattle.ltl_closure.proofs.Again.{with_new-append}
 use Rattle.enc_layout.specs.Letters.{Counts, own_count, pair_count, Fits}
@@ -74,7 +76,8 @@ left_no_larger f g = record {
     bounds Kinds.Infinite = mul-le _ _ _ _ (omega (arith, eventualities_less)) carried
     bounds Kinds.Finite = carried
 
-letters_grow : (d own own' pair pair' : ℕ) → own ≤ own' → pair ≤ pair' → 1 + (d + 1) * own + d * (d + 1) / 2 * pair ≤ 1 + (d + 1) * own' + d * (d + 1) / 2 * pair'
+letters_grow : (d own own' pair pair' : ℕ)
+    → own ≤ own' → pair ≤ pair' → 1 + (d + 1) * own + d * (d + 1) / 2 * pair ≤ 1 + (d + 1) * own' + d * (d + 1) / 2 * pair'
 letters_grow d own own' pair pair' a b = omega (arith, mul-le-mul_left (d + 1) a, mul-le-mul_left (d * (d + 1) / 2) b)
 
 carried_long : (f : Formula) → (counts f).places ≡ length (nexts f) + length (yesterdays f)
@@ -89,13 +92,16 @@ pair_grows : (kind : Kind) (c c' : Counts) → c.places ≤ c'.places → c.even
 pair_grows Kinds.Infinite c c' a b = omega arith
 pair_grows Kinds.Finite c c' a b = omega arith
 
-pub left_fits : (f g : Formula) (kind : Kind) (d : ℕ) → Fits (record { kind = kind; counts = counts (Binary And f g) }) d → Fits (record { kind = kind; counts = counts f }) d
+pub left_fits : (f g : Formula) (kind : Kind) (d : ℕ) → Fits (record { kind = kind; counts = counts (Binary And f g) }) d
+    → Fits (record { kind = kind; counts = counts f }) d
 left_fits f g kind d fits =
     let w = left_no_larger f g in
     let places : (counts f).places ≤ (counts (Binary And f g)).places = omega (arith, carried_long f, carried_long (Binary And f g), w.nexts, w.yesterdays) in
     omega (
       arith,
-      letters_grow d (own_count kind (counts f)) (own_count kind (counts (Binary And f g))) (pair_count kind (counts f)) (pair_count kind (counts (Binary And f g)))
-          (own_grows kind (counts f) (counts (Binary And f g)) w.entries w.eventualities) (pair_grows kind (counts f) (counts (Binary And f g)) places w.eventualities),
+      letters_grow d (own_count kind (counts f)) (own_count kind (counts (Binary And f g))) (pair_count kind (counts f))
+          (pair_count kind (counts (Binary And f g)))
+          (own_grows kind (counts f) (counts (Binary And f g)) w.entries w.eventualities)
+          (pair_grows kind (counts f) (counts (Binary And f g)) places w.eventualities),
       fits,
     )

@@ -21,10 +21,12 @@ abbrev pub IsRefutedAt : Formula → ℕ → Option ℕ → Type 0
 IsRefutedAt f limit (Some k) = Says f limit (Unsat k)
 IsRefutedAt f limit None = IsNotRefuted f limit
 
--- no path where the system formula is refuted. Else the goal holds where the whole formula is refuted, fails where that has an accepted run, and is undecided where it is
+-- no path where the system formula is refuted. Else the goal holds where the whole formula is refuted, fails where that has an accepted
+-- run, and is undecided where it is
 abbrev pub IsAnswerOf : Formula → Formula → ℕ → SystemAnswer → Type 0
 IsAnswerOf system whole limit (answers.NoPath k) = Says system limit (Unsat k)
-IsAnswerOf system whole limit (answers.Holds k log targets) = IsNotRefuted system limit × Says whole limit (Unsat k) × IsRefutation whole Kinds.Infinite k log targets.items
+IsAnswerOf system whole limit (answers.Holds k log targets) =
+    IsNotRefuted system limit × Says whole limit (Unsat k) × IsRefutation whole Kinds.Infinite k log targets.items
 IsAnswerOf system whole limit (answers.Fails k t) = IsNotRefuted system limit × Says whole limit (Sat k) × IsTraceOfRun whole Kinds.Infinite k t
 IsAnswerOf system whole limit (answers.Undecided d) = IsNotRefuted system limit × Says whole limit (Undecided d)
 

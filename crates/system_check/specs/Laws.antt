@@ -45,7 +45,8 @@ TwoReadsSets = (s s' u u' : Names) (f : Formula) → AreSameSet s s' → AreSame
 
 -- an infinite trace satisfies the system formula where it is a path
 abbrev pub PathsSatisfy : Type 0
-PathsSatisfy = (start step : Formula) (t : Trace) → IsSystem start step → IsTrace t → IsOfKind t Kinds.Infinite → Satisfies t (system_of start step) ↔ IsPath start step t
+PathsSatisfy =
+    (start step : Formula) (t : Trace) → IsSystem start step → IsTrace t → IsOfKind t Kinds.Infinite → Satisfies t (system_of start step) ↔ IsPath start step t
 
 -- it satisfies the whole formula where it is a path on which the goal fails
 abbrev pub FailingPathsSatisfy : Type 0
@@ -71,36 +72,44 @@ SystemIsNoLarger = (start step goal : Formula) → IsNoLarger (system_of start s
 
 -- the letters through a depth that fit for the whole formula fit for the system formula
 abbrev pub SystemFits : Type 0
-SystemFits = (start step goal : Formula) (kind : Kind) (d : ℕ) → Fits (record { kind = kind; counts = counts (whole_of start step goal) }) d → Fits (record { kind = kind; counts = counts (system_of start step) }) d
+SystemFits = (start step goal : Formula) (kind : Kind) (d : ℕ) → Fits (record { kind = kind; counts = counts (whole_of start step goal) }) d
+    → Fits (record { kind = kind; counts = counts (system_of start step) }) d
 
 -- ---- joining
 
 -- where memory suffices, three parts are joined, or refused for one cause
 abbrev pub JoiningIsOne : Type 0
-JoiningIsOne = (start step goal : Formula) (r s : Result Joined JoinRefused) → HasMemory r → HasMemory s → IsJoining start step goal r → IsJoining start step goal s → refusal_of r ≡ refusal_of s
+JoiningIsOne = (start step goal : Formula) (r s : Result Joined JoinRefused) → HasMemory r → HasMemory s → IsJoining start step goal r
+    → IsJoining start step goal s → refusal_of r ≡ refusal_of s
 
 -- ---- answers
 
 -- NO PATH comes only where no trace is a path
 abbrev pub NoPathIsRight : Type 0
-NoPathIsRight = (start step goal : Formula) (limit k : ℕ) (t : Trace) → IsSystem start step → IsAnswer start step goal limit (answers.NoPath k) → ¬ IsPath start step t
+NoPathIsRight =
+    (start step goal : Formula) (limit k : ℕ) (t : Trace) → IsSystem start step → IsAnswer start step goal limit (answers.NoPath k) → ¬ IsPath start step t
 
 -- HOLDS comes only where each path satisfies the goal
 abbrev pub HoldsIsRight : Type 0
-HoldsIsRight = (start step goal : Formula) (limit k : ℕ) (log : DerivationValue) (targets : Vec ℕ Global) (t : Trace) → IsSystem start step → IsAnswer start step goal limit (answers.Holds k log targets) → IsPath start step t → Satisfies t goal
+HoldsIsRight = (start step goal : Formula) (limit k : ℕ) (log : DerivationValue) (targets : Vec ℕ Global) (t : Trace) → IsSystem start step
+    → IsAnswer start step goal limit (answers.Holds k log targets) → IsPath start step t → Satisfies t goal
 
 -- the trace of FAILS is a path that does not satisfy the goal
 abbrev pub FailsIsRight : Type 0
-FailsIsRight = (start step goal : Formula) (limit k : ℕ) (t : Trace) → IsSystem start step → IsAnswer start step goal limit (answers.Fails k t) → IsPath start step t × (¬ Satisfies t goal)
+FailsIsRight = (start step goal : Formula) (limit k : ℕ) (t : Trace) → IsSystem start step → IsAnswer start step goal limit (answers.Fails k t)
+    → IsPath start step t × (¬ Satisfies t goal)
 
 -- UNDECIDED comes at the limit, and only where this is below the bound of the whole formula
 abbrev pub UndecidedIsLow : Type 0
-UndecidedIsLow = (start step goal : Formula) (limit d : ℕ) → IsAnswer start step goal limit (answers.Undecided d) → (d ≡ limit) × (limit < bound (whole_of start step goal) Kinds.Infinite)
+UndecidedIsLow = (start step goal : Formula) (limit d : ℕ) → IsAnswer start step goal limit (answers.Undecided d) → (d ≡ limit)
+    × (limit < bound (whole_of start step goal) Kinds.Infinite)
 
 -- at the bound of the whole formula the system formula is settled as well
 abbrev pub SystemSettles : Type 0
-SystemSettles = (start step goal : Formula) (kind : Kind) (limit k : ℕ) → bound (whole_of start step goal) kind ≤ limit → ¬ IsVerdict (system_of start step) kind limit (Undecided k)
+SystemSettles = (start step goal : Formula) (kind : Kind) (limit k : ℕ)
+    → bound (whole_of start step goal) kind ≤ limit → ¬ IsVerdict (system_of start step) kind limit (Undecided k)
 
 -- the answer is one, but for the trace, and the log and its targets
 abbrev pub AnswerIsOne : Type 0
-AnswerIsOne = (start step goal : Formula) (limit : ℕ) (a b : SystemAnswer) → IsAnswer start step goal limit a → IsAnswer start step goal limit b → outcome_of a ≡ outcome_of b
+AnswerIsOne = (start step goal : Formula) (limit : ℕ) (a b : SystemAnswer) → IsAnswer start step goal limit a → IsAnswer start step goal limit b
+    → outcome_of a ≡ outcome_of b

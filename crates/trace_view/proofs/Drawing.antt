@@ -8,9 +8,12 @@ use Rattle.trace_view.proofs.Pieces.{begun, next, from_nothing}
 
 -- with the numbers as the code has them
 pub drawn : (g : GridValue) (t0 t1 t2 t3 t4 t5 t6 t7 t8 : List ℕ) (names lanes width height height' states states' : ℕ)
-    → names ≡ widest g.rows → lanes ≡ length g.rows → width ≡ x_of names g.states + 16 → height ≡ bottom lanes + 36 → height' ≡ bottom lanes + 36 → states ≡ g.states → states' ≡ g.states
-    → t0 ≡ [] → t1 ≡ t0 ++ opening width height → t2 ≡ t1 ++ sheet width height' → t3 ≡ t2 ++ band_of names lanes g.states g.loop_at → t4 ≡ t3 ++ edges names lanes states
-    → t5 ≡ t4 ++ below states' (numeral names) → t6 ≡ t5 ++ lanes_from names g.states 0 g.rows → t7 ≡ t6 ++ arrow_of names lanes g.states g.loop_at → t8 ≡ t7 ++ codes "</svg>\n"
+    → names ≡ widest g.rows → lanes ≡ length g.rows
+    → width ≡ x_of names g.states + 16 → height ≡ bottom lanes + 36 → height' ≡ bottom lanes + 36 → states ≡ g.states → states' ≡ g.states
+    → t0 ≡ [] → t1 ≡ t0 ++ opening width height → t2 ≡ t1 ++ sheet width height' → t3 ≡ t2 ++ band_of names lanes g.states g.loop_at
+    → t4 ≡ t3 ++ edges names lanes states
+    → t5 ≡ t4 ++ below states' (numeral names) → t6 ≡ t5 ++ lanes_from names g.states 0 g.rows → t7 ≡ t6 ++ arrow_of names lanes g.states g.loop_at
+    → t8 ≡ t7 ++ codes "</svg>\n"
     → t8 ≡ svg g
 drawn g t0 t1 t2 t3 t4 t5 t6 t7 t8 names lanes width height height' states states' n l w h h' s s' none p1 p2 p3 p4 p5 p6 p7 p8 =
     let q1 : t1 ≡ t0 ++ opening (x_of names g.states + 16) (bottom lanes + 36) = p1 ∙ ap₂ (λ a b. t0 ++ opening a b) w h in

@@ -1,5 +1,6 @@
 -- The names of the states that are shown are the letters that occur.
-use Rattle.std.proofs.Common.{◌≡◌, ◌↔◌, ℕ, zero, suc, ◌+◌, ◌-◌, ◌<◌, List, [], ◌∷◌, ◌++◌, length, get_or, Contains, ap, ap₂, sym, subst, ◌∙◌, arith, inl, inr, Result, Ok, Err, IfOk}
+use Rattle.std.proofs.Common.{◌≡◌, ◌↔◌, ℕ, zero, suc, ◌+◌, ◌-◌, ◌<◌, List, [], ◌∷◌, ◌++◌, length, get_or, Contains, ap, ap₂, sym, subst, ◌∙◌, arith, inl, inr}
+use Rattle.std.proofs.Common.{Result, Ok, Err, IfOk}
 use Rattle.std.specs.declared.alloc.AllocError.{AllocError}
 use Rattle.std.proofs.lemmas.Bool.{cases_lt}
 use Rattle.std.proofs.lemmas.List.Elements.{Contains-append_left, Contains-append_right, Contains-append_cases}
@@ -27,7 +28,8 @@ among_names (state ∷ states) name zero lt c = Contains-append_left state (all_
 among_names (state ∷ states) name (suc i) lt c = Contains-append_right state (all_names states) name (among_names states name i (omega arith) c)
 
 -- those of the stem and then those of the loop
-pub occurs_in_parts : (stem loop_part : List Names) (name : List ℕ) → Contains (all_names stem ++ all_names loop_part) name ↔ Occurs (Infinite stem loop_part) name
+pub occurs_in_parts : (stem loop_part : List Names) (name : List ℕ)
+    → Contains (all_names stem ++ all_names loop_part) name ↔ Occurs (Infinite stem loop_part) name
 occurs_in_parts stem loop_part name = (forth, back) where
   forth : Contains (all_names stem ++ all_names loop_part) name → Occurs (Infinite stem loop_part) name
   forth c = elim (Contains-append_cases (all_names stem) (all_names loop_part) name c) [
@@ -61,16 +63,20 @@ occurring t names (Ok set) members all = λ name. (λ c. (all name).0 ((members 
 occurring t names (Err e) members all = members
 
 -- the names that were pushed are those of the parts, or of the states
-pub pushed_parts : (t : Trace) (stem loop_part s l : List Names) (old first last names : Names) → t ≡ Infinite stem loop_part → s ≡ stem → l ≡ loop_part → old ≡ []
+pub pushed_parts : (t : Trace) (stem loop_part s l : List Names) (old first last names : Names) → t ≡ Infinite stem loop_part
+    → s ≡ stem → l ≡ loop_part → old ≡ []
     → first ≡ old ++ all_names s → last ≡ first ++ all_names l → names ≡ last → (name : List ℕ) → Contains names name ↔ Occurs t name
 pushed_parts t stem loop_part s l old first last names is s_is l_is none one two all name =
-    subst (λ u. Contains names name ↔ Occurs u name) (sym is) (subst (λ ns. Contains ns name ↔ Occurs (Infinite stem loop_part) name) (sym together) (occurs_in_parts stem loop_part name)) where
+    subst (λ u. Contains names name ↔ Occurs u name) (sym is)
+    (subst (λ ns. Contains ns name ↔ Occurs (Infinite stem loop_part) name) (sym together) (occurs_in_parts stem loop_part name)) where
       together : names ≡ all_names stem ++ all_names loop_part
       together = all ∙ (two ∙ (ap (λ xs. xs ++ all_names l) (one ∙ ap (λ xs. xs ++ all_names s) none) ∙ ap₂ (λ x y. all_names x ++ all_names y) s_is l_is))
 
-pub pushed_states : (t : Trace) (states s : List Names) (old last names : Names) → t ≡ Finite states → s ≡ states → old ≡ [] → last ≡ old ++ all_names s → names ≡ last
+pub pushed_states : (t : Trace) (states s : List Names) (old last names : Names) → t ≡ Finite states
+    → s ≡ states → old ≡ [] → last ≡ old ++ all_names s → names ≡ last
     → (name : List ℕ) → Contains names name ↔ Occurs t name
 pushed_states t states s old last names is s_is none one all name =
-    subst (λ u. Contains names name ↔ Occurs u name) (sym is) (subst (λ ns. Contains ns name ↔ Occurs (Finite states) name) (sym together) (occurs_in_states states name)) where
+    subst (λ u. Contains names name ↔ Occurs u name) (sym is)
+    (subst (λ ns. Contains ns name ↔ Occurs (Finite states) name) (sym together) (occurs_in_states states name)) where
       together : names ≡ all_names states
       together = all ∙ (one ∙ (ap (λ xs. xs ++ all_names s) none ∙ ap all_names s_is))

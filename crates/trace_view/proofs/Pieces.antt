@@ -13,7 +13,8 @@ piece_behind old text new k g before is =
     is ∙ ap (λ t. t ++ g k) before ∙ append_assoc old (below k g) (g k) ∙ ap (λ t. old ++ t) (sym (below_more k g))
 
 -- the next piece, where they begin with the one of another number
-pub piece_from : (old text new : List ℕ) (from i : ℕ) (g : ℕ → List ℕ) → from ≤ i → text ≡ old ++ between from i g → new ≡ text ++ g i → new ≡ old ++ between from (i + 1) g
+pub piece_from : (old text new : List ℕ) (from i : ℕ) (g : ℕ → List ℕ) → from ≤ i → text ≡ old ++ between from i g → new ≡ text ++ g i
+    → new ≡ old ++ between from (i + 1) g
 piece_from old text new from i g le before is =
     let here : from + (i - from) ≡ i = omega arith in
     let count : (i - from) + 1 ≡ i + 1 - from = omega arith in
@@ -29,12 +30,15 @@ same : (label : List ℕ) (at : ℕ → List ℕ) (from to : ℕ) → label ++ (
 same label at from to = sym (append_assoc label (between from to at) (10 ∷ []))
 
 -- a line: its label, its pieces up to the last, and a newline
-pub line_closed : (old first last new label : List ℕ) (at : ℕ → List ℕ) (from to i : ℕ) → to ≤ i → i ≤ to → first ≡ old ++ label → last ≡ first ++ between from i at → new ≡ last ++ 10 ∷ []
+pub line_closed : (old first last new label : List ℕ) (at : ℕ → List ℕ) (from to i : ℕ)
+    → to ≤ i → i ≤ to → first ≡ old ++ label → last ≡ first ++ between from i at → new ≡ last ++ 10 ∷ []
     → new ≡ old ++ line label at from to
 line_closed old first last new label at from to i le ge begins goes ends =
     let end : i ≡ to = omega arith in
-    let pieces : last ≡ (old ++ label) ++ between from to at = subst (λ n. last ≡ (old ++ label) ++ between from n at) end (goes ∙ ap (λ t. t ++ between from i at) begins) in
-    ends ∙ (ap (λ t. t ++ 10 ∷ []) pieces ∙ (append_assoc (old ++ label) (between from to at) (10 ∷ []) ∙ (append_assoc old label (between from to at ++ 10 ∷ []) ∙ ap (λ t. old ++ t) (same label at from to))))
+    let pieces : last ≡ (old ++ label) ++ between from to at =
+    subst (λ n. last ≡ (old ++ label) ++ between from n at) end (goes ∙ ap (λ t. t ++ between from i at) begins) in
+    ends ∙ (ap (λ t. t ++ 10 ∷ []) pieces ∙ (append_assoc (old ++ label) (between from to at) (10 ∷ [])
+    ∙ (append_assoc old label (between from to at ++ 10 ∷ []) ∙ ap (λ t. old ++ t) (same label at from to))))
 
 -- ---- piece by piece
 
@@ -53,15 +57,19 @@ next {old} {first} {last} {before} piece g f = record { is = f ∙ (ap (λ t. t 
 pub begun_number : {first : List ℕ} {n m : ℕ} (old words : List ℕ) → n ≡ m → first ≡ old ++ worded words n → Grew old first (worded words m)
 begun_number {first} old words e f = record { is = subst (λ k. first ≡ old ++ worded words k) e f }
 
-pub next_number : {old first last before : List ℕ} {n m : ℕ} (words : List ℕ) → Grew old first before → n ≡ m → last ≡ first ++ worded words n → Grew old last (before ++ worded words m)
+pub next_number : {old first last before : List ℕ} {n m : ℕ} (words : List ℕ) → Grew old first before → n ≡ m → last ≡ first ++ worded words n
+    → Grew old last (before ++ worded words m)
 next_number {first = first} {last = last} words g e f = next (worded words _) g (subst (λ k. last ≡ first ++ worded words k) e f)
 
 -- the pieces of a loop up to the last
-pub next_below : {old first last before : List ℕ} (g : ℕ → List ℕ) (i n : ℕ) → Grew old first before → n ≤ i → i ≤ n → last ≡ first ++ below i g → Grew old last (before ++ below n g)
-next_below {first = first} {last = last} g i n grew le ge f = let end : i ≡ n = omega arith in next (below n g) grew (subst (λ k. last ≡ first ++ below k g) end f)
+pub next_below : {old first last before : List ℕ} (g : ℕ → List ℕ) (i n : ℕ) → Grew old first before → n ≤ i → i ≤ n → last ≡ first ++ below i g
+    → Grew old last (before ++ below n g)
+next_below {first = first} {last = last} g i n grew le ge f = let end : i ≡ n = omega arith in
+    next (below n g) grew (subst (λ k. last ≡ first ++ below k g) end f)
 
 -- a name that is shown, escaped
-pub next_name : {old first last before : List ℕ} (text name : List ℕ) → Grew old first before → text ≡ shown name → last ≡ first ++ escaped text → Grew old last (before ++ escaped (shown name))
+pub next_name : {old first last before : List ℕ} (text name : List ℕ) → Grew old first before → text ≡ shown name → last ≡ first ++ escaped text
+    → Grew old last (before ++ escaped (shown name))
 next_name {first = first} {last = last} text name g e f = next (escaped (shown name)) g (subst (λ t. last ≡ first ++ escaped t) e f)
 
 -- a text that was empty is the piece

@@ -3,7 +3,8 @@ use Rattle.std.proofs.Common.{◌≡◌, ℕ, suc, ◌≤◌, not, ◌&&◌, ◌
 use Rattle.ltl_syntax.specs.declared.node.Kind.{Kind}
 use Rattle.ltl_syntax.specs.declared.node.Kind.TheVariants as Kinds
 use Rattle.ltl_syntax.specs.Formula.{Atom, Formula}
-use Rattle.ltl_closure.specs.Norm.{Norm, NConst, NLetter, NNotLetter, NAnd, NOr, NNext, NWeakNext, NYesterday, NWeakYesterday, NUntil, NRelease, NSince, NTrigger, pos_of}
+use Rattle.ltl_closure.specs.Norm.{Norm, NConst, NLetter, NNotLetter, NAnd, NOr, NNext, NWeakNext, NYesterday, NWeakYesterday, NUntil, NRelease, NSince}
+use Rattle.ltl_closure.specs.Norm.{NTrigger, pos_of}
 use Rattle.ltl_closure.specs.Closure.{closure, nexts, yesterdays, argument, is_next, is_yesterday}
 use Rattle.ltl_closure.specs.Run.{RunState, States, IsRun, val, carry, right_of}
 use Rattle.ltl_closure.proofs.Lists.{Contains-filter}
@@ -43,16 +44,20 @@ module _ (f : Formula) where
     same_value (NWeakYesterday a) m = at_before (NWeakYesterday a) m refl
     same_value (NUntil a b) m =
         ap₂ ◌||◌ (same_value b (second_child f a b (NUntil a b) _ refl m))
-        (ap₂ ◌&&◌ (same_value a (first_child f a (NUntil a b) _ refl m)) (at_next (NNext (NUntil a b)) (third_child f a b (NNext (NUntil a b)) (NUntil a b) refl m) refl))
+        (ap₂ ◌&&◌ (same_value a (first_child f a (NUntil a b) _ refl m))
+        (at_next (NNext (NUntil a b)) (third_child f a b (NNext (NUntil a b)) (NUntil a b) refl m) refl))
     same_value (NRelease a b) m =
         ap₂ ◌&&◌ (same_value b (second_child f a b (NRelease a b) _ refl m))
-        (ap₂ ◌||◌ (same_value a (first_child f a (NRelease a b) _ refl m)) (at_next (NWeakNext (NRelease a b)) (third_child f a b (NWeakNext (NRelease a b)) (NRelease a b) refl m) refl))
+        (ap₂ ◌||◌ (same_value a (first_child f a (NRelease a b) _ refl m))
+        (at_next (NWeakNext (NRelease a b)) (third_child f a b (NWeakNext (NRelease a b)) (NRelease a b) refl m) refl))
     same_value (NSince a b) m =
         ap₂ ◌||◌ (same_value b (second_child f a b (NSince a b) _ refl m))
-        (ap₂ ◌&&◌ (same_value a (first_child f a (NSince a b) _ refl m)) (at_before (NYesterday (NSince a b)) (third_child f a b (NYesterday (NSince a b)) (NSince a b) refl m) refl))
+        (ap₂ ◌&&◌ (same_value a (first_child f a (NSince a b) _ refl m))
+        (at_before (NYesterday (NSince a b)) (third_child f a b (NYesterday (NSince a b)) (NSince a b) refl m) refl))
     same_value (NTrigger a b) m =
         ap₂ ◌&&◌ (same_value b (second_child f a b (NTrigger a b) _ refl m))
-        (ap₂ ◌||◌ (same_value a (first_child f a (NTrigger a b) _ refl m)) (at_before (NWeakYesterday (NTrigger a b)) (third_child f a b (NWeakYesterday (NTrigger a b)) (NTrigger a b) refl m) refl))
+        (ap₂ ◌||◌ (same_value a (first_child f a (NTrigger a b) _ refl m))
+        (at_before (NWeakYesterday (NTrigger a b)) (third_child f a b (NWeakYesterday (NTrigger a b)) (NTrigger a b) refl m) refl))
 
     same_carry : carry f s ≡ carry f u
     same_carry = carry-from f s u (record { next = agree.next; before = λ e m. same_value (argument e) (argument_in f e (yesterday_in f e m)) })

@@ -1,6 +1,7 @@
 -- Where a state is there, so is each state before it. So a question may assume these as well.
 use Rattle.std.proofs.Common.{◌≡◌, ℕ, zero, suc, ◌+◌, ◌≤◌, Bool, true, IsTrue, ◌⊎◌, inl, inr, arith, sym, subst, List, [], ◌∷◌, ◌++◌, Contains}
-use Rattle.std.proofs.lemmas.List.Elements.{All-nil, All-cons, All-head, All-tail, All-append, All-weaker, All-contains, Contains-append_left, Contains-append_right}
+use Rattle.std.proofs.lemmas.List.Elements.{All-nil, All-cons, All-head, All-tail, All-append, All-weaker, All-contains, Contains-append_left}
+use Rattle.std.proofs.lemmas.List.Elements.{Contains-append_right}
 use Rattle.std.proofs.lemmas.Bool.{cases_lt}
 use Rattle.ltl_syntax.specs.declared.node.Kind.{Kind}
 use Rattle.ltl_syntax.specs.Formula.{Formula}
@@ -40,7 +41,8 @@ module _ (f : Formula) (kind : Kind) (d : ℕ) (v : ℕ → Bool) (states : List
 
   pub met_alone : AreTrue v (states ++ l ∷ []) → AreTrue v (positive_of f kind (Here d) ∷ l ∷ [])
   met_alone all =
-      let here = All-contains IsMet (states ++ l ∷ []) (positive_of f kind (Here d)) all (Contains-append_left states (l ∷ []) (positive_of f kind (Here d)) to.1) in
+      let here = All-contains IsMet (states ++ l ∷ []) (positive_of f kind (Here d)) all
+      (Contains-append_left states (l ∷ []) (positive_of f kind (Here d)) to.1) in
       let own = All-contains IsMet (states ++ l ∷ []) l all (Contains-append_right states (l ∷ []) l (Contains-here l [])) in
       All-cons IsMet (positive_of f kind (Here d)) (l ∷ []) here (All-cons IsMet l [] own (All-nil IsMet))
 
@@ -49,10 +51,12 @@ module _ (f : Formula) (kind : Kind) (d : ℕ) (v : ℕ → Bool) (states : List
       let here : IsTrue (v (number_in f kind (Here d))) = All-head IsMet (positive_of f kind (Here d)) (l ∷ []) all in
       let each : (m : Signed) → IsStateBelow f kind (d + 1) m → IsMet m =
       λ m w. subst IsMet (sym w.2) (here_down f kind d v holds d w.0 (omega arith) here (omega (arith, w.1))) in
-      All-append IsMet states (l ∷ []) (All-weaker (IsStateBelow f kind (d + 1)) IsMet each states to.0) (All-tail IsMet (positive_of f kind (Here d)) (l ∷ []) all)
+      All-append IsMet states (l ∷ []) (All-weaker (IsStateBelow f kind (d + 1)) IsMet each states to.0)
+      (All-tail IsMet (positive_of f kind (Here d)) (l ∷ []) all)
 
 -- the states of a depth are those of the one before, and one more
-pub one_more : (f : Formula) (kind : Kind) (k : ℕ) (states items : List Signed) (l : Signed) → AreStatesBelow f kind k states → l ≡ positive_of f kind (Here k) → items ≡ states ++ l ∷ [] → AreStatesTo f kind k items
+pub one_more : (f : Formula) (kind : Kind) (k : ℕ) (states items : List Signed) (l : Signed) → AreStatesBelow f kind k states → l ≡ positive_of f kind (Here k)
+    → items ≡ states ++ l ∷ [] → AreStatesTo f kind k items
 one_more f kind k states items l below is more =
     let later : (m : Signed) → IsStateBelow f kind k m → IsStateBelow f kind (k + 1) m = λ m w. (w.0, omega (arith, w.1), w.2) in
     let own : IsStateBelow f kind (k + 1) l = (k, omega arith, is) in

@@ -19,7 +19,8 @@ use Rattle.unravel.specs.Depths.{IsBefore, IsThrough}
 
 pub room_before : (f : Formula) (kind : Kind) (k : ℕ) (i : Inputs) → IsBefore f kind k i → i.solver.letters ≤ letters_through kind (counts f) k
 room_before f kind zero i h = let e = h.letters in omega arith
-room_before f kind (suc k) i h = subst (λ n. n ≤ letters_through kind (counts f) (suc k)) (sym h.part.letters) (letters_less kind (counts f) k (suc k) (omega arith))
+room_before f kind (suc k) i h =
+    subst (λ n. n ≤ letters_through kind (counts f) (suc k)) (sym h.part.letters) (letters_less kind (counts f) k (suc k) (omega arith))
 
 none_named : (list : List (List Signed)) → AreNamed list [] []
 none_named list = record { count = refl; each = λ i clause is. cc }
@@ -35,7 +36,8 @@ module _ (f : Formula) (kind : Kind) where
       (named_grow (clause_list f kind k) (signed_clauses f kind (step_clauses f kind (suc k))) i.solver.log.inputs i.names.items h.part.named)
 
   -- once the letters are known
-  pub sized : (k : ℕ) (old new : Inputs) → IsBefore f kind k old → new.solver.log ≡ old.solver.log → new.names.items ≡ old.names.items → new.solver.letters ≡ letters_through kind (counts f) k
+  pub sized : (k : ℕ) (old new : Inputs) → IsBefore f kind k old
+      → new.solver.log ≡ old.solver.log → new.names.items ≡ old.names.items → new.solver.letters ≡ letters_through kind (counts f) k
       → HasMore (up_to f kind k) old new
   sized k old new before log names letters =
       let inputs : new.solver.log.inputs ≡ old.solver.log.inputs = ap (λ (l : LogValue). l.inputs) log in
@@ -52,4 +54,5 @@ module _ (f : Formula) (kind : Kind) where
   pub grown : (k : ℕ) (old new : Inputs) → IsBefore f kind k old → HasMore (up_to f kind k) old new
       → All (Contains new.solver.log.inputs) (signed_clauses f kind (state_clauses f k)) → IsThrough f kind k new
   grown zero old new before more own = record { part = more.part; states = own }
-  grown (suc k) old new before more own = record { part = more.part; states = states_grow f kind k old.solver.log.inputs new.solver.log.inputs before.states more.kept own }
+  grown (suc k) old new before more own =
+      record { part = more.part; states = states_grow f kind k old.solver.log.inputs new.solver.log.inputs before.states more.kept own }

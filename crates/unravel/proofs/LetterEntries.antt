@@ -35,15 +35,19 @@ module _ (names : List (List ℕ)) (f : Formula) (entries : List Entry) (are : A
         ap is_letter_entry (get_or_default entries i d Is.True lt)
         ∙ same_letter names (closure f) (get_or (closure f) i (NConst false)) (get_or entries i Is.True) (are.each i inside)
 
-    next : first_letters (i + 1) ≡ first_letters i ++ numbers_of f (cond (is_letter (get_or (closure f) i (NConst false))) (get_or (closure f) i (NConst false) ∷ []) [])
+    next : first_letters (i + 1) ≡ first_letters i ++ numbers_of f
+        (cond (is_letter (get_or (closure f) i (NConst false))) (get_or (closure f) i (NConst false) ∷ []) [])
     next =
         ap (numbers_of f) (filter_more is_letter (closure f) i (NConst false) inside)
-        ∙ map-append (place_in (closure f)) (filter is_letter (take i (closure f))) (cond (is_letter (get_or (closure f) i (NConst false))) (get_or (closure f) i (NConst false) ∷ []) [])
+        ∙ map-append (place_in (closure f)) (filter is_letter (take i (closure f)))
+        (cond (is_letter (get_or (closure f) i (NConst false))) (get_or (closure f) i (NConst false) ∷ []) [])
 
     pub letters_without : is_letter_entry (get_or entries i d) ≡ false → first_letters i ≡ first_letters (i + 1)
-    letters_without e = sym (next ∙ ap (λ b. first_letters i ++ numbers_of f (cond b (get_or (closure f) i (NConst false) ∷ []) [])) (sym is_one ∙ e) ∙ append-nil (first_letters i))
+    letters_without e = sym (next ∙ ap (λ b. first_letters i ++ numbers_of f (cond b (get_or (closure f) i (NConst false) ∷ []) [])) (sym is_one ∙ e)
+        ∙ append-nil (first_letters i))
 
     pub letters_with : is_letter_entry (get_or entries i d) ≡ true → first_letters i ++ (i + 1) ∷ [] ≡ first_letters (i + 1)
     letters_with e =
         let at : place_in (closure f) (get_or (closure f) i (NConst false)) ≡ i + 1 = closure_placed f i (NConst false) inside ∙ omega arith in
-        sym (next ∙ ap (λ b. first_letters i ++ numbers_of f (cond b (get_or (closure f) i (NConst false) ∷ []) [])) (sym is_one ∙ e) ∙ ap (λ n. first_letters i ++ n ∷ []) at)
+        sym (next ∙ ap (λ b. first_letters i ++ numbers_of f (cond b (get_or (closure f) i (NConst false) ∷ []) [])) (sym is_one ∙ e)
+        ∙ ap (λ n. first_letters i ++ n ∷ []) at)

@@ -28,7 +28,8 @@ pub only_longer : (lines more : List (List Signed)) (n : ℕ) (literals : List S
 only_longer lines more n literals (line, is, all) = (line, numbered_longer lines more n line is, all)
 
 -- the line of a question that was refuted has only opposites of the question's literals
-pub only_from : (lines : List (List Signed)) (n : ℕ) (assumptions literals : List Signed) → ((l : Signed) → Contains assumptions (opposite l) → Contains literals l)
+pub only_from : (lines : List (List Signed)) (n : ℕ) (assumptions literals : List Signed)
+    → ((l : Signed) → Contains assumptions (opposite l) → Contains literals l)
     → 1 ≤ n → n ≤ length lines → IsNegated assumptions (clause_at lines n) → HasOnly lines n literals
 only_from lines n assumptions literals h from upto negated =
     (clause_at lines n, numbered_at lines n from upto, All-weaker (λ l. Contains assumptions (opposite l)) (Contains literals) h (clause_at lines n) negated)

@@ -17,7 +17,8 @@ use Rattle.unravel.specs.Putting.{up_to, listed_of, IsNumberIn, AreNumbersIn}
 pub number_in : (x : IndexedValue) (numbers : Numbers) (index : ℕ) → AreNumbersIn x numbers → index < numbers.count → IsNumberIn x (numbers.first + index)
 number_in x numbers index are lt = (omega (arith, are.from_one), omega (arith, are.within, lt))
 
-pub numbers_in : (x : IndexedValue) (numbers : Numbers) (clauses : List Clause) → AreNumbersOf x numbers clauses → numbers.first + numbers.count < 2 ^ 60 → AreNumbersIn x numbers
+pub numbers_in : (x : IndexedValue) (numbers : Numbers) (clauses : List Clause) → AreNumbersOf x numbers clauses → numbers.first + numbers.count < 2 ^ 60
+    → AreNumbersIn x numbers
 numbers_in x numbers clauses are small =
     let long = length-map clauses (map (literal_in x.kind (counts x.formula))) in
     record {
@@ -27,7 +28,8 @@ numbers_in x numbers clauses are small =
     }
 
 -- some of them
-pub some_in : (x : IndexedValue) (numbers some : Numbers) → AreNumbersIn x numbers → numbers.first ≤ some.first → some.first + some.count ≤ numbers.first + numbers.count → AreNumbersIn x some
+pub some_in : (x : IndexedValue) (numbers some : Numbers) → AreNumbersIn x numbers
+    → numbers.first ≤ some.first → some.first + some.count ≤ numbers.first + numbers.count → AreNumbersIn x some
 some_in x numbers some are first last = record {
   from_one = omega (arith, are.from_one, first);
   within = omega (arith, are.within, last);
@@ -37,10 +39,12 @@ some_in x numbers some are first last = record {
 -- ---- the list of a closure
 
 pub indexed_is : (x : IndexedValue) (c : ClosureValue) (depth : ℕ) → x.formula ≡ c.formula → x.kind ≡ c.kind → x.depth ≡ depth → x ≡ listed_of c depth
-indexed_is x c depth formula kind last = ap (λ f. up_to f x.kind x.depth) formula ∙ (ap (λ k. up_to c.formula k x.depth) kind ∙ ap (λ n. up_to c.formula c.kind n) last)
+indexed_is x c depth formula kind last =
+    ap (λ f. up_to f x.kind x.depth) formula ∙ (ap (λ k. up_to c.formula k x.depth) kind ∙ ap (λ n. up_to c.formula c.kind n) last)
 
 -- a part that its kind has
-pub part_of : (x : IndexedValue) (c : ClosureValue) (depth : ℕ) (kind : Kind) (part : PairPart) → x ≡ listed_of c depth → c.kind ≡ kind → IsPart c.formula kind part → IsPart x.formula x.kind part
+pub part_of : (x : IndexedValue) (c : ClosureValue) (depth : ℕ) (kind : Kind) (part : PairPart) → x ≡ listed_of c depth
+    → c.kind ≡ kind → IsPart c.formula kind part → IsPart x.formula x.kind part
 part_of x c depth kind part is own h = subst (λ (y : IndexedValue). IsPart y.formula y.kind part) (sym is) (subst (λ k. IsPart c.formula k part) (sym own) h)
 
 -- ---- a carry has the places of the next requests and those of the yesterday requests
@@ -55,7 +59,8 @@ module _ (f : Formula) (place : ℕ) (numbers : List ℕ) (are : numbers ≡ num
   pub near_place : place < length numbers → place < length (carried f)
   near_place lt = omega (arith, lt, carry_long, nexts_long)
 
-  pub far_place : (others : List ℕ) → others ≡ numbers_of f (yesterdays f) → length numbers ≤ place → place - length numbers < length others → place < length (carried f)
+  pub far_place : (others : List ℕ) → others ≡ numbers_of f (yesterdays f) → length numbers ≤ place → place - length numbers < length others
+      → place < length (carried f)
   far_place others also le lt =
       let yesterdays_long : length others ≡ length (yesterdays f) =
       subst (λ (ns : List ℕ). length ns ≡ length (yesterdays f)) (sym also) (length-map (yesterdays f) (place_in (closure f))) in

@@ -34,11 +34,14 @@ none_some x e = cc
 module _ (kind own : Kind) (rows items : List StoredRow) (same : own ≡ kind) (are : items ≡ rows) where
   pub close_is : (o : Option Close) → o ≡ close_of own (rows_in items) (length items - 1) → o ≡ close_of kind (rows_in rows) (length rows - 1)
   close_is o is =
-      subst (λ (xs : List StoredRow). o ≡ close_of kind (rows_in xs) (length xs - 1)) are (subst (λ (q : Kind). o ≡ close_of q (rows_in items) (length items - 1)) same is)
+      subst (λ (xs : List StoredRow). o ≡ close_of kind (rows_in xs) (length xs - 1)) are
+      (subst (λ (q : Kind). o ≡ close_of q (rows_in items) (length items - 1)) same is)
 
-  pub prunings_are : (pruned : List Pruned) → pruned ≡ prunings_below own (rows_in items) (length items) → pruned ≡ prunings_below kind (rows_in rows) (length rows)
+  pub prunings_are : (pruned : List Pruned) → pruned ≡ prunings_below own (rows_in items) (length items)
+      → pruned ≡ prunings_below kind (rows_in rows) (length rows)
   prunings_are pruned is =
-      subst (λ (xs : List StoredRow). pruned ≡ prunings_below kind (rows_in xs) (length xs)) are (subst (λ (q : Kind). pruned ≡ prunings_below q (rows_in items) (length items)) same is)
+      subst (λ (xs : List StoredRow). pruned ≡ prunings_below kind (rows_in xs) (length xs)) are
+      (subst (λ (q : Kind). pruned ≡ prunings_below q (rows_in items) (length items)) same is)
 
 module _ (f : Formula) (kind : Kind) (k : ℕ) (i : Inputs) (through : IsThrough f kind k i) (p : Meaning) (found : IsFound f kind k p i.solver) where
   module _ (rows : List StoredRow) (long : length rows ≡ k + 1) (read : AreRead f kind (value_of i.solver) k (rows_in rows)) where
@@ -52,7 +55,8 @@ module _ (f : Formula) (kind : Kind) (k : ℕ) (i : Inputs) (through : IsThrough
     -- a rule is found
     pub shows : (o : Option Close) (close : Close) → o ≡ close_of kind (rows_in rows) (length rows - 1) → o ≡ Some close → IsShowing f kind k i.solver close
     shows o close is some =
-        let w = looking_accepts f kind k k (value_of i.solver) i.solver.log.inputs (rows_in rows) (omega arith) through.states found.holds found.here read close (at_last (Some close) (sym is ∙ some)) in
+        let w = looking_accepts f kind k k (value_of i.solver) i.solver.log.inputs (rows_in rows) (omega arith) through.states found.holds found.here read close
+        (at_last (Some close) (sym is ∙ some)) in
         record { room = found.room; run = w.0; rule = w.1 }
 
     -- no state is found that is pruned
@@ -72,7 +76,8 @@ module _ (f : Formula) (kind : Kind) (k : ℕ) (i : Inputs) (through : IsThrough
 
     module _ (rows : List StoredRow) (long : length rows ≡ k + 1) (read : AreRead f kind (value_of i.solver) k (rows_in rows)) where
       of_run : (n : ℕ) → n ≤ k → rows_in rows n ≡ rows_of f kind (states_of f kind (value_of i.solver)) n
-      of_run n le = read n le ∙ row_read f kind k n (value_of i.solver) le (satisfied_part (value_of i.solver) i.solver.log.inputs (states_list f kind k) through.states found.holds)
+      of_run n le = read n le ∙ row_read f kind k n (value_of i.solver) le
+          (satisfied_part (value_of i.solver) i.solver.log.inputs (states_list f kind k) through.states found.holds)
 
       -- some rule is found
       pub some_rule : p ≡ Accepted k → (o : Option Close) → o ≡ close_of kind (rows_in rows) (length rows - 1) → o ≡ None → ⊥
@@ -95,13 +100,16 @@ module _ (f : Formula) (kind : Kind) (k : ℕ) (i : Inputs) (through : IsThrough
 
 -- ---- by cases of what was found
 
-pub found_if : (f : Formula) (kind : Kind) (k : ℕ) (q : Question) (s : SolverValue) (b : Bool) → b ≡ true → IsFoundOrNever f kind k q s b → IsFound f kind k (letter_of k q) s
+pub found_if : (f : Formula) (kind : Kind) (k : ℕ) (q : Question) (s : SolverValue) (b : Bool) → b ≡ true → IsFoundOrNever f kind k q s b
+    → IsFound f kind k (letter_of k q) s
 found_if f kind k q s b e h = subst (IsFoundOrNever f kind k q s) e h
 
-pub never_if : (f : Formula) (kind : Kind) (k : ℕ) (q : Question) (s : SolverValue) (b : Bool) → b ≡ false → IsFoundOrNever f kind k q s b → IsNever f kind k q s
+pub never_if : (f : Formula) (kind : Kind) (k : ℕ) (q : Question) (s : SolverValue) (b : Bool) → b ≡ false → IsFoundOrNever f kind k q s b
+    → IsNever f kind k q s
 never_if f kind k q s b e h = subst (IsFoundOrNever f kind k q s) e h
 
-pub unpruned_answer : (f : Formula) (kind : Kind) (k : ℕ) (s : SolverValue) (b : Bool) → (IsFound f kind k Unpruned s → HasUnpruned f kind k) → IsFoundOrNever f kind k questions.Unpruned s b
+pub unpruned_answer : (f : Formula) (kind : Kind) (k : ℕ) (s : SolverValue) (b : Bool) → (IsFound f kind k Unpruned s → HasUnpruned f kind k)
+    → IsFoundOrNever f kind k questions.Unpruned s b
     → IsUnprunedAnswer f kind k s b
 unpruned_answer f kind k s true has h = has h
 unpruned_answer f kind k s false has h = h

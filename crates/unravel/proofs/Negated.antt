@@ -28,9 +28,11 @@ module _ (f : Formula) (kind : Kind) where
   ]
 
   -- and of two
-  pub opposite_of_two : (p q : Meaning) (l : Signed) → Contains (positive_of f kind p ∷ positive_of f kind q ∷ []) (opposite l) → Contains (negative_of f kind p ∷ negative_of f kind q ∷ []) l
+  pub opposite_of_two : (p q : Meaning) (l : Signed) → Contains (positive_of f kind p ∷ positive_of f kind q ∷ []) (opposite l)
+      → Contains (negative_of f kind p ∷ negative_of f kind q ∷ []) l
   opposite_of_two p q l h = elim (Contains-cons_cases (positive_of f kind p) (positive_of f kind q ∷ []) (opposite l) h) [
-    | inl e ↦ subst (Contains (negative_of f kind p ∷ negative_of f kind q ∷ [])) (turned p l e) (Contains-here (negative_of f kind p) (negative_of f kind q ∷ []))
+    | inl e ↦
+        subst (Contains (negative_of f kind p ∷ negative_of f kind q ∷ [])) (turned p l e) (Contains-here (negative_of f kind p) (negative_of f kind q ∷ []))
     | inr r ↦ Contains-there (negative_of f kind p) (negative_of f kind q ∷ []) l (opposite_of_one q l r)
   ]
 
@@ -56,7 +58,8 @@ module _ (f : Formula) (kind : Kind) where
   consistent_two p q = consistent (positive_of f kind p ∷ positive_of f kind q ∷ []) (positive_two p q)
 
   -- and those of states and one more
-  positive_under : (n : ℕ) (states : List Signed) (p : Meaning) → AreStatesBelow f kind n states → (l : Signed) → Contains (states ++ positive_of f kind p ∷ []) l → l.negated ≡ false
+  positive_under : (n : ℕ) (states : List Signed) (p : Meaning) → AreStatesBelow f kind n states → (l : Signed)
+      → Contains (states ++ positive_of f kind p ∷ []) l → l.negated ≡ false
   positive_under n states p below l h = elim (Contains-append_cases states (positive_of f kind p ∷ []) l h) [
     | inl s ↦ let w = All-contains (IsStateBelow f kind n) states l below s in ap (λ (m : Signed). m.negated) w.2
     | inr r ↦ positive_one p l r
@@ -74,12 +77,15 @@ module _ (f : Formula) (kind : Kind) where
     known_one : (p : Meaning) → IsLetter kind (counts f) k p → All (IsKnown letters) (positive_of f kind p ∷ [])
     known_one p h = All-cons (IsKnown letters) (positive_of f kind p) [] (known p h) (All-nil (IsKnown letters))
 
-    pub known_two : (p q : Meaning) → IsLetter kind (counts f) k p → IsLetter kind (counts f) k q → All (IsKnown letters) (positive_of f kind p ∷ positive_of f kind q ∷ [])
+    pub known_two : (p q : Meaning) → IsLetter kind (counts f) k p → IsLetter kind (counts f) k q
+        → All (IsKnown letters) (positive_of f kind p ∷ positive_of f kind q ∷ [])
     known_two p q h g = All-cons (IsKnown letters) (positive_of f kind p) (positive_of f kind q ∷ []) (known p h) (known_one q g)
 
     state_known : (l : Signed) → IsStateBelow f kind (k + 1) l → IsKnown letters l
     state_known l (j, lt, is) = subst (IsKnown letters) (sym is) (known (Here j) (omega (arith, lt)))
 
-    pub known_under : (states : List Signed) (p : Meaning) → AreStatesBelow f kind (k + 1) states → IsLetter kind (counts f) k p → All (IsKnown letters) (states ++ positive_of f kind p ∷ [])
+    pub known_under : (states : List Signed) (p : Meaning) → AreStatesBelow f kind (k + 1) states → IsLetter kind (counts f) k p
+        → All (IsKnown letters) (states ++ positive_of f kind p ∷ [])
     known_under states p below h =
-        All-append (IsKnown letters) states (positive_of f kind p ∷ []) (All-weaker (IsStateBelow f kind (k + 1)) (IsKnown letters) state_known states below) (known_one p h)
+        All-append (IsKnown letters) states (positive_of f kind p ∷ [])
+        (All-weaker (IsStateBelow f kind (k + 1)) (IsKnown letters) state_known states below) (known_one p h)

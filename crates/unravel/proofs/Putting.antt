@@ -1,5 +1,6 @@
 -- Clauses of the list that are put in one after another, under their numbers in it.
-use Rattle.std.proofs.Common.{◌≡◌, ℕ, zero, suc, ◌+◌, ◌-◌, ◌<◌, arith, ap, refl, sym, ◌∙◌, subst, List, [], ◌∷◌, ◌++◌, length, get_or, take, All, Contains, Some}
+use Rattle.std.proofs.Common.{◌≡◌, ℕ, zero, suc, ◌+◌, ◌-◌, ◌<◌, arith, ap, refl, sym, ◌∙◌, subst, List, [], ◌∷◌, ◌++◌, length, get_or, take, All, Contains}
+use Rattle.std.proofs.Common.{Some}
 use Rattle.std.proofs.lemmas.List.{get_or_default}
 use Rattle.std.proofs.lemmas.Option.{slice_get-get_or, get_or_from_slice_get}
 use Rattle.std.proofs.lemmas.List.Elements.{All-weaker, All-contains, All-contains_itself, All-more, Contains-append_left, Contains-push, Contains-get_or}
@@ -97,7 +98,8 @@ module _ (x : IndexedValue) (number : ℕ) (in_list : IsNumberIn x number) where
   known_at letters all =
       let n = letters_through x.kind (counts x.formula) x.depth in
       let known : AreKnown n (list_of x) = inputs_known x.formula x.kind x.depth (list_of x) (whole_of x.formula x.kind x.depth) in
-      subst (λ m. All (IsKnown m) (clause_at (list_of x) number)) (sym all) (All-contains (λ c. All (IsKnown n) c) (list_of x) (clause_at (list_of x) number) known member)
+      subst (λ m. All (IsKnown m) (clause_at (list_of x) number)) (sym all)
+      (All-contains (λ c. All (IsKnown n) c) (list_of x) (clause_at (list_of x) number) known member)
 
   module _ (old new : Inputs) (part : IsPartOf x old) (inputs : new.solver.log.inputs ≡ old.solver.log.inputs ++ clause_at (list_of x) number ∷ [])
       (names : new.names.items ≡ old.names.items ++ number ∷ []) (letters : new.solver.letters ≡ old.solver.letters) where
@@ -122,13 +124,15 @@ added_there before after clause is = subst (λ (all : List (List Signed)). Conta
 
 -- ---- clauses in their order: where those before a place are in, and the one at it is as well
 
-pub there_next : (all cur new : List (List Signed)) (place : ℕ) → place < length all → All (Contains cur) (take place all) → All (Contains new) cur → Contains new (get_or all place [])
+pub there_next : (all cur new : List (List Signed)) (place : ℕ) → place < length all → All (Contains cur) (take place all) → All (Contains new) cur
+    → Contains new (get_or all place [])
     → All (Contains new) (take (place + 1) all)
 there_next all cur new place low there kept here = All-more (Contains new) all place [] low (kept_trans (take place all) cur new there kept) here
 
 -- ---- where a number is among the names, its clause is in
 
-pub named_there : (x : IndexedValue) (i : Inputs) (number : ℕ) → IsPartOf x i → Contains i.names.items number → Contains i.solver.log.inputs (clause_at (list_of x) number)
+pub named_there : (x : IndexedValue) (i : Inputs) (number : ℕ) → IsPartOf x i → Contains i.names.items number
+    → Contains i.solver.log.inputs (clause_at (list_of x) number)
 named_there x i number part (place, low, at) =
     let inputs = i.solver.log.inputs in
     let within : place < length inputs = omega (arith, low, part.named.count) in

@@ -1,5 +1,6 @@
 -- The states that are read are those of the assignment, at the letters and the requests of the closure.
-use Rattle.std.proofs.Common.{◌≡◌, ℕ, zero, suc, ◌+◌, ◌-◌, ◌<◌, ◌≤◌, Bool, false, IsTrue, refl, arith, ap, sym, ◌∙◌, subst, List, [], ◌∷◌, length, map, Some, slice_get, Contains}
+use Rattle.std.proofs.Common.{◌≡◌, ℕ, zero, suc, ◌+◌, ◌-◌, ◌<◌, ◌≤◌, Bool, false, IsTrue, refl, arith, ap, sym, ◌∙◌, subst, List, [], ◌∷◌, length, map, Some}
+use Rattle.std.proofs.Common.{slice_get, Contains}
 use Rattle.std.proofs.lemmas.List.{get_or-map}
 use Rattle.std.proofs.lemmas.Simd.{map-map}
 use Rattle.ltl_syntax.specs.declared.node.Kind.{Kind}
@@ -40,7 +41,8 @@ yesterday_among f s (NWeakYesterday a) h = refl
 yesterday_among f s e h = cc
 
 -- the values of the entries of a list's numbers are those of the assignment's state
-pub values_are : (layout : LayoutValue) (c : ClosureValue) → layout ≡ layout_of c → (v : ℕ → Bool) (i : ℕ) (es : List Norm) (numbers : List ℕ) (values : List Bool)
+pub values_are : (layout : LayoutValue) (c : ClosureValue) → layout ≡ layout_of c
+    → (v : ℕ → Bool) (i : ℕ) (es : List Norm) (numbers : List ℕ) (values : List Bool)
     → values ≡ values_at layout v i numbers → numbers ≡ numbers_of c.formula es → values ≡ map (states_of c.formula c.kind v i) es
 values_are layout c own v i es numbers values is are =
     is ∙ (ap (λ (m : LayoutValue). values_at m v i numbers) own ∙ (ap (values_at (layout_of c) v i) are

@@ -15,9 +15,11 @@ use Rattle.unravel.proofs.Lines.{only_longer}
 module _ (f : Formula) (kind : Kind) where
   pub rejection_longer : (k : ℕ) (old new : LogValue) (t : ℕ) → IsLonger old new → IsRejection f kind k old.lines t → IsRejection f kind k new.lines t
   rejection_longer k old new t longer h =
-      subst (λ lines. IsRejection f kind k lines t) (sym longer.lines) (only_longer old.lines longer.more t (negative_of f kind (Here k) ∷ negative_of f kind (Accepted k) ∷ []) h)
+      subst (λ lines. IsRejection f kind k lines t) (sym longer.lines)
+      (only_longer old.lines longer.more t (negative_of f kind (Here k) ∷ negative_of f kind (Accepted k) ∷ []) h)
 
-  pub rejections_longer : (k : ℕ) (old new : LogValue) (targets : List ℕ) → IsLonger old new → AreRejections f kind k old.lines targets → AreRejections f kind k new.lines targets
+  pub rejections_longer : (k : ℕ) (old new : LogValue) (targets : List ℕ) → IsLonger old new → AreRejections f kind k old.lines targets
+      → AreRejections f kind k new.lines targets
   rejections_longer k old new targets longer h = record { count = h.count; each = λ i lt. rejection_longer i old new (get_or targets i 0) longer (h.each i lt) }
 
   module _ (k : ℕ) (lines : List (List Signed)) (targets : List ℕ) (h : AreRejections f kind k lines targets) (t : ℕ) where
@@ -31,12 +33,14 @@ module _ (f : Formula) (kind : Kind) where
             | inl before ↦ subst (IsRejection f kind i lines) (sym (get_or_append_left targets (t ∷ []) 0 i (omega arith))) (h.each i before)
             | inr last ↦
                 let e : i ≡ k = omega arith in
-                subst (λ j. IsRejection f kind j lines (get_or (targets ++ t ∷ []) j 0)) (sym e) (subst (IsRejection f kind k lines) (sym (get_or_at targets t [] 0 k n)) here)
+                subst (λ j. IsRejection f kind j lines (get_or (targets ++ t ∷ []) j 0)) (sym e)
+                (subst (IsRejection f kind k lines) (sym (get_or_at targets t [] 0 k n)) here)
           ];
         }
 
 -- the last target
-pub tableau_closes : (f : Formula) (kind : Kind) (k : ℕ) (lines : List (List Signed)) (targets : List ℕ) (t : ℕ) → AreRejections f kind (k + 1) lines targets → IsPruning f kind k lines t → CloseTableau f kind k lines (targets ++ t ∷ [])
+pub tableau_closes : (f : Formula) (kind : Kind) (k : ℕ) (lines : List (List Signed)) (targets : List ℕ) (t : ℕ) → AreRejections f kind (k + 1) lines targets
+    → IsPruning f kind k lines t → CloseTableau f kind k lines (targets ++ t ∷ [])
 tableau_closes f kind k lines targets t h last =
     let n = h.count in
     let e : length targets ≡ suc k = n ∙ omega arith in

@@ -1,5 +1,6 @@
 -- Whether clauses and literals can be true together is decided: only the values of the letters that they have matter, and all of these are tried.
-use Rattle.std.proofs.Common.{◌≡◌, ℕ, zero, suc, ◌+◌, ◌<◌, ◌≤◌, inl, inr, Bool, true, false, not, cond, ◌||◌, refl, sym, ◌∙◌, ap, ap₂, arith, List, [], ◌∷◌, All}
+use Rattle.std.proofs.Common.{◌≡◌, ℕ, zero, suc, ◌+◌, ◌<◌, ◌≤◌, inl, inr, Bool, true, false, not, cond, ◌||◌, refl, sym, ◌∙◌, ap, ap₂, arith, List, [], ◌∷◌}
+use Rattle.std.proofs.Common.{All}
 use Rattle.std.proofs.lemmas.Bool.{cases_Bool}
 use Rattle.std.proofs.lemmas.List.Elements.{All-nil, All-cons, All-head, All-tail}
 use Rattle.cnf_base.specs.declared.literal.Literal.{Literal}

@@ -55,12 +55,15 @@ module _ (f : Formula) (kind : Kind) where
 
     -- where there is no run at all, there is none that is accepted or pruned nowhere, so this serves there as well
     pub refuted_decided : (HasAccepted f kind k → ⊥) → (HasUnpruned f kind k → ⊥) → (d : Decision) → IsRefuted f kind k d → IsDecision f kind limit d
-    refuted_decided none pruned (decisions.Unsat n log targets) (depth, by) =
-        (subst (λ m. IsVerdict f kind limit (Unsat m)) (sym depth) (all_pruned le open' none pruned), subst (λ m. IsRefutation f kind m log targets.items) (sym depth) by)
+    refuted_decided none pruned (decisions.Unsat n log targets) (depth, by) = (
+      subst (λ m. IsVerdict f kind limit (Unsat m)) (sym depth) (all_pruned le open' none pruned),
+      subst (λ m. IsRefutation f kind m log targets.items) (sym depth) by,
+    )
     refuted_decided none pruned (decisions.Sat n t) h = absurd h
     refuted_decided none pruned (decisions.Undecided n) h = absurd h
 
-  pub all_refused : (k : ℕ) (s : SolverValue) → AreRejected f kind k s → Refuses s (accepted_question f kind k) → Refuses s (unpruned_question f kind k) → AreRefused f kind k s
+  pub all_refused : (k : ℕ) (s : SolverValue) → AreRejected f kind k s → Refuses s (accepted_question f kind k) → Refuses s (unpruned_question f kind k)
+      → AreRefused f kind k s
   all_refused k s before here pruned = record { accepted = rejected_more k s before here; unpruned = pruned }
 
   -- at the beginning
@@ -73,8 +76,10 @@ module _ (f : Formula) (kind : Kind) where
   }
 
   -- and behind a depth that is open
-  pub still_open_more : (k : ℕ) (old new : Inputs) (earlier states : List Literal) → IsStillOpen f kind k old earlier → All (Contains new.solver.log.inputs) old.solver.log.inputs
-      → IsThrough f kind k new → IsOpen f kind k → Refuses new.solver (accepted_question f kind k) → AreStatesBelow f kind (k + 1) states → IsStillOpen f kind (k + 1) new states
+  pub still_open_more : (k : ℕ) (old new : Inputs) (earlier states : List Literal) → IsStillOpen f kind k old earlier
+      → All (Contains new.solver.log.inputs) old.solver.log.inputs
+      → IsThrough f kind k new → IsOpen f kind k → Refuses new.solver (accepted_question f kind k) → AreStatesBelow f kind (k + 1) states
+      → IsStillOpen f kind (k + 1) new states
   still_open_more k old new earlier states before kept through here refuses below = record {
     before = before_more k new through;
     still = open_more k before.still here;

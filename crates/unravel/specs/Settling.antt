@@ -13,7 +13,8 @@ use Rattle.unravel.specs.declared.decision.Decision.TheVariants as decisions
 use Rattle.unravel.specs.Decision.{IsTraceOfRun, IsModel, IsRefutation, IsDecision}
 use Rattle.unravel.specs.Depths.{IsThrough, IsBefore, AreStatesBelow, AreOpen, AreRejected}
 
--- no depth before k settles the formula: what stands before it was put in, each depth before it is open, the inputs refuse acceptance at each, and each of the literals says that some state before k is there
+-- no depth before k settles the formula: what stands before it was put in, each depth before it is open, the inputs refuse acceptance at
+-- each, and each of the literals says that some state before k is there
 pub record IsStillOpen (f : Formula) (kind : Kind) (k : ℕ) (i : Inputs) (literals : List Signed) : Type 0 where
   pub before : IsBefore f kind k i
   pub still : AreOpen f kind k
@@ -25,7 +26,8 @@ pub record IsClosed (f : Formula) (kind : Kind) (k : ℕ) (i : Inputs) (targets 
   pub through : IsThrough f kind k i
   pub closed : CloseTableau f kind k i.solver.log.lines targets
 
--- a trace of an accepted run of depth k, which satisfies the formula; or no run of it is accepted, each is pruned, and the tableau is closed; or depth k is open as well
+-- a trace of an accepted run of depth k, which satisfies the formula; or no run of it is accepted, each is pruned, and the tableau is
+-- closed; or depth k is open as well
 abbrev pub IsOutcome : Formula → Kind → ℕ → Inputs → List Signed → Outcome → Type 0
 IsOutcome f kind k i literals (outcomes.Accepted t) = IsTraceOfRun f kind k t × IsModel f kind t
 IsOutcome f kind k i literals (outcomes.Pruned targets) = (¬ HasAccepted f kind k) × (¬ HasUnpruned f kind k) × IsClosed f kind k i targets.items

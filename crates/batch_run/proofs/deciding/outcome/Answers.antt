@@ -12,4 +12,5 @@ returns-in-Formula c =
 pub returns-in-Refused : goal.returns-in-Refused
 returns-in-Refused c =
     let wrong = rw c.in-Refused.is at c.in_ok-table.ensures in
-    subst (IsOutcome c.args.kind c.args.asked c.args.text.now) (sym c.refusal_of.ensures) (outcome_of_fault c.args.kind c.args.asked c.args.text.now c.in-Refused.fault wrong)
+    subst (IsOutcome c.args.kind c.args.asked c.args.text.now) (sym c.refusal_of.ensures)
+    (outcome_of_fault c.args.kind c.args.asked c.args.text.now c.in-Refused.fault wrong)

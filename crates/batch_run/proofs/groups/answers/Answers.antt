@@ -15,7 +15,8 @@ groups-preserved g c =
       way = next_lines c.args.kind c.args.asked c.args.text.now c.groups.answers.items lanes c.groups.lines.items before.number before.text.now
           c.collect.new.answers.items c.fill-in-groups.new.lines.items after.number after.text.now
           old.way (omega (arith, done.count, old.lanes, c.requires.some))
-          (λ worker d low. subst (λ n. AreOutcomes c.args.kind c.args.asked c.groups.lines.items worker n (get_or lanes worker d)) (sym (done.count ∙ old.lanes)) (done.done worker d (subst (λ n. worker < n) done.count low)))
+          (λ worker d low. subst (λ n. AreOutcomes c.args.kind c.args.asked c.groups.lines.items worker n (get_or lanes worker d))
+          (sym (done.count ∙ old.lanes)) (done.done worker d (subst (λ n. worker < n) done.count low)))
           c.in_ok-collect.ensures filled.lines filled.all filled.room filled.pieces;
       lanes = done.count ∙ old.lanes;
     }

@@ -11,7 +11,8 @@ places-preserved c =
     let more = one_longer c.places.lines.items c.push.new.self.items _ c.in_ok-push-in-Some.ensures.items in
     record {
       count = omega (arith, more, old.count);
-      lines = one_taken first.number first.text.now before.number before.text.now after.number after.text.now c.places.lines.items c.push.new.self.items _ c.in_ok-push-in-Some.ensures.items old.lines c.in-Some.ensures.found;
+      lines = one_taken first.number first.text.now before.number before.text.now after.number after.text.now c.places.lines.items c.push.new.self.items _
+          c.in_ok-push-in-Some.ensures.items old.lines c.in-Some.ensures.found;
       room = omega (arith, old.room, c.in-Some.ensures.room);
       pieces = omega (arith, more, old.pieces, c.in-Some.ensures.moves);
     }

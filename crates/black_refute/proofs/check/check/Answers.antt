@@ -7,13 +7,15 @@ use Rattle.black_refute.proofs.Showing.{shown, shown_as}
 use Rattle.black_refute.proofs.check.check.Goals as goal
 
 pub returns-in_default : goal.returns-in_default
-returns-in_default c = shown (IsPartedCheck c.args.kind c.args.input.now) (refused faults.NoSeparator) c.refusal.result (uncut c.in_default.ensures) c.refusal.ensures
+returns-in_default c =
+    shown (IsPartedCheck c.args.kind c.args.input.now) (refused faults.NoSeparator) c.refusal.result (uncut c.in_default.ensures) c.refusal.ensures
 
 pub returns-in-Refused : goal.returns-in-Refused
 returns-in-Refused c =
     let parts = c.in-Some.parts in
     let refuses = rw c.in-Refused.is at c.in_ok-fault.ensures in
-    shown (IsPartedCheck c.args.kind c.args.input.now) (refused c.in-Refused.fault) c.refusal-in-Refused.result (unread parts.formula.now parts.second.now c.in-Refused.fault c.in-Some.ensures refuses) c.refusal-in-Refused.ensures
+    shown (IsPartedCheck c.args.kind c.args.input.now) (refused c.in-Refused.fault) c.refusal-in-Refused.result
+    (unread parts.formula.now parts.second.now c.in-Refused.fault c.in-Some.ensures refuses) c.refusal-in-Refused.ensures
 
 pub returns-in-Formula : goal.returns-in-Formula
 returns-in-Formula c =

@@ -12,4 +12,5 @@ returns c =
     let value = c.args.closure.now in
     let certificate = certificate_in c.args.found.now in
     let shows = subst (λ lines. IfOk c.unsat.result (λ out. Shows out (unsat lines))) (c.deref.ensures.value ∙ c.in_ok-lines.ensures) c.unsat.ensures in
-    shown (IsFound value.kind c.args.cert value.formula) (unsat (never_text value.formula certificate)) c.unsat.result (refuted certificate c.if-cert.false c.requires) shows
+    shown (IsFound value.kind c.args.cert value.formula) (unsat (never_text value.formula certificate)) c.unsat.result
+    (refuted certificate c.if-cert.false c.requires) shows

@@ -16,8 +16,12 @@ returns-in-Verified c =
     let certificate = certificate_in c.in-Ok.again in
     let lawful : IsLawful value.formula value.kind certificate =
     subst (λ k. IsLawful value.formula k certificate) c.kind.ensures (c.in_ok-check.ensures.lawful.0 c.in-Verified.is) in
-    certified_shown value.kind value.formula certificate c.in_ok-out.out (record { status = c.in_ok-out.out.status; text = c.append.new.out }) (text_of (certificate_in c.args.found.now)) c.index.result.now c.len-start.result
+    certified_shown value.kind value.formula certificate c.in_ok-out.out (record {
+      status = c.in_ok-out.out.status;
+      text = c.append.new.out;
+    }) (text_of (certificate_in c.args.found.now)) c.index.result.now c.len-start.result
     c.in_ok-out.ensures refl c.len-start.ensures c.in_ok-append.ensures c.index.ensures lawful c.in-Ok.ensures
 
 pub returns : goal.returns
-returns c = shown (IsFound c.args.closure.now.kind true c.args.closure.now.formula) undecided c.undecided-in-Refused.result open_yet c.undecided-in-Refused.ensures
+returns c =
+    shown (IsFound c.args.closure.now.kind true c.args.closure.now.formula) undecided c.undecided-in-Refused.result open_yet c.undecided-in-Refused.ensures

@@ -30,8 +30,12 @@ returns-clause-refute g c settings asks =
 
 pub returns-in-Err-Fault-clause-refute : goal.returns-in-Err-Fault-clause-refute
 returns-in-Err-Fault-clause-refute g c settings asks =
-    refute_broken settings _ _ _ _ _ statuses.ReadFault (record { none = refl; cause = λ quiet. absurd (quiet.0 (c.in-Err-Fault.ensures.fault (let e = c.in-Err-Fault.field-0-is in cc))) })
-    (c.in-Err-Fault.ensures.most (Refute settings) asks) (λ e. c.in-Err-Fault.ensures.before_fault (let e = c.in-Err-Fault.field-0-is in cc) (Refute settings) asks) (λ read. absurd (false_not_true read))
+    refute_broken settings _ _ _ _ _ statuses.ReadFault (record {
+      none = refl;
+      cause = λ quiet. absurd (quiet.0 (c.in-Err-Fault.ensures.fault (let e = c.in-Err-Fault.field-0-is in cc)));
+    })
+    (c.in-Err-Fault.ensures.most (Refute settings) asks)
+    (λ e. c.in-Err-Fault.ensures.before_fault (let e = c.in-Err-Fault.field-0-is in cc) (Refute settings) asks) (λ read. absurd (false_not_true read))
 
 pub returns-in-Err-NoMemory-clause-refute : goal.returns-in-Err-NoMemory-clause-refute
 returns-in-Err-NoMemory-clause-refute g c settings asks =
@@ -61,7 +65,10 @@ returns-clause-check g c settings asks =
 
 pub returns-in-Err-Fault-clause-check : goal.returns-in-Err-Fault-clause-check
 returns-in-Err-Fault-clause-check g c settings asks =
-    check_broken settings _ _ _ _ _ statuses.ReadFault (record { none = refl; cause = λ quiet. absurd (quiet.0 (c.in-Err-Fault.ensures.fault (let e = c.in-Err-Fault.field-0-is in cc))) })
+    check_broken settings _ _ _ _ _ statuses.ReadFault (record {
+      none = refl;
+      cause = λ quiet. absurd (quiet.0 (c.in-Err-Fault.ensures.fault (let e = c.in-Err-Fault.field-0-is in cc)));
+    })
     (λ read. absurd (false_not_true read))
 
 pub returns-in-Err-NoMemory-clause-check : goal.returns-in-Err-NoMemory-clause-check

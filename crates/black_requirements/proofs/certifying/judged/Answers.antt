@@ -15,5 +15,6 @@ returns-in-Some c =
 pub returns-in-None : goal.returns-in-None
 returns-in-None c =
     let none : HasNoBecause c.args.report.now c.args.scope = rw c.in-None.is at c.in_ok-text.ensures in
-    shown (IsJudged (document_in c.args.document.now) c.args.name.now c.args.scope c.args.report.now) statuses.Negative (no_certificate_text c.args.name.now) c.no_certificate.result
+    shown (IsJudged (document_in c.args.document.now) c.args.name.now c.args.scope c.args.report.now) statuses.Negative (no_certificate_text c.args.name.now)
+    c.no_certificate.result
     (no_certificate none) c.no_certificate.ensures

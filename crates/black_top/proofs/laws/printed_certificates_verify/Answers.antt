@@ -12,5 +12,6 @@ use Rattle.black_top.proofs.laws.printed_certificates_verify.Goals as goal
 pub returns : goal.returns
 returns c solve check asked also text certificate depth core asks asks_check same answer =
     let printed = unsat depth core (Some certificate) in
-    let verified = printed_verifies (kind_of asked) (depth_of asked) (core_of asked) (cert_of asked) text depth core certificate printed (command_given solve text (Solve asked) printed asks answer) refl in
+    let verified = printed_verifies (kind_of asked) (depth_of asked) (core_of asked) (cert_of asked) text depth core certificate printed
+    (command_given solve text (Solve asked) printed asks answer) refl in
     taken (Check also) (checked Verified) asks_check (subst (λ k. IsVerified k text (Some certificate)) same verified)

@@ -13,6 +13,7 @@ use Rattle.black_top.proofs.laws.printed_systems_verify.Goals as goal
 pub returns : goal.returns
 returns c system check asked also bytes depth proof asks asks_check infinite short answer =
     let printed = paths_hold depth (Some proof) in
-    let verified = printed_system_verifies (depth_of asked) (cert_of asked) bytes depth proof (command_given system bytes (System asked) printed asks answer) short in
+    let verified = printed_system_verifies (depth_of asked) (cert_of asked) bytes depth proof
+    (command_given system bytes (System asked) printed asks answer) short in
     taken (Check also) (checked Verified) asks_check
     (subst (λ k. IsParted (IsChecked k) (with_certificate proof.formula proof.certificate) (checked Verified)) (sym infinite) verified)

@@ -15,7 +15,8 @@ loop-literal-preserved c =
 pub returns : goal.returns
 returns c = (
   (λ _ l there. All-contains (λ m. ¬ Contains c.args.literals.now (opposite m)) c.args.literals.now l
-      (subst (All (λ m. ¬ Contains c.args.literals.now (opposite m))) (take_all c.loop-literal.literal-index c.args.literals.now (omega arith)) c.loop-literal.invariant) there),
+      (subst (All (λ m. ¬ Contains c.args.literals.now (opposite m))) (take_all c.loop-literal.literal-index c.args.literals.now (omega arith))
+      c.loop-literal.invariant) there),
   (λ _. refl),
 )
 
@@ -24,5 +25,6 @@ returns-then-has c =
     let literals = c.args.literals.now in
     let l = get_or literals c.loop-literal.literal-index blank_entry.literal in (
       (λ yes. absurd (false≢true yes)),
-      (λ consistent. absurd (consistent l (Contains-get_or literals c.loop-literal.literal-index blank_entry.literal c.loop-literal-test.true) (subst (Contains literals) c.opposite.ensures (c.has.ensures.0 c.if-has.true)))),
+      (λ consistent. absurd (consistent l (Contains-get_or literals c.loop-literal.literal-index blank_entry.literal c.loop-literal-test.true)
+          (subst (Contains literals) c.opposite.ensures (c.has.ensures.0 c.if-has.true)))),
     )

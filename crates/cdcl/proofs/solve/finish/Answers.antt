@@ -16,7 +16,8 @@ returns-in-Line-clause-kept c = after_none c.args.state.now
 
 pub returns-in-Line-clause-answer : goal.returns-in-Line-clause-answer
 returns-in-Line-clause-answer c =
-    let step = subst (IsHintedStep c.args.state.now.log.inputs c.args.state.now.log.lines greatest_u32 c.args.learnt.now.clause.items) (sym c.as_slice-hints.ensures.value) c.requires.step in
+    let step = subst (IsHintedStep c.args.state.now.log.inputs c.args.state.now.log.lines greatest_u32 c.args.learnt.now.clause.items)
+    (sym c.as_slice-hints.ensures.value) c.requires.step in
     line_says c.args.state.now c.args.learnt.now.clause.items c.as_slice-hints.result.now c.in-Line.line _ step
     c.if-hints-eq1.true c.in-Line.is
 

@@ -19,13 +19,23 @@ returns-clause-learnt c =
     let clause = read_literals c.clause-clause.result in
     let is = c.clause-clause.ensures.is in
     let given = c.requires.conflict in
-    let start = walk_start log.inputs log.lines trail letters (IsMarked c.mark.new.marks) c.args.conflict clause is c.clause-clause.ensures.known c.invariant.ensures.few
+    let start = walk_start log.inputs log.lines trail letters (IsMarked c.mark.new.marks)
+    c.args.conflict clause is c.clause-clause.ensures.known c.invariant.ensures.few
     (subst (All (λ l. Contains (literals_of trail) (opposite l))) (some_same given.is is) given.all_false) c.in_ok-mark.ensures.all in
-    let begun : IsWalk log.inputs log.lines trail (length trail) (IsMarked c.mark.new.marks) c.cite.new.learnt.clause.items c.cite.new.learnt.hints.items c.cite.new.learnt.places.items =
-    rw (c.in_ok-cite.ensures.clause, c.in_ok-cite.ensures.hints, c.in_ok-cite.ensures.places, c.in_ok-learnt.ensures.clause, c.in_ok-learnt.ensures.hints, c.in_ok-learnt.ensures.places) start in
+    let begun : IsWalk log.inputs log.lines trail (length trail) (IsMarked c.mark.new.marks)
+    c.cite.new.learnt.clause.items c.cite.new.learnt.hints.items c.cite.new.learnt.places.items =
+    rw (
+      c.in_ok-cite.ensures.clause,
+      c.in_ok-cite.ensures.hints,
+      c.in_ok-cite.ensures.places,
+      c.in_ok-learnt.ensures.clause,
+      c.in_ok-learnt.ensures.hints,
+      c.in_ok-learnt.ensures.places,
+    ) start in
     let walked = c.in_ok-resolve.ensures.walked begun in
     record {
-      step = rw c.reverse.ensures.items (walk_end values log.inputs log.lines trail _ _ _ _ c.invariant.ensures.told c.invariant.ensures.few c.requires.from_one walked);
+      step = rw c.reverse.ensures.items
+          (walk_end values log.inputs log.lines trail _ _ _ _ c.invariant.ensures.told c.invariant.ensures.few c.requires.from_one walked);
       clause_is = walked.clause_is;
       inside = walked.inside;
       falling = walked.falling;
@@ -44,4 +54,5 @@ resolve-requires-clause-can_walk c = record {
 }
 
 pub resolve-requires-clause-fresh : goal.resolve-requires-clause-fresh
-resolve-requires-clause-fresh c = found_unasked c.begin.new.self c.mark.new.marks c.mark.ensures.found (record { unasked = c.begin.ensures.unasked; none_follows = c.begin.ensures.none_follows })
+resolve-requires-clause-fresh c = found_unasked c.begin.new.self c.mark.new.marks c.mark.ensures.found
+    (record { unasked = c.begin.ensures.unasked; none_follows = c.begin.ensures.none_follows })

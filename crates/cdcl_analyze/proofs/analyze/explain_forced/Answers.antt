@@ -28,17 +28,32 @@ returns-clause-learnt c =
     let like = refuted_like c.args.graph.now c.invariant.ensures p c.requires.place in
     let all_false = subst (All (λ l. Contains (literals_of t) (opposite l))) (some_same reason.is is)
     (refuted_false c.args.graph.now c.invariant.ensures p c.requires.place c.args.hint reason) in
-    let start = walk_start log.inputs log.lines t letters (IsMarked c.mark.new.marks) c.args.hint clause is c.clause-clause.ensures.known c.invariant.ensures.few all_false c.in_ok-mark.ensures.all in
+    let start = walk_start log.inputs log.lines t letters (IsMarked c.mark.new.marks)
+    c.args.hint clause is c.clause-clause.ensures.known c.invariant.ensures.few all_false c.in_ok-mark.ensures.all in
     let len = refuted_length c.args.graph.now c.invariant.ensures p c.requires.place in
-    let kept = walk_keep log.inputs log.lines t p _ _ _ _ (subst (λ n. IsWalk log.inputs log.lines t n (IsMarked c.mark.new.marks) [] (c.args.hint ∷ []) []) len start) in
+    let kept = walk_keep log.inputs log.lines t p _ _ _ _
+    (subst (λ n. IsWalk log.inputs log.lines t n (IsMarked c.mark.new.marks) [] (c.args.hint ∷ []) []) len start) in
     let literal : c.entry.result.literal ≡ opposite (literal_at t p) =
     ap (λ (e : Entry). e.literal) (c.entry.ensures ∙ get_or_default trail p _ blank_entry c.requires.place) ∙ sym (opposite_opposite (literal_at trail p))
     ∙ ap (λ (e : Entry). opposite e.literal) (sym (refuted_last c.args.graph.now c.invariant.ensures p c.requires.place)) in
-    let begun : IsWalk log.inputs log.lines t p (IsMarked c.mark.new.marks) c.cite.new.learnt.clause.items c.cite.new.learnt.hints.items c.cite.new.learnt.places.items =
-    rw (c.in_ok-cite.ensures.clause, c.in_ok-cite.ensures.hints, c.in_ok-cite.ensures.places, c.in_ok-keep.ensures.clause, c.in_ok-keep.ensures.hints, c.in_ok-keep.ensures.places, c.in_ok-learnt.ensures.clause, c.in_ok-learnt.ensures.hints, c.in_ok-learnt.ensures.places, literal) kept in
+    let begun : IsWalk log.inputs log.lines t p (IsMarked c.mark.new.marks)
+    c.cite.new.learnt.clause.items c.cite.new.learnt.hints.items c.cite.new.learnt.places.items =
+    rw (
+      c.in_ok-cite.ensures.clause,
+      c.in_ok-cite.ensures.hints,
+      c.in_ok-cite.ensures.places,
+      c.in_ok-keep.ensures.clause,
+      c.in_ok-keep.ensures.hints,
+      c.in_ok-keep.ensures.places,
+      c.in_ok-learnt.ensures.clause,
+      c.in_ok-learnt.ensures.hints,
+      c.in_ok-learnt.ensures.places,
+      literal,
+    ) kept in
     let walked = c.in_ok-walk.ensures.walked t like begun in
     record {
-      step = rw c.reverse.ensures.items (walk_end like.values log.inputs log.lines t _ _ _ _ like.told like.few (refuted_from_one c.args.graph.now c.invariant.ensures p c.requires.place c.requires.from_one) walked);
+      step = rw c.reverse.ensures.items (walk_end like.values log.inputs log.lines t _ _ _ _ like.told like.few
+          (refuted_from_one c.args.graph.now c.invariant.ensures p c.requires.place c.requires.from_one) walked);
       clause_is = walked.clause_is;
       inside = walked.inside;
       falling = walked.falling;

@@ -40,14 +40,18 @@ pub returns-then-place-base-clause-can_walk : goal.returns-then-place-base-claus
 returns-then-place-base-clause-can_walk c = record {
   within = omega (arith, c.requires.base, c.requires.can_walk.within);
   size = omega (arith, c.requires.can_walk.size, c.mark.ensures.room, c.pop.ensures.room, c.down.invariant.size);
-  waiting = waiting_again _ _ _ _ _ _ _ _ _ c.invariant.ensures.told c.requires.can_walk.within _ _ c.down.end c.down.marks c.pop.new.self c.down.invariant.high c.down.invariant.waiting c.pop.ensures.marks c.pop.ensures.found c.down.invariant.rest
-      c.in-Some.place c.entry-entry.result c.in-Some.ensures.next c.entry-entry.ensures c.mark.new.self c.if-place-base.true c.down.invariant.low c.in_ok-mark.ensures.only c.in_ok-mark.ensures.waits;
+  waiting = waiting_again _ _ _ _ _ _ _ _ _ c.invariant.ensures.told c.requires.can_walk.within _ _ c.down.end c.down.marks c.pop.new.self c.down.invariant.high
+      c.down.invariant.waiting c.pop.ensures.marks c.pop.ensures.found c.down.invariant.rest
+      c.in-Some.place c.entry-entry.result c.in-Some.ensures.next c.entry-entry.ensures c.mark.new.self c.if-place-base.true c.down.invariant.low
+      c.in_ok-mark.ensures.only c.in_ok-mark.ensures.waits;
 }
 
 pub returns-then-place-base-clause-rest : goal.returns-then-place-base-clause-rest
 returns-then-place-base-clause-rest c =
-    rest_marked _ _ _ _ _ _ _ _ _ c.invariant.ensures.told c.requires.can_walk.within _ _ c.down.end c.down.marks c.pop.new.self c.down.invariant.high c.down.invariant.waiting c.pop.ensures.marks c.pop.ensures.found c.down.invariant.rest
-    c.in-Some.place c.entry-entry.result c.in-Some.ensures.next c.entry-entry.ensures c.mark.new.self c.if-place-base.true c.down.invariant.low c.in_ok-mark.ensures.only c.in_ok-mark.ensures.found c.in_ok-mark.ensures.kept
+    rest_marked _ _ _ _ _ _ _ _ _ c.invariant.ensures.told c.requires.can_walk.within _ _ c.down.end c.down.marks c.pop.new.self c.down.invariant.high
+    c.down.invariant.waiting c.pop.ensures.marks c.pop.ensures.found c.down.invariant.rest
+    c.in-Some.place c.entry-entry.result c.in-Some.ensures.next c.entry-entry.ensures c.mark.new.self c.if-place-base.true c.down.invariant.low
+    c.in_ok-mark.ensures.only c.in_ok-mark.ensures.found c.in_ok-mark.ensures.kept
 
 pub returns-then-place-base-clause-hints : goal.returns-then-place-base-clause-hints
 returns-then-place-base-clause-hints c = c.down.invariant.hints
@@ -67,7 +71,8 @@ follows-requires-clause-can_ask c =
     record {
       size = omega (arith, c.requires.can_walk.size, c.down.invariant.size, c.pop.ensures.room);
       within = omega (arith, c.requires.base, c.requires.can_walk.within);
-      consequences = consequences_found log.inputs log.lines trail c.args.base c.down.marks c.pop.new.self c.down.invariant.rest.consequences c.pop.ensures.found (λ x h. (c.pop.ensures.marks x).1 h);
+      consequences = consequences_found log.inputs log.lines trail c.args.base c.down.marks c.pop.new.self c.down.invariant.rest.consequences
+          c.pop.ensures.found (λ x h. (c.pop.ensures.marks x).1 h);
     }
 
 pub returns-in_err-follows-clause-size : goal.returns-in_err-follows-clause-size
@@ -76,8 +81,10 @@ returns-in_err-follows-clause-size c = c.follows.ensures.size ∙ c.pop.ensures.
 pub down-preserved-in_ok-keep : goal.down-preserved-in_ok-keep
 down-preserved-in_ok-keep c =
     let trail = c.args.graph.now.trail in
-    let kept = asked_kept _ _ _ _ _ _ _ _ _ c.invariant.ensures.told c.requires.can_walk.within _ _ c.down.end c.down.marks c.pop.new.self c.down.invariant.high c.down.invariant.waiting c.pop.ensures.marks c.pop.ensures.found c.down.invariant.rest
-    c.in-Some.place c.entry-entry.result c.in-Some.ensures.next c.entry-entry.ensures c.follows.new.marks c.if-place-base.false c.in_ok-follows.ensures.grows c.deny.new.self c.keep.new.learnt.clause.items c.keep.new.learnt.places.items
+    let kept = asked_kept _ _ _ _ _ _ _ _ _ c.invariant.ensures.told c.requires.can_walk.within _ _ c.down.end c.down.marks c.pop.new.self c.down.invariant.high
+    c.down.invariant.waiting c.pop.ensures.marks c.pop.ensures.found c.down.invariant.rest
+    c.in-Some.place c.entry-entry.result c.in-Some.ensures.next c.entry-entry.ensures c.follows.new.marks c.if-place-base.false c.in_ok-follows.ensures.grows
+    c.deny.new.self c.keep.new.learnt.clause.items c.keep.new.learnt.places.items
     (omega (arith, c.requires.can_walk.size, c.down.invariant.size, c.pop.ensures.room, c.follows.ensures.size, c.invariant-then-not-branch.ensures))
     (λ h. false≢true (sym c.if-not-branch.true ∙ c.in_ok-follows.ensures.outcome.1 h)) c.deny.ensures
     (c.in_ok-keep.ensures.clause ∙ ap (λ l. c.down.learnt.clause.items ++ l ∷ []) c.opposite.ensures) c.in_ok-keep.ensures.places in
@@ -91,7 +98,8 @@ down-preserved-in_ok-keep c =
     }
 
 pub returns-in_err-keep-clause-size : goal.returns-in_err-keep-clause-size
-returns-in_err-keep-clause-size c = ap (λ (m : MarksValue). length m.stamps) c.deny.ensures ∙ c.follows.ensures.size ∙ c.pop.ensures.room ∙ c.down.invariant.size
+returns-in_err-keep-clause-size c =
+    ap (λ (m : MarksValue). length m.stamps) c.deny.ensures ∙ c.follows.ensures.size ∙ c.pop.ensures.room ∙ c.down.invariant.size
 
 pub down-smaller : goal.down-smaller
 down-smaller c = c.in-Some.ensures.next.low
@@ -99,8 +107,10 @@ down-smaller c = c.in-Some.ensures.next.low
 pub down-preserved : goal.down-preserved
 down-preserved c =
     let trail = c.args.graph.now.trail in
-    let follows = asked_follows _ _ _ _ _ _ _ _ _ c.invariant.ensures.told c.requires.can_walk.within _ _ c.down.end c.down.marks c.pop.new.self c.down.invariant.high c.down.invariant.waiting c.pop.ensures.marks c.pop.ensures.found c.down.invariant.rest
-    c.in-Some.place c.entry-entry.result c.in-Some.ensures.next c.entry-entry.ensures c.follows.new.marks c.if-place-base.false c.in_ok-follows.ensures.grows (c.in_ok-follows.ensures.outcome.0 c.if-not-branch.false) in
+    let follows = asked_follows _ _ _ _ _ _ _ _ _ c.invariant.ensures.told c.requires.can_walk.within _ _ c.down.end c.down.marks c.pop.new.self
+    c.down.invariant.high c.down.invariant.waiting c.pop.ensures.marks c.pop.ensures.found c.down.invariant.rest
+    c.in-Some.place c.entry-entry.result c.in-Some.ensures.next c.entry-entry.ensures c.follows.new.marks c.if-place-base.false c.in_ok-follows.ensures.grows
+    (c.in_ok-follows.ensures.outcome.0 c.if-not-branch.false) in
     record {
       rest = follows.0;
       hints = c.down.invariant.hints;
@@ -117,12 +127,14 @@ pub returns-clause-can_walk : goal.returns-clause-can_walk
 returns-clause-can_walk c = record {
   within = omega (arith, c.requires.base, c.requires.can_walk.within);
   size = omega (arith, c.requires.can_walk.size, c.pop.ensures.room, c.down.invariant.size);
-  waiting = λ j below inside is. absurd (c.in_default.ensures.next j (omega (arith, below, c.down.invariant.low)) (c.down.invariant.waiting j (omega (arith, below, c.down.invariant.low)) inside ((c.pop.ensures.marks _).0 is)));
+  waiting = λ j below inside is. absurd (c.in_default.ensures.next j (omega (arith, below, c.down.invariant.low))
+      (c.down.invariant.waiting j (omega (arith, below, c.down.invariant.low)) inside ((c.pop.ensures.marks _).0 is)));
 }
 
 pub returns-clause-rest : goal.returns-clause-rest
 returns-clause-rest c =
-    rest_ended _ _ _ _ _ _ _ _ _ c.invariant.ensures.told c.requires.can_walk.within _ _ c.down.end c.down.marks c.pop.new.self c.down.invariant.high c.down.invariant.waiting c.pop.ensures.marks c.pop.ensures.found c.down.invariant.rest c.down.invariant.low c.in_default.ensures.next
+    rest_ended _ _ _ _ _ _ _ _ _ c.invariant.ensures.told c.requires.can_walk.within _ _ c.down.end c.down.marks c.pop.new.self c.down.invariant.high
+    c.down.invariant.waiting c.pop.ensures.marks c.pop.ensures.found c.down.invariant.rest c.down.invariant.low c.in_default.ensures.next
 
 pub returns-clause-hints : goal.returns-clause-hints
 returns-clause-hints c = c.down.invariant.hints

@@ -12,7 +12,8 @@ returns-in-Decisions-clause-walked c = λ start.
     let graph = c.args.graph.now in
     let like = like_itself graph c.invariant.ensures (length graph.trail) (omega arith) in
     c.in_ok-walk-in-Decisions.ensures.walked graph.trail (subst (IsLike graph graph.trail) (sym c.len.ensures) like)
-    (subst (λ n. IsWalk graph.log.inputs graph.log.lines graph.trail n (IsMarked c.args.marks.now) c.args.learnt.now.clause.items c.args.learnt.now.hints.items c.args.learnt.now.places.items) (sym c.len.ensures) start)
+    (subst (λ n. IsWalk graph.log.inputs graph.log.lines graph.trail n (IsMarked c.args.marks.now)
+    c.args.learnt.now.clause.items c.args.learnt.now.hints.items c.args.learnt.now.places.items) (sym c.len.ensures) start)
 
 pub returns-in-Decisions-clause-decided : goal.returns-in-Decisions-clause-decided
 returns-in-Decisions-clause-decided c = λ is_cut start.

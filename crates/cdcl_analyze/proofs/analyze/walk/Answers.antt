@@ -17,11 +17,14 @@ down-preserved-in-Some-reason c =
     let cited = c.in_ok-cite-in-Some-reason.ensures in
     let marked = c.in_ok-mark-in-Some-reason.ensures in
     record {
-      walked = λ t like start. like_resolve graph t c.args.from c.down.end old popped like fits inside c.down.invariant.waiting k c.entry-entry.result c.pop.ensures.marks next c.entry-entry.ensures _ _ _ (c.down.invariant.walked t like start)
-          c.invariant.ensures (IsMarked c.mark.new.marks) c.in-Some-reason.hint (read_literals c.reason-clause.result) _ _ _ c.in-Some-reason.is c.reason-clause.ensures.same marked.kept marked.all cited.clause cited.hints cited.places;
+      walked = λ t like start. like_resolve graph t c.args.from c.down.end old popped like fits inside c.down.invariant.waiting k c.entry-entry.result
+          c.pop.ensures.marks next c.entry-entry.ensures _ _ _ (c.down.invariant.walked t like start)
+          c.invariant.ensures (IsMarked c.mark.new.marks) c.in-Some-reason.hint (read_literals c.reason-clause.result)
+          _ _ _ c.in-Some-reason.is c.reason-clause.ensures.same marked.kept marked.all cited.clause cited.hints cited.places;
       decided = λ t like start. subst (All (IsDecision t)) (sym cited.places) (c.down.invariant.decided t like start);
       size = c.mark.ensures.size ∙ c.pop.ensures.room ∙ c.down.invariant.size;
-      waiting = marked.waiting k (still_waiting graph.trail c.down.end k old popped c.down.invariant.waiting c.pop.ensures.marks next (omega (arith, fits, inside)));
+      waiting =
+          marked.waiting k (still_waiting graph.trail c.down.end k old popped c.down.invariant.waiting c.pop.ensures.marks next (omega (arith, fits, inside)));
       low = omega (arith, next.low, fits);
     }
 
@@ -36,9 +39,11 @@ down-preserved c =
     let popped = c.pop.new.self in
     let kept = c.in_ok-keep-in-None.ensures in
     record {
-      walked = λ t like start. like_keep graph t c.args.from c.down.end old popped like fits inside c.down.invariant.waiting k c.entry-entry.result c.pop.ensures.marks next c.entry-entry.ensures _ _ _ (c.down.invariant.walked t like start)
+      walked = λ t like start. like_keep graph t c.args.from c.down.end old popped like fits inside c.down.invariant.waiting k c.entry-entry.result
+          c.pop.ensures.marks next c.entry-entry.ensures _ _ _ (c.down.invariant.walked t like start)
           c.opposite.result _ _ _ c.opposite.ensures kept.clause kept.hints kept.places;
-      decided = λ t like start. like_decided graph t c.args.from c.down.end old popped like fits inside c.down.invariant.waiting k c.entry-entry.result c.pop.ensures.marks next c.entry-entry.ensures _ _ c.in-None.is kept.places (c.down.invariant.decided t like start);
+      decided = λ t like start. like_decided graph t c.args.from c.down.end old popped like fits inside c.down.invariant.waiting k c.entry-entry.result
+          c.pop.ensures.marks next c.entry-entry.ensures _ _ c.in-None.is kept.places (c.down.invariant.decided t like start);
       size = c.pop.ensures.room ∙ c.down.invariant.size;
       waiting = still_waiting graph.trail c.down.end k old popped c.down.invariant.waiting c.pop.ensures.marks next (omega (arith, fits, inside));
       low = omega (arith, next.low, fits);
@@ -46,4 +51,5 @@ down-preserved c =
 
 pub returns-clause-walked : goal.returns-clause-walked
 returns-clause-walked c = λ t like start.
-    like_ended c.args.graph.now t c.args.from c.down.end c.down.marks c.pop.new.self like c.down.invariant.low c.requires.can_walk.within c.down.invariant.waiting c.in_default.ensures.next _ _ _ (c.down.invariant.walked t like start)
+    like_ended c.args.graph.now t c.args.from c.down.end c.down.marks c.pop.new.self like c.down.invariant.low c.requires.can_walk.within
+    c.down.invariant.waiting c.in_default.ensures.next _ _ _ (c.down.invariant.walked t like start)

@@ -13,6 +13,7 @@ returns-then-entry-level-clause-lasting c =
     let within : c.args.propagated < length trail = omega (arith, c.requires.ready.within) in
     let old = subst (IsLasting c.args.watches.now.clauses trail) (let e : c.args.lasting.now ≡ c.args.propagated = omega arith in e) c.requires.lasting in
     let same : level_at trail c.args.propagated ≡ level_at trail (length trail - 1) =
-    ap (λ (e : Entry). e.level) (sym (c.entry.ensures ∙ get_or_default trail c.args.propagated c.entry.result blank_entry within)) ∙ c.if-entry-level.true ∙ c.level.ensures in
+    ap (λ (e : Entry). e.level) (sym (c.entry.ensures ∙ get_or_default trail c.args.propagated c.entry.result blank_entry within))
+    ∙ c.if-entry-level.true ∙ c.level.ensures in
     lasting_more c.args.log.now.inputs c.args.log.now.lines c.args.watches.now.clauses trail c.args.propagated c.requires.ready.is_trail within
     (top_last c.args.log.now.inputs c.args.log.now.lines trail c.args.propagated c.requires.ready.is_trail within same) c.requires.ready.guarded old

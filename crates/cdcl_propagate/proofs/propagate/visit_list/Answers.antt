@@ -11,7 +11,8 @@ pub along-found-requires-clause-visiting : goal.along-found-requires-clause-visi
 along-found-requires-clause-visiting c =
     let arena = c.watches.inside.arena in
     let start : walked arena c.watches.inside.lists (code c.opposite-falsified.result) 0 0 ≡ c.args.watches.now =
-    ap (λ ls. let w : WatchValue = record { clauses = arena.clauses; lists = numbers arena.heads ls; names = arena.names } in w) (closed_none c.watches.inside.lists (code c.opposite-falsified.result) 0) ∙ c.watches.view_is in
+    ap (λ ls. let w : WatchValue = record { clauses = arena.clauses; lists = numbers arena.heads ls; names = arena.names } in w)
+    (closed_none c.watches.inside.lists (code c.opposite-falsified.result) 0) ∙ c.watches.view_is in
     subst (IsVisiting c.args.log.now.inputs c.args.log.now.lines c.args.place 0 c.args.assigned.now) (sym start)
     (begin_visit c.args.log.now.inputs c.args.log.now.lines c.args.place c.args.assigned.now c.args.watches.now c.requires.there c.requires.ready)
 

@@ -42,7 +42,10 @@ assign-requires-clause-known c =
     let clause = c.clause_of-clause.result.now in
     let is : named log.inputs log.lines c.args.hint ≡ Some clause =
     subst (λ (l : LogValue). named l.inputs l.lines c.args.hint ≡ Some clause) c.view-view.ensures.same c.clause_of-clause.ensures in
-    (named_has (All (IsBelow letters)) log.inputs log.lines c.args.hint clause c.requires.known_inputs c.requires.known_lines is 0 blank (omega (arith, c.if-clause-eq0.false))).1
+    (named_has (All (IsBelow letters)) log.inputs log.lines c.args.hint clause c.requires.known_inputs c.requires.known_lines is 0 blank (omega (
+      arith,
+      c.if-clause-eq0.false,
+    ))).1
 
 pub returns-clause-is_trail : goal.returns-clause-is_trail
 returns-clause-is_trail c =
@@ -56,7 +59,8 @@ returns-clause-is_trail c =
     let there : Contains clause u = Contains-get_or clause 0 blank (omega (arith, c.if-clause-eq0.false)) in
     let e : Entry = record { literal = u; level = c.last_level-level.result; reason = Some c.args.hint } in
     subst (IsTrail log.inputs log.lines) (sym c.in_ok-assign.ensures.trail)
-    (trail_push log.inputs log.lines trail e c.requires.is_trail (unit_stands log.inputs log.lines trail c.args.hint clause u c.last_level-level.result c.requires.is_trail is one there c.last_level-level.ensures))
+    (trail_push log.inputs log.lines trail e c.requires.is_trail
+    (unit_stands log.inputs log.lines trail c.args.hint clause u c.last_level-level.result c.requires.is_trail is one there c.last_level-level.ensures))
 
 pub returns-clause-found : goal.returns-clause-found
 returns-clause-found c = λ other other_is.

@@ -11,9 +11,12 @@ get-requires c = omega (arith, c.requires.watch.1.long, ap length c.clause.ensur
 pub returns-then-number-clause-faced : goal.returns-then-number-clause-faced
 returns-then-number-clause-faced c = λ ls.
     faced_same (watched_by c.args.arena.now ls) (number_of c.args.arena.now.heads c.args.head) c.args.literal c.requires.watch
-    (sym (ap (λ r. code (get_or r 1 blank)) (sym c.clause.ensures) ∙ ap code (sym c.get.ensures) ∙ sym c.number.ensures ∙ c.if-number.true ∙ c.number-2.ensures))
+    (sym
+    (ap (λ r. code (get_or r 1 blank)) (sym c.clause.ensures) ∙ ap code (sym c.get.ensures) ∙ sym c.number.ensures ∙ c.if-number.true ∙ c.number-2.ensures))
 
 pub returns-clause-faced : goal.returns-clause-faced
 returns-clause-faced c = λ ls.
-    faced_turned (watched_by c.args.arena.now ls) (watched_by c.swap.new.self ls) (number_of c.args.arena.now.heads c.args.head) c.args.literal c.requires.low c.requires.watch
-    (λ e. c.if-number.false (c.number.ensures ∙ ap code c.get.ensures ∙ ap (λ r. code (get_or r 1 blank)) c.clause.ensures ∙ sym e ∙ sym c.number-2.ensures)) c.swap.ensures.clauses refl c.swap.ensures.names
+    faced_turned (watched_by c.args.arena.now ls) (watched_by c.swap.new.self ls) (number_of c.args.arena.now.heads c.args.head)
+    c.args.literal c.requires.low c.requires.watch
+    (λ e. c.if-number.false (c.number.ensures ∙ ap code c.get.ensures ∙ ap (λ r. code (get_or r 1 blank)) c.clause.ensures ∙ sym e ∙ sym c.number-2.ensures))
+    c.swap.ensures.clauses refl c.swap.ensures.names

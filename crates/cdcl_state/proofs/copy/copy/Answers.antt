@@ -12,7 +12,8 @@ heads-init c =
     record {
       head = at.0;
       lists = refl;
-      copied = subst (λ n. IsCopied old.clauses old.names n c.args.watches.now) (sym at.1) (copied_none old.clauses old.names c.args.watches.now c.requires.clauses c.requires.names);
+      copied = subst (λ n. IsCopied old.clauses old.names n c.args.watches.now) (sym at.1)
+          (copied_none old.clauses old.names c.args.watches.now c.requires.clauses c.requires.names);
     }
 
 pub heads-preserved : goal.heads-preserved

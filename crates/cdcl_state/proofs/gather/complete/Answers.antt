@@ -16,7 +16,8 @@ returns-clause-kept c =
     let old = c.args.watches.now in
     let there = c.mark_watched.new.there.items in
     let are = subst (λ (w : WatchValue). AreThere (names_of w) there) c.watches.view_is c.mark_watched.ensures in
-    gathered_inputs (names_of old) there log c.put_missing.new.watches (c.put_missing.ensures.kept (names_of old) (gathered_there log old there c.requires.stored c.requires.long are))
+    gathered_inputs (names_of old) there log c.put_missing.new.watches
+    (c.put_missing.ensures.kept (names_of old) (gathered_there log old there c.requires.stored c.requires.long are))
 
 pub returns-clause-all_lines : goal.returns-clause-all_lines
 returns-clause-all_lines c =

@@ -22,7 +22,8 @@ heads-preserved c =
     let low = number_low arena.heads head (subst (λ o. IfSome o (Contains arena.heads)) c.in-Some.is c.heads.invariant.head) in
     record {
       head = (count_head arena.heads (suc n) c.after-next.result c.invariant.ensures.apart c.after-next.ensures).0;
-      marked = there_more arena.names c.heads.there.items c.mark.new.there.items n c.name-name.result c.heads.invariant.marked (omega (arith, low.0, c.invariant.ensures.paired, c.invariant.ensures.named)) c.name-name.ensures c.mark.ensures;
+      marked = there_more arena.names c.heads.there.items c.mark.new.there.items n c.name-name.result c.heads.invariant.marked
+          (omega (arith, low.0, c.invariant.ensures.paired, c.invariant.ensures.named)) c.name-name.ensures c.mark.ensures;
     }
 
 pub heads-smaller : goal.heads-smaller

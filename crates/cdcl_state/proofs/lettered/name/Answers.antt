@@ -17,9 +17,11 @@ loop-literal-preserved c =
     let new = c.name.new.self in
     let clause = c.args.clause.now in
     record {
-      there = of_next old new clause c.loop-literal.literal-index _ c.loop-literal-test.true c.in_ok-name.ensures.kept c.in_ok-name.ensures.there c.loop-literal.invariant.there;
+      there = of_next old new clause c.loop-literal.literal-index _ c.loop-literal-test.true c.in_ok-name.ensures.kept c.in_ok-name.ensures.there
+          c.loop-literal.invariant.there;
       kept = kept_both c.args.named.now old new c.loop-literal.invariant.kept c.in_ok-name.ensures.kept;
     }
 
 pub returns-clause-there : goal.returns-clause-there
-returns-clause-there c = subst (AreOf c.loop-literal.named) (take_all c.loop-literal.literal-index c.args.clause.now c.loop-literal-test.false) c.loop-literal.invariant.there
+returns-clause-there c =
+    subst (AreOf c.loop-literal.named) (take_all c.loop-literal.literal-index c.args.clause.now c.loop-literal-test.false) c.loop-literal.invariant.there

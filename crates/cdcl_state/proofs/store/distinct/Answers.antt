@@ -17,4 +17,5 @@ loop-literal-preserved c =
 
 pub returns-clause-same : goal.returns-clause-same
 returns-clause-same c =
-    distinct_whole c.args.clause.now c.loop-literal.out.items c.loop-literal.literal-index (omega (arith, c.loop-literal-test.false)) c.loop-literal.invariant.there c.loop-literal.invariant.back
+    distinct_whole c.args.clause.now c.loop-literal.out.items c.loop-literal.literal-index (omega (arith, c.loop-literal-test.false))
+    c.loop-literal.invariant.there c.loop-literal.invariant.back

@@ -9,7 +9,8 @@ pub returns-in-Ok-clause-kept : goal.returns-in-Ok-clause-kept
 returns-in-Ok-clause-kept c =
     let old = c.args.out.now.items in
     subst (λ new. All (Contains new) old) (sym c.in-Ok.ensures.items)
-    (All-weaker (Contains old) (Contains (old ++ c.args.literal ∷ [])) (λ l h. Contains-append_left old (c.args.literal ∷ []) l h) old (All-contains_itself old))
+    (All-weaker (Contains old) (Contains (old ++ c.args.literal ∷ [])) (λ l h. Contains-append_left old (c.args.literal ∷ []) l h) old
+    (All-contains_itself old))
 
 pub returns-in-Err-clause-kept : goal.returns-in-Err-clause-kept
 returns-in-Err-clause-kept c =

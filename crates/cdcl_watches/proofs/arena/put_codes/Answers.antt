@@ -11,5 +11,6 @@ returns-in_err-push-clause-kept c =
 
 pub loop-place-preserved : goal.loop-place-preserved
 loop-place-preserved c =
-    turned_more code c.args.row.now c.args.items.now.items c.loop-place.items.items c.push.new.self.items c.loop-place.place c.place_of-next.result c.encode.result.0 _
+    turned_more code c.args.row.now c.args.items.now.items c.loop-place.items.items c.push.new.self.items c.loop-place.place c.place_of-next.result
+    c.encode.result.0 _
     (omega (arith, c.loop-place-test.true)) c.loop-place.invariant c.place_of-next.ensures c.encode.ensures c.in_ok-push.ensures.items

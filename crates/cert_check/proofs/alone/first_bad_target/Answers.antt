@@ -20,13 +20,16 @@ targets-preserved c =
       finite = search;
       left = rw (add-one c.targets.index) (sym w.2);
       low = omega (arith, w.0, c.requires.count);
-      good = good_so_far (λ k. Good k (get_or c.args.targets k 0)) c.targets.index c.targets.invariant.good (subst (Good c.targets.index) (sym w.1) (c.is_good.ensures.0 yes));
+      good = good_so_far (λ k. Good k (get_or c.args.targets k 0)) c.targets.index c.targets.invariant.good
+          (subst (Good c.targets.index) (sym w.1) (c.is_good.ensures.0 yes));
     }
 
 pub returns : goal.returns
 returns c =
-    none_bad (λ k. IsGoodKept c.args.closure.now.formula c.args.closure.now.kind c.args.depth c.args.checker.now.live k (get_or c.args.targets k 0)) c.targets.index (c.args.depth + 2)
-    (let w = drop_none c.args.targets c.targets.index (sym c.targets.invariant.left ∙ c.in-None.ensures.steps.0) in omega (arith, w, c.requires.count)) c.targets.invariant.good
+    none_bad (λ k. IsGoodKept c.args.closure.now.formula c.args.closure.now.kind c.args.depth c.args.checker.now.live k (get_or c.args.targets k 0))
+    c.targets.index (c.args.depth + 2)
+    (let w = drop_none c.args.targets c.targets.index (sym c.targets.invariant.left ∙ c.in-None.ensures.steps.0) in omega (arith, w, c.requires.count))
+    c.targets.invariant.good
 
 pub returns-then-not-is_good : goal.returns-then-not-is_good
 returns-then-not-is_good c =

@@ -9,4 +9,5 @@ judge_over-requires-clause-clauses c = c.in-Some.ensures ∙ same_list c.of-clau
 
 pub judge_over-requires-in-None-clause-clauses : goal.judge_over-requires-in-None-clause-clauses
 judge_over-requires-in-None-clause-clauses c =
-    ap (λ (x : IndexedValue). clause_list x.formula x.kind x.depth) c.of.ensures ∙ same_list c.of-clauses.ensures.formula c.of-clauses.ensures.kind c.of-clauses.ensures.depth
+    ap (λ (x : IndexedValue). clause_list x.formula x.kind x.depth) c.of.ensures
+    ∙ same_list c.of-clauses.ensures.formula c.of-clauses.ensures.kind c.of-clauses.ensures.depth

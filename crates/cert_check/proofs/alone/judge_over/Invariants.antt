@@ -7,6 +7,7 @@ use Rattle.cert_check.proofs.alone.judge_over.Given as goal
 
 abbrev pub invariant-items : goal.invariant-items
 invariant-items g l = record {
-  walked : IsWalked (clause_list l.closure.formula l.closure.kind l.form.depth) (letters_through l.closure.kind (counts l.closure.formula) l.form.depth) (certificate_in l.bytes) l.item-iterator l.checker;
+  walked : IsWalked (clause_list l.closure.formula l.closure.kind l.form.depth) (letters_through l.closure.kind (counts l.closure.formula) l.form.depth)
+      (certificate_in l.bytes) l.item-iterator l.checker;
   line : l.left + l.checker.lines ≡ l.form.lines;
 }

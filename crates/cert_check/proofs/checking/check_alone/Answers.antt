@@ -24,6 +24,8 @@ returns-clause-verdict g c =
     let says : c.in-Ok.form ≡ form_of (certificate_in c.args.bytes.now) = e.2 ∙ ap form_of (sym own) in
     let same_kind : c.in-Ok.form.kind ≡ c.args.kind = search rules in
     let fits : Fits (layout_of c.in_ok-closure.closure) c.in-Ok.form.depth = search rules in
-    judged_bytes (tree_at c.args.table.now c.args.root) c.args.kind c.args.bytes.now (certificate_in c.args.bytes.now) c.in_ok-closure.closure.formula c.in_ok-closure.closure.kind c.in-Ok.form.depth
-    (subst (IsTextOf c.args.bytes.now) (sym own) e.1) (sym (ap (λ (x : Form). x.kind) says) ∙ same_kind) (ap (λ (x : Form). x.depth) says) c.in_ok-closure.ensures.formula c.in_ok-closure.ensures.kind
+    judged_bytes (tree_at c.args.table.now c.args.root) c.args.kind c.args.bytes.now (certificate_in c.args.bytes.now)
+    c.in_ok-closure.closure.formula c.in_ok-closure.closure.kind c.in-Ok.form.depth
+    (subst (IsTextOf c.args.bytes.now) (sym own) e.1) (sym (ap (λ (x : Form). x.kind) says) ∙ same_kind) (ap (λ (x : Form). x.depth) says)
+    c.in_ok-closure.ensures.formula c.in_ok-closure.ensures.kind
     (answer_of c.in_ok-judge.field-0) fits c.in_ok-judge.ensures

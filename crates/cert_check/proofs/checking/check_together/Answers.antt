@@ -16,5 +16,6 @@ pub returns-clause-verdict : goal.returns-clause-verdict
 returns-clause-verdict g c =
     let same_kind : c.in-Ok.view.kind ≡ c.args.kind = search rules in
     let fits : Fits (layout_of c.in_ok-closure.closure) c.in-Ok.view.depth = search rules in
-    judged_bytes (tree_at c.args.table.now c.args.root) c.args.kind c.args.bytes.now c.in-Ok.view c.in_ok-closure.closure.formula c.in_ok-closure.closure.kind c.in-Ok.view.depth c.in-Ok.ensures.ok same_kind refl c.in_ok-closure.ensures.formula c.in_ok-closure.ensures.kind
+    judged_bytes (tree_at c.args.table.now c.args.root) c.args.kind c.args.bytes.now c.in-Ok.view c.in_ok-closure.closure.formula c.in_ok-closure.closure.kind
+    c.in-Ok.view.depth c.in-Ok.ensures.ok same_kind refl c.in_ok-closure.ensures.formula c.in_ok-closure.ensures.kind
     (answer_of c.in_ok-judge.field-0) fits c.in_ok-judge.ensures

@@ -18,17 +18,20 @@ literals-preserved c = record {
   same = elim c.else-ne.branch [
     | else-ne-via-then-ne+else-ne-2 w ↦
         among_on c.args.first c.args.second c.literals.literal-iterator c.next.new.self c.args.literals c.in-Some.literal c.in-Some.ensures.steps
-        (is_second c.args.first c.args.second c.in-Some.literal (same_literal c.in-Some.literal c.args.second (sym w.ne-then-ne.ensures ∙ w.if-ne-2.false))) c.literals.invariant.same
+        (is_second c.args.first c.args.second c.in-Some.literal (same_literal c.in-Some.literal c.args.second (sym w.ne-then-ne.ensures ∙ w.if-ne-2.false)))
+        c.literals.invariant.same
     | else-ne-via-else-ne w ↦
         among_on c.args.first c.args.second c.literals.literal-iterator c.next.new.self c.args.literals c.in-Some.literal c.in-Some.ensures.steps
-        (is_first c.args.first c.args.second c.in-Some.literal (same_literal c.in-Some.literal c.args.first (sym c.ne.ensures ∙ w.if-ne.false))) c.literals.invariant.same
+        (is_first c.args.first c.args.second c.in-Some.literal (same_literal c.in-Some.literal c.args.first (sym c.ne.ensures ∙ w.if-ne.false)))
+        c.literals.invariant.same
   ];
 }
 
 pub returns-then-ne-2 : goal.returns-then-ne-2
 returns-then-ne-2 c =
     among_not c.args.first c.args.second c.literals.literal-iterator c.next.new.self c.args.literals c.in-Some.literal c.in-Some.ensures.steps
-    (differ c.in-Some.literal c.args.first (sym c.ne.ensures ∙ c.if-ne.true)) (differ c.in-Some.literal c.args.second (sym c.ne-then-ne.ensures ∙ c.if-ne-2.true)) c.literals.invariant.same
+    (differ c.in-Some.literal c.args.first (sym c.ne.ensures ∙ c.if-ne.true))
+    (differ c.in-Some.literal c.args.second (sym c.ne-then-ne.ensures ∙ c.if-ne-2.true)) c.literals.invariant.same
 
 pub returns : goal.returns
 returns c = among_ends c.args.first c.args.second c.literals.literal-iterator c.args.literals c.in-None.ensures.steps.0 c.literals.invariant.same

@@ -7,5 +7,6 @@ returns-clause-numbers c =
     let end = c.last_space_end.result in
     let to = c.blocks_end-end.result in
     let low = c.last_space_end.ensures.from in
-    numbers_in (end - c.args.at) c.args.bytes.now c.args.at end to (omega (arith, low)) (omega (arith, c.if-at-eq0.false)) low c.last_space_end.ensures.within c.blocks_end-end.ensures.within c.if-bytes-at-ne32.false
+    numbers_in (end - c.args.at) c.args.bytes.now c.args.at end to (omega (arith, low)) (omega (arith, c.if-at-eq0.false))
+    low c.last_space_end.ensures.within c.blocks_end-end.ensures.within c.if-bytes-at-ne32.false
     c.last_space_end.ensures.space c.blocks_end-end.ensures.order c.blocks_end-end.ensures.spaced

@@ -7,4 +7,5 @@ use Rattle.cert_text.proofs.blocks.has_space.Goals as goal
 pub returns : goal.returns
 returns c = λ is.
     let bytes = c.args.bytes.now in
-    spaced bytes c.args.at c.requires c.type_inv.bytes _ _ (zip2_splat {Y = ℕ} _ (chunk c.args.at 8 bytes) 8 32 (length-chunk c.args.at 8 bytes c.requires)) refl (positive _ is)
+    spaced bytes c.args.at c.requires c.type_inv.bytes _ _ (zip2_splat {Y = ℕ} _ (chunk c.args.at 8 bytes) 8 32 (length-chunk c.args.at 8 bytes c.requires))
+    refl (positive _ is)

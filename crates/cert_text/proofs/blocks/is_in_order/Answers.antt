@@ -19,7 +19,10 @@ returns c = λ is.
     let second = seconds before here same in
     let low = zip2_of_maps (λ a b. cond (leb a b) 255 0) _ _ vs (splat_is_map vs 16 49 long) second in
     let digit = zip2_of_maps _ _ _ vs low (zip2_of_maps {Y = ℕ} _ _ _ vs second (splat_is_map vs 16 57 long)) in
-    let ends = zip2_of_maps _ _ _ vs (zip2_of_maps {Y = ℕ} _ _ _ vs second (splat_is_map vs 16 48 long)) (zip2_of_maps {Y = ℕ} _ _ _ vs second (splat_is_map vs 16 32 long)) in
+    let ends = zip2_of_maps _ _ _ vs (zip2_of_maps {Y = ℕ} _ _ _ vs second (splat_is_map vs 16 48 long))
+    (zip2_of_maps {Y = ℕ} _ _ _ vs second (splat_is_map vs 16 32 long)) in
     let behind = zip2_of_maps _ _ _ vs (zip2_of_maps (λ a b. cond (leb a b) 255 0) _ _ vs (splat_is_map vs 16 48 long) first) ends in
-    let signs = zip2_of_maps _ _ _ vs (zip2_of_maps {Y = ℕ} _ _ _ vs second (splat_is_map vs 16 45 long)) (zip2_of_maps {Y = ℕ} _ _ _ vs first (splat_is_map vs 16 32 long)) in
-    in_order bytes c.args.at c.requires.some room c.type_inv.bytes _ _ (zip2_of_maps _ _ _ vs digit (zip2_of_maps _ _ _ vs behind signs)) (λ a b. refl) (full _ is)
+    let signs = zip2_of_maps _ _ _ vs (zip2_of_maps {Y = ℕ} _ _ _ vs second (splat_is_map vs 16 45 long))
+    (zip2_of_maps {Y = ℕ} _ _ _ vs first (splat_is_map vs 16 32 long)) in
+    in_order bytes c.args.at c.requires.some room c.type_inv.bytes _ _ (zip2_of_maps _ _ _ vs digit (zip2_of_maps _ _ _ vs behind signs))
+    (λ a b. refl) (full _ is)

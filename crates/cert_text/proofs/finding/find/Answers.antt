@@ -5,7 +5,8 @@ use Rattle.cert_text.proofs.finding.find.Goals as goal
 pub returns-in-None-clause-first : goal.returns-in-None-clause-first
 returns-in-None-clause-first c =
     let bytes = c.args.bytes.now in
-    sought_is bytes c.args.at c.args.byte (length bytes) (sought_nowhere bytes _ c.args.at c.args.byte c.requires refl c.in-None.ensures) (λ low. absurd (omega (arith, low)))
+    sought_is bytes c.args.at c.args.byte (length bytes) (sought_nowhere bytes _ c.args.at c.args.byte c.requires refl c.in-None.ensures)
+    (λ low. absurd (omega (arith, low)))
 
 pub returns-in-Some-clause-first : goal.returns-in-Some-clause-first
 returns-in-Some-clause-first c =

@@ -12,8 +12,10 @@ overflow_add-lines c =
     let is : piece.came ≡ Some (places.Part found) = search rules in
     let low : c.pieces.index < length c.args.pieces.now.items = omega (arith, c.pieces-test.true, c.len-index-end.ensures) in
     let passed = subst (IsPassed bytes c.args.head) (sym c.index-piece.ensures) (c.requires.passed c.pieces.index piece low) in
-    let came = at_join bytes c.args.head piece (places.Part found) c.pieces.at c.if-piece-at.false (came_to bytes c.args.head piece (places.Part found) passed is) in
-    let led = join_part bytes c.args.head found c.pieces.at piece.to c.pieces.lines c.requires.none c.if-piece-at-2.false c.pieces.invariant.1 came (c.is_under.ensures (search rules)) in
+    let came = at_join bytes c.args.head piece (places.Part found) c.pieces.at c.if-piece-at.false
+    (came_to bytes c.args.head piece (places.Part found) passed is) in
+    let led = join_part bytes c.args.head found c.pieces.at piece.to c.pieces.lines c.requires.none c.if-piece-at-2.false c.pieces.invariant.1 came
+    (c.is_under.ensures (search rules)) in
     let few : length bytes < 18446744073709551616 = search rules in
     omega (arith, few, join_lines bytes (places.Part (with_lines c.args.head (c.pieces.lines + found.lines))) piece.to c.if-piece-bytes.false led)
 
@@ -25,8 +27,10 @@ pieces-preserved c =
     let is : piece.came ≡ Some (places.Part found) = search rules in
     let low : c.pieces.index < length c.args.pieces.now.items = omega (arith, c.pieces-test.true, c.len-index-end.ensures) in
     let passed = subst (IsPassed bytes c.args.head) (sym c.index-piece.ensures) (c.requires.passed c.pieces.index piece low) in
-    let came = at_join bytes c.args.head piece (places.Part found) c.pieces.at c.if-piece-at.false (came_to bytes c.args.head piece (places.Part found) passed is) in
-    let led = join_part bytes c.args.head found c.pieces.at piece.to c.pieces.lines c.requires.none c.if-piece-at-2.false c.pieces.invariant.1 came (c.is_under.ensures (search rules)) in
+    let came = at_join bytes c.args.head piece (places.Part found) c.pieces.at c.if-piece-at.false
+    (came_to bytes c.args.head piece (places.Part found) passed is) in
+    let led = join_part bytes c.args.head found c.pieces.at piece.to c.pieces.lines c.requires.none c.if-piece-at-2.false c.pieces.invariant.1 came
+    (c.is_under.ensures (search rules)) in
     (c.if-piece-bytes.false, led)
 
 pub overflow_add-result : goal.overflow_add-result
@@ -37,7 +41,8 @@ overflow_add-result c =
     let is : piece.came ≡ Some (places.End found) = search rules in
     let low : c.pieces.index < length c.args.pieces.now.items = omega (arith, c.pieces-test.true, c.len-index-end.ensures) in
     let passed = subst (IsPassed bytes c.args.head) (sym c.index-piece.ensures) (c.requires.passed c.pieces.index piece low) in
-    let came = at_join bytes c.args.head piece (places.End found) c.pieces.at c.if-piece-at.false (came_to bytes c.args.head piece (places.End found) passed is) in
+    let came = at_join bytes c.args.head piece (places.End found) c.pieces.at c.if-piece-at.false
+    (came_to bytes c.args.head piece (places.End found) passed is) in
     let led = join_end bytes c.args.head found c.pieces.at piece.to c.pieces.lines c.requires.none c.if-piece-at-2.false c.pieces.invariant.1 came in
     let few : length bytes < 18446744073709551616 = search rules in
     omega (arith, few, join_lines bytes (places.End (with_lines found (c.pieces.lines + found.lines))) piece.to c.if-piece-bytes.false led)
@@ -50,6 +55,7 @@ returns-in-Some-End c =
     let is : piece.came ≡ Some (places.End found) = search rules in
     let low : c.pieces.index < length c.args.pieces.now.items = omega (arith, c.pieces-test.true, c.len-index-end.ensures) in
     let passed = subst (IsPassed bytes c.args.head) (sym c.index-piece.ensures) (c.requires.passed c.pieces.index piece low) in
-    let came = at_join bytes c.args.head piece (places.End found) c.pieces.at c.if-piece-at.false (came_to bytes c.args.head piece (places.End found) passed is) in
+    let came = at_join bytes c.args.head piece (places.End found) c.pieces.at c.if-piece-at.false
+    (came_to bytes c.args.head piece (places.End found) passed is) in
     let led = join_end bytes c.args.head found c.pieces.at piece.to c.pieces.lines c.requires.none c.if-piece-at-2.false c.pieces.invariant.1 came in
     whole_text bytes (with_lines found (c.pieces.lines + found.lines)) piece.to (omega (arith, c.if-piece-bytes-2.true)) led

@@ -3,7 +3,8 @@ use Rattle.std.proofs.Common.{refl}
 use Rattle.cert_text.proofs.laws.writing.Goals as goal
 
 pub returns-clause-says : goal.returns-clause-says
-returns-clause-says c = λ kind depth lines hints targets paired. (written_lines hints targets 0 lines hints paired, written_hints hints targets 0 lines hints paired)
+returns-clause-says c =
+    λ kind depth lines hints targets paired. (written_lines hints targets 0 lines hints paired, written_hints hints targets 0 lines hints paired)
 
 pub returns-clause-text : goal.returns-clause-text
 returns-clause-text c = λ kind depth lines hints targets a b d e f g. record { lawful = written_is kind depth lines hints targets a b d e f g; spelled = refl }

@@ -21,9 +21,11 @@ advance-requires-clause-lines c none =
 pub bytes-preserved : goal.bytes-preserved
 bytes-preserved c =
     let bytes = c.args.bytes.now in
-    let one = run_more small_move (c.args.first.now, c.args.from) (c.bytes.left.now, c.bytes.place) (c.in-Some.found.0.now, c.in-Some.found.1) bytes c.bytes.index c.bytes-test.true c.bytes.invariant.1 c.in-Some.ensures in (
+    let one = run_more small_move (c.args.first.now, c.args.from) (c.bytes.left.now, c.bytes.place) (c.in-Some.found.0.now, c.in-Some.found.1)
+    bytes c.bytes.index c.bytes-test.true c.bytes.invariant.1 c.in-Some.ensures in (
       c.skip-index.ensures.within,
-      run_behind bytes c.requires.0 c.args.first.now c.in-Some.found.0.now c.args.from c.in-Some.found.1 (c.bytes.index + 1) c.skip-index.result c.skip-index.ensures.from c.skip-index.ensures.same c.requires.1 one,
+      run_behind bytes c.requires.0 c.args.first.now c.in-Some.found.0.now c.args.from c.in-Some.found.1 (c.bytes.index + 1)
+          c.skip-index.result c.skip-index.ensures.from c.skip-index.ensures.same c.requires.1 one,
     )
 
 pub returns : goal.returns

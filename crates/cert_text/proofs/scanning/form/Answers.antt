@@ -26,8 +26,12 @@ returns-in_default c =
 
 pub bytes-preserved : goal.bytes-preserved
 bytes-preserved c =
-    let at = at_byte c.args.bytes.now c.bytes.left.now c.in-Some.found.0.now c.bytes.place c.in-Some.found.1 c.bytes.index c.bytes-test.true c.bytes.invariant.1 c.in-Some.ensures in
-    (c.skip-index.ensures.within, at_behind c.args.bytes.now c.in-Some.found.0.now c.in-Some.found.1 (c.bytes.index + 1) c.skip-index.result c.skip-index.ensures.from c.skip-index.ensures.same at)
+    let at = at_byte c.args.bytes.now c.bytes.left.now c.in-Some.found.0.now c.bytes.place c.in-Some.found.1 c.bytes.index c.bytes-test.true c.bytes.invariant.1
+    c.in-Some.ensures in (
+      c.skip-index.ensures.within,
+      at_behind c.args.bytes.now c.in-Some.found.0.now c.in-Some.found.1 (c.bytes.index + 1)
+          c.skip-index.result c.skip-index.ensures.from c.skip-index.ensures.same at,
+    )
 
 -- the loop has gone to the end
 all_read : (bytes left : List ℕ) (place : Place) (i : ℕ) → i ≤ length bytes → length bytes ≤ i → IsAt (take i bytes) left place → IsAt bytes left place
@@ -36,7 +40,8 @@ all_read bytes left place i within end at = subst (λ w. IsAt w left place) (tak
 pub returns-then-not-is_empty : goal.returns-then-not-is_empty
 returns-then-not-is_empty c =
     let at = all_read c.args.bytes.now c.bytes.left.now c.bytes.place c.bytes.index c.bytes.invariant.0 c.bytes-test.false c.bytes.invariant.1 in
-    at_none c.args.bytes.now c.bytes.left.now c.bytes.place at (λ h none end. left_some c.bytes.left.now c.is_empty.result c.is_empty.ensures c.if-not-is_empty.true none)
+    at_none c.args.bytes.now c.bytes.left.now c.bytes.place
+    at (λ h none end. left_some c.bytes.left.now c.is_empty.result c.is_empty.ensures c.if-not-is_empty.true none)
 
 pub returns-in_default-place : goal.returns-in_default-place
 returns-in_default-place c =

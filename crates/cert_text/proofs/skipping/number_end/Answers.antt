@@ -12,6 +12,7 @@ returns c =
     let few : end - from ≤ c.args.most = omega (arith, c.if-end-start-2.false) in (
       omega (arith, c.sign_end-start.ensures.from, some),
       omega (arith, inside),
-      number_short bytes c.args.at from end c.args.most c.sign_end-start.ensures.from some inside c.requires.few few c.sign_end-start.ensures.sign c.digits_end-end.ensures.digits c.if-bytes-start-eq48.false
+      number_short bytes c.args.at from end c.args.most c.sign_end-start.ensures.from some inside c.requires.few few c.sign_end-start.ensures.sign
+          c.digits_end-end.ensures.digits c.if-bytes-start-eq48.false
           c.if-bytes-end-ne32.false,
     )

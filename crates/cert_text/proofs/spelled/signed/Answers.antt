@@ -16,7 +16,8 @@ slice_bounds-result-start c =
     let it = c.requires in
     let digits = (minus_digits c.args.bytes.now it.negated it.number it.more it.fits it.spelled c.if-bytes-eq45.true).1 in
     let read = c.number-value.ensures.value it.number (32 ∷ it.more) it.fits digits refl in
-    let low = (behind_space (take (length c.args.bytes.now - 1) (drop 1 c.args.bytes.now)) (decimal it.number) it.more c.number-value.result.1 digits read.1).0 in
+    let low =
+    (behind_space (take (length c.args.bytes.now - 1) (drop 1 c.args.bytes.now)) (decimal it.number) it.more c.number-value.result.1 digits read.1).0 in
     search (rules, low)
 
 pub returns-then-bytes-eq45 : goal.returns-then-bytes-eq45

@@ -9,4 +9,5 @@ abbrev pub invariant-loop-index : goal.invariant-loop-index
 invariant-loop-index l =
     l.out.items ++ flat_map part_text (parts_from l.derivation.hints l.targets l.index (drop l.index l.derivation.lines) (drop l.index l.derivation.hints))
     ≡ l.fn.out.items
-    ++ ((codes "ltlcert 2 " ++ (kind_text l.fn.kind ++ (codes " " ++ (decimal l.depth ++ codes "\n")))) ++ flat_map part_text (parts_from l.derivation.hints l.targets 0 l.derivation.lines l.derivation.hints))
+    ++ ((codes "ltlcert 2 " ++ (kind_text l.fn.kind ++ (codes " " ++ (decimal l.depth ++ codes "\n")))) ++ flat_map part_text
+    (parts_from l.derivation.hints l.targets 0 l.derivation.lines l.derivation.hints))

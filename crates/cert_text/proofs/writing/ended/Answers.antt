@@ -9,5 +9,6 @@ pub returns : goal.returns
 returns c hss k are low at is later =
     let found = c.in_ok-ended_by.ensures ∙ ap₂ (λ n hs. filter (is_ended c.args.last.now c.args.targets.now n) (n ∷ named_lines hs)) at is in
     ended_list hss c.args.last.now c.args.targets.now c.ended_by.new.found.items c.sort.new.self.items c.dedup.new.self.items k are low
-    (λ i there. later i (subst (λ hs. Contains hs (hints.Line i)) (sym is) there)) found c.in_ok-sort.ensures.permutation c.in_ok-sort.ensures.sorted (dedup_is eqb c.sort.new.self.items c.dedup.new.self.items c.dedup.ensures.filtered)
+    (λ i there. later i (subst (λ hs. Contains hs (hints.Line i)) (sym is) there)) found c.in_ok-sort.ensures.permutation c.in_ok-sort.ensures.sorted
+    (dedup_is eqb c.sort.new.self.items c.dedup.new.self.items c.dedup.ensures.filtered)
     ∙ ap (ended_at hss c.args.targets.now) (sym at)

@@ -16,5 +16,7 @@ returns c =
     let paired = are.paired in
     let same_ns = c.in_ok-ended.ensures log.hints k c.requires.last (omega (arith, c.requires.low, paired)) refl same_hs
     (λ m there. (hint_earlier list log are k m c.requires.low (subst (λ x. Contains x (hints.Line m)) same_hs there)).1) in
-    step_written c.args.out.now.items c.push_line.new.out.items c.push_delete.new.out.items c.literals.result.now (get_or log.lines k []) c.hints-hints.result.now (get_or log.hints k [])
-    c.deref.result.now (ended_at log.hints c.args.targets.now (k + 1)) c.in_ok-push_line.ensures c.in_ok-push_delete.ensures same_ls same_hs (c.deref.ensures.value ∙ same_ns)
+    step_written c.args.out.now.items c.push_line.new.out.items c.push_delete.new.out.items c.literals.result.now (get_or log.lines k [])
+    c.hints-hints.result.now (get_or log.hints k [])
+    c.deref.result.now (ended_at log.hints c.args.targets.now (k + 1)) c.in_ok-push_line.ensures c.in_ok-push_delete.ensures same_ls same_hs
+    (c.deref.ensures.value ∙ same_ns)

@@ -27,7 +27,15 @@ derive-requires-2 c =
 
 pub derive-requires-3 : goal.derive-requires-3
 derive-requires-3 c =
-    rw (c.in_ok-second.ensures.added.0, c.in_ok-first.ensures.added.0, c.in_ok-log.ensures, c.minus.ensures, c.minus-2.ensures, c.minus-3.ensures, c.minus-4.ensures)
+    rw (
+      c.in_ok-second.ensures.added.0,
+      c.in_ok-first.ensures.added.0,
+      c.in_ok-log.ensures,
+      c.minus.ensures,
+      c.minus-2.ensures,
+      c.minus-3.ensures,
+      c.minus-4.ensures,
+    )
     (is_step ((minus 2 ∷ []) ∷ (minus 2 ∷ []) ∷ []) (minus 2 ∷ minus 3 ∷ []) (Line 2 ∷ []) refl)
 
 named_five : AreNamed five clauses_of_false (3 ∷ 1 ∷ 5 ∷ [])
@@ -40,5 +48,8 @@ named_five = record { count = refl; each = each }
     each (suc (suc (suc i))) clause is = cc
 
 pub of-requires : goal.of-requires
-of-requires c =
-    (five, rw (c.in_ok-third.ensures.added.0, c.in_ok-second.ensures.added.0, c.in_ok-first.ensures.added.0, c.in_ok-log.ensures, c.in_ok-names.ensures.items) named_five)
+of-requires c = (
+  five,
+  rw (c.in_ok-third.ensures.added.0, c.in_ok-second.ensures.added.0, c.in_ok-first.ensures.added.0, c.in_ok-log.ensures, c.in_ok-names.ensures.items)
+      named_five,
+)

@@ -12,15 +12,19 @@ entry-requires c =
 pub returns-clause-right : goal.returns-clause-right
 returns-clause-right c =
     c.operands_of.ensures.right ∙ (ap (right_by (get_or c.eventualities.result.now c.args.index 0)) c.entry.ensures.entry
-    ∙ right_at c.args.closure.now.names c.args.closure.now.formula c.args.closure.now.entries c.entry.ensures.closure c.args.index c.requires c.eventualities.result.now c.eventualities.ensures.numbers)
+    ∙ right_at c.args.closure.now.names c.args.closure.now.formula c.args.closure.now.entries c.entry.ensures.closure c.args.index c.requires
+    c.eventualities.result.now c.eventualities.ensures.numbers)
 
 pub returns-clause-request : goal.returns-clause-request
 returns-clause-request c =
     c.operands_of.ensures.request ∙ (ap (request_by (get_or c.eventualities.result.now c.args.index 0)) c.entry.ensures.entry
-    ∙ request_at c.args.closure.now.names c.args.closure.now.formula c.args.closure.now.entries c.entry.ensures.closure c.args.index c.requires c.eventualities.result.now c.eventualities.ensures.numbers)
+    ∙ request_at c.args.closure.now.names c.args.closure.now.formula c.args.closure.now.entries c.entry.ensures.closure c.args.index c.requires
+    c.eventualities.result.now c.eventualities.ensures.numbers)
 
 pub returns-clause-right_known : goal.returns-clause-right_known
-returns-clause-right_known c = subst (IsNumber (width c.args.closure.now.formula)) (sym (returns-clause-right c)) (right_known c.args.closure.now.formula c.args.index c.requires)
+returns-clause-right_known c =
+    subst (IsNumber (width c.args.closure.now.formula)) (sym (returns-clause-right c)) (right_known c.args.closure.now.formula c.args.index c.requires)
 
 pub returns-clause-request_known : goal.returns-clause-request_known
-returns-clause-request_known c = subst (IsNumber (width c.args.closure.now.formula)) (sym (returns-clause-request c)) (request_known c.args.closure.now.formula c.args.index c.requires)
+returns-clause-request_known c =
+    subst (IsNumber (width c.args.closure.now.formula)) (sym (returns-clause-request c)) (request_known c.args.closure.now.formula c.args.index c.requires)

@@ -8,6 +8,8 @@ use Rattle.claim_check.specs.Data.{certificate_in}
 use Rattle.claim_check.proofs.checking.check.Given as goal
 
 abbrev pub invariant-layers : goal.invariant-layers
-invariant-layers l = (l.j ≤ length l.certificate.layers.items) × (letters_in l.assignment ≡ greatest l.closure.formula) × AreKnown (greatest l.closure.formula) l.lines
+invariant-layers l =
+    (l.j ≤ length l.certificate.layers.items) × (letters_in l.assignment ≡ greatest l.closure.formula) × AreKnown (greatest l.closure.formula) l.lines
     × (l.clauses ≡ clauses_before l.closure.formula (certificate_in l.certificate) l.j) × (l.lines ≡ lines_before (certificate_in l.certificate) l.j)
-    × ((i : ℕ) → i < l.j → IsLawfulLayer l.closure.formula l.kind (clauses_before l.closure.formula (certificate_in l.certificate) i) (lines_before (certificate_in l.certificate) i) (layer_at (certificate_in l.certificate) i))
+    × ((i : ℕ) → i < l.j → IsLawfulLayer l.closure.formula l.kind (clauses_before l.closure.formula (certificate_in l.certificate) i)
+    (lines_before (certificate_in l.certificate) i) (layer_at (certificate_in l.certificate) i))

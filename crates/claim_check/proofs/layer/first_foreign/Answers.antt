@@ -12,9 +12,12 @@ claims-preserved c =
 
 pub returns-then-not-is_of_entries : goal.returns-then-not-is_of_entries
 returns-then-not-is_of_entries c =
-    bad_here (λ q. All (IsKnown c.args.width) (get_or c.args.claims.now q [])) (length c.args.claims.now) c.claims.place (omega (arith, c.claims-test.true, c.count-place-end.ensures))
-    (λ good. false≢true (c.if-not-is_of_entries.ensures.1 (subst (All (IsKnown c.args.width)) (sym (own c.args.claims.now c.claims.place c.clause.result.now c.clause.ensures)) good))) c.claims.invariant
+    bad_here (λ q. All (IsKnown c.args.width) (get_or c.args.claims.now q [])) (length c.args.claims.now) c.claims.place
+    (omega (arith, c.claims-test.true, c.count-place-end.ensures))
+    (λ good. false≢true (c.if-not-is_of_entries.ensures.1
+    (subst (All (IsKnown c.args.width)) (sym (own c.args.claims.now c.claims.place c.clause.result.now c.clause.ensures)) good))) c.claims.invariant
 
 pub returns : goal.returns
 returns c =
-    all_good (λ q. All (IsKnown c.args.width) (get_or c.args.claims.now q [])) (length c.args.claims.now) c.claims.place (omega (arith, c.claims-test.false, c.count-place-end.ensures)) c.claims.invariant
+    all_good (λ q. All (IsKnown c.args.width) (get_or c.args.claims.now q [])) (length c.args.claims.now) c.claims.place
+    (omega (arith, c.claims-test.false, c.count-place-end.ensures)) c.claims.invariant

@@ -22,5 +22,7 @@ push_part-requires-6-clause-inside c = inside c.args.closure.now.names c.args.cl
 pub returns : goal.returns
 returns c =
     whole c.args.closure.now.names c.args.closure.now.formula c.entries-entries.result.now c.entries-entries.ensures.closure
-    c.args.out.now c.push_part.new.out c.push_part-2.new.out c.push_part-3.new.out c.push_part-4.new.out c.push_root.new.out c.push_part-5.new.out c.push_part-6.new.out
-    c.in_ok-push_part.ensures c.in_ok-push_part-2.ensures c.in_ok-push_part-3.ensures c.in_ok-push_part-4.ensures c.in_ok-push_root.ensures c.in_ok-push_part-5.ensures c.in_ok-push_part-6.ensures
+    c.args.out.now c.push_part.new.out c.push_part-2.new.out c.push_part-3.new.out c.push_part-4.new.out c.push_root.new.out c.push_part-5.new.out
+    c.push_part-6.new.out
+    c.in_ok-push_part.ensures c.in_ok-push_part-2.ensures c.in_ok-push_part-3.ensures c.in_ok-push_part-4.ensures c.in_ok-push_root.ensures
+    c.in_ok-push_part-5.ensures c.in_ok-push_part-6.ensures

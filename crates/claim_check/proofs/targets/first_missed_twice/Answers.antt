@@ -20,7 +20,8 @@ returns-then-not-are_two c =
     let lines = c.args.lines.now in
     let targets = c.args.targets.now in
     let q = c.claims.place in
-    bad_here (IsHeldTwice lines c.args.claims.now targets c.args.some.now c.args.others.now) (length c.args.claims.now) q (omega (arith, c.claims-test.true, c.count-place-end.ensures))
+    bad_here (IsHeldTwice lines c.args.claims.now targets c.args.some.now c.args.others.now) (length c.args.claims.now) q
+    (omega (arith, c.claims-test.true, c.count-place-end.ensures))
     (λ good. false≢true (c.if-not-are_two.ensures.1
     (subst (λ claim. IsTarget lines targets (2 * q) (claim ++ c.args.some.now) × IsTarget lines targets (2 * q + 1) (claim ++ c.args.others.now))
     (sym (own c.args.claims.now q c.clause-claim.result.now c.clause-claim.ensures)) good)))

@@ -22,7 +22,8 @@ whole : (bytes : List ℕ) (i : ℕ) (s : Scan) → i ≤ length bytes → lengt
 whole bytes i s within end e = ap (run start) (sym (take_all i bytes end)) ∙ e
 
 pub read_byte-requires-clause-range : goal.read_byte-requires-clause-range
-read_byte-requires-clause-range c = run_range (take c.bytes.index c.args.bytes.now) (c.bytes.left.now, c.bytes.place, draft_in c.bytes.draft) c.bytes.invariant.2
+read_byte-requires-clause-range c =
+    run_range (take c.bytes.index c.args.bytes.now) (c.bytes.left.now, c.bytes.place, draft_in c.bytes.draft) c.bytes.invariant.2
 
 pub returns-in_default : goal.returns-in_default
 returns-in_default c =
@@ -34,7 +35,8 @@ bytes-preserved c =
     let found = some_of _ _ c.in_ok-found.field-0 c.in-Some.found c.in-Some.is c.in_ok-found.ensures in (
       omega (arith, c.bytes-test.true),
       found.0,
-      run_more step start (c.bytes.left.now, c.bytes.place, draft_in c.bytes.draft) (c.in-Some.found.0.now, c.in-Some.found.1, draft_in c.read_byte.new.draft) c.args.bytes.now c.bytes.index c.bytes-test.true c.bytes.invariant.2 found.1,
+      run_more step start (c.bytes.left.now, c.bytes.place, draft_in c.bytes.draft) (c.in-Some.found.0.now, c.in-Some.found.1, draft_in c.read_byte.new.draft)
+          c.args.bytes.now c.bytes.index c.bytes-test.true c.bytes.invariant.2 found.1,
     )
 
 pub returns-then-not-is_empty : goal.returns-then-not-is_empty

@@ -5,7 +5,8 @@ use Rattle.ltl_syntax.specs.declared.node.Kind.TheVariants as Kinds
 use Rattle.ltl_syntax.specs.Formula.{Formula}
 use Rattle.claims.specs.Certificate.{Certificate}
 use Rattle.claims.specs.Lawful.{IsLawful}
-use Rattle.claims.specs.Worked.{again_and_never, never_certificate, too_strong, without_eventuality, after_q, layers_certificate, layers_exchanged, next_for_ever, ending_certificate, next_once, in_a_circle, before_all, first_certificate}
+use Rattle.claims.specs.Worked.{again_and_never, never_certificate, too_strong, without_eventuality, after_q, layers_certificate, layers_exchanged}
+use Rattle.claims.specs.Worked.{next_for_ever, ending_certificate, next_once, in_a_circle, before_all, first_certificate}
 use Rattle.claims.proofs.Judging.{is_lawful, Decides-lawful}
 use Rattle.claims.proofs.laws.worked_certificates.Goals as goal
 

@@ -6,5 +6,6 @@ use Rattle.clause_index.proofs.acceptance.finite.Goals as goal
 pub returns : goal.returns
 returns c =
     ap₂ (λ a b. a ∷ b ∷ []) c.negative-accepted.ensures (c.opposite.ensures ∙ ap opposite c.entry.ensures)
-    ∙ end_row c.args.closure.now.formula c.args.layout.now c.args.step c.strong_spot.result c.next_at-request.result.number c.args.index c.strong_spot.ensures.known c.strong_spot.ensures.place
+    ∙ end_row c.args.closure.now.formula c.args.layout.now c.args.step c.strong_spot.result c.next_at-request.result.number c.args.index
+    c.strong_spot.ensures.known c.strong_spot.ensures.place
     c.strong_spot.ensures.strong c.requires.within c.next_at-request.ensures.number

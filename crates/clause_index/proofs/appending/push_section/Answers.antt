@@ -19,7 +19,8 @@ clauses-preserved c =
     let all = signed_clauses x.formula x.kind (section_clauses x.formula x.kind c.args.step c.args.section) in
     let long = length-map (section_clauses x.formula x.kind c.args.step c.args.section) (map (literal_in x.kind (counts x.formula))) in
     let low : c.clauses.index < length all = omega (arith, are.count, long, c.clauses-test.true) in
-    next_more c.args.list.now all c.clauses.list c.push.new.list c.clauses.index _ [] low (sym (c.clause.ensures ∙ are.stand.each c.clauses.index low)) c.clauses.invariant c.in_ok-push.ensures.ok
+    next_more c.args.list.now all c.clauses.list c.push.new.list c.clauses.index _ [] low (sym (c.clause.ensures ∙ are.stand.each c.clauses.index low))
+    c.clauses.invariant c.in_ok-push.ensures.ok
 
 pub returns-clause-ok : goal.returns-clause-ok
 returns-clause-ok c =

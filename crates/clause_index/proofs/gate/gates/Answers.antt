@@ -25,4 +25,5 @@ returns c =
     ∙ (ap (λ x. row_at c.args.layout.now (entry_gate c.args.step c.gate_spot-spot.result.number x) c.gate_spot-spot.result.index)
     (c.entry.ensures.entry ∙ ap (λ es. entry_at es c.gate_spot-spot.result.number) (sym c.entries.ensures.entries))
     ∙ gate_row c.args.closure.now.names c.args.closure.now.formula c.entries.result.now c.entries.ensures.closure c.args.layout.now c.args.step
-    c.gate_spot-spot.result.number c.gate_spot-spot.result.index c.args.index c.gate_spot-spot.ensures.known c.gate_spot-spot.ensures.from c.gate_spot-spot.ensures.within)
+    c.gate_spot-spot.result.number c.gate_spot-spot.result.index c.args.index c.gate_spot-spot.ensures.known c.gate_spot-spot.ensures.from
+    c.gate_spot-spot.ensures.within)

@@ -15,7 +15,8 @@ returns-then-request c =
     let lt : c.args.index - 1 < length (yesterdays f) = grind (arith, c.requires.within) in
     let again : 1 + (c.args.index - 1) ≡ c.args.index = grind arith in
     ap₂ (λ a b. a ∷ b ∷ []) c.negative-here.ensures c.entry-value.ensures
-    ∙ first_row c.args.layout.now f (c.args.index - 1) c.yesterday_at-request.result.number c.args.index _ lt again c.yesterday_at-request.ensures.number (sym c.if-request.true ∙ c.yesterday_at-request.ensures.weak)
+    ∙ first_row c.args.layout.now f (c.args.index - 1) c.yesterday_at-request.result.number c.args.index _ lt again c.yesterday_at-request.ensures.number
+    (sym c.if-request.true ∙ c.yesterday_at-request.ensures.weak)
 
 pub returns : goal.returns
 returns c =
@@ -24,4 +25,5 @@ returns c =
     let lt : c.args.index - 1 < length (yesterdays f) = grind (arith, c.requires.within) in
     let again : 1 + (c.args.index - 1) ≡ c.args.index = grind arith in
     ap₂ (λ a b. a ∷ b ∷ []) c.negative-here.ensures (c.opposite.ensures ∙ ap opposite c.entry-value.ensures)
-    ∙ first_row c.args.layout.now f (c.args.index - 1) c.yesterday_at-request.result.number c.args.index _ lt again c.yesterday_at-request.ensures.number (sym c.if-request.false ∙ c.yesterday_at-request.ensures.weak)
+    ∙ first_row c.args.layout.now f (c.args.index - 1) c.yesterday_at-request.result.number c.args.index _ lt again c.yesterday_at-request.ensures.number
+    (sym c.if-request.false ∙ c.yesterday_at-request.ensures.weak)

@@ -28,4 +28,5 @@ returns c =
     let same = count_same f (nexts f) c.nexts.result.now c.nexts.ensures.numbers in
     let back = c.if-index-nexts.false in
     let k = c.args.index - 2 * length c.nexts.result.now in
-    c.yesterday_link.ensures ∙ later_right c.args.layout.now f c.args.step (c.args.index - 2 * length c.nexts.result.now) c.args.index (grind arith) (omega (arith, back, same))
+    c.yesterday_link.ensures ∙ later_right c.args.layout.now f c.args.step (c.args.index - 2 * length c.nexts.result.now) c.args.index (grind arith)
+    (omega (arith, back, same))

@@ -17,4 +17,5 @@ returns c =
     let n = c.args.layout.now.counts in
     ap₂ ◌∷◌ c.positive-equal.ensures
     (c.of.ensures
-    ∙ run_same k n c.letter-first.result.0 1 c.args.places (λ q. Differs c.args.earlier c.args.step (suc q)) (λ q lt. ap (λ m. m + q * 1) c.letter-first.ensures ∙ differs_next k n c.args.earlier c.args.step q))
+    ∙ run_same k n c.letter-first.result.0 1 c.args.places (λ q. Differs c.args.earlier c.args.step (suc q))
+    (λ q lt. ap (λ m. m + q * 1) c.letter-first.ensures ∙ differs_next k n c.args.earlier c.args.step q))

@@ -10,13 +10,15 @@ returns-then-index-fulfilments-2 c =
     let f = c.args.closure.now.formula in
     let count = count_same f (eventualities f) c.eventualities.result.now c.eventualities.ensures.numbers in
     ap₂ (λ a b. a ∷ b ∷ []) c.negative-closes.ensures c.positive.ensures
-    ∙ closing_middle c.args.layout.now f c.args.step c.args.earlier c.args.index c.requires.earlier (c.if-index-fulfilments-2.true ∙ ap₂ ◌*◌ count c.fulfilled_size.ensures.size)
+    ∙ closing_middle c.args.layout.now f c.args.step c.args.earlier c.args.index c.requires.earlier
+    (c.if-index-fulfilments-2.true ∙ ap₂ ◌*◌ count c.fulfilled_size.ensures.size)
 
 pub asked-requires-clause-within : goal.asked-requires-clause-within
 asked-requires-clause-within c =
     let f = c.args.closure.now.formula in
     let count = count_same f (eventualities f) c.eventualities.result.now c.eventualities.ensures.numbers in
-    let product : length c.eventualities.result.now * c.fulfilled_size.result ≡ length (eventualities f) * fulfilled_size c.args.step c.args.earlier = ap₂ ◌*◌ count c.fulfilled_size.ensures.size in
+    let product : length c.eventualities.result.now * c.fulfilled_size.result ≡ length (eventualities f) * fulfilled_size c.args.step c.args.earlier =
+    ap₂ ◌*◌ count c.fulfilled_size.ensures.size in
     let long = closing_long c.args.layout.now f c.args.step c.args.earlier c.requires.earlier in
     let within = c.requires.within in
     let behind = c.if-index-fulfilments.false in
@@ -27,9 +29,11 @@ pub returns : goal.returns
 returns c =
     let f = c.args.closure.now.formula in
     let count = count_same f (eventualities f) c.eventualities.result.now c.eventualities.ensures.numbers in
-    let product : length c.eventualities.result.now * c.fulfilled_size.result ≡ length (eventualities f) * fulfilled_size c.args.step c.args.earlier = ap₂ ◌*◌ count c.fulfilled_size.ensures.size in
+    let product : length c.eventualities.result.now * c.fulfilled_size.result ≡ length (eventualities f) * fulfilled_size c.args.step c.args.earlier =
+    ap₂ ◌*◌ count c.fulfilled_size.ensures.size in
     let behind = c.if-index-fulfilments.false in
     let not_middle = c.if-index-fulfilments-2.false in
     let k = c.args.index - length c.eventualities.result.now * c.fulfilled_size.result - 1 in
-    let at : length (eventualities f) * fulfilled_size c.args.step c.args.earlier + (1 + (c.args.index - length c.eventualities.result.now * c.fulfilled_size.result - 1)) ≡ c.args.index = grind arith in
+    let at : length (eventualities f) * fulfilled_size c.args.step
+    c.args.earlier + (1 + (c.args.index - length c.eventualities.result.now * c.fulfilled_size.result - 1)) ≡ c.args.index = grind arith in
     c.asked.ensures ∙ closing_last c.args.layout.now f c.args.step c.args.earlier c.args.index k c.requires.earlier at

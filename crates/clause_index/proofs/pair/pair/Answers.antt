@@ -24,7 +24,8 @@ looping-requires-clause-infinite c =
     let a = count_same f (nexts f) c.nexts.result.now c.nexts.ensures.numbers in
     let b = count_same f (yesterdays f) c.yesterdays.result.now c.yesterdays.ensures.numbers in
     let x = length c.nexts.result.now + length c.yesterdays.result.now in
-    let more = pair_behind c.args.layout.now f c.args.step c.args.earlier c.args.closure.now.kind c.args.index x (ap₂ ◌+◌ a b) c.requires.within c.if-index-compared.false c.if-index-compared-2.false in
+    let more = pair_behind c.args.layout.now f c.args.step c.args.earlier c.args.closure.now.kind c.args.index x (ap₂ ◌+◌ a b)
+    c.requires.within c.if-index-compared.false c.if-index-compared-2.false in
     ap (λ l. l.kind) c.requires.own ∙ behind_infinite f c.args.closure.now.kind c.args.step c.args.earlier (c.args.index - 4 * x - 1) more.0
 
 pub looping-requires-clause-within : goal.looping-requires-clause-within
@@ -33,7 +34,8 @@ looping-requires-clause-within c =
     let a = count_same f (nexts f) c.nexts.result.now c.nexts.ensures.numbers in
     let b = count_same f (yesterdays f) c.yesterdays.result.now c.yesterdays.ensures.numbers in
     let x = length c.nexts.result.now + length c.yesterdays.result.now in
-    let more = pair_behind c.args.layout.now f c.args.step c.args.earlier c.args.closure.now.kind c.args.index x (ap₂ ◌+◌ a b) c.requires.within c.if-index-compared.false c.if-index-compared-2.false in
+    let more = pair_behind c.args.layout.now f c.args.step c.args.earlier c.args.closure.now.kind c.args.index x (ap₂ ◌+◌ a b)
+    c.requires.within c.if-index-compared.false c.if-index-compared-2.false in
     behind_within f c.args.closure.now.kind c.args.step c.args.earlier (c.args.index - 4 * x - 1) more.0
 
 pub returns : goal.returns
@@ -43,7 +45,8 @@ returns c =
     let b = count_same f (yesterdays f) c.yesterdays.result.now c.yesterdays.ensures.numbers in
     let x = length c.nexts.result.now + length c.yesterdays.result.now in
     let k = c.args.index - 4 * x - 1 in
-    let more = pair_behind c.args.layout.now f c.args.step c.args.earlier c.args.closure.now.kind c.args.index x (ap₂ ◌+◌ a b) c.requires.within c.if-index-compared.false c.if-index-compared-2.false in
+    let more = pair_behind c.args.layout.now f c.args.step c.args.earlier c.args.closure.now.kind c.args.index x (ap₂ ◌+◌ a b)
+    c.requires.within c.if-index-compared.false c.if-index-compared-2.false in
     let infinite = behind_infinite f c.args.closure.now.kind c.args.step c.args.earlier k more.0 in
     c.looping.ensures
     ∙ (ap (λ kind. row_at c.args.layout.now (closing_clauses f kind c.args.step c.args.earlier) k) (sym infinite)

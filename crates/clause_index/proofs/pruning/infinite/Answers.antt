@@ -10,7 +10,8 @@ returns-then-index-all c =
     let f = c.args.closure.now.formula in
     let count = count_same f (eventualities f) c.eventualities.result.now c.eventualities.ensures.numbers in
     c.seen.ensures
-    ∙ seen_row c.args.layout.now f c.args.step c.args.index (1 + length c.eventualities.result.now) c.args.layout.now.counts.eventualities (ap (λ n. 1 + n) count) (ap (λ l. l.counts.eventualities) c.requires.own)
+    ∙ seen_row c.args.layout.now f c.args.step c.args.index (1 + length c.eventualities.result.now) c.args.layout.now.counts.eventualities
+    (ap (λ n. 1 + n) count) (ap (λ l. l.counts.eventualities) c.requires.own)
     c.if-index-all.true
 
 pub overflow_cast-earlier-2 : goal.overflow_cast-earlier-2
@@ -36,4 +37,5 @@ returns c =
     let count = count_same f (eventualities f) c.eventualities.result.now c.eventualities.ensures.numbers in
     let place = rest_place f c.args.step c.args.index (length c.eventualities.result.now) count c.if-index-all.false c.requires.within in
     c.news.ensures
-    ∙ news_row c.args.layout.now f c.args.step c.args.index (c.args.index - c.args.step * (1 + length c.eventualities.result.now)) (1 + 3 * length c.eventualities.result.now) (ap (λ n. 1 + 3 * n) count) place.0 place.1
+    ∙ news_row c.args.layout.now f c.args.step c.args.index (c.args.index - c.args.step * (1 + length c.eventualities.result.now))
+    (1 + 3 * length c.eventualities.result.now) (ap (λ n. 1 + 3 * n) count) place.0 place.1

@@ -9,4 +9,5 @@ clauses-preserved c =
     let all = clause_list v.formula v.kind v.depth in
     let low : c.clauses.index < length all = omega (arith, c.clauses-test.true, c.count-index-end.ensures) in
     let back : c.clauses.index + 1 - 1 ≡ c.clauses.index = omega arith in
-    next_more [] all c.clauses.list c.push.new.list c.clauses.index _ [] low (sym (c.clause.ensures ∙ ap (λ n. get_or all n []) back)) c.clauses.invariant c.in_ok-push.ensures.ok
+    next_more [] all c.clauses.list c.push.new.list c.clauses.index _ [] low (sym (c.clause.ensures ∙ ap (λ n. get_or all n []) back))
+    c.clauses.invariant c.in_ok-push.ensures.ok

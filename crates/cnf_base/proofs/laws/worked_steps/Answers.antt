@@ -7,10 +7,12 @@ use Rattle.cnf_base.specs.Worked.{plus, minus, clauses_of_false, IsStep}
 use Rattle.cnf_base.proofs.Deciding.{is_hinted_step, Decides-hinted_step}
 use Rattle.cnf_base.proofs.laws.worked_steps.Goals as goal
 
-is_step : (lines : List (List Literal)) (clause : List Literal) (hints : List Hint) → is_hinted_step clauses_of_false lines 6 clause hints ≡ true → IsStep lines clause hints
+is_step : (lines : List (List Literal)) (clause : List Literal) (hints : List Hint)
+    → is_hinted_step clauses_of_false lines 6 clause hints ≡ true → IsStep lines clause hints
 is_step lines clause hints = (Decides-hinted_step clauses_of_false lines 6 clause hints).0
 
-is_none : (lines : List (List Literal)) (clause : List Literal) (hints : List Hint) → is_hinted_step clauses_of_false lines 6 clause hints ≡ false → ¬ IsStep lines clause hints
+is_none : (lines : List (List Literal)) (clause : List Literal) (hints : List Hint)
+    → is_hinted_step clauses_of_false lines 6 clause hints ≡ false → ¬ IsStep lines clause hints
 is_none lines clause hints = not_from_Decides (is_hinted_step clauses_of_false lines 6 clause hints) (Decides-hinted_step clauses_of_false lines 6 clause hints)
 
 pub returns : goal.returns

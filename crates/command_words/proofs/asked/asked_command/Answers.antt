@@ -9,5 +9,7 @@ returns-in-Some c =
     let words = c.args.words.now in
     let more = map string_bytes (take (length words - 1) (drop 1 words)) in
     let whole = first_word string_bytes words c.word-item.result c.in-len1-up.len_at_least c.word-item.is ∙ ap (λ w. w ∷ more) (sym c.as_str.ensures.value) in
-    IfOk-weaker c.asked_further.result _ _ (λ asked. match_weaker asked _ _ _ _ (asks_nothing (map string_bytes words) more c.as_str.result.now c.in-Some.command whole c.in-Some.ensures)
-    (λ a follows. asks_what_follows (map string_bytes words) more c.as_str.result.now c.in-Some.command a whole c.in-Some.ensures follows)) c.asked_further.ensures
+    IfOk-weaker c.asked_further.result _ _
+    (λ asked. match_weaker asked _ _ _ _ (asks_nothing (map string_bytes words) more c.as_str.result.now c.in-Some.command whole c.in-Some.ensures)
+    (λ a follows. asks_what_follows (map string_bytes words) more c.as_str.result.now c.in-Some.command a whole c.in-Some.ensures follows))
+    c.asked_further.ensures

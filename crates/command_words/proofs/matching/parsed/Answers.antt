@@ -20,15 +20,18 @@ made c =
     ∙ ap₂ with_rule (c.in_ok-arg-4.ensures.shape c.flag-3.ensures.own
     ∙ ap₂ with_rule (c.in_ok-arg-3.ensures.shape c.flag-2.ensures.own
     ∙ ap₂ with_rule (c.in_ok-arg-2.ensures.shape c.valued.ensures.own
-    ∙ ap₂ with_rule (c.in_ok-arg.ensures.shape c.flag.ensures.own ∙ ap₂ with_rule bare c.flag.ensures.rule) c.valued.ensures.rule) c.flag-2.ensures.rule) c.flag-3.ensures.rule) c.valued-2.ensures.rule) c.flag-4.ensures.rule) c.valued-3.ensures.rule)
+    ∙ ap₂ with_rule (c.in_ok-arg.ensures.shape c.flag.ensures.own ∙ ap₂ with_rule bare c.flag.ensures.rule) c.valued.ensures.rule) c.flag-2.ensures.rule)
+    c.flag-3.ensures.rule) c.valued-2.ensures.rule) c.flag-4.ensures.rule) c.valued-3.ensures.rule)
     c.flag-5.ensures.rule
 
 pub returns-clause-matches : goal.returns-clause-matches
 returns-clause-matches c =
     let is = made c in
-    IfOk-weaker c.try_get_matches_from.result _ _ (λ m h. (h (ap is_simple is ∙ options_simple)).0 ∙ ap (λ a. matches_of a (map string_bytes c.args.words.now)) is) c.try_get_matches_from.ensures.matches
+    IfOk-weaker c.try_get_matches_from.result _ _
+    (λ m h. (h (ap is_simple is ∙ options_simple)).0 ∙ ap (λ a. matches_of a (map string_bytes c.args.words.now)) is) c.try_get_matches_from.ensures.matches
 
 pub returns-clause-refused : goal.returns-clause-refused
 returns-clause-refused c =
     let is = made c in
-    IfErr-weaker c.try_get_matches_from.result _ _ (λ e h taken. h (ap (λ a. takes a (map string_bytes c.args.words.now)) is ∙ taken)) c.try_get_matches_from.ensures.passes
+    IfErr-weaker c.try_get_matches_from.result _ _ (λ e h taken. h (ap (λ a. takes a (map string_bytes c.args.words.now)) is ∙ taken))
+    c.try_get_matches_from.ensures.passes

@@ -8,4 +8,5 @@ pub returns-in_ok-said_options-in-None : goal.returns-in_ok-said_options-in-None
 returns-in_ok-said_options-in-None c =
     let words = map string_bytes c.args.words.now in
     let none = rw c.in-None.is at c.in_ok-options.ensures in
-    match_mapped c.in_ok-said_options-in-None.field-0 c.map.result refutation.Check _ _ _ _ c.map.ensures.cases c.in_ok-said_options-in-None.ensures (asks_neither words none) (asks_to_verify words none)
+    match_mapped c.in_ok-said_options-in-None.field-0 c.map.result refutation.Check _ _ _ _ c.map.ensures.cases c.in_ok-said_options-in-None.ensures
+    (asks_neither words none) (asks_to_verify words none)

@@ -43,7 +43,8 @@ overflow_add-stop c =
     let sized : c.places.stop < length task.sizes.items = omega (arith, low, c.requires.task.long) in
     let here = read marks c.places.stop c.index.result.now false inside c.index.ensures ∙ c.if-index.true in
     let size = read task.sizes.items c.places.stop c.index-then-index.result.now 0 sized c.index-then-index.ensures in
-    let within = ends_within task c.requires.task marks c.requires.marks c.args.at c.places.stop c.places.places.items old.next old.clear old.on low c.index-then-index.result.now size here in
+    let within = ends_within task c.requires.task marks c.requires.marks c.args.at c.places.stop c.places.places.items old.next old.clear old.on low
+    c.index-then-index.result.now size here in
     omega (arith, within, c.requires.task.few)
 
 pub places-smaller-then-index : goal.places-smaller-then-index
@@ -66,9 +67,12 @@ places-preserved-then-index c =
     let here = read marks c.places.stop c.index.result.now false inside c.index.ensures ∙ c.if-index.true in
     let size = read task.sizes.items c.places.stop c.index-then-index.result.now 0 sized c.index-then-index.ensures in
     record {
-      next = passes_over task c.requires.task marks c.requires.marks c.args.at c.places.stop c.places.places.items old.next old.clear old.on low c.index-then-index.result.now size here;
-      clear = clear_over task c.requires.task marks c.requires.marks c.args.at c.places.stop c.places.places.items old.next old.clear old.on low c.index-then-index.result.now size here;
+      next = passes_over task c.requires.task marks c.requires.marks c.args.at c.places.stop c.places.places.items old.next old.clear old.on low
+          c.index-then-index.result.now size here;
+      clear = clear_over task c.requires.task marks c.requires.marks c.args.at c.places.stop c.places.places.items old.next old.clear old.on low
+          c.index-then-index.result.now size here;
       on = omega (arith, old.on);
-      within = ends_within task c.requires.task marks c.requires.marks c.args.at c.places.stop c.places.places.items old.next old.clear old.on low c.index-then-index.result.now size here;
+      within = ends_within task c.requires.task marks c.requires.marks c.args.at c.places.stop c.places.places.items old.next old.clear old.on low
+          c.index-then-index.result.now size here;
       few = old.few;
     }

@@ -56,7 +56,9 @@ groups-smaller g c =
     omega (arith, on, c.groups-test.true, c.groups.invariant.end)
 
 pub returns-clause-passed : goal.returns-clause-passed
-returns-clause-passed g c = passed c.args.task.now c.requires.task (marked c.args.marks.now.items) (marked c.groups.marks.items) c.groups.at c.groups.end c.args.settled c.groups.last c.groups.invariant.under c.groups.invariant.going (omega (arith, c.groups-test.false)) c.requires.settled
+returns-clause-passed g c = passed c.args.task.now c.requires.task (marked c.args.marks.now.items) (marked c.groups.marks.items) c.groups.at c.groups.end
+    c.args.settled c.groups.last c.groups.invariant.under c.groups.invariant.going (omega (arith, c.groups-test.false)) c.requires.settled
 
 pub returns-clause-within : goal.returns-clause-within
-returns-clause-within g c = last_within c.args.task.now c.requires.task (marked c.args.marks.now.items) (marked c.groups.marks.items) c.groups.at c.groups.end c.args.settled c.groups.last c.groups.invariant.under c.groups.invariant.going
+returns-clause-within g c = last_within c.args.task.now c.requires.task (marked c.args.marks.now.items) (marked c.groups.marks.items)
+    c.groups.at c.groups.end c.args.settled c.groups.last c.groups.invariant.under c.groups.invariant.going

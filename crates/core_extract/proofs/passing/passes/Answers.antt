@@ -15,7 +15,11 @@ passes-init g c =
       marks = subst (AreMarks task) (sym items) (marks_none task c.requires.task c.len.result count);
       within = omega (arith, end);
       settled = subst (IsSettled task (marked c.in_ok-marks.marks.items)) (sym end) (settled_end task c.requires.task (marked c.in_ok-marks.marks.items));
-      changing = (0, subst (λ (ms : List Bool). AreChanging (test_of task) (formula_of task) 0 nowhere (marked ms)) (sym items) (changing_none task c.requires.task c.len.result));
+      changing = (
+        0,
+        subst (λ (ms : List Bool). AreChanging (test_of task) (formula_of task) 0 nowhere (marked ms)) (sym items)
+            (changing_none task c.requires.task c.len.result),
+      );
     }
 
 pub passes-preserved : goal.passes-preserved
@@ -26,7 +30,8 @@ passes-preserved g c =
       marks = c.in_ok-passed.ensures.marks;
       within = rw c.in-Some.is at c.in_ok-passed.ensures.within;
       settled = passed.2;
-      changing = changing_more task c.requires.task (marked c.passes.marks.items) (marked c.pass.new.marks.items) c.in-Some.last passed c.passes.invariant.changing;
+      changing =
+          changing_more task c.requires.task (marked c.passes.marks.items) (marked c.pass.new.marks.items) c.in-Some.last passed c.passes.invariant.changing;
     }
 
 pub passes-smaller : goal.passes-smaller

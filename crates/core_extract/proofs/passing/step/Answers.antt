@@ -93,7 +93,8 @@ returns-clause-step g c =
     let low = place_within task is marks c.args.at c.in_ok-stop.stop places found next tested c.in-Some.index first c.index-place.result.now place in
     let there : c.index-place.result.now < length task.sizes.items = omega (arith, low, is.long) in
     let size = read task.sizes.items c.index-place.result.now c.index-size.result.now 0 there c.index-size.ensures in
-    step_taken task is marks c.args.at c.in_ok-stop.stop places found next tested c.in-Some.index first c.index-place.result.now place c.index-size.result.now c.mark.new.marks.items size c.mark.ensures.added
+    step_taken task is marks c.args.at c.in_ok-stop.stop places found next tested c.in-Some.index first c.index-place.result.now place c.index-size.result.now
+    c.mark.new.marks.items size c.mark.ensures.added
 
 pub returns-clause-marks : goal.returns-clause-marks
 returns-clause-marks g c =
@@ -121,4 +122,5 @@ returns-in_default-clause-step g c =
     let next = c.in_ok-stop.ensures.next in
     let tested = c.in_ok-found.ensures in
     let first = rw c.in_default.is at c.in_ok-first.ensures in
-    step_left task is marks c.args.at c.in_ok-stop.stop places found next tested c.in_ok-stop.ensures.on c.in_ok-stop.ensures.within c.in_ok-stop.ensures.clear first
+    step_left task is marks c.args.at c.in_ok-stop.stop places found next tested c.in_ok-stop.ensures.on c.in_ok-stop.ensures.within
+    c.in_ok-stop.ensures.clear first

@@ -28,7 +28,8 @@ under-preserved c =
     let low : c.under.under < length c.under.marks.items = omega (arith, c.under-test.true, c.under.invariant.long, c.requires.long, size, end) in
     record {
       long = length-set c.under.marks.items c.under.under false ∙ c.under.invariant.long;
-      cleared = cleared_more c.args.marks.now.items c.under.marks.items c.args.place c.under.under (omega (arith, c.under.auto.under)) low c.under.invariant.cleared;
+      cleared =
+          cleared_more c.args.marks.now.items c.under.marks.items c.args.place c.under.under (omega (arith, c.under.auto.under)) low c.under.invariant.cleared;
     }
 
 pub returns-clause-added : goal.returns-clause-added
@@ -39,7 +40,8 @@ returns-clause-added c =
     let le = c.under.auto.under-end (omega (arith, size, some)) in
     let low : c.args.place < length c.under.marks.items = omega (arith, c.under.invariant.long, c.requires.long, c.requires.place) in
     let behind : c.under.under ≡ c.args.place + get_or c.args.task.now.sizes.items c.args.place 0 = omega (arith, size, le, c.under-test.false) in
-    mark_added c.args.task.now c.requires.task c.args.marks.now.items c.under.marks.items c.args.place c.under.under low behind c.requires.place c.under.invariant.cleared
+    mark_added c.args.task.now c.requires.task c.args.marks.now.items c.under.marks.items c.args.place c.under.under low behind c.requires.place
+    c.under.invariant.cleared
 
 pub returns-clause-long : goal.returns-clause-long
 returns-clause-long c = length-set c.under.marks.items c.args.place true ∙ c.under.invariant.long

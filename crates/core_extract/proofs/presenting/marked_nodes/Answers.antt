@@ -7,7 +7,8 @@ use Rattle.core_extract.proofs.presenting.marked_nodes.Goals as goal
 pub places-init : goal.places-init
 places-init c = record {
   within = λ k d lt. let e = ap length c.new-numbers.ensures.items in absurd (omega arith);
-  nodes = subst (AreNodes c.args.task.now.order.items c.args.marks.now.items 0) (sym c.new-numbers.ensures.items) (nodes_none c.args.task.now.order.items c.args.marks.now.items);
+  nodes = subst (AreNodes c.args.task.now.order.items c.args.marks.now.items 0) (sym c.new-numbers.ensures.items)
+      (nodes_none c.args.task.now.order.items c.args.marks.now.items);
 }
 
 pub places-preserved-then-not-index : goal.places-preserved-then-not-index
@@ -27,8 +28,10 @@ places-preserved c =
     let number = read c.args.task.now.order.items c.places.place c.index-in-places.result.now 0 there c.index-in-places.ensures in
     let node = node_within c.args.task.now c.requires.task c.places.place there in
     record {
-      within = within_more (length c.args.task.now.table.now.nodes) c.places.numbers.items c.push.new.self.items c.index-in-places.result.now c.places.invariant.within (omega arith) c.in_ok-push.ensures.items;
-      nodes = subst (AreNodes c.args.task.now.order.items c.args.marks.now.items (c.places.place + 1)) (ap (λ x. c.places.numbers.items ++ x ∷ []) number ∙ sym c.in_ok-push.ensures.items)
+      within = within_more (length c.args.task.now.table.now.nodes)
+          c.places.numbers.items c.push.new.self.items c.index-in-places.result.now c.places.invariant.within (omega arith) c.in_ok-push.ensures.items;
+      nodes = subst (AreNodes c.args.task.now.order.items c.args.marks.now.items (c.places.place + 1))
+          (ap (λ x. c.places.numbers.items ++ x ∷ []) number ∙ sym c.in_ok-push.ensures.items)
           (nodes_more c.args.task.now.order.items c.args.marks.now.items c.places.place c.places.numbers.items c.places.invariant.nodes on);
     }
 

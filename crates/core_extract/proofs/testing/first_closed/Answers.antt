@@ -12,7 +12,8 @@ returns-in-Closed c =
 pub tests-preserved : goal.tests-preserved
 tests-preserved c =
     let low : c.tests.index < length c.args.found.now.items = omega (arith, c.tests-test.true, c.len-index-end.ensures) in
-    one_open c.args.found.now.items c.tests.index (read c.args.found.now.items c.tests.index c.index.result.now outcomes.NoMemory low c.index.ensures ∙ c.in-Open.is) c.tests.invariant
+    one_open c.args.found.now.items c.tests.index
+    (read c.args.found.now.items c.tests.index c.index.result.now outcomes.NoMemory low c.index.ensures ∙ c.in-Open.is) c.tests.invariant
 
 pub returns : goal.returns
 returns c i lt = c.tests.invariant i (omega (arith, lt, c.tests-test.false, c.len-index-end.ensures))

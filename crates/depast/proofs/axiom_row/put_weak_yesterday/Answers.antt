@@ -6,4 +6,5 @@ use Rattle.depast.proofs.axiom_row.put_weak_yesterday.Goals as goal
 pub returns : goal.returns
 returns c =
     on_ok_weaker c.put_stepping.result (λ steps l d f r s w h.
-    steps l d (l.new c.args.name) f r s w (reads_more l c.args.axioms.now.items _ c.push.new.self.items r _ _ c.in_ok-push.ensures.items h refl)) c.put_stepping.ensures
+    steps l d (l.new c.args.name) f r s w (reads_more l c.args.axioms.now.items _ c.push.new.self.items r _ _ c.in_ok-push.ensures.items h refl))
+    c.put_stepping.ensures

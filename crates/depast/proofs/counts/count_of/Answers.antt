@@ -72,16 +72,20 @@ returns-in-Binary c =
     let b = c.requires.known.each c.in-Binary.b low.1 in
     subst (λ n. IsCount (made c.args.table.now.names (trees_of c.args.table.now) n) (record {
       residue = c.joined_residue_size.result;
-      axioms = (slice_index_or c.args.known.now c.in-Binary.a blank_count).axioms + (slice_index_or c.args.known.now c.in-Binary.b blank_count).axioms + c.joined_axioms_size.result;
+      axioms = (slice_index_or c.args.known.now c.in-Binary.a blank_count).axioms + (slice_index_or c.args.known.now c.in-Binary.b blank_count).axioms
+          + c.joined_axioms_size.result;
       underscores = c.max.result;
     })) (sym c.in-Binary.is) (record {
-      residue_is = c.joined_residue_size.ensures ∙ (ap (λ r. residue_size₂ c.in-Binary.op r (slice_index_or c.args.known.now c.in-Binary.b blank_count).residue) a.residue_is ∙ ap (residue_size₂ c.in-Binary.op (residue_size (tree_at c.args.table.now c.in-Binary.a))) b.residue_is);
+      residue_is = c.joined_residue_size.ensures ∙ (ap (λ r. residue_size₂ c.in-Binary.op r (slice_index_or c.args.known.now c.in-Binary.b blank_count).residue)
+          a.residue_is ∙ ap (residue_size₂ c.in-Binary.op (residue_size (tree_at c.args.table.now c.in-Binary.a))) b.residue_is);
       axioms_is = omega (
         arith,
         a.axioms_is,
         b.axioms_is,
         c.joined_axioms_size.ensures.size
-            ∙ (ap (λ r. axioms_size₂ c.in-Binary.op r (slice_index_or c.args.known.now c.in-Binary.b blank_count).residue) a.residue_is ∙ ap (axioms_size₂ c.in-Binary.op (residue_size (tree_at c.args.table.now c.in-Binary.a))) b.residue_is),
+            ∙ (ap (λ r. axioms_size₂ c.in-Binary.op r (slice_index_or c.args.known.now c.in-Binary.b blank_count).residue) a.residue_is
+            ∙ ap (axioms_size₂ c.in-Binary.op (residue_size (tree_at c.args.table.now c.in-Binary.a))) b.residue_is),
       );
-      underscores_are = c.max.ensures ∙ (ap (λ n. max n (slice_index_or c.args.known.now c.in-Binary.b blank_count).underscores) a.underscores_are ∙ ap (max (most_leading (tree_at c.args.table.now c.in-Binary.a))) b.underscores_are);
+      underscores_are = c.max.ensures ∙ (ap (λ n. max n (slice_index_or c.args.known.now c.in-Binary.b blank_count).underscores) a.underscores_are
+          ∙ ap (max (most_leading (tree_at c.args.table.now c.in-Binary.a))) b.underscores_are);
     })

@@ -5,8 +5,14 @@ use Rattle.depast.proofs.lifting.lifted.Goals as goal
 
 pub loop-position-preserved : goal.loop-position-preserved
 loop-position-preserved c = record {
-  long = omega (arith, ap length c.in_ok-push.ensures.items, length-append c.loop-position.states.items (c.in_ok-lifted_state.field-0 ∷ []), c.loop-position.invariant.long);
-  each = lifted_more c.args.meanings.now c.args.removed.now.names c.args.trace.now c.args.first c.loop-position.states.items c.push.new.self.items c.in_ok-lifted_state.field-0 c.loop-position.position
+  long = omega (
+    arith,
+    ap length c.in_ok-push.ensures.items,
+    length-append c.loop-position.states.items (c.in_ok-lifted_state.field-0 ∷ []),
+    c.loop-position.invariant.long,
+  );
+  each = lifted_more c.args.meanings.now c.args.removed.now.names c.args.trace.now c.args.first c.loop-position.states.items c.push.new.self.items
+      c.in_ok-lifted_state.field-0 c.loop-position.position
       c.in_ok-push.ensures.items c.loop-position.invariant.long c.loop-position.invariant.each c.in_ok-lifted_state.ensures;
 }
 

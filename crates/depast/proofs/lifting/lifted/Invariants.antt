@@ -6,5 +6,6 @@ use Rattle.depast.proofs.lifting.lifted.Given as goal
 abbrev pub invariant-loop-position : goal.invariant-loop-position
 invariant-loop-position l = record {
   long : l.first + length l.states.items ≡ l.position;
-  each : (i : ℕ) → i < length l.states.items → IsLiftedState l.meanings l.removed.names (state_at l.trace (l.first + i)) (l.first + i) (slice_index_or l.states.items i []);
+  each : (i : ℕ) → i < length l.states.items
+      → IsLiftedState l.meanings l.removed.names (state_at l.trace (l.first + i)) (l.first + i) (slice_index_or l.states.items i []);
 }

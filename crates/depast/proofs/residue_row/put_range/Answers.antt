@@ -16,12 +16,14 @@ loop-step-preserved c l d none front back e s w =
     let v = c.loop-step.invariant l d none front back e s w in
     let more = symbols.New (c.args.name + c.loop-step.step) ∷ symbols.Binary c.args.op ∷ [] in (
       v.0 ++ symbols.New (c.args.name + c.loop-step.step) ∷ symbols.Binary c.args.op ∷ [],
-      goes_on_behind front v.0 (symbols.New (c.args.name + c.loop-step.step) ∷ symbols.Binary c.args.op ∷ []) c.loop-step.row.items c.extend_from_slice.new.self.items v.1 c.in_ok-extend_from_slice.ensures.items,
+      goes_on_behind front v.0 (symbols.New (c.args.name + c.loop-step.step) ∷ symbols.Binary c.args.op ∷ [])
+          c.loop-step.row.items c.extend_from_slice.new.self.items v.1 c.in_ok-extend_from_slice.ensures.items,
       one_more_back l c.args.op none c.args.name c.loop-step.step c.args.first d v.0 (omega arith) v.2,
     )
 
 pub returns : goal.returns
 returns c l d none front back e s w =
     let ended : c.loop-step.step ≡ c.args.last = omega arith in
-    subst (λ n. (new : List Symbol) × (c.loop-step.row.items ≡ front ++ new) × Writes l new (joined_back c.args.op none (step_back l.new c.args.name d) c.args.first (suc n - c.args.first))) ended
+    subst (λ n. (new : List Symbol) × (c.loop-step.row.items ≡ front ++ new)
+    × Writes l new (joined_back c.args.op none (step_back l.new c.args.name d) c.args.first (suc n - c.args.first))) ended
     (c.loop-step.invariant l d none front back e s w)

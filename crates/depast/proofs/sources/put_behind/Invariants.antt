@@ -8,4 +8,5 @@ use Rattle.depast.proofs.sources.put_behind.Given as goal
 
 abbrev pub invariant-loop-step : goal.invariant-loop-step
 invariant-loop-step l =
-    (t : Table) (root : ℕ) (gs : List Formula) → IsUnder t root l.operand → AreSources t root l.fn.sources.items gs → AreSources t root l.sources.items (gs ++ counted (λ m. behind l.beyond m (tree_at t l.operand)) l.step)
+    (t : Table) (root : ℕ) (gs : List Formula) → IsUnder t root l.operand → AreSources t root l.fn.sources.items gs
+    → AreSources t root l.sources.items (gs ++ counted (λ m. behind l.beyond m (tree_at t l.operand)) l.step)

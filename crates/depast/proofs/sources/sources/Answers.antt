@@ -10,18 +10,22 @@ pub loop-number-init : goal.loop-number-init
 loop-number-init c = ([], c.in_ok-order.ensures, subst (λ xs. AreSources c.args.table.now c.args.root xs []) (sym c.new-sources.ensures.items) tt)
 
 pub node-requires : goal.node-requires
-node-requires c = let v = c.loop-number.invariant in in_table c.args.table.now c.in-Some.number v.0 c.loop-number.order c.pop.new.self c.args.root v.1 c.in-Some.ensures
+node-requires c = let v = c.loop-number.invariant in
+    in_table c.args.table.now c.in-Some.number v.0 c.loop-number.order c.pop.new.self c.args.root v.1 c.in-Some.ensures
 
 pub loop-number-preserved : goal.loop-number-preserved
 loop-number-preserved c =
     let v = c.loop-number.invariant in
-    let w = comes c.args.table.now c.in-Some.number c.node.result v.0 c.loop-number.order c.pop.new.self c.args.root v.1 c.in-Some.ensures c.node.ensures.node in (
+    let w =
+    comes c.args.table.now c.in-Some.number c.node.result v.0 c.loop-number.order c.pop.new.self c.args.root v.1 c.in-Some.ensures c.node.ensures.node in (
       c.in-Some.number ∷ w.rest,
       w.ends,
-      subst (AreSources c.args.table.now c.args.root c.put_sources.new.sources.items) (own_added c.args.table.now c.in-Some.number c.node.result w.rest w.is.tree)
+      subst (AreSources c.args.table.now c.args.root c.put_sources.new.sources.items)
+          (own_added c.args.table.now c.in-Some.number c.node.result w.rest w.is.tree)
           (c.in_ok-put_sources.ensures c.args.table.now c.args.root (meanings_by (trees_at c.args.table.now (operands c.node.result ++ w.rest))) w.is
           (first_under c.args.table.now c.args.root c.pop.new.self c.in-Some.number w.rest w.ends)
-          (subst (λ done. AreSources c.args.table.now c.args.root c.loop-number.sources.items (meanings_by (trees_at c.args.table.now done))) w.operands_done v.2)),
+          (subst (λ done. AreSources c.args.table.now c.args.root c.loop-number.sources.items (meanings_by (trees_at c.args.table.now done)))
+          w.operands_done v.2)),
     )
 
 pub returns : goal.returns

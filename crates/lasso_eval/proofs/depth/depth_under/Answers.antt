@@ -9,5 +9,6 @@ loop-number-preserved c =
     let v = c.depth_of-depth.result in
     record {
       count = rw c.in_ok-push.ensures.items (length_pushed xs v n c.loop-number.invariant.count);
-      known = rw c.in_ok-push.ensures.items (depths_pushed c.args.table.now xs v n c.loop-number.invariant.count c.loop-number.invariant.known c.depth_of-depth.ensures.depth c.depth_of-depth.ensures.small);
+      known = rw c.in_ok-push.ensures.items (depths_pushed c.args.table.now xs v n c.loop-number.invariant.count c.loop-number.invariant.known
+          c.depth_of-depth.ensures.depth c.depth_of-depth.ensures.small);
     }

@@ -15,5 +15,6 @@ at-requires c =
 pub returns-clause-ok : goal.returns-clause-ok
 returns-clause-ok c =
     let told = c.in_ok-values.ensures.ok c.args.root (Here c.args.root refl) in
-    let some : 0 < positions c.args.trace.now (tree_at c.args.table.now c.args.root) = some_columns c.args.trace.now (past_depth (tree_at c.args.table.now c.args.root)) c.requires.trace in
+    let some : 0 < positions c.args.trace.now (tree_at c.args.table.now c.args.root) =
+    some_columns c.args.trace.now (past_depth (tree_at c.args.table.now c.args.root)) c.requires.trace in
     subst (λ v. IsTrue v ↔ Satisfies c.args.trace.now (tree_at c.args.table.now c.args.root)) (sym c.at-2.ensures) (told.right 0 some)

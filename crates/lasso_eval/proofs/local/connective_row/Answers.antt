@@ -9,5 +9,7 @@ loop-i-preserved c =
     let xs = c.loop-i.cells.items in
     record {
       count = rw c.in_ok-push.ensures.items (length_pushed xs c.value.result c.loop-i.i c.loop-i.invariant.count);
-      each = rw c.in_ok-push.ensures.items (each_pushed false xs c.value.result c.loop-i.i (λ k v. v ≡ connected c.args.connective (cell c.args.a.now k) (cell c.args.b.now k)) c.loop-i.invariant.count c.loop-i.invariant.each c.value.ensures);
+      each = rw c.in_ok-push.ensures.items (each_pushed false xs c.value.result c.loop-i.i
+          (λ k v. v ≡ connected c.args.connective (cell c.args.a.now k) (cell c.args.b.now k))
+          c.loop-i.invariant.count c.loop-i.invariant.each c.value.ensures);
     }

@@ -33,7 +33,8 @@ loop-i-preserved c =
       each = λ k low high. elim (cases_lt k i) [
         | inl before ↦
             let e : k ≡ i - 1 = omega arith in
-            get_or-set_at c.loop-i.cells.items (i - 1) k c.step-value.result false e (omega (arith, positive, c.loop-i.invariant.within, c.loop-i.invariant.count))
+            get_or-set_at c.loop-i.cells.items (i - 1) k c.step-value.result false e
+            (omega (arith, positive, c.loop-i.invariant.within, c.loop-i.invariant.count))
             ∙ subst (λ m. c.step-value.result ≡ swept_back span c.args.a.now c.args.b.now (n - m) m around) (sym e) value
         | inr after ↦
             let other : k ≢ i - 1 = omega (arith, positive, after) in

@@ -19,7 +19,10 @@ loop-i-preserved c =
       above = omega (arith, c.loop-i-test.true);
       value = c.step-value.ensures
           ∙ ap (λ v. step c.args.span (cell c.args.a.now (i - 1)) (cell c.args.b.now (i - 1)) v) c.loop-i.invariant.value
-          ∙ sym (swept_further c.args.span c.args.a.now c.args.b.now (length c.args.a.now) i (beyond c.args.span) (omega (arith, c.loop-i-test.true)) c.loop-i.invariant.within);
+          ∙ sym (swept_further c.args.span c.args.a.now c.args.b.now (length c.args.a.now) i (beyond c.args.span) (omega (
+            arith,
+            c.loop-i-test.true,
+          )) c.loop-i.invariant.within);
     }
 
 pub returns : goal.returns

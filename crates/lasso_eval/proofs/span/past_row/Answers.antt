@@ -17,5 +17,6 @@ loop-i-preserved c =
     record {
       count = rw c.in_ok-push.ensures.items (length_pushed xs c.step-value.result i c.loop-i.invariant.count);
       value = subst (λ m. c.step-value.result ≡ swept_before span a b m) next stepped;
-      each = rw c.in_ok-push.ensures.items (each_pushed false xs c.step-value.result i (λ k v. v ≡ swept_before span a b (suc k)) c.loop-i.invariant.count c.loop-i.invariant.each stepped);
+      each = rw c.in_ok-push.ensures.items
+          (each_pushed false xs c.step-value.result i (λ k v. v ≡ swept_before span a b (suc k)) c.loop-i.invariant.count c.loop-i.invariant.each stepped);
     }

@@ -9,7 +9,8 @@ invariant-loop-i l = record {
   within : l.i ≤ length l.a;
   count : length l.cells.items ≡ length l.a;
   near : IsNearest (λ j. IsTrue (shows l.sought l.a l.loop_start j)) (l.i + l.first) l.nearest;
-  each : (k : ℕ) → l.i ≤ k → k < length l.a → IsTrue (same l.sought (cell l.cells.items k)) ↔ IsEventuallyIn Always' l.first l.last (λ j. IsTrue (shows l.sought l.a l.loop_start j)) k;
+  each : (k : ℕ) → l.i ≤ k → k < length l.a
+      → IsTrue (same l.sought (cell l.cells.items k)) ↔ IsEventuallyIn Always' l.first l.last (λ j. IsTrue (shows l.sought l.a l.loop_start j)) k;
 }
 
 abbrev pub decreases-loop-i : goal.decreases-loop-i

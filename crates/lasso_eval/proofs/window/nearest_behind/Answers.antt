@@ -17,7 +17,8 @@ loop-i-preserved c =
     record {
       within = omega (arith, c.loop-i.invariant.within);
       behind = omega (arith, c.loop-i-test.true);
-      near = rw c.nearer-nearest.ensures (nearest_step S place c.shows_at.result c.loop-i.nearest tells (subst (λ k. IsNearest S k c.loop-i.nearest) e c.loop-i.invariant.near));
+      near = rw c.nearer-nearest.ensures
+          (nearest_step S place c.shows_at.result c.loop-i.nearest tells (subst (λ k. IsNearest S k c.loop-i.nearest) e c.loop-i.invariant.near));
     }
 
 pub returns : goal.returns

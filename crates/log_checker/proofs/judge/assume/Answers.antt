@@ -7,7 +7,8 @@ use Rattle.log_checker.proofs.Assuming.{IsAssuming, assumes_pair, assumes_again,
 use Rattle.log_checker.proofs.judge.assume.Goals as goal
 
 pub returns-in-True-clause-assumed : goal.returns-in-True-clause-assumed
-returns-in-True-clause-assumed g c = assumes_pair _ _ _ _ _ _ c.literals.assignment c.literals.invariant.1 c.in-Some.ensures (sym c.value.ensures ∙ c.in-True.is)
+returns-in-True-clause-assumed g c =
+    assumes_pair _ _ _ _ _ _ c.literals.assignment c.literals.invariant.1 c.in-Some.ensures (sym c.value.ensures ∙ c.in-True.is)
 
 pub literals-preserved-in-False : goal.literals-preserved-in-False
 literals-preserved-in-False g c =
@@ -21,7 +22,8 @@ literals-preserved g c =
     let values = c.literals.assignment in
     let l = c.in-Some.literal in (
       ap length c.falsify.ensures ∙ length-set values l.letter.0 (false_of l.negated) ∙ c.literals.invariant.0,
-      subst (IsAssuming _ _ _) (sym c.falsify.ensures) (assumes_more _ _ _ _ _ _ c.literals.invariant.1 c.in-Some.ensures known (known_within values l here) (sym c.value.ensures ∙ c.in-Unset.is)),
+      subst (IsAssuming _ _ _) (sym c.falsify.ensures)
+          (assumes_more _ _ _ _ _ _ c.literals.invariant.1 c.in-Some.ensures known (known_within values l here) (sym c.value.ensures ∙ c.in-Unset.is)),
     )
 
 pub returns-clause-assumed : goal.returns-clause-assumed

@@ -11,4 +11,5 @@ assume-requires g c = subst (λ vs. falses_in vs ≡ []) (sym c.clear.ensures) (
 
 pub returns-clause-judged : goal.returns-clause-judged
 returns-clause-judged g c =
-    judged _ _ _ _ _ _ _ _ (ap length c.clear.ensures ∙ length-replicate (length c.args.assignment.now) Unset) c.assume.ensures.size c.if-not-assume.ensures.assumed c.refute.ensures.refuted
+    judged _ _ _ _ _ _ _ _ (ap length c.clear.ensures ∙ length-replicate (length c.args.assignment.now) Unset)
+    c.assume.ensures.size c.if-not-assume.ensures.assumed c.refute.ensures.refuted

@@ -4,11 +4,13 @@ use Rattle.log_checker.proofs.judge.of_clause.Goals as goal
 
 pub returns-in-Neither : goal.returns-in-Neither
 returns-in-Neither g c =
-    place_neither _ _ _ _ (place_more _ _ c.places.place c.literal.result _ _ (omega (arith, c.places-test.true, c.len-place-end.ensures)) c.literal.ensures c.places.invariant c.with_literal-outcome.ensures) c.in-Neither.is
+    place_neither _ _ _ _ (place_more _ _ c.places.place c.literal.result _ _ (omega (arith, c.places-test.true, c.len-place-end.ensures))
+    c.literal.ensures c.places.invariant c.with_literal-outcome.ensures) c.in-Neither.is
 
 pub places-preserved : goal.places-preserved
 places-preserved g c =
-    place_more _ _ c.places.place c.literal.result _ _ (omega (arith, c.places-test.true, c.len-place-end.ensures)) c.literal.ensures c.places.invariant c.with_literal-outcome.ensures
+    place_more _ _ c.places.place c.literal.result _ _ (omega (arith, c.places-test.true, c.len-place-end.ensures))
+    c.literal.ensures c.places.invariant c.with_literal-outcome.ensures
 
 pub returns : goal.returns
 returns g c = place_all _ _ c.places.place _ (omega (arith, c.places-test.false, c.len-place-end.ensures)) c.places.invariant

@@ -27,7 +27,8 @@ falsify-requires-clause-known g c =
     let values = c.hints.assignment in
     let is = subst (IsHintOutcome clauses lines (letters_in values) (falses_in values) c.in-Some.hint) c.in-Forces.is c.of_hint.ensures in
     let all = subst (λ n. AreKnown (n - 1) clauses) (sym c.hints.invariant.0) c.requires in
-    subst (λ (l : Literal). l.letter.0 < length values) (sym c.opposite.ensures) (known_within values c.in-Forces.literal (forced_known clauses lines (letters_in values) (falses_in values) c.in-Some.hint c.in-Forces.literal all is))
+    subst (λ (l : Literal). l.letter.0 < length values) (sym c.opposite.ensures)
+    (known_within values c.in-Forces.literal (forced_known clauses lines (letters_in values) (falses_in values) c.in-Some.hint c.in-Forces.literal all is))
 
 pub falsify-requires-clause-unset : goal.falsify-requires-clause-unset
 falsify-requires-clause-unset g c =
@@ -35,7 +36,8 @@ falsify-requires-clause-unset g c =
     let lines = g.L.NamedLines.lines c.args.lines.now in
     let values = c.hints.assignment in
     let is = subst (IsHintOutcome clauses lines (letters_in values) (falses_in values) c.in-Some.hint) c.in-Forces.is c.of_hint.ensures in
-    subst (λ (l : Literal). get_or values l.letter.0 Unset ≡ Unset) (sym c.opposite.ensures) (forced_unset clauses lines (letters_in values) values c.in-Some.hint c.in-Forces.literal is)
+    subst (λ (l : Literal). get_or values l.letter.0 Unset ≡ Unset) (sym c.opposite.ensures)
+    (forced_unset clauses lines (letters_in values) values c.in-Some.hint c.in-Forces.literal is)
 
 pub hints-preserved : goal.hints-preserved
 hints-preserved g c =
@@ -48,10 +50,12 @@ hints-preserved g c =
     let all = subst (λ n. AreKnown (n - 1) clauses) (sym c.hints.invariant.0) c.requires in
     let low = known_within values u (forced_known clauses lines (letters_in values) (falses_in values) c.in-Some.hint u all is) in
     let none = forced_unset clauses lines (letters_in values) values c.in-Some.hint u is in
-    let remain = remain_forces clauses lines (letters_in c.args.assignment.now) values _ _ _ _ _ _ u c.hints.invariant.1 c.in-Some.ensures here c.in-Forces.is low none in
+    let remain = remain_forces clauses lines (letters_in c.args.assignment.now)
+    values _ _ _ _ _ _ u c.hints.invariant.1 c.in-Some.ensures here c.in-Forces.is low none in
     let next = c.falsify.ensures ∙ ap (λ (l : Literal). set values l.letter.0 (false_of l.negated)) c.opposite.ensures in (
       ap length c.falsify.ensures ∙ length-set values c.opposite.result.letter.0 (false_of c.opposite.result.negated) ∙ c.hints.invariant.0,
-      subst (λ vs. Remain clauses lines (letters_in c.args.assignment.now) (falses_in vs) (g.H.Listed.items c.take.new.self) (falses_in c.args.assignment.now) (g.H.Listed.items c.args.hints)) (sym next) remain,
+      subst (λ vs. Remain clauses lines (letters_in c.args.assignment.now) (falses_in vs) (g.H.Listed.items c.take.new.self) (falses_in c.args.assignment.now)
+          (g.H.Listed.items c.args.hints)) (sym next) remain,
     )
 
 pub returns-in-Neither-clause-refuted : goal.returns-in-Neither-clause-refuted

@@ -24,14 +24,16 @@ returns-in-AllFalse c = λ clause is.
 
 pub returns-then-eq : goal.returns-then-eq
 returns-then-eq c = λ clause is.
-    open_again (falses_in c.args.assignment.now) clause c.args.literal c.in-Forces.other (same_literal c.in-Forces.other c.args.literal (sym c.eq.ensures ∙ c.if-eq.true))
+    open_again (falses_in c.args.assignment.now) clause c.args.literal c.in-Forces.other
+    (same_literal c.in-Forces.other c.args.literal (sym c.eq.ensures ∙ c.if-eq.true))
     (subst (IsOutcome (falses_in c.args.assignment.now) clause) c.in-Forces.is is)
 
 pub returns-else-eq : goal.returns-else-eq
 returns-else-eq c = λ clause is.
     let values = c.args.assignment.now in
     let unset = unset_is values c.args.literal (sym c.value.ensures ∙ c.in-Unset.is) in
-    open_second (falses_in values) clause c.args.literal c.in-Forces.other (other_literal c.in-Forces.other c.args.literal (sym c.eq.ensures ∙ c.if-eq.false)) unset.0
+    open_second (falses_in values) clause c.args.literal c.in-Forces.other
+    (other_literal c.in-Forces.other c.args.literal (sym c.eq.ensures ∙ c.if-eq.false)) unset.0
     (subst (IsOutcome (falses_in values) clause) c.in-Forces.is is)
 
 pub returns-in-Neither : goal.returns-in-Neither

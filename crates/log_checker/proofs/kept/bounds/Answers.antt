@@ -40,7 +40,8 @@ returns-clause-less c i low =
     let end : c.len-count.result - 1 ≡ length es - 1 = omega (arith, count) in
     let inside : c.len-count.result - 1 < length es = omega (arith, count, some) in
     let last = ap (λ (x : Entry). x.number) (read_at es (c.len-count.result - 1) c.index-2.result.now inside c.index-2.ensures) ∙ ap (number_at es) end in
-    before_last es c.args.number c.index-2.result.now.number i c.requires (omega (arith, low, count, c.saturating_sub-low.ensures)) last (omega (arith, low, count, c.saturating_sub-low.ensures, c.if-number-last.false))
+    before_last es c.args.number c.index-2.result.now.number i c.requires (omega (arith, low, count, c.saturating_sub-low.ensures)) last
+    (omega (arith, low, count, c.saturating_sub-low.ensures, c.if-number-last.false))
 
 pub returns-clause-more : goal.returns-clause-more
 returns-clause-more c i high low =
@@ -48,4 +49,5 @@ returns-clause-more c i high low =
     let count : c.len-count.result ≡ length es = omega (arith, c.len-count.ensures) in
     let some : 0 < length es = omega (arith, low) in
     let first = ap (λ (x : Entry). x.number) (read_at es 0 c.index.result.now some c.index.ensures) in
-    behind_first es c.args.number c.index.result.now.number i c.requires low first (omega (arith, high, low, count, c.min-high.ensures, c.if-number-first.false))
+    behind_first es c.args.number c.index.result.now.number i c.requires low first
+    (omega (arith, high, low, count, c.min-high.ensures, c.if-number-first.false))

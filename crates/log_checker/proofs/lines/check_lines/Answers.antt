@@ -12,9 +12,11 @@ numbered-requires g c =
     let cuts = c.cut_lines.new.cuts.items in
     let Good = IsGoodLine clauses letters parts in
     let first =
-    first_of_all clauses parts letters cuts c.scratch.inside.areas.items c.judge_pieces.new.areas.items c.cut_lines.ensures.cuts (c.cut_lines.ensures.size ∙ c.scratch.invariant.cut) c.scratch.invariant.sizes
+    first_of_all clauses parts letters cuts c.scratch.inside.areas.items c.judge_pieces.new.areas.items c.cut_lines.ensures.cuts
+    (c.cut_lines.ensures.size ∙ c.scratch.invariant.cut) c.scratch.invariant.sizes
     c.judge_pieces.ensures.sizes c.judge_pieces.ensures.judged in
-    number_fits Good 0 (length (lines_of parts)) _ c.first_bad_of.result c.cut_lines.ensures.few (subst (IsFirstBad Good 0 (length (lines_of parts))) (sym (c.first_bad_of.ensures cuts)) first)
+    number_fits Good 0 (length (lines_of parts)) _ c.first_bad_of.result c.cut_lines.ensures.few
+    (subst (IsFirstBad Good 0 (length (lines_of parts))) (sym (c.first_bad_of.ensures cuts)) first)
 
 pub returns-clause-answer : goal.returns-clause-answer
 returns-clause-answer g c =
@@ -24,7 +26,9 @@ returns-clause-answer g c =
     let cuts = c.cut_lines.new.cuts.items in
     let Good = IsGoodLine clauses letters parts in
     let first =
-    first_of_all clauses parts letters cuts c.scratch.inside.areas.items c.judge_pieces.new.areas.items c.cut_lines.ensures.cuts (c.cut_lines.ensures.size ∙ c.scratch.invariant.cut) c.scratch.invariant.sizes
+    first_of_all clauses parts letters cuts c.scratch.inside.areas.items c.judge_pieces.new.areas.items c.cut_lines.ensures.cuts
+    (c.cut_lines.ensures.size ∙ c.scratch.invariant.cut) c.scratch.invariant.sizes
     c.judge_pieces.ensures.sizes c.judge_pieces.ensures.judged in
     subst (λ (s : ScratchValue). IsLinesAnswer clauses s.letters parts c.numbered.result) c.scratch.view_is
-    (lines_answer clauses parts letters c.first_bad_of.result c.numbered.result c.numbered.ensures (subst (IsFirstBad Good 0 (length (lines_of parts))) (sym (c.first_bad_of.ensures cuts)) first))
+    (lines_answer clauses parts letters c.first_bad_of.result c.numbered.result c.numbered.ensures
+    (subst (IsFirstBad Good 0 (length (lines_of parts))) (sym (c.first_bad_of.ensures cuts)) first))

@@ -11,4 +11,5 @@ returns-clause-good g c =
     let line = get_or (lines_of c.args.view.now.parts) (c.args.line - 1) [] in
     let letters = letters_in c.args.assignment.now in
     let r = c.judge.result in
-    subst (λ hs. IsTrue r ↔ IsStepAmong clauses lines letters line hs) c.hints.ensures (subst (λ ls. IsTrue r ↔ IsStepAmong clauses lines letters ls c.hints.result) c.literals.ensures c.judge.ensures.judged)
+    subst (λ hs. IsTrue r ↔ IsStepAmong clauses lines letters line hs) c.hints.ensures
+    (subst (λ ls. IsTrue r ↔ IsStepAmong clauses lines letters ls c.hints.result) c.literals.ensures c.judge.ensures.judged)

@@ -21,5 +21,7 @@ pub returns-clause-judged : goal.returns-clause-judged
 returns-clause-judged g c =
     let cuts = c.args.cuts.now.items in
     let low = c.requires.piece in
-    judged_at (g.C.NamedClauses.clauses c.args.clauses.now) c.args.view.now.parts cuts c.args.worker c.index.result.now c.index-2.result.now (length c.args.area.now.assignment) (length c.first_bad-area.new.assignment) c.first_bad-area.result
-    (cut_read cuts c.args.worker c.index.result.now (omega (arith, low)) c.index.ensures) (next_read cuts c.args.worker c.index-2.result.now low c.index-2.ensures) (sym c.first_bad-area.ensures.size) c.first_bad-area.ensures.first
+    judged_at (g.C.NamedClauses.clauses c.args.clauses.now) c.args.view.now.parts cuts c.args.worker c.index.result.now c.index-2.result.now
+    (length c.args.area.now.assignment) (length c.first_bad-area.new.assignment) c.first_bad-area.result
+    (cut_read cuts c.args.worker c.index.result.now (omega (arith, low)) c.index.ensures)
+    (next_read cuts c.args.worker c.index-2.result.now low c.index-2.ensures) (sym c.first_bad-area.ensures.size) c.first_bad-area.ensures.first

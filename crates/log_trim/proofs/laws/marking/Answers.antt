@@ -16,7 +16,8 @@ pub returns-clause-none : goal.returns-clause-none
 returns-clause-none c M hints = no_hints M hints
 
 pub returns-clause-hint : goal.returns-clause-hint
-returns-clause-hint c hints i m d L M N below e adds marking = rw (add-one i) (hint_marked hints i m L M N below (moved hints i d (Line m) below e) adds marking)
+returns-clause-hint c hints i m d L M N below e adds marking =
+    rw (add-one i) (hint_marked hints i m L M N below (moved hints i d (Line m) below e) adds marking)
 
 pub returns-clause-clause : goal.returns-clause-clause
 returns-clause-clause c hints i n d L M below e adds = rw (add-one i) (clause_passed hints i n L M below (moved hints i d (Clause n) below e) adds)

@@ -16,12 +16,15 @@ returns c =
     let kept = c.if-index.kept in
     let lines : lines_by kept.lines kept.hints ≡ trimmed_to (marked flags) log (k + 1) = elim c.if-index.branch [
       | then-index+in_ok-hints+in_ok-push+in_ok-push-2 w ↦
-          push_on log flags k c.invariant.ensures c.requires.line c.args.kept.now.lines kept.lines c.args.kept.now.hints kept.hints w.literals.result.now w.deref.result.now w.in_ok-hints.hints.items
-          (read_at flags k c.index.result.now false lt c.index.ensures ∙ w.if-index.true) c.requires.kept.lines_are w.literals.ensures w.deref.ensures.value w.in_ok-hints.ensures
+          push_on log flags k c.invariant.ensures c.requires.line c.args.kept.now.lines kept.lines c.args.kept.now.hints kept.hints w.literals.result.now
+          w.deref.result.now w.in_ok-hints.hints.items
+          (read_at flags k c.index.result.now false lt c.index.ensures ∙ w.if-index.true)
+          c.requires.kept.lines_are w.literals.ensures w.deref.ensures.value w.in_ok-hints.ensures
           (ap (λ (x : KeptLines). x.lines) w.kept-is ∙ w.in_ok-push.ensures) (ap (λ (x : KeptLines). x.hints) w.kept-is ∙ w.in_ok-push-2.ensures)
       | else-index w ↦
           subst (λ (x : KeptLines). lines_by x.lines x.hints ≡ trimmed_to (marked flags) log (k + 1)) (sym w.kept-is)
-          (pass_on log flags k c.invariant.ensures c.requires.line c.args.kept.now.lines c.args.kept.now.hints (read_at flags k c.index.result.now false lt c.index.ensures ∙ w.if-index.false) c.requires.kept.lines_are)
+          (pass_on log flags k c.invariant.ensures c.requires.line c.args.kept.now.lines c.args.kept.now.hints
+          (read_at flags k c.index.result.now false lt c.index.ensures ∙ w.if-index.false) c.requires.kept.lines_are)
     ] in
     let same : kept.table.items ≡ c.args.kept.now.table.items = elim c.if-index.branch [
       | then-index+in_ok-hints+in_ok-push+in_ok-push-2 w ↦ ap (λ (x : KeptLines). x.table.items) w.kept-is

@@ -33,7 +33,8 @@ hints-preserved c =
           let at = told_at hints i c.hint.result (Clause w.in-Clause.field-0) (Clause w.in-Clause.field-0) c.hint.ensures w.in-Clause.is in
           record {
             adds = subst (λ (fs : List Bool). AddsHints (marked c.args.flags.now.items) (marked fs) hints (i + 1)) (sym items)
-                (rw (add-one i) (clause_passed hints i w.in-Clause.field-0 (marked c.args.flags.now.items) (marked c.hints.flags.items) lt at c.hints.invariant.adds));
+                (rw (add-one i)
+                (clause_passed hints i w.in-Clause.field-0 (marked c.args.flags.now.items) (marked c.hints.flags.items) lt at c.hints.invariant.adds));
             long = ap length items ∙ c.hints.invariant.long;
           }
       | in-Line w ↦
@@ -42,7 +43,8 @@ hints-preserved c =
           let at = told_at hints i c.hint.result (Line line) (Clause 0) c.hint.ensures w.in-Line.is in
           let b = c.requires.lines line (there hints i (Clause 0) (Line line) lt at) in
           record {
-            adds = flag_on hints i line (Clause 0) (marked c.args.flags.now.items) c.hints.flags.items c.match-hint.flags.items lt at b.0 (omega (arith, b.1, c.hints.invariant.long)) items c.hints.invariant.adds;
+            adds = flag_on hints i line (Clause 0) (marked c.args.flags.now.items) c.hints.flags.items c.match-hint.flags.items lt at b.0
+                (omega (arith, b.1, c.hints.invariant.long)) items c.hints.invariant.adds;
             long = ap length items ∙ (length-set c.hints.flags.items (line - 1) true ∙ c.hints.invariant.long);
           }
     ]

@@ -36,14 +36,16 @@ hints-preserved c =
     elim c.match-hint.branch [
       | in-Clause+in_ok-push-in-Clause w ↦
           let hint = Clause w.in-Clause.number in
-          map_on (renumbered M log.lines) hints i (Clause 0) hint hint c.hints.new.items c.match-hint.new.items lt (told_at hints i c.hint.result hint (Clause 0) c.hint.ensures w.in-Clause.is) refl c.hints.invariant
+          map_on (renumbered M log.lines) hints i (Clause 0) hint hint c.hints.new.items c.match-hint.new.items lt
+          (told_at hints i c.hint.result hint (Clause 0) c.hint.ensures w.in-Clause.is) refl c.hints.invariant
           (ap (λ (v : Vec Hint Global). v.items) w.new-is ∙ w.in_ok-push-in-Clause.ensures.items)
       | in-Line+in_ok-push-in-Line w ↦
           let line = w.in-Line.earlier in
           let at = told_at hints i c.hint.result (Line line) (Clause 0) c.hint.ensures w.in-Line.is in
           let b = hint_at log c.args.index hints i (Clause 0) line c.invariant.ensures c.requires.line refl lt at in
           map_on (renumbered M log.lines) hints i (Clause 0) (Line line) (Line w.index.result.now) c.hints.new.items c.match-hint.new.items lt at
-          (ap Line (table_read M log.lines c.args.index line w.index.result.now c.args.table.now.items b.0 b.1 c.requires.table w.index.ensures)) c.hints.invariant
+          (ap Line (table_read M log.lines c.args.index line w.index.result.now c.args.table.now.items b.0 b.1 c.requires.table w.index.ensures))
+          c.hints.invariant
           (ap (λ (v : Vec Hint Global). v.items) w.new-is ∙ w.in_ok-push-in-Line.ensures.items)
     ]
 
@@ -52,4 +54,5 @@ returns c =
     let log = c.args.log.now in
     let hints = hints_at log.hints (c.args.index + 1) in
     let back : c.args.index + 1 - 1 ≡ c.args.index = omega arith in
-    c.hints.invariant ∙ ap (map (renumbered (marked c.args.flags.now.items) log.lines)) (take_all c.hints.place hints (omega (arith, c.hints-test.false, c.hints-place-end.ensures)) ∙ ap (λ n. get_or log.hints n []) back)
+    c.hints.invariant ∙ ap (map (renumbered (marked c.args.flags.now.items) log.lines))
+    (take_all c.hints.place hints (omega (arith, c.hints-test.false, c.hints-place-end.ensures)) ∙ ap (λ n. get_or log.hints n []) back)

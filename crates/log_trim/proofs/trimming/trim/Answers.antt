@@ -15,8 +15,10 @@ targets-preserved c =
     let target = get_or c.args.targets.now i 0 in
     let kept = c.in_ok-kept.ensures in
     let w = c.requires i c.targets-test.true in
-    map_on (new_number M c.args.log.lines) c.args.targets.now i 0 target c.index.result.now c.targets.numbers.items c.push.new.self.items c.targets-test.true refl
-    (table_read M c.args.log.lines (length c.args.log.lines) target c.index.result.now k.table.items w.0 w.1 kept.numbers c.index.ensures) c.targets.invariant c.in_ok-push.ensures.items
+    map_on (new_number M c.args.log.lines)
+    c.args.targets.now i 0 target c.index.result.now c.targets.numbers.items c.push.new.self.items c.targets-test.true refl
+    (table_read M c.args.log.lines (length c.args.log.lines) target c.index.result.now k.table.items w.0 w.1 kept.numbers c.index.ensures)
+    c.targets.invariant c.in_ok-push.ensures.items
 
 pub of-requires : goal.of-requires
 of-requires c =

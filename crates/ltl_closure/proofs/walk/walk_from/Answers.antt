@@ -13,7 +13,13 @@ head_is x y xs e = cc
 
 pub returns-clause-entries : goal.returns-clause-entries
 returns-clause-entries c =
-    (ended c.args.table.now c.args.root _ _ _ _ (rw (c.loop-work.invariant.root, none_left c.loop-work.walk.work.items (omega (arith, c.in_default.ensures.cases.0))) at c.loop-work.invariant.at)).0
+    (ended c.args.table.now c.args.root _ _ _ _ (rw (
+      c.loop-work.invariant.root,
+      none_left c.loop-work.walk.work.items (omega (
+        arith,
+        c.in_default.ensures.cases.0,
+      )),
+    ) at c.loop-work.invariant.at)).0
 
 pub returns-clause-few : goal.returns-clause-few
 returns-clause-few c =
@@ -23,4 +29,7 @@ returns-clause-few c =
 
 pub returns-clause-root : goal.returns-clause-root
 returns-clause-root c =
-    head_is _ _ _ (sym c.pop_number-root.ensures ∙ (ended c.args.table.now c.args.root _ _ _ _ (rw (c.loop-work.invariant.root, none_left c.loop-work.walk.work.items (omega (arith, c.in_default.ensures.cases.0))) at c.loop-work.invariant.at)).1)
+    head_is _ _ _ (sym c.pop_number-root.ensures ∙ (ended c.args.table.now c.args.root _ _ _ _ (rw (
+      c.loop-work.invariant.root,
+      none_left c.loop-work.walk.work.items (omega (arith, c.in_default.ensures.cases.0)),
+    ) at c.loop-work.invariant.at)).1)

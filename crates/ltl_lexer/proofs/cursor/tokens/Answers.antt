@@ -12,8 +12,10 @@ loop-next-smaller c =
 pub loop-next-preserved : goal.loop-next-preserved
 loop-next-preserved c ts f more =
     let a = subst (λ r. Advances c.loop-next.cursor (Some r) c.next.new.self) c.in-Ok.is c.in-Some.ensures.moves in
-    let all = c.loop-next.invariant (c.in-Ok.token ∷ ts) f (one_more c.loop-next.cursor.place c.next.new.self.place c.loop-next.cursor.rest c.next.new.self.rest c.in-Ok.token a.0 a.1 ts f more) in
-    subst (λ z. AreTokens 0 c.args.text.now z f) (sym (ap (λ z. z ++ ts) c.in_ok-push-in-Ok.ensures.items ∙ append_assoc c.loop-next.found.items (c.in-Ok.token ∷ []) ts)) all
+    let all = c.loop-next.invariant (c.in-Ok.token ∷ ts) f
+    (one_more c.loop-next.cursor.place c.next.new.self.place c.loop-next.cursor.rest c.next.new.self.rest c.in-Ok.token a.0 a.1 ts f more) in
+    subst (λ z. AreTokens 0 c.args.text.now z f)
+    (sym (ap (λ z. z ++ ts) c.in_ok-push-in-Ok.ensures.items ∙ append_assoc c.loop-next.found.items (c.in-Ok.token ∷ []) ts)) all
 
 pub returns-in-Err-clause-err : goal.returns-in-Err-clause-err
 returns-in-Err-clause-err c =
@@ -21,4 +23,5 @@ returns-in-Err-clause-err c =
     (c.loop-next.found.items ++ [], c.loop-next.invariant [] (Some (c.in-Err.fault.byte)) a.0)
 
 pub returns-clause-ok : goal.returns-clause-ok
-returns-clause-ok c = subst (λ z. AreTokens 0 c.args.text.now z None) (append-nil c.loop-next.found.items) (c.loop-next.invariant [] None c.in_default.ensures.moves.0)
+returns-clause-ok c =
+    subst (λ z. AreTokens 0 c.args.text.now z None) (append-nil c.loop-next.found.items) (c.loop-next.invariant [] None c.in_default.ensures.moves.0)

@@ -22,6 +22,10 @@ returns c =
     let zero_size : c.loop-size.size ≡ 0 = omega arith in
     record {
       within = c.loop-size.invariant.within;
-      word = λ pos. (c.loop-size.invariant.word, word_ends (take c.loop-size.len c.args.text.now) (drop c.loop-size.len c.args.text.now) c.loop-size.invariant.word (subst (FrontChar false (drop c.loop-size.len c.args.text.now)) zero_size c.loop-size.invariant.next));
+      word = λ pos. (
+        c.loop-size.invariant.word,
+        word_ends (take c.loop-size.len c.args.text.now) (drop c.loop-size.len c.args.text.now) c.loop-size.invariant.word
+            (subst (FrontChar false (drop c.loop-size.len c.args.text.now)) zero_size c.loop-size.invariant.next),
+      );
       none = λ e. absurd (no_word (subst (λ n. IsWord (take n c.args.text.now)) e c.loop-size.invariant.word));
     }

@@ -18,41 +18,48 @@ pub step-requires-clause-room : goal.step-requires-clause-room
 step-requires-clause-room c =
     let ss = symbols c.args.text.now c.args.tokens.now in
     let x = symbol_of c.args.text.now (get_or c.args.tokens.now c.loop-token.token-index none) in
-    way_room ss c.loop-token.token-index x (next_symbol c.args.text.now c.args.tokens.now c.loop-token.token-index none (omega arith)) c.loop-token.table c.loop-token.stack c.loop-token.operand c.loop-token.invariant c.requires.room
+    way_room ss c.loop-token.token-index x (next_symbol c.args.text.now c.args.tokens.now c.loop-token.token-index none (omega arith))
+    c.loop-token.table c.loop-token.stack c.loop-token.operand c.loop-token.invariant c.requires.room
 
 pub step-requires-clause-taken : goal.step-requires-clause-taken
 step-requires-clause-taken c =
     let ss = symbols c.args.text.now c.args.tokens.now in
     let x = symbol_of c.args.text.now (get_or c.args.tokens.now c.loop-token.token-index none) in
-    way_taken ss c.loop-token.token-index x (next_symbol c.args.text.now c.args.tokens.now c.loop-token.token-index none (omega arith)) c.loop-token.table c.loop-token.stack c.loop-token.operand c.loop-token.invariant
+    way_taken ss c.loop-token.token-index x (next_symbol c.args.text.now c.args.tokens.now c.loop-token.token-index none (omega arith))
+    c.loop-token.table c.loop-token.stack c.loop-token.operand c.loop-token.invariant
 
 pub loop-token-preserved : goal.loop-token-preserved
 loop-token-preserved c =
     let ss = symbols c.args.text.now c.args.tokens.now in
     let x = symbol_of c.args.text.now (get_or c.args.tokens.now c.loop-token.token-index none) in
-    way_next ss c.loop-token.token-index x (next_symbol c.args.text.now c.args.tokens.now c.loop-token.token-index none (omega arith)) c.loop-token.table c.step.new.table c.loop-token.stack c.step.new.stack c.loop-token.operand c.in_ok-operand.operand
+    way_next ss c.loop-token.token-index x (next_symbol c.args.text.now c.args.tokens.now c.loop-token.token-index none (omega arith))
+    c.loop-token.table c.step.new.table c.loop-token.stack c.step.new.stack c.loop-token.operand c.in_ok-operand.operand
     (taken_symbols c.args.text.now c.args.tokens.now c.loop-token.token-index none (omega arith)) c.loop-token.invariant c.in_ok-operand.ensures.steps
 
 pub returns-clause-reads : goal.returns-clause-reads
 returns-clause-reads c =
     let ss = symbols c.args.text.now c.args.tokens.now in
     let way = subst (IsUnderWay ss c.loop-token.token-index c.loop-token.table c.loop-token.stack) c.in-Some.is c.loop-token.invariant in
-    way_reads ss c.loop-token.token-index c.loop-token.table c.reduce.new.table c.loop-token.stack c.reduce.new.stack c.in-Some.last c.in_ok-root.root (let n = length-map c.args.tokens.now (symbol_of c.args.text.now) in omega arith) way c.in_ok-root.ensures.held c.in_ok-root.ensures.stopped
+    way_reads ss c.loop-token.token-index c.loop-token.table c.reduce.new.table c.loop-token.stack c.reduce.new.stack c.in-Some.last c.in_ok-root.root
+    (let n = length-map c.args.tokens.now (symbol_of c.args.text.now) in omega arith) way c.in_ok-root.ensures.held c.in_ok-root.ensures.stopped
 
 pub returns-clause-count : goal.returns-clause-count
 returns-clause-count c =
     let ss = symbols c.args.text.now c.args.tokens.now in
     let way = subst (IsUnderWay ss c.loop-token.token-index c.loop-token.table c.loop-token.stack) c.in-Some.is c.loop-token.invariant in
-    way_count ss c.loop-token.token-index c.loop-token.table c.reduce.new.table c.loop-token.stack c.reduce.new.stack c.in-Some.last c.in_ok-root.root (let n = length-map c.args.tokens.now (symbol_of c.args.text.now) in omega arith) way c.in_ok-root.ensures.held c.in_ok-root.ensures.stopped
+    way_count ss c.loop-token.token-index c.loop-token.table c.reduce.new.table c.loop-token.stack c.reduce.new.stack c.in-Some.last c.in_ok-root.root
+    (let n = length-map c.args.tokens.now (symbol_of c.args.text.now) in omega arith) way c.in_ok-root.ensures.held c.in_ok-root.ensures.stopped
 
 pub returns-clause-size : goal.returns-clause-size
 returns-clause-size c =
     let ss = symbols c.args.text.now c.args.tokens.now in
     let way = subst (IsUnderWay ss c.loop-token.token-index c.loop-token.table c.loop-token.stack) c.in-Some.is c.loop-token.invariant in
-    way_size ss c.loop-token.token-index c.loop-token.table c.reduce.new.table c.loop-token.stack c.reduce.new.stack c.in-Some.last c.in_ok-root.root (let n = length-map c.args.tokens.now (symbol_of c.args.text.now) in omega arith) way c.in_ok-root.ensures.held c.in_ok-root.ensures.stopped
+    way_size ss c.loop-token.token-index c.loop-token.table c.reduce.new.table c.loop-token.stack c.reduce.new.stack c.in-Some.last c.in_ok-root.root
+    (let n = length-map c.args.tokens.now (symbol_of c.args.text.now) in omega arith) way c.in_ok-root.ensures.held c.in_ok-root.ensures.stopped
 
 pub returns-clause-names : goal.returns-clause-names
 returns-clause-names c =
     let ss = symbols c.args.text.now c.args.tokens.now in
     let way = subst (IsUnderWay ss c.loop-token.token-index c.loop-token.table c.loop-token.stack) c.in-Some.is c.loop-token.invariant in
-    way_names ss c.loop-token.token-index c.loop-token.table c.reduce.new.table c.loop-token.stack c.reduce.new.stack c.in-Some.last c.in_ok-root.root (let n = length-map c.args.tokens.now (symbol_of c.args.text.now) in omega arith) way c.in_ok-root.ensures.held c.in_ok-root.ensures.stopped
+    way_names ss c.loop-token.token-index c.loop-token.table c.reduce.new.table c.loop-token.stack c.reduce.new.stack c.in-Some.last c.in_ok-root.root
+    (let n = length-map c.args.tokens.now (symbol_of c.args.text.now) in omega arith) way c.in_ok-root.ensures.held c.in_ok-root.ensures.stopped

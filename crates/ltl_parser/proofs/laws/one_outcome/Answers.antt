@@ -1,4 +1,5 @@
-use Rattle.ltl_parser.proofs.Readings.{one_lexical_fault, one_grammar_fault, one_text_reading, lexical_not_grammar, lexical_not_read, grammar_not_read, read_or_fault, some_outcome}
+use Rattle.ltl_parser.proofs.Readings.{one_lexical_fault, one_grammar_fault, one_text_reading, lexical_not_grammar, lexical_not_read, grammar_not_read}
+use Rattle.ltl_parser.proofs.Readings.{read_or_fault, some_outcome}
 use Rattle.ltl_parser.proofs.laws.one_outcome.Goals as goal
 
 pub returns : goal.returns

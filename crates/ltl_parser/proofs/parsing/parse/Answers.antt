@@ -10,7 +10,8 @@ pub walk-requires : goal.walk-requires
 walk-requires c = let n = no_more_tokens 0 c.args.text.now c.args.tokens.now None c.requires.tokens in omega arith
 
 pub returns-in-Err-clause-refused : goal.returns-in-Err-clause-refused
-returns-in-Err-clause-refused c = fault_at c.args.text.now c.args.tokens.now c.in-Err.i (record { kind = kinds.True; start = 0; end = 0 }) (c.in-Err.ensures c.args.text.now).0 (omega arith)
+returns-in-Err-clause-refused c =
+    fault_at c.args.text.now c.args.tokens.now c.in-Err.i (record { kind = kinds.True; start = 0; end = 0 }) (c.in-Err.ensures c.args.text.now).0 (omega arith)
 
 pub returns-in-Err-2-clause-refused : goal.returns-in-Err-2-clause-refused
 returns-in-Err-2-clause-refused c = fault_behind c.args.text.now c.args.tokens.now c.in-Err.i (c.in-Err.ensures c.args.text.now).0 (omega arith)

@@ -21,4 +21,6 @@ pub name-requires-clause-plain : goal.name-requires-clause-plain
 name-requires-clause-plain c = subst IsPlain (sym c.in-Ok.ensures.cases.0) (word_plain c.args.bytes.now c.requires.word)
 
 pub returns-clause-leaf : goal.returns-clause-leaf
-returns-clause-leaf c = subst (λ z. AddsLeaf c.args.table.now (Letter (Name z)) c.push.new.self c.in_ok-number.number) c.in-Ok.ensures.cases.0 (letter_added c.args.table.now c.name.new.self c.push.new.self c.in-Ok.name.now c.in-Ok-name.letter c.in_ok-number.number c.in-Ok-name.ensures.ok c.in-Ok-name.ensures.few c.in_ok-number.ensures.ok c.in_ok-number.ensures.root c.in_ok-number.ensures.number)
+returns-clause-leaf c = subst (λ z. AddsLeaf c.args.table.now (Letter (Name z)) c.push.new.self c.in_ok-number.number) c.in-Ok.ensures.cases.0
+    (letter_added c.args.table.now c.name.new.self c.push.new.self c.in-Ok.name.now c.in-Ok-name.letter c.in_ok-number.number c.in-Ok-name.ensures.ok
+    c.in-Ok-name.ensures.few c.in_ok-number.ensures.ok c.in_ok-number.ensures.root c.in_ok-number.ensures.number)

@@ -12,14 +12,16 @@ pub returns-in_ok-number-in-Constant-clause-steps :
 returns-in_ok-number-in-Constant-clause-steps c =
     let said = c.in-Constant.ensures.symbol (slice_range c.args.text.now c.args.token.start c.args.token.end) in
     subst (λ x. Steps c.args.table.now c.args.stack.now None x c.push_constant.new.table c.args.stack.now (Some c.in_ok-number-in-Constant.number)) (sym said)
-    (leaf_steps c.args.table.now c.push_constant.new.table c.args.stack.now (Const c.in-Constant.value) c.in_ok-number-in-Constant.number c.in_ok-number-in-Constant.ensures.leaf c.requires.ready c.requires.names)
+    (leaf_steps c.args.table.now c.push_constant.new.table c.args.stack.now (Const c.in-Constant.value)
+    c.in_ok-number-in-Constant.number c.in_ok-number-in-Constant.ensures.leaf c.requires.ready c.requires.names)
 
 pub returns-in_ok-number-in-Name-clause-steps : goal.returns-in_ok-number-in-Name-clause-steps
 returns-in_ok-number-in-Name-clause-steps c =
     let bytes = slice_range c.args.text.now c.args.token.start c.args.token.end in
     let said = c.in-Name.ensures.symbol bytes in
     subst (λ x. Steps c.args.table.now c.args.stack.now None x c.push_letter.new.table c.args.stack.now (Some c.in_ok-number-in-Name.number)) (sym said)
-    (leaf_steps c.args.table.now c.push_letter.new.table c.args.stack.now (Letter (Name bytes)) c.in_ok-number-in-Name.number c.in_ok-number-in-Name.ensures.leaf c.requires.ready c.requires.names)
+    (leaf_steps c.args.table.now c.push_letter.new.table c.args.stack.now (Letter (Name bytes))
+    c.in_ok-number-in-Name.number c.in_ok-number-in-Name.ensures.leaf c.requires.ready c.requires.names)
 
 pub returns-in_ok-push-in-Prefix-clause-steps : goal.returns-in_ok-push-in-Prefix-clause-steps
 returns-in_ok-push-in-Prefix-clause-steps c =

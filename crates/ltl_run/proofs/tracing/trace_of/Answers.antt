@@ -13,7 +13,8 @@ pub returns-clause-gives : goal.returns-clause-gives
 returns-clause-gives c =
     let f = c.args.closure.now.formula in
     let r = run_of c.args.closure.now.formula c.args.states.now in
-    let given = shown_gives f r (length c.args.states.now - 1) c.args.closure.now.kind c.args.close c.in_ok-shown.shown.items c.requires.accepted c.in_ok-shown.ensures in
+    let given = shown_gives f r (length c.args.states.now - 1)
+    c.args.closure.now.kind c.args.close c.in_ok-shown.shown.items c.requires.accepted c.in_ok-shown.ensures in
     let step : (t : Trace) → t ≡ closed_by c.args.close c.in_ok-shown.shown.items → GivesTrace f r (length c.args.states.now - 1) c.args.close t =
     λ t e. subst (GivesTrace f r (length c.args.states.now - 1) c.args.close) (sym e) given in
     if_ok_more step c.close_states.result c.close_states.ensures
@@ -22,7 +23,8 @@ pub returns-clause-satisfies : goal.returns-clause-satisfies
 returns-clause-satisfies c =
     let f = c.args.closure.now.formula in
     let r = run_of c.args.closure.now.formula c.args.states.now in
-    let given = shown_gives f r (length c.args.states.now - 1) c.args.closure.now.kind c.args.close c.in_ok-shown.shown.items c.requires.accepted c.in_ok-shown.ensures in
+    let given = shown_gives f r (length c.args.states.now - 1)
+    c.args.closure.now.kind c.args.close c.in_ok-shown.shown.items c.requires.accepted c.in_ok-shown.ensures in
     let done = run_satisfies f c.args.closure.now.kind (length c.args.states.now - 1) r c.args.close _ c.requires.run c.requires.accepted given in
     let step : (t : Trace) → t ≡ closed_by c.args.close c.in_ok-shown.shown.items → IsTrace t × IsOfKind t c.args.closure.now.kind × Satisfies t f =
     λ t e. subst (λ u. IsTrace u × IsOfKind u c.args.closure.now.kind × Satisfies u f) (sym e) done in

@@ -4,14 +4,20 @@ use Rattle.ltl_syntax.proofs.Works.{works_text_push, works_size_push, are_works_
 use Rattle.ltl_syntax.proofs.printing.print.Goals as goal
 
 pub step-requires-clause-work : goal.step-requires-clause-work
-step-requires-clause-work c = (are_works_split c.args.table.now c.pop.new.self.items c.in-Some.work (rw c.in-Some.ensures.items at c.loop-work.invariant.works)).1
+step-requires-clause-work c =
+    (are_works_split c.args.table.now c.pop.new.self.items c.in-Some.work (rw c.in-Some.ensures.items at c.loop-work.invariant.works)).1
 
 pub step-requires-clause-works : goal.step-requires-clause-works
-step-requires-clause-works c = (are_works_split c.args.table.now c.pop.new.self.items c.in-Some.work (rw c.in-Some.ensures.items at c.loop-work.invariant.works)).0
+step-requires-clause-works c =
+    (are_works_split c.args.table.now c.pop.new.self.items c.in-Some.work (rw c.in-Some.ensures.items at c.loop-work.invariant.works)).0
 
 pub loop-work-smaller : goal.loop-work-smaller
 loop-work-smaller c =
-    omega (arith, c.in_ok-step.ensures.size, ap (works_size c.args.table.now) c.in-Some.ensures.items ∙ works_size_push c.args.table.now c.pop.new.self.items c.in-Some.work)
+    omega (
+      arith,
+      c.in_ok-step.ensures.size,
+      ap (works_size c.args.table.now) c.in-Some.ensures.items ∙ works_size_push c.args.table.now c.pop.new.self.items c.in-Some.work,
+    )
 
 pub loop-work-preserved : goal.loop-work-preserved
 loop-work-preserved c = record {

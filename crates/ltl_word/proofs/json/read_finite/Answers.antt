@@ -15,7 +15,8 @@ pub returns : goal.returns
 returns c =
     let read = c.in_ok-states.ensures in (
       Finite read.0,
-      finite_value c.args.members c.next.new.self c.in-Some-None.key.now c.in-Some-None.states.now read.0 c.in-Some-None.ensures.steps c.in-Some-None.ensures'.steps.0
+      finite_value c.args.members c.next.new.self c.in-Some-None.key.now c.in-Some-None.states.now read.0 c.in-Some-None.ensures.steps
+          c.in-Some-None.ensures'.steps.0
           (sym c.as_str.ensures.value ∙ key_is c.as_str.result.now (codes "states") c.if-ne.ensures) read.1,
       sets_of_some read.0 c.in_ok-states.states read.2 (λ e. true≢false (sym (c.is_empty.ensures.1 e) ∙ c.if-is_empty.false)),
       read.2,

@@ -14,17 +14,21 @@ pub loop-state-preserved : goal.loop-state-preserved
 loop-state-preserved c =
     let item = c.state-item.result in
     let more = c.loop-state-test.true in (
-      map_more view state_data c.loop-state.items.items c.push.new.self.items c.in_ok-state_value.field-0 c.args.states.now c.loop-state.state-index item c.loop-state.invariant.0 c.in_ok-push.ensures.items more
+      map_more view state_data c.loop-state.items.items c.push.new.self.items c.in_ok-state_value.field-0 c.args.states.now c.loop-state.state-index item
+          c.loop-state.invariant.0 c.in_ok-push.ensures.items more
           (c.in_ok-state_value.ensures.value ∙ ap state_data c.state-item.is),
-      All-more IsAscending c.args.states.now c.loop-state.state-index item more c.loop-state.invariant.1 (subst IsAscending c.state-item.is c.state_value.ensures.ascending),
+      All-more IsAscending c.args.states.now c.loop-state.state-index item more c.loop-state.invariant.1
+          (subst IsAscending c.state-item.is c.state_value.ensures.ascending),
     )
 
 pub returns-clause-value : goal.returns-clause-value
 returns-clause-value c =
-    let whole : take c.loop-state.state-index c.args.states.now ≡ c.args.states.now = take_all c.loop-state.state-index c.args.states.now c.loop-state-test.false in
+    let whole : take c.loop-state.state-index c.args.states.now ≡ c.args.states.now =
+    take_all c.loop-state.state-index c.args.states.now c.loop-state-test.false in
     view-Array c.loop-state.items ∙ ap (λ ds. array (items_of ds)) (c.loop-state.invariant.0 ∙ ap (map state_data) whole)
 
 pub returns-clause-sets : goal.returns-clause-sets
 returns-clause-sets c =
-    let whole : take c.loop-state.state-index c.args.states.now ≡ c.args.states.now = take_all c.loop-state.state-index c.args.states.now c.loop-state-test.false in
+    let whole : take c.loop-state.state-index c.args.states.now ≡ c.args.states.now =
+    take_all c.loop-state.state-index c.args.states.now c.loop-state-test.false in
     sets_of_themselves c.args.states.now (subst (All IsAscending) whole c.loop-state.invariant.1)

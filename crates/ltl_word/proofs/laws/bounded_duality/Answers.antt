@@ -14,19 +14,23 @@ abbrev not_of : Trace → Formula → Claim
 not_of t a = Holds t (Unary Not a)
 
 pub returns-clause-next : goal.returns-clause-next
-returns-clause-next c n a t i good = both_back (Same-then _ _ _ (Same-no_eventually_in (all_numbers (IsPosition t)) n n (Holds t a) _ (Same-self (not_of t a))) (Same-not _ _ (Same-turned _ _ (Same-times n (Holds t a) (IsPosition t))))) i
+returns-clause-next c n a t i good = both_back (Same-then _ _ _ (Same-no_eventually_in (all_numbers (IsPosition t)) n n (Holds t a) _ (Same-self (not_of t a)))
+    (Same-not _ _ (Same-turned _ _ (Same-times n (Holds t a) (IsPosition t))))) i
 
 pub returns-clause-yesterday : goal.returns-clause-yesterday
-returns-clause-yesterday c n a t i good = both_back (Same-then _ _ _ (Same-no_once_in (all_numbers (IsPosition t)) n n (Holds t a) _ (Same-self (not_of t a))) (Same-not _ _ (Same-turned _ _ (Same-yesterdays n (Holds t a))))) i
+returns-clause-yesterday c n a t i good = both_back (Same-then _ _ _ (Same-no_once_in (all_numbers (IsPosition t)) n n (Holds t a) _ (Same-self (not_of t a)))
+    (Same-not _ _ (Same-turned _ _ (Same-yesterdays n (Holds t a))))) i
 
 pub returns-clause-eventually : goal.returns-clause-eventually
 returns-clause-eventually c m n a t i good = both_back (Same-no_eventually_in (all_numbers (IsPosition t)) m n (Holds t a) _ (Same-self (not_of t a))) i
 
 pub returns-clause-always : goal.returns-clause-always
-returns-clause-always c m n a t i good = both_back (Same-no_always_in (all_numbers (IsPosition t)) m n (Holds t a) _ (Position_decided t) (Holds_decided t good a) (Same-self (not_of t a))) i
+returns-clause-always c m n a t i good =
+    both_back (Same-no_always_in (all_numbers (IsPosition t)) m n (Holds t a) _ (Position_decided t) (Holds_decided t good a) (Same-self (not_of t a))) i
 
 pub returns-clause-once : goal.returns-clause-once
 returns-clause-once c m n a t i good = both_back (Same-no_once_in (all_numbers (IsPosition t)) m n (Holds t a) _ (Same-self (not_of t a))) i
 
 pub returns-clause-historically : goal.returns-clause-historically
-returns-clause-historically c m n a t i good = both_back (Same-no_historically_in (all_numbers (IsPosition t)) m n (Holds t a) _ (Holds_decided t good a) (Same-self (not_of t a))) i
+returns-clause-historically c m n a t i good =
+    both_back (Same-no_historically_in (all_numbers (IsPosition t)) m n (Holds t a) _ (Holds_decided t good a) (Same-self (not_of t a))) i

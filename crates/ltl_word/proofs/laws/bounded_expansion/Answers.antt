@@ -2,11 +2,15 @@ use Rattle.std.proofs.Common.{suc}
 use Rattle.ltl_word.specs.Trace.{IsPosition}
 use Rattle.ltl_word.specs.Holds.{Holds}
 use Rattle.ltl_word.proofs.Decided.{position_below}
-use Rattle.ltl_word.proofs.Bounded.{times_in, in_times, yesterdays_in, in_yesterdays, eventually_later, later_eventually, always_later, later_always, eventually_out, eventually_in, always_out, always_in, eventually_here, here_eventually, always_here, here_always, once_earlier, earlier_once, historically_earlier, earlier_historically, once_out, once_in, historically_out, historically_in, once_here, here_once, historically_here, here_historically}
+use Rattle.ltl_word.proofs.Bounded.{times_in, in_times, yesterdays_in, in_yesterdays, eventually_later, later_eventually, always_later, later_always}
+use Rattle.ltl_word.proofs.Bounded.{eventually_out, eventually_in, always_out, always_in, eventually_here, here_eventually, always_here, here_always}
+use Rattle.ltl_word.proofs.Bounded.{once_earlier, earlier_once, historically_earlier, earlier_historically, once_out, once_in, historically_out}
+use Rattle.ltl_word.proofs.Bounded.{historically_in, once_here, here_once, historically_here, here_historically}
 use Rattle.ltl_word.proofs.laws.bounded_expansion.Goals as goal
 
 pub returns-clause-next_here : goal.returns-clause-next_here
-returns-clause-next_here c a t i good at = (λ w. eventually_here (IsPosition t) (Holds t a) i (times_in _ 0 i _ w), λ x. in_times _ 0 i _ (here_eventually (IsPosition t) (Holds t a) i at x))
+returns-clause-next_here c a t i good at =
+    (λ w. eventually_here (IsPosition t) (Holds t a) i (times_in _ 0 i _ w), λ x. in_times _ 0 i _ (here_eventually (IsPosition t) (Holds t a) i at x))
 
 pub returns-clause-next_later : goal.returns-clause-next_later
 returns-clause-next_later c n a t i good = (
@@ -27,19 +31,23 @@ pub returns-clause-eventually_here : goal.returns-clause-eventually_here
 returns-clause-eventually_here c a t i good at = (eventually_here (IsPosition t) (Holds t a) i, here_eventually (IsPosition t) (Holds t a) i at)
 
 pub returns-clause-eventually_first : goal.returns-clause-eventually_first
-returns-clause-eventually_first c n a t i good at = (eventually_out (IsPosition t) (Holds t a) (position_below t) n i, eventually_in (IsPosition t) (Holds t a) (position_below t) n i at)
+returns-clause-eventually_first c n a t i good at =
+    (eventually_out (IsPosition t) (Holds t a) (position_below t) n i, eventually_in (IsPosition t) (Holds t a) (position_below t) n i at)
 
 pub returns-clause-eventually_later : goal.returns-clause-eventually_later
-returns-clause-eventually_later c m n a t i good = (eventually_later (IsPosition t) (Holds t a) (position_below t) m n i, later_eventually (IsPosition t) (Holds t a) (position_below t) m n i)
+returns-clause-eventually_later c m n a t i good =
+    (eventually_later (IsPosition t) (Holds t a) (position_below t) m n i, later_eventually (IsPosition t) (Holds t a) (position_below t) m n i)
 
 pub returns-clause-always_here : goal.returns-clause-always_here
 returns-clause-always_here c a t i good at = (always_here (IsPosition t) (Holds t a) i at, here_always (IsPosition t) (Holds t a) i)
 
 pub returns-clause-always_first : goal.returns-clause-always_first
-returns-clause-always_first c n a t i good at = (always_out (IsPosition t) (Holds t a) (position_below t) n i at, always_in (IsPosition t) (Holds t a) (position_below t) n i)
+returns-clause-always_first c n a t i good at =
+    (always_out (IsPosition t) (Holds t a) (position_below t) n i at, always_in (IsPosition t) (Holds t a) (position_below t) n i)
 
 pub returns-clause-always_later : goal.returns-clause-always_later
-returns-clause-always_later c m n a t i good = (always_later (IsPosition t) (Holds t a) (position_below t) m n i, later_always (IsPosition t) (Holds t a) (position_below t) m n i)
+returns-clause-always_later c m n a t i good =
+    (always_later (IsPosition t) (Holds t a) (position_below t) m n i, later_always (IsPosition t) (Holds t a) (position_below t) m n i)
 
 pub returns-clause-once_here : goal.returns-clause-once_here
 returns-clause-once_here c a t i good = (once_here (Holds t a) i, here_once (Holds t a) i)

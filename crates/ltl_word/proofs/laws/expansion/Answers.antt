@@ -10,16 +10,26 @@ use Rattle.ltl_word.proofs.Decided.{Holds_decided, position_below}
 use Rattle.ltl_word.proofs.laws.expansion.Goals as goal
 
 pub returns-clause-until : goal.returns-clause-until
-returns-clause-until c a b t i good at = (until_out (IsPosition t) (Holds t a) (Holds t b) (position_below t) i, until_in (IsPosition t) (Holds t a) (Holds t b) (position_below t) i at)
+returns-clause-until c a b t i good at =
+    (until_out (IsPosition t) (Holds t a) (Holds t b) (position_below t) i, until_in (IsPosition t) (Holds t a) (Holds t b) (position_below t) i at)
 
 pub returns-clause-release : goal.returns-clause-release
-returns-clause-release c a b t i good at = (release_out (IsPosition t) (Holds t a) (Holds t b) (position_below t) i at (Holds_decided t good a i), release_in (IsPosition t) (Holds t a) (Holds t b) (position_below t) i)
+returns-clause-release c a b t i good at = (
+  release_out (IsPosition t) (Holds t a) (Holds t b) (position_below t) i at (Holds_decided t good a i),
+  release_in (IsPosition t) (Holds t a) (Holds t b) (position_below t) i,
+)
 
 pub returns-clause-weak_until : goal.returns-clause-weak_until
-returns-clause-weak_until c a b t i good at = (release_out (IsPosition t) (Holds t b) (Holds t (Binary Or a b)) (position_below t) i at (Holds_decided t good b i), release_in (IsPosition t) (Holds t b) (Holds t (Binary Or a b)) (position_below t) i)
+returns-clause-weak_until c a b t i good at = (
+  release_out (IsPosition t) (Holds t b) (Holds t (Binary Or a b)) (position_below t) i at (Holds_decided t good b i),
+  release_in (IsPosition t) (Holds t b) (Holds t (Binary Or a b)) (position_below t) i,
+)
 
 pub returns-clause-strong_release : goal.returns-clause-strong_release
-returns-clause-strong_release c a b t i good at = (until_out (IsPosition t) (Holds t b) (Holds t (Binary And a b)) (position_below t) i, until_in (IsPosition t) (Holds t b) (Holds t (Binary And a b)) (position_below t) i at)
+returns-clause-strong_release c a b t i good at = (
+  until_out (IsPosition t) (Holds t b) (Holds t (Binary And a b)) (position_below t) i,
+  until_in (IsPosition t) (Holds t b) (Holds t (Binary And a b)) (position_below t) i at,
+)
 
 pub returns-clause-eventually : goal.returns-clause-eventually
 returns-clause-eventually c a t i good at = (

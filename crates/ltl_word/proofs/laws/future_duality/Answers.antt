@@ -6,7 +6,8 @@ use Rattle.ltl_word.specs.Trace.{IsPosition}
 use Rattle.ltl_word.specs.Claims.{Claim, Always', Never}
 use Rattle.ltl_word.specs.Holds.{Holds}
 use Rattle.ltl_word.proofs.Duality.{Always_decided, Never_decided}
-use Rattle.ltl_word.proofs.Agreement.{all_numbers, Same-self, both_back, Same-never, Same-always, Same-no_and, Same-no_or, Same-no_weak_next, Same-no_until, Same-no_release}
+use Rattle.ltl_word.proofs.Agreement.{all_numbers, Same-self, both_back, Same-never, Same-always, Same-no_and, Same-no_or, Same-no_weak_next, Same-no_until}
+use Rattle.ltl_word.proofs.Agreement.{Same-no_release}
 use Rattle.ltl_word.proofs.Decided.{Holds_decided, Position_decided, horizon}
 use Rattle.ltl_word.proofs.laws.future_duality.Goals as goal
 
@@ -17,19 +18,27 @@ pub returns-clause-weak_next : goal.returns-clause-weak_next
 returns-clause-weak_next c a t i good = both_back (Same-no_weak_next (all_numbers (IsPosition t)) (Holds t a) _ (Position_decided t) (Same-self (not_of t a))) i
 
 pub returns-clause-eventually : goal.returns-clause-eventually
-returns-clause-eventually c a t i good = both_back (Same-no_until (all_numbers (IsPosition t)) Always' (Holds t a) Never _ Always_decided (Holds_decided t good a) Same-never (Same-self (not_of t a))) i
+returns-clause-eventually c a t i good = both_back
+    (Same-no_until (all_numbers (IsPosition t)) Always' (Holds t a) Never _ Always_decided (Holds_decided t good a) Same-never (Same-self (not_of t a))) i
 
 pub returns-clause-always : goal.returns-clause-always
-returns-clause-always c a t i good = both_back (Same-no_release (all_numbers (IsPosition t)) Never (Holds t a) Always' _ (Position_decided t) Never_decided (Holds_decided t good a) (horizon t good _ (Unary Not a)) Same-always (Same-self (not_of t a))) i
+returns-clause-always c a t i good = both_back (Same-no_release (all_numbers (IsPosition t)) Never (Holds t a) Always' _ (Position_decided t) Never_decided
+    (Holds_decided t good a) (horizon t good _ (Unary Not a)) Same-always (Same-self (not_of t a))) i
 
 pub returns-clause-until : goal.returns-clause-until
-returns-clause-until c a b t i good = both_back (Same-no_until (all_numbers (IsPosition t)) (Holds t a) (Holds t b) _ _ (Holds_decided t good a) (Holds_decided t good b) (Same-self (not_of t a)) (Same-self (not_of t b))) i
+returns-clause-until c a b t i good = both_back (Same-no_until (all_numbers (IsPosition t)) (Holds t a) (Holds t b) _ _ (Holds_decided t good a)
+    (Holds_decided t good b) (Same-self (not_of t a)) (Same-self (not_of t b))) i
 
 pub returns-clause-release : goal.returns-clause-release
-returns-clause-release c a b t i good = both_back (Same-no_release (all_numbers (IsPosition t)) (Holds t a) (Holds t b) _ _ (Position_decided t) (Holds_decided t good a) (Holds_decided t good b) (horizon t good _ (Unary Not b)) (Same-self (not_of t a)) (Same-self (not_of t b))) i
+returns-clause-release c a b t i good = both_back (Same-no_release (all_numbers (IsPosition t)) (Holds t a) (Holds t b) _ _ (Position_decided t)
+    (Holds_decided t good a) (Holds_decided t good b) (horizon t good _ (Unary Not b)) (Same-self (not_of t a)) (Same-self (not_of t b))) i
 
 pub returns-clause-weak_until : goal.returns-clause-weak_until
-returns-clause-weak_until c a b t i good = both_back (Same-no_release (all_numbers (IsPosition t)) (Holds t b) (Holds t (Binary Or a b)) _ _ (Position_decided t) (Holds_decided t good b) (Holds_decided t good (Binary Or a b)) (horizon t good _ (Unary Not (Binary Or a b))) (Same-self (not_of t b)) (Same-no_or (Holds t a) (Holds t b) _ _ (Holds_decided t good a) (Same-self (not_of t a)) (Same-self (not_of t b)))) i
+returns-clause-weak_until c a b t i good = both_back (Same-no_release (all_numbers (IsPosition t)) (Holds t b) (Holds t (Binary Or a b)) _ _
+    (Position_decided t) (Holds_decided t good b) (Holds_decided t good (Binary Or a b)) (horizon t good _ (Unary Not (Binary Or a b))) (Same-self (not_of t b))
+    (Same-no_or (Holds t a) (Holds t b) _ _ (Holds_decided t good a) (Same-self (not_of t a)) (Same-self (not_of t b)))) i
 
 pub returns-clause-strong_release : goal.returns-clause-strong_release
-returns-clause-strong_release c a b t i good = both_back (Same-no_until (all_numbers (IsPosition t)) (Holds t b) (Holds t (Binary And a b)) _ _ (Holds_decided t good b) (Holds_decided t good (Binary And a b)) (Same-self (not_of t b)) (Same-no_and (Holds t a) (Holds t b) _ _ (Holds_decided t good a) (Same-self (not_of t a)) (Same-self (not_of t b)))) i
+returns-clause-strong_release c a b t i good = both_back
+    (Same-no_until (all_numbers (IsPosition t)) (Holds t b) (Holds t (Binary And a b)) _ _ (Holds_decided t good b) (Holds_decided t good (Binary And a b))
+    (Same-self (not_of t b)) (Same-no_and (Holds t a) (Holds t b) _ _ (Holds_decided t good a) (Same-self (not_of t a)) (Same-self (not_of t b)))) i

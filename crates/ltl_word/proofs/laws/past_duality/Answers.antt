@@ -16,13 +16,17 @@ pub returns-clause-weak_yesterday : goal.returns-clause-weak_yesterday
 returns-clause-weak_yesterday c a t i good = both_back (Same-no_weak_yesterday (all_numbers (IsPosition t)) (Holds t a) _ (Same-self (not_of t a))) i
 
 pub returns-clause-once : goal.returns-clause-once
-returns-clause-once c a t i good = both_back (Same-no_since (all_numbers (IsPosition t)) Always' (Holds t a) Never _ Always_decided (Holds_decided t good a) Same-never (Same-self (not_of t a))) i
+returns-clause-once c a t i good = both_back
+    (Same-no_since (all_numbers (IsPosition t)) Always' (Holds t a) Never _ Always_decided (Holds_decided t good a) Same-never (Same-self (not_of t a))) i
 
 pub returns-clause-historically : goal.returns-clause-historically
-returns-clause-historically c a t i good = both_back (Same-no_trigger (all_numbers (IsPosition t)) Never (Holds t a) Always' _ Never_decided (Holds_decided t good a) Same-always (Same-self (not_of t a))) i
+returns-clause-historically c a t i good = both_back
+    (Same-no_trigger (all_numbers (IsPosition t)) Never (Holds t a) Always' _ Never_decided (Holds_decided t good a) Same-always (Same-self (not_of t a))) i
 
 pub returns-clause-since : goal.returns-clause-since
-returns-clause-since c a b t i good = both_back (Same-no_since (all_numbers (IsPosition t)) (Holds t a) (Holds t b) _ _ (Holds_decided t good a) (Holds_decided t good b) (Same-self (not_of t a)) (Same-self (not_of t b))) i
+returns-clause-since c a b t i good = both_back (Same-no_since (all_numbers (IsPosition t)) (Holds t a) (Holds t b) _ _ (Holds_decided t good a)
+    (Holds_decided t good b) (Same-self (not_of t a)) (Same-self (not_of t b))) i
 
 pub returns-clause-trigger : goal.returns-clause-trigger
-returns-clause-trigger c a b t i good = both_back (Same-no_trigger (all_numbers (IsPosition t)) (Holds t a) (Holds t b) _ _ (Holds_decided t good a) (Holds_decided t good b) (Same-self (not_of t a)) (Same-self (not_of t b))) i
+returns-clause-trigger c a b t i good = both_back (Same-no_trigger (all_numbers (IsPosition t)) (Holds t a) (Holds t b) _ _ (Holds_decided t good a)
+    (Holds_decided t good b) (Same-self (not_of t a)) (Same-self (not_of t b))) i

@@ -14,10 +14,13 @@ pub returns-clause-negation : goal.returns-clause-negation
 returns-clause-negation c a t i good = (λ h. elim (Holds_decided t good a i) [ yes x ↦ x | no n ↦ absurd (h n) ], λ x n. n x)
 
 pub returns-clause-and : goal.returns-clause-and
-returns-clause-and c a b t i good = both_back (Same-no_and (Holds t a) (Holds t b) _ _ (Holds_decided t good a) (Same-self (not_of t a)) (Same-self (not_of t b))) i
+returns-clause-and c a b t i good =
+    both_back (Same-no_and (Holds t a) (Holds t b) _ _ (Holds_decided t good a) (Same-self (not_of t a)) (Same-self (not_of t b))) i
 
 pub returns-clause-implies : goal.returns-clause-implies
-returns-clause-implies c a b t i good = both_back (Same-no_implies (Holds t a) (Holds t b) _ _ (Holds_decided t good a) (Same-self (not_of t a)) (Same-self (not_of t b))) i
+returns-clause-implies c a b t i good =
+    both_back (Same-no_implies (Holds t a) (Holds t b) _ _ (Holds_decided t good a) (Same-self (not_of t a)) (Same-self (not_of t b))) i
 
 pub returns-clause-iff : goal.returns-clause-iff
-returns-clause-iff c a b t i good = both_back (Same-no_iff (Holds t a) (Holds t b) _ _ (Holds_decided t good a) (Same-self (not_of t a)) (Same-self (not_of t b)) (Holds_decided t good b)) i
+returns-clause-iff c a b t i good =
+    both_back (Same-no_iff (Holds t a) (Holds t b) _ _ (Holds_decided t good a) (Same-self (not_of t a)) (Same-self (not_of t b)) (Holds_decided t good b)) i

@@ -9,5 +9,6 @@ pub returns : goal.returns
 returns c m states answers stands run =
     let right = run_right states answers m [] stands run in (
       right.0,
-      λ k lt. let e : 0 + k ≡ k = omega arith in subst (λ i. IsTrue (slice_index_or answers k false) ↔ Holds (Finite (take (suc k) states)) (formula_of m) i) e (right.1 k lt),
+      λ k lt. let e : 0 + k ≡ k = omega arith in
+          subst (λ i. IsTrue (slice_index_or answers k false) ↔ Holds (Finite (take (suc k) states)) (formula_of m) i) e (right.1 k lt),
     )

@@ -10,7 +10,8 @@ returns-in-Some-clause-lines c =
     let end = c.in-Some.end in
     let found = c.in-Some.ensures in
     let first = first_of text end found.0.high found.1 (λ j less. found.0.before j (omega arith) less) in
-    let whole : drop (end + 1) text ≡ take (length text - (end + 1)) (drop (end + 1) text) = sym (take_all (length text - (end + 1)) (drop (end + 1) text) (omega (arith, length-drop (end + 1) text))) in
+    let whole : drop (end + 1) text ≡ take (length text - (end + 1)) (drop (end + 1) text) =
+    sym (take_all (length text - (end + 1)) (drop (end + 1) text) (omega (arith, length-drop (end + 1) text))) in
     first ∙ ap (λ xs. take end text ∷ lines_of xs) whole
 
 pub returns-in-None-clause-lines : goal.returns-in-None-clause-lines

@@ -24,8 +24,10 @@ loop-number-preserved c =
           let over : w.over_places-node.result ≡ moved places' node = w.over_places-node.ensures ∙ ap (λ ps. moved ps node) w.deref.ensures.value in
           subst (λ (ps : Vec Part Global). ArePlaced t marks (number + 1) places' ps.items) (sym w.parts-is)
           (subst (λ k. ArePlaced t marks k places' w.push-then-marks-number.new.self.items) one
-          (added t marks number places places' parts is more c.args.root node p w.push-then-marks-number.new.self.items c.requires.marks w.if-marks-number.true w.node.ensures.node w.node.ensures.below w.node.ensures.tree
-          (w.in_ok-new.ensures.node ∙ over) (subst (λ n. IsNamed t.names n p.name) over w.in_ok-new.ensures.named) (w.in_ok-new.ensures.ring ∙ ap (λ n. ring_of n []) over) w.in_ok-push-2.ensures.items))
+          (added t marks number places places' parts is more c.args.root node p w.push-then-marks-number.new.self.items c.requires.marks w.if-marks-number.true
+          w.node.ensures.node w.node.ensures.below w.node.ensures.tree
+          (w.in_ok-new.ensures.node ∙ over) (subst (λ n. IsNamed t.names n p.name) over w.in_ok-new.ensures.named)
+          (w.in_ok-new.ensures.ring ∙ ap (λ n. ring_of n []) over) w.in_ok-push-2.ensures.items))
       | else-marks-number w ↦
           subst (λ (ps : Vec Part Global). ArePlaced t marks (number + 1) places' ps.items) (sym w.parts-is)
           (subst (λ k. ArePlaced t marks k places' parts) one (passed t marks number places places' parts is more w.if-marks-number.false))
@@ -34,4 +36,5 @@ loop-number-preserved c =
 pub returns-clause-nodes : goal.returns-clause-nodes
 returns-clause-nodes c =
     let end : c.loop-number.number ≡ c.args.root + 1 = omega (arith, c.loop-number-test.false, c.loop-number.auto.number-end) in
-    all_under c.args.table.now c.args.root c.args.marks.now c.loop-number.places.items c.loop-number.parts.items c.loop-number.number end c.requires.marks c.loop-number.invariant
+    all_under c.args.table.now c.args.root c.args.marks.now c.loop-number.places.items c.loop-number.parts.items c.loop-number.number end c.requires.marks
+    c.loop-number.invariant

@@ -15,7 +15,8 @@ returns-in-Some c =
     let dashes = sym (tail_is bytes start) ∙ stripped _ (codes "---") c.in_ok-behind.behind.now 3 told.0 told.1 in
     let back = c.in-Some.ensures.cases in
     let return = stripped c.in_ok-behind.behind.now (13 ∷ []) c.in-Some.behind.now 1 back.0 back.1 in
-    told_second_return (λ s. s.now) c.next_line.result bytes start c.in-Some.behind.now c.requires at (dashes ∙ ap (λ b. codes "---" ++ b) return) c.next_line.ensures
+    told_second_return (λ s. s.now) c.next_line.result bytes start c.in-Some.behind.now c.requires at (dashes ∙ ap (λ b. codes "---" ++ b) return)
+    c.next_line.ensures
 
 pub returns-in-None : goal.returns-in-None
 returns-in-None c =
@@ -27,4 +28,5 @@ returns-in-None c =
     ] in
     let told = c.in_ok-behind.ensures.cases in
     let dashes = sym (tail_is bytes start) ∙ stripped _ (codes "---") c.in_ok-behind.behind.now 3 told.0 told.1 in
-    told_second (λ s. s.now) c.next_line-in-None.result bytes start c.in_ok-behind.behind.now c.requires at dashes c.in-None.ensures.cases c.next_line-in-None.ensures
+    told_second (λ s. s.now)
+    c.next_line-in-None.result bytes start c.in_ok-behind.behind.now c.requires at dashes c.in-None.ensures.cases c.next_line-in-None.ensures

@@ -7,4 +7,7 @@ use Rattle.requirement_answers.proofs.checking.behaviours.Goals as goal
 pub behaviours-preserved : goal.behaviours-preserved
 behaviours-preserved c =
     let k = c.behaviours.number in
-    record { so_far = c.in_ok-add_if.ensures ∙ (ap₂ (λ xs b. xs ++ alone_if b k) c.behaviours.invariant.so_far c.covers_behaviour-covered.ensures ∙ sym (filter_more (covers_behaviour c.args.scope) k)) }
+    record {
+      so_far = c.in_ok-add_if.ensures ∙ (ap₂ (λ xs b. xs ++ alone_if b k) c.behaviours.invariant.so_far c.covers_behaviour-covered.ensures
+          ∙ sym (filter_more (covers_behaviour c.args.scope) k));
+    }

@@ -24,7 +24,8 @@ conflicts-preserved g c =
     let b = c.in-Conflict.because in
     let seen : IsMet d c.deref.result.now (Conflict b) = subst (IsMet d c.deref.result.now) c.in-Conflict.is c.in_ok-answer.ensures in
     let here : IsMet d left (Conflict b) = subst (λ xs. IsMet d xs (Conflict b)) c.deref.ensures.value seen in
-    let rest = c.in_ok-left-in-Conflict.ensures ∙ ap₂ (λ ms xs. without (places ms) xs) (c.deref-in-Conflict-2.ensures.value ∙ ap (λ v. v.members.items) c.deref-in-Conflict.ensures) c.deref-in-Conflict-3.ensures.value in
+    let rest = c.in_ok-left-in-Conflict.ensures ∙ ap₂ (λ ms xs. without (places ms) xs)
+    (c.deref-in-Conflict-2.ensures.value ∙ ap (λ v. v.members.items) c.deref-in-Conflict.ensures) c.deref-in-Conflict-3.ensures.value in
     let more = conflicts_more d (given_numbers d) left c.conflicts.conflicts.items b c.conflicts.invariant.found here.0 here.1 in
     record {
       items = subst (AreItems d) (sym rest) (without_items d (places b.value.members.items) left c.conflicts.invariant.items);
@@ -39,7 +40,8 @@ conflicts-smaller g c =
     let b = c.in-Conflict.because in
     let seen : IsMet d c.deref.result.now (Conflict b) = subst (IsMet d c.deref.result.now) c.in-Conflict.is c.in_ok-answer.ensures in
     let here : IsMet d left (Conflict b) = subst (λ xs. IsMet d xs (Conflict b)) c.deref.ensures.value seen in
-    let rest = c.in_ok-left-in-Conflict.ensures ∙ ap₂ (λ ms xs. without (places ms) xs) (c.deref-in-Conflict-2.ensures.value ∙ ap (λ v. v.members.items) c.deref-in-Conflict.ensures) c.deref-in-Conflict-3.ensures.value in
+    let rest = c.in_ok-left-in-Conflict.ensures ∙ ap₂ (λ ms xs. without (places ms) xs)
+    (c.deref-in-Conflict-2.ensures.value ∙ ap (λ v. v.members.items) c.deref-in-Conflict.ensures) c.deref-in-Conflict-3.ensures.value in
     subst (λ xs. length xs < length left) (sym rest) (less_left d left b.value here.0 here.1)
 
 pub returns-in-Open : goal.returns-in-Open
@@ -49,4 +51,5 @@ returns-in-Open g c =
     let a = c.in-Open.answer in
     let seen : IsMet d c.deref.result.now (Open a) = subst (IsMet d c.deref.result.now) c.in-Open.is c.in_ok-answer.ensures in
     let here : IsMet d left (Open a) = subst (λ xs. IsMet d xs (Open a)) c.deref.ensures.value seen in
-    subst (IsTogether d) (sym c.in_ok-new-in-Open.ensures.ok) (record { items = c.conflicts.invariant.items; conflicts = c.conflicts.invariant.found; answer = here.0; settled = here.1 })
+    subst (IsTogether d) (sym c.in_ok-new-in-Open.ensures.ok)
+    (record { items = c.conflicts.invariant.items; conflicts = c.conflicts.invariant.found; answer = here.0; settled = here.1 })

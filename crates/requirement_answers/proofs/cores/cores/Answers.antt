@@ -24,7 +24,8 @@ conflicts-preserved c =
     let says : SaysMembers d b = subst (SaysMembers d) (sym c.index-conflicts-k.is) (c.requires c.conflicts.k b c.conflicts-test.true) in
     let kind = c.args.document.now.kind in
     let found =
-    subst (λ v. IfSome core (λ x. (formulas : List Formula) → length formulas ≡ length v.members.items → tree_at v.table v.root ≡ all_of formulas → IsCoreOf kind formulas x.value))
+    subst (λ v. IfSome core
+    (λ x. (formulas : List Formula) → length formulas ≡ length v.members.items → tree_at v.table v.root ≡ all_of formulas → IsCoreOf kind formulas x.value))
     c.deref.ensures c.in_ok-core.ensures in
     record {
       so_far = cores_more d c.args.conflicts.now c.conflicts.k b c.conflicts.found.items c.push.new.self.items core c.conflicts-test.true c.index-conflicts-k.is

@@ -9,6 +9,7 @@ checks-preserved c =
     let b = not c.has_break.result in
     let same = ap not (c.has_break.ensures ∙ ap has_break c.index-checks-k.is) in
     record {
-      so_far = ap₂ (λ x y. x + y) c.checks.invariant.so_far c.one_if-count.ensures ∙ count_more (λ x. not (has_break x)) c.args.checks.now c.checks.k d b c.checks-test.true same;
+      so_far = ap₂ (λ x y. x + y) c.checks.invariant.so_far c.one_if-count.ensures
+          ∙ count_more (λ x. not (has_break x)) c.args.checks.now c.checks.k d b c.checks-test.true same;
       few = omega (arith, c.checks.invariant.few, c.one_if-count.ensures, at_most_one b);
     }

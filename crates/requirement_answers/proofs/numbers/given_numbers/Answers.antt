@@ -11,4 +11,7 @@ items-preserved c =
     let k = c.items.number in
     let lt : k < length d.items.items = omega (arith, c.items-test.true, c.len-number-end.ensures) in
     let same = c.is_given-passes.ensures ∙ ap is_given (sym (role_at d k c.index.result.now lt c.index.ensures)) in
-    record { so_far = c.in_ok-add_if.ensures ∙ (ap₂ (λ xs b. xs ++ alone_if b k) c.items.invariant.so_far same ∙ sym (filter_more (λ n. is_given (role_of (document_in d) n)) k)) }
+    record {
+      so_far = c.in_ok-add_if.ensures
+          ∙ (ap₂ (λ xs b. xs ++ alone_if b k) c.items.invariant.so_far same ∙ sym (filter_more (λ n. is_given (role_of (document_in d) n)) k));
+    }

@@ -8,4 +8,7 @@ numbers-preserved c =
     let xs = c.args.numbers.now in
     let k = c.numbers.k in
     let n = get_or xs k 0 in
-    record { so_far = c.in_ok-add_if.ensures ∙ (ap₂ (λ ys b. ys ++ alone_if b n) c.numbers.invariant.so_far (ap not c.is_among-stays.ensures) ∙ sym (without_more c.args.away.now xs k 0 c.numbers-test.true)) }
+    record {
+      so_far = c.in_ok-add_if.ensures ∙ (ap₂ (λ ys b. ys ++ alone_if b n) c.numbers.invariant.so_far (ap not c.is_among-stays.ensures)
+          ∙ sym (without_more c.args.away.now xs k 0 c.numbers-test.true));
+    }

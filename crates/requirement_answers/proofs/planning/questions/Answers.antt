@@ -9,4 +9,8 @@ items-preserved c =
     let d = document_in c.args.document.now in
     let k = c.items.number in
     let left = c.args.left.now in
-    record { so_far = c.in_ok-add_covered.ensures ∙ (ap (λ xs. xs ++ asks_covered d c.args.scope left k) c.items.invariant.so_far ∙ sym (questions_more d c.args.scope left k)) }
+    record {
+      so_far =
+          c.in_ok-add_covered.ensures
+          ∙ (ap (λ xs. xs ++ asks_covered d c.args.scope left k) c.items.invariant.so_far ∙ sym (questions_more d c.args.scope left k));
+    }

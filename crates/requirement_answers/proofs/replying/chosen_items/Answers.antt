@@ -15,6 +15,9 @@ numbers-preserved c =
     let one = c.item_at.result in
     let grown : c.push.new.self.items ≡ old ++ one ∷ [] = c.in_ok-push.ensures.items in
     record {
-      there = subst (All IsThere) (sym grown) (All-append IsThere old (one ∷ []) c.numbers.invariant.there (All-cons IsThere one [] c.item_at.ensures.there (All-nil IsThere)));
-      so_far = ap (map formula_in) grown ∙ (map_push formula_in old one ∙ (ap₂ (λ fs f. fs ++ f ∷ []) c.numbers.invariant.so_far c.item_at.ensures.formula ∙ sym (map_more (formula_of d) xs c.numbers.k 0 c.numbers-test.true)));
+      there = subst (All IsThere) (sym grown)
+          (All-append IsThere old (one ∷ []) c.numbers.invariant.there (All-cons IsThere one [] c.item_at.ensures.there (All-nil IsThere)));
+      so_far = ap (map formula_in) grown ∙ (map_push formula_in old one
+          ∙ (ap₂ (λ fs f. fs ++ f ∷ []) c.numbers.invariant.so_far c.item_at.ensures.formula
+          ∙ sym (map_more (formula_of d) xs c.numbers.k 0 c.numbers-test.true)));
     }

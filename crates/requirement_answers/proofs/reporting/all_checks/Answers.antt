@@ -20,5 +20,6 @@ pub checks-requires-clause-behaviours : goal.checks-requires-clause-behaviours
 checks-requires-clause-behaviours c =
     let d = c.args.document.now in
     let many = length d.behaviours.items in
-    let all = subst (λ m. All (λ n. n < m) (behaviours_of (document_in d) c.args.scope)) (length-map d.behaviours.items behaviour_in) (all_below (covers_behaviour c.args.scope) (length (document_in d).behaviours)) in
+    let all = subst (λ m. All (λ n. n < m) (behaviours_of (document_in d) c.args.scope)) (length-map d.behaviours.items behaviour_in)
+    (all_below (covers_behaviour c.args.scope) (length (document_in d).behaviours)) in
     subst (All (λ n. n < many)) (sym (c.deref-2.ensures.value ∙ c.in_ok-covered.ensures)) all

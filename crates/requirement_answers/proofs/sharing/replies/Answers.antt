@@ -24,7 +24,8 @@ rounds-preserved g c =
     let same : (from + many) - from ≡ many = omega arith in
     record {
       so_far = round_more d c.args.left.now asks (take ((from + many) - from) (drop from asks)) from many c.rounds.found.items
-          c.in_ok-answered.answered.items c.append.new.self.items c.rounds.invariant.so_far (ap (λ n. take n (drop from asks)) same) c.in_ok-answered.ensures c.in_ok-append.ensures.items;
+          c.in_ok-answered.answered.items c.append.new.self.items c.rounds.invariant.so_far (ap (λ n. take n (drop from asks)) same)
+          c.in_ok-answered.ensures c.in_ok-append.ensures.items;
     }
 
 pub returns : goal.returns

@@ -16,7 +16,8 @@ map_chunks-requires-clause-accepts g c κs within start p chunk κs' pointer sam
     (c.requires.left, subst (All (IsAbout d)) (sym chunk.value) (about_part d start c.args.size c.args.asks.now c.requires.about))
 
 each : (g : _) (c : After-joined g) (n : ℕ) (e : Result (Vec Reply) AllocError) → n < length c.in_ok-pieces.pieces.items
-    → IfOk (get_or c.in_ok-pieces.pieces.items n e) (λ v. AreReplies (document_in c.args.document.now) c.args.left.now (slice_chunk c.args.asks.now c.args.size n) v.items)
+    → IfOk (get_or c.in_ok-pieces.pieces.items n e)
+    (λ v. AreReplies (document_in c.args.document.now) c.args.left.now (slice_chunk c.args.asks.now c.args.size n) v.items)
 each g c n e lt =
     let d = document_in c.args.document.now in
     let left = c.args.left.now in
@@ -27,5 +28,6 @@ each g c n e lt =
 
 pub returns : goal.returns
 returns g c =
-    shared_out (document_in c.args.document.now) c.args.left.now c.args.asks.now c.args.size c.in_ok-pieces.pieces.items (each g c) c.requires.size (sym c.in_ok-pieces.pieces.ok.0 ∙ c.in_ok-pieces.ensures.len) c.joined.result
+    shared_out (document_in c.args.document.now) c.args.left.now c.args.asks.now c.args.size c.in_ok-pieces.pieces.items (each g c) c.requires.size
+    (sym c.in_ok-pieces.pieces.ok.0 ∙ c.in_ok-pieces.ensures.len) c.joined.result
     c.joined.ensures

@@ -11,7 +11,8 @@ returns-then-is_about c =
     record {
       place = c.conflicts.place;
       conflict = conflict;
-      there = slice_get_read conflicts (length conflicts) c.conflicts.place conflict refl (omega (arith, c.len-place-end.ensures, c.conflicts-test.true)) c.index.ensures;
+      there = slice_get_read conflicts (length conflicts) c.conflicts.place conflict refl
+          (omega (arith, c.len-place-end.ensures, c.conflicts-test.true)) c.index.ensures;
       same = sym c.deref-because.ensures;
       about = subst (IsAbout c.args.scope) c.deref.ensures.value (c.if-is_about.ensures.0 refl);
       first = c.conflicts.invariant.before;
@@ -21,11 +22,16 @@ pub conflicts-preserved : goal.conflicts-preserved
 conflicts-preserved c =
     let conflicts = c.args.report.now.conflicts.items in
     let conflict = c.index.result.now in
-    let there = slice_get_read conflicts (length conflicts) c.conflicts.place conflict refl (omega (arith, c.len-place-end.ensures, c.conflicts-test.true)) c.index.ensures in
+    let there = slice_get_read conflicts (length conflicts) c.conflicts.place conflict refl (omega (arith, c.len-place-end.ensures, c.conflicts-test.true))
+    c.index.ensures in
     let same = c.deref.ensures.value ∙ ap (λ b. b.members.items) c.deref-because.ensures in
-    let not : ¬ IsAbout c.args.scope conflict.value.members.items = λ about. let e = c.if-is_about.ensures.1 (subst (IsAbout c.args.scope) (sym same) about) in absurd (cc) in
-    record { before = before_more (λ x. ¬ IsAbout c.args.scope x.value.members.items) conflicts c.conflicts.place conflict there not c.conflicts.invariant.before }
+    let not : ¬ IsAbout c.args.scope conflict.value.members.items = λ about. let e = c.if-is_about.ensures.1 (subst (IsAbout c.args.scope) (sym same) about) in
+    absurd (cc) in
+    record {
+      before = before_more (λ x. ¬ IsAbout c.args.scope x.value.members.items) conflicts c.conflicts.place conflict there not c.conflicts.invariant.before;
+    }
 
 pub returns : goal.returns
 returns c j conflict there =
-    c.conflicts.invariant.before j conflict (omega (arith, slice_get_within c.args.report.now.conflicts.items j conflict there, c.len-place-end.ensures, c.conflicts-test.false)) there
+    c.conflicts.invariant.before j conflict
+    (omega (arith, slice_get_within c.args.report.now.conflicts.items j conflict there, c.len-place-end.ensures, c.conflicts-test.false)) there

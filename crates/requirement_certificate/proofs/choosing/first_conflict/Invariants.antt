@@ -5,4 +5,5 @@ use Rattle.requirement_certificate.specs.Chosen.{IsAbout}
 use Rattle.requirement_certificate.proofs.choosing.first_conflict.Given as goal
 
 abbrev pub invariant-conflicts : goal.invariant-conflicts
-invariant-conflicts l = record { before : (j : ℕ) (c : Box Because) → j < l.place → slice_get l.report.conflicts.items j ≡ Some c → ¬ IsAbout l.scope c.value.members.items }
+invariant-conflicts l =
+    record { before : (j : ℕ) (c : Box Because) → j < l.place → slice_get l.report.conflicts.items j ≡ Some c → ¬ IsAbout l.scope c.value.members.items }

@@ -35,4 +35,5 @@ returns-in-Formula c =
     } in
     let reading = rw c.in-Formula.is at c.in_ok-read_formula.ensures in
     also_where c.is_lawful.result
-    (verified_by_parts c.args.kind c.args.text.now parts.formula.now parts.second.now (tree_at c.in-Formula.table c.in-Formula.root) laws c.in-Some.ensures reading.1) c.is_lawful.ensures
+    (verified_by_parts c.args.kind c.args.text.now parts.formula.now parts.second.now (tree_at c.in-Formula.table c.in-Formula.root)
+    laws c.in-Some.ensures reading.1) c.is_lawful.ensures

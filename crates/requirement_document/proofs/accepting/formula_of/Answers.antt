@@ -7,4 +7,5 @@ pub returns-in_err-own-clause-err : goal.returns-in_err-own-clause-err
 returns-in_err-own-clause-err c =
     let ds = defined_in c.args.definitions.now.entries in
     let e = c.in_err-own.field-0.0 in
-    handed_on (IsRefusedText ds c.args.text.now) e c.from_residual.result (subst (λ t. IsRefusedText ds t e) c.as_bytes.ensures.value (c.in_err-own.ensures.err ds)) c.from_residual.ensures
+    handed_on (IsRefusedText ds c.args.text.now) e c.from_residual.result
+    (subst (λ t. IsRefusedText ds t e) c.as_bytes.ensures.value (c.in_err-own.ensures.err ds)) c.from_residual.ensures

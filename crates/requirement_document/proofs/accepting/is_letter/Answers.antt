@@ -10,7 +10,8 @@ pub returns-in-Formula : goal.returns-in-Formula
 returns-in-Formula c =
     let reading = rw c.in-Formula.is at c.in_ok-table.ensures in
     let tree = tree_at c.in-Formula.table c.in-Formula.root in
-    letter_if c.args.name.now tree c.is_letter_of.result c.one_reading.ensures.one_formula (subst (λ t. IsAccepted t tree) c.as_bytes.ensures.value reading.1) c.is_letter_of.ensures
+    letter_if c.args.name.now tree c.is_letter_of.result c.one_reading.ensures.one_formula (subst (λ t. IsAccepted t tree) c.as_bytes.ensures.value reading.1)
+    c.is_letter_of.ensures
 
 pub returns-in-Refused : goal.returns-in-Refused
 returns-in-Refused c =

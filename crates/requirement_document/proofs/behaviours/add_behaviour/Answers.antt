@@ -9,4 +9,5 @@ pub returns-in_err-behaviour-clause-err : goal.returns-in_err-behaviour-clause-e
 returns-in_err-behaviour-clause-err c ds =
     let taken = map string_bytes c.args.names.now.keys in
     let refused = c.from_residual in
-    handed_on (IsRefusedAt sections.Behaviour ds taken (view c.args.entry.now)) c.in_err-behaviour.field-0.0 refused.result (c.in_err-behaviour.ensures.err ds) refused.ensures
+    handed_on (IsRefusedAt sections.Behaviour ds taken (view c.args.entry.now)) c.in_err-behaviour.field-0.0 refused.result
+    (c.in_err-behaviour.ensures.err ds) refused.ensures

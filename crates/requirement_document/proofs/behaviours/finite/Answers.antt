@@ -10,7 +10,8 @@ use Rattle.requirement_document.proofs.behaviours.finite.Goals as goal
 
 pub returns-in_err-states-clause-err : goal.returns-in_err-states-clause-err
 returns-in_err-states-clause-err c ds taken =
-    handed_on (IsRefusedAt sections.Behaviour ds taken (view c.args.entry.now)) c.in_err-states.field-0.0 c.from_residual.result (c.in_err-states.ensures.err ds taken) c.from_residual.ensures
+    handed_on (IsRefusedAt sections.Behaviour ds taken (view c.args.entry.now)) c.in_err-states.field-0.0 c.from_residual.result
+    (c.in_err-states.ensures.err ds taken) c.from_residual.ensures
 
 pub returns-then-is_empty-clause-err : goal.returns-then-is_empty-clause-err
 returns-then-is_empty-clause-err c ds taken =
@@ -19,5 +20,13 @@ returns-then-is_empty-clause-err c ds taken =
 
 pub returns-clause-ok : goal.returns-clause-ok
 returns-clause-ok c =
-    let ok = c.in_ok-states.ensures.ok in
-    (Finite ok.0, (ok.1, c.requires.stem, c.requires.again), sets_of_some ok.0 c.in_ok-states.states ok.2 (λ e. true≢false (sym (c.is_empty.ensures.1 e) ∙ c.if-is_empty.false)), ok.2)
+    let ok = c.in_ok-states.ensures.ok in (
+      Finite ok.0,
+      (
+        ok.1,
+        c.requires.stem,
+        c.requires.again,
+      ),
+      sets_of_some ok.0 c.in_ok-states.states ok.2 (λ e. true≢false (sym (c.is_empty.ensures.1 e) ∙ c.if-is_empty.false)),
+      ok.2,
+    )

@@ -10,12 +10,14 @@ use Rattle.requirement_document.proofs.behaviours.infinite.Goals as goal
 
 pub returns-in_err-stem-clause-err : goal.returns-in_err-stem-clause-err
 returns-in_err-stem-clause-err c ds taken =
-    handed_on (IsRefusedAt sections.Behaviour ds taken (view c.args.entry.now)) c.in_err-stem.field-0.0 c.from_residual.result (c.in_err-stem.ensures.err ds taken) c.from_residual.ensures
+    handed_on (IsRefusedAt sections.Behaviour ds taken (view c.args.entry.now)) c.in_err-stem.field-0.0 c.from_residual.result
+    (c.in_err-stem.ensures.err ds taken) c.from_residual.ensures
 
 pub returns-in_err-loop_part-clause-err : goal.returns-in_err-loop_part-clause-err
 returns-in_err-loop_part-clause-err c ds taken =
     let refused = c.from_residual-in_err-loop_part in
-    handed_on (IsRefusedAt sections.Behaviour ds taken (view c.args.entry.now)) c.in_err-loop_part.field-0.0 refused.result (c.in_err-loop_part.ensures.err ds taken) refused.ensures
+    handed_on (IsRefusedAt sections.Behaviour ds taken (view c.args.entry.now)) c.in_err-loop_part.field-0.0 refused.result
+    (c.in_err-loop_part.ensures.err ds taken) refused.ensures
 
 pub returns-then-is_empty-clause-err : goal.returns-then-is_empty-clause-err
 returns-then-is_empty-clause-err c ds taken =

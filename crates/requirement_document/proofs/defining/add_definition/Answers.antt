@@ -10,18 +10,21 @@ returns-in_err-check_keys-clause-err c =
     let ds = defined_in c.args.definitions.now.entries in
     let taken = names_defined ds in
     let refused = c.from_residual in
-    handed_on (IsRefusedAt sections.Define ds taken (view c.args.entry.now)) c.in_err-check_keys.field-0.0 refused.result (c.in_err-check_keys.ensures.err ds taken) refused.ensures
+    handed_on (IsRefusedAt sections.Define ds taken (view c.args.entry.now)) c.in_err-check_keys.field-0.0 refused.result
+    (c.in_err-check_keys.ensures.err ds taken) refused.ensures
 
 pub returns-in_err-_sentence-clause-err : goal.returns-in_err-_sentence-clause-err
 returns-in_err-_sentence-clause-err c =
     let ds = defined_in c.args.definitions.now.entries in
     let taken = names_defined ds in
     let refused = c.from_residual-in_err-_sentence in
-    handed_on (IsRefusedAt sections.Define ds taken (view c.args.entry.now)) c.in_err-_sentence.field-0.0 refused.result (c.in_err-_sentence.ensures.err sections.Define ds taken) refused.ensures
+    handed_on (IsRefusedAt sections.Define ds taken (view c.args.entry.now)) c.in_err-_sentence.field-0.0 refused.result
+    (c.in_err-_sentence.ensures.err sections.Define ds taken) refused.ensures
 
 pub returns-in_err-text-clause-err : goal.returns-in_err-text-clause-err
 returns-in_err-text-clause-err c =
     let ds = defined_in c.args.definitions.now.entries in
     let taken = names_defined ds in
     let refused = c.from_residual-in_err-text in
-    handed_on (IsRefusedAt sections.Define ds taken (view c.args.entry.now)) c.in_err-text.field-0.0 refused.result (c.in_err-text.ensures.err sections.Define ds taken tt) refused.ensures
+    handed_on (IsRefusedAt sections.Define ds taken (view c.args.entry.now)) c.in_err-text.field-0.0 refused.result
+    (c.in_err-text.ensures.err sections.Define ds taken tt) refused.ensures

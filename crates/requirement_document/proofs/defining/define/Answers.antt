@@ -8,5 +8,6 @@ use Rattle.requirement_document.proofs.defining.define.Goals as goal
 pub returns : goal.returns
 returns c =
     let es = c.args.definitions.now.entries in
-    let new = insert_entry-new (λ (a : String Global) (b : String Global). bytes_eq (string_bytes a) (string_bytes b)) c.args.definitions.now c.args.name c.args.tree (not_there es (string_bytes c.args.name) c.requires) in
+    let new = insert_entry-new (λ (a : String Global) (b : String Global). bytes_eq (string_bytes a) (string_bytes b))
+    c.args.definitions.now c.args.name c.args.tree (not_there es (string_bytes c.args.name) c.requires) in
     ap defined_in (c.in_ok-insert.ensures.entries ∙ new) ∙ defined_on es c.args.name c.args.tree

@@ -8,5 +8,6 @@ use Rattle.requirement_document.proofs.defining.new_letter.Goals as goal
 pub returns-in_err-name-clause-err : goal.returns-in_err-name-clause-err
 returns-in_err-name-clause-err c =
     let ds = defined_in c.args.definitions.now.entries in
-    handed_on (IsRefusedAt sections.Define ds (names_defined ds) (view c.args.entry.now)) c.in_err-name.field-0.0 c.from_residual.result (c.in_err-name.ensures.err sections.Define ds (names_defined ds))
+    handed_on (IsRefusedAt sections.Define ds (names_defined ds) (view c.args.entry.now)) c.in_err-name.field-0.0 c.from_residual.result
+    (c.in_err-name.ensures.err sections.Define ds (names_defined ds))
     c.from_residual.ensures

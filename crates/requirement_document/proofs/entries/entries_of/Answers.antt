@@ -12,11 +12,13 @@ returns-then-len-gt-MAX_ENTRIES-clause-err c =
     let found = get (section_word c.args.section) (view c.args.root.now) in
     let vs = c.in-Some-as_array.entries.now.items in
     let many : 1024 < length (map view vs) = omega (arith, length-map vs view, c.len.ensures, c.if-len-gt-MAX_ENTRIES.true) in
-    rw c.whole-then-len-gt-MAX_ENTRIES.ensures (as_whole refl (many_given found (view c.in-Some.value.now) (map view vs) c.in-Some.ensures c.in-Some-as_array.ensures many))
+    rw c.whole-then-len-gt-MAX_ENTRIES.ensures
+    (as_whole refl (many_given found (view c.in-Some.value.now) (map view vs) c.in-Some.ensures c.in-Some-as_array.ensures many))
 
 pub returns-clause-ok : goal.returns-clause-ok
 returns-clause-ok c =
     let found = get (section_word c.args.section) (view c.args.root.now) in
     let vs = c.in-Some-as_array.entries.now.items in
     let few : length (map view vs) ≤ 1024 = omega (arith, length-map vs view, c.len.ensures, c.if-len-gt-MAX_ENTRIES.false) in
-    entries_given found (view c.in-Some.value.now) (map view vs) c.in-Some.ensures c.in-Some-as_array.ensures few ∙ ap (λ vs. Some (map view vs)) (sym c.as_slice.ensures.value)
+    entries_given found (view c.in-Some.value.now) (map view vs) c.in-Some.ensures c.in-Some-as_array.ensures few
+    ∙ ap (λ vs. Some (map view vs)) (sym c.as_slice.ensures.value)

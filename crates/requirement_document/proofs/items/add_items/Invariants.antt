@@ -8,6 +8,7 @@ use Rattle.requirement_document.proofs.items.add_items.Given as goal
 
 abbrev pub invariant-each : goal.invariant-each
 invariant-each l = record {
-  items : AreAdded l.role (defined_in l.definitions.entries) (taken_before (section_of l.role) (view l.root)) (take l.index (map view l.entries)) (map item_in l.fn.items.items) (map item_in l.items.items);
+  items : AreAdded l.role (defined_in l.definitions.entries) (taken_before (section_of l.role) (view l.root)) (take l.index (map view l.entries))
+      (map item_in l.fn.items.items) (map item_in l.items.items);
   names : map string_bytes l.names.keys ≡ taken_before (section_of l.role) (view l.root) ++ names_of (take l.index (map view l.entries));
 }

@@ -21,7 +21,8 @@ returns-in_err-name-clause-err c =
     let taken = map string_bytes c.args.names.now.keys in
     let section = section_of c.args.role in
     let refused = c.from_residual-in_err-name in
-    handed_on (IsRefusedAt section ds taken (view c.args.entry.now)) c.in_err-name.field-0.0 refused.result (c.in_err-name.ensures.err section ds) refused.ensures
+    handed_on (IsRefusedAt section ds taken (view c.args.entry.now)) c.in_err-name.field-0.0 refused.result
+    (c.in_err-name.ensures.err section ds) refused.ensures
 
 pub returns-in_err-sentence-clause-err : goal.returns-in_err-sentence-clause-err
 returns-in_err-sentence-clause-err c =
@@ -29,7 +30,8 @@ returns-in_err-sentence-clause-err c =
     let taken = map string_bytes c.args.names.now.keys in
     let section = section_of c.args.role in
     let refused = c.from_residual-in_err-sentence in
-    handed_on (IsRefusedAt section ds taken (view c.args.entry.now)) c.in_err-sentence.field-0.0 refused.result (c.in_err-sentence.ensures.err section ds taken) refused.ensures
+    handed_on (IsRefusedAt section ds taken (view c.args.entry.now)) c.in_err-sentence.field-0.0 refused.result
+    (c.in_err-sentence.ensures.err section ds taken) refused.ensures
 
 pub returns-in_err-text-clause-err : goal.returns-in_err-text-clause-err
 returns-in_err-text-clause-err c =
@@ -37,4 +39,5 @@ returns-in_err-text-clause-err c =
     let taken = map string_bytes c.args.names.now.keys in
     let section = section_of c.args.role in
     let refused = c.from_residual-in_err-text in
-    handed_on (IsRefusedAt section ds taken (view c.args.entry.now)) c.in_err-text.field-0.0 refused.result (c.in_err-text.ensures.err section ds taken (role_has_formulas c.args.role)) refused.ensures
+    handed_on (IsRefusedAt section ds taken (view c.args.entry.now)) c.in_err-text.field-0.0 refused.result
+    (c.in_err-text.ensures.err section ds taken (role_has_formulas c.args.role)) refused.ensures

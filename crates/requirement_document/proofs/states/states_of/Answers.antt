@@ -6,7 +6,8 @@ use Rattle.requirement_document.proofs.states.states_of.Goals as goal
 
 pub returns-in_default-2 : goal.returns-in_default-2
 returns-in_default-2 c =
-    no_array_of state_data (view c.args.value.now) c.in-Some.items.now.items c.deref-item-items.result.now c.loop-item.item-index c.item-item.result c.in-Some.ensures c.deref-item-items.ensures.value
+    no_array_of state_data (view c.args.value.now)
+    c.in-Some.items.now.items c.deref-item-items.result.now c.loop-item.item-index c.item-item.result c.in-Some.ensures c.deref-item-items.ensures.value
     c.loop-item-test.true c.item-item.is (no_state (view c.item-item.result) c.in_ok-state.field-0 c.in_default-2.not-Some c.in_ok-state.ensures)
 
 pub loop-item-preserved : goal.loop-item-preserved
@@ -16,6 +17,7 @@ loop-item-preserved c =
     let one = some_state (view c.item-item.result) c.in_ok-state.field-0 c.in-Some-2.state c.in-Some-2.is c.in_ok-state.ensures in
     let all = inv.0 ++ one.0 ∷ [] in (
       all,
-      map_more state_data view inv.0 all one.0 items c.loop-item.item-index c.item-item.result inv.1 refl c.loop-item-test.true (sym one.1 ∙ ap view c.item-item.is),
+      map_more state_data view inv.0 all one.0 items c.loop-item.item-index c.item-item.result inv.1 refl c.loop-item-test.true
+          (sym one.1 ∙ ap view c.item-item.is),
       sets_more inv.0 c.loop-item.states.items c.push.new.self.items one.0 c.in-Some-2.state inv.2 one.2 c.in_ok-push.ensures.items,
     )

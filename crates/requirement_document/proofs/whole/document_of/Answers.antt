@@ -21,6 +21,8 @@ returns-clause-ok c =
       allowed = d.1;
       ensure = e.0;
       ensured = e.1;
-      items = e.2 ∙ ap (λ is. is ++ e.0) (d.2 ∙ ap (λ is. is ++ d.0) (b.2 ∙ ap (λ is. is ++ b.0) (a.2 ∙ ap (λ is. map item_in is ++ a.0) c.new-items.ensures.items)));
+      items =
+          e.2 ∙ ap (λ is. is ++ e.0)
+          (d.2 ∙ ap (λ is. is ++ d.0) (b.2 ∙ ap (λ is. is ++ b.0) (a.2 ∙ ap (λ is. map item_in is ++ a.0) c.new-items.ensures.items)));
       behaviours = c.in_ok-behaviours.ensures.ok;
     }

@@ -9,5 +9,6 @@ pub returns-in-None : goal.returns-in-None
 returns-in-None c =
     let behaviours = c.args.document.now.behaviours.items in
     let past : length behaviours ≤ c.args.number = subst (λ xs. length xs ≤ c.args.number) c.deref.ensures.value c.in-None.ensures.lookup.3 in
-    let none : slice_get (map behaviour_in behaviours) c.args.number ≡ None = slice_get-map behaviour_in behaviours c.args.number ∙ ap (option_map behaviour_in) (slice_get_past behaviours c.args.number past) in
+    let none : slice_get (map behaviour_in behaviours) c.args.number ≡ None =
+    slice_get-map behaviour_in behaviours c.args.number ∙ ap (option_map behaviour_in) (slice_get_past behaviours c.args.number past) in
     rw none (search (rules, the_lemmas))

@@ -16,7 +16,8 @@ returns c =
     let a = c.in-Binary-Implies-default-default.condition in
     let b = c.in-Binary-Implies-default-default.answer in
     let always : tree_at s c.args.root ≡ Unary Always (tree_at s body) =
-    c.node.ensures.tree ∙ ap (made s.names (trees_of s)) c.in-Unary-Always-default.is ∙ ap (λ op. Unary op (tree_at s body)) c.in-Unary-Always-default.field-0-is in
+    c.node.ensures.tree ∙ ap (made s.names (trees_of s)) c.in-Unary-Always-default.is
+    ∙ ap (λ op. Unary op (tree_at s body)) c.in-Unary-Always-default.field-0-is in
     let implies : tree_at s body ≡ Binary Implies (tree_at s a) (tree_at s b) =
     c.node-2.ensures.tree ∙ ap (made s.names (trees_of s)) c.in-Binary-Implies-default-default.is
     ∙ ap (λ op. Binary op (tree_at s a) (tree_at s b)) c.in-Binary-Implies-default-default.field-0-is in

@@ -17,7 +17,8 @@ loop-because-preserved c =
     let n = c.loop-because.place in
     let old = c.loop-because.answers.items in
     let value = c.in_ok-value.value in
-    let is : view value ≡ conflict_data d (core_at cores n) b.value = c.in_ok-value.ensures ∙ ap₂ (λ core x. conflict_data d core x) c.core_at.ensures c.deref.ensures in (
+    let is : view value ≡ conflict_data d (core_at cores n) b.value =
+    c.in_ok-value.ensures ∙ ap₂ (λ core x. conflict_data d core x) c.core_at.ensures c.deref.ensures in (
       one_more (conflicts_from d cores n) xs i b (conflict_data d (core_at cores n) b.value ∷ []) (conflicts_from d cores (n + 1) (drop (i + 1) xs)) _ _ _
           c.loop-because-test.true c.because-item.is refl c.loop-because.invariant.0
           (ap (map view) c.in_ok-push.ensures.items ∙ map-append view old (value ∷ []) ∙ ap (λ v. map view old ++ v ∷ []) is),

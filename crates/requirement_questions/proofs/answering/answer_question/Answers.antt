@@ -12,7 +12,8 @@ first_members-requires c = omega (arith, c.in_ok-size.ensures.many, c.if-size-gt
 pub settle-requires-clause-members : goal.settle-requires-clause-members
 settle-requires-clause-members c =
     let q = c.args.question.now in
-    subst (All (λ m. m.given < length q.given.now)) (sym (c.deref.ensures.value ∙ c.in_ok-members.ensures)) (members_all q (counted (length q.given.now)) (all_are q))
+    subst (All (λ m. m.given < length q.given.now)) (sym (c.deref.ensures.value ∙ c.in_ok-members.ensures))
+    (members_all q (counted (length q.given.now)) (all_are q))
 
 pub returns-in-Possible : goal.returns-in-Possible
 returns-in-Possible c =

@@ -14,7 +14,8 @@ returns-in_default c =
     let s = c.args.table.now in
     let t = c.args.trace.now in
     let tree = c.node.ensures.tree in
-    subst (λ f. FailsFirst t f 0) (sym tree) (fails_at_once s.names (trees_of s) t c.node.result (sym c.always_child.ensures ∙ c.in_default.is) (subst (λ f. ¬ Satisfies t f) tree c.requires.fails))
+    subst (λ f. FailsFirst t f 0) (sym tree)
+    (fails_at_once s.names (trees_of s) t c.node.result (sym c.always_child.ensures ∙ c.in_default.is) (subst (λ f. ¬ Satisfies t f) tree c.requires.fails))
 
 pub first_false-requires-clause-there : goal.first_false-requires-clause-there
 first_false-requires-clause-there c =
@@ -39,4 +40,5 @@ returns c =
     let is = is_always c.node.result part (sym c.always_child.ensures ∙ c.in-Some.is) in
     let node : slice_get s.nodes c.args.root ≡ Some (nodes.Unary Always part) = c.node.ensures.node ∙ ap Some is in
     let tree : tree_at s c.args.root ≡ Unary Always (tree_at s part) = c.node.ensures.tree ∙ ap (made s.names (trees_of s)) is in
-    fails_first s c.args.root c.args.trace.now c.args.rows.now c.requires.rows part node tree c.first_false.result c.requires.trace c.first_false.ensures c.requires.fails
+    fails_first s c.args.root c.args.trace.now c.args.rows.now c.requires.rows part node tree c.first_false.result c.requires.trace
+    c.first_false.ensures c.requires.fails

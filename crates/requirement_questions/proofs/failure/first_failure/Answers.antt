@@ -6,7 +6,8 @@ pub at-requires : goal.at-requires
 at-requires c = first_column c.args.table.now c.args.root c.args.trace.now c.in_ok-rows.rows c.in_ok-rows.ensures.ok c.requires.trace
 
 pub returns-then-at-clause-first : goal.returns-then-at-clause-first
-returns-then-at-clause-first c = (first_cell c.args.table.now c.args.root c.args.trace.now c.in_ok-rows.rows c.in_ok-rows.ensures.ok c.requires.trace).0 (sym c.at.ensures ∙ c.if-at.true)
+returns-then-at-clause-first c =
+    (first_cell c.args.table.now c.args.root c.args.trace.now c.in_ok-rows.rows c.in_ok-rows.ensures.ok c.requires.trace).0 (sym c.at.ensures ∙ c.if-at.true)
 
 pub failing-position-requires-clause-fails : goal.failing-position-requires-clause-fails
 failing-position-requires-clause-fails c h =

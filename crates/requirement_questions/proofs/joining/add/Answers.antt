@@ -27,4 +27,5 @@ returns-in-Some-root c =
     let stands : StandsIn f old middle number = subst (IsPartPut f old middle) c.in-Some.is c.in_ok-number.ensures in
     let built : IsBuilt old (Some before) = subst (IsBuilt old) c.in-Some-root.is c.requires.built in
     IfOk-weaker c.put_node.result (IsPutOn (nodes.Binary And before number) middle t) (IsAdded (joined_at old c.args.root) f t)
-    (λ r h. subst (λ root. IsAdded (joined_at old root) f t r) (sym c.in-Some-root.is) (and_put f old middle t before number r built stands h)) c.put_node.ensures
+    (λ r h. subst (λ root. IsAdded (joined_at old root) f t r) (sym c.in-Some-root.is) (and_put f old middle t before number r built stands h))
+    c.put_node.ensures

@@ -18,4 +18,5 @@ returns-then-negated c =
     let put : IsPut g.table.now g.root old middle (Some number) = subst (IsPut g.table.now g.root old middle) c.in-Some.is c.in_ok-number.ensures in
     let stands = tree_stands g.table.now old middle g.root number put in
     IfOk-weaker c.put_node.result (IsPutOn (nodes.Unary Not number) middle t) (IsPartPut (part_formula g c.args.negated) old t)
-    (λ r h. subst (λ n. IsPartPut (part_formula g n) old t r) (sym c.if-negated.true) (not_put (formula_in g) old middle t number r stands h)) c.put_node.ensures
+    (λ r h. subst (λ n. IsPartPut (part_formula g n) old t r) (sym c.if-negated.true) (not_put (formula_in g) old middle t number r stands h))
+    c.put_node.ensures

@@ -9,7 +9,8 @@ returns c =
     let n = c.args.end in
     let ms = c.args.members.now in
     let one : c.extend_from_slice.new.self.items ≡ c.new-rest.result.items ++ take k ms = c.in_ok-extend_from_slice.ensures.items in
-    let two : c.extend_from_slice-2.new.self.items ≡ c.extend_from_slice.new.self.items ++ take (length ms - n) (drop n ms) = c.in_ok-extend_from_slice-2.ensures.items in
+    let two : c.extend_from_slice-2.new.self.items ≡ c.extend_from_slice.new.self.items ++ take (length ms - n) (drop n ms) =
+    c.in_ok-extend_from_slice-2.ensures.items in
     let front = one ∙ ap (λ xs. xs ++ take k ms) c.new-rest.ensures.items in
     let back : n ≡ k + (n - k) = omega (arith, c.requires.order) in
     let rest = take_rest ms n ∙ ap (λ m. drop m ms) back in

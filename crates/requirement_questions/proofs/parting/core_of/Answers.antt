@@ -21,4 +21,5 @@ returns c =
     IfOk-weaker c.core_in.result _ _
     (λ core h. IfSome_then core h (λ made w formulas many same.
     let count : c.len-count.result ≡ length formulas = omega (arith, c.len-count.ensures, many) in
-    is_core kind f formulas r made.value replaced w.0 (subst (λ n. ArePartsOf made.value.table r.root n made.value.parts.items) count w.1) same)) c.core_in.ensures
+    is_core kind f formulas r made.value replaced w.0 (subst (λ n. ArePartsOf made.value.table r.root n made.value.parts.items) count w.1) same))
+    c.core_in.ensures

@@ -18,11 +18,13 @@ joints-preserved c =
     let pushed = c.in_ok-push.ensures.items in
     let longer = ap length pushed ∙ length-append parts (c.in-Some.right ∷ []) in
     record {
-      cut = cut_more c.args.table.now c.args.root c.joints.number c.in-Some.left c.in-Some.right parts c.push.new.self.items c.joints.invariant.cut joint pushed;
+      cut =
+          cut_more c.args.table.now c.args.root c.joints.number c.in-Some.left c.in-Some.right parts c.push.new.self.items c.joints.invariant.cut joint pushed;
       many = omega (arith, longer, c.joints.invariant.many);
     }
 
 pub returns : goal.returns
 returns c =
-    cut_end c.args.table.now c.args.root c.joints.number c.args.count c.joints.parts.items c.push-2.new.self.items c.reverse.new.self.items c.joints.invariant.cut
+    cut_end c.args.table.now c.args.root c.joints.number c.args.count c.joints.parts.items c.push-2.new.self.items c.reverse.new.self.items
+    c.joints.invariant.cut
     (omega (arith, c.joints.invariant.many, c.requires.some)) c.in_ok-push-2.ensures.items c.reverse.ensures.items

@@ -44,7 +44,8 @@ places-preserved c =
     let sized : c.places.at < length task.sizes.items = omega (arith, low, c.requires.long) in
     let size = read task.sizes.items c.places.at c.index.result.now 0 sized c.index.ensures in
     record {
-      before = before_marked task c.requires c.places.marks.items c.places.at before low c.mark.new.marks.items c.index.result.now c.mark.ensures.long c.mark.ensures.added size;
+      before = before_marked task c.requires c.places.marks.items c.places.at before low c.mark.new.marks.items c.index.result.now c.mark.ensures.long
+          c.mark.ensures.added size;
       held = rw c.in-Some.is at c.in_ok-more.ensures;
     }
 
@@ -65,7 +66,8 @@ overflow_add-at-in-places c =
     let low : c.places.at < length task.order.items = omega (arith, c.places-test.true, c.len-end.ensures) in
     let sized : c.places.at < length task.sizes.items = omega (arith, low, c.requires.long) in
     let size = read task.sizes.items c.places.at c.index.result.now 0 sized c.index.ensures in
-    let after = before_marked task c.requires c.places.marks.items c.places.at before low c.mark.new.marks.items c.index.result.now c.mark.ensures.long c.mark.ensures.added size in
+    let after = before_marked task c.requires c.places.marks.items c.places.at before low c.mark.new.marks.items c.index.result.now c.mark.ensures.long
+    c.mark.ensures.added size in
     omega (arith, after.within, c.requires.few)
 
 pub places-smaller : goal.places-smaller

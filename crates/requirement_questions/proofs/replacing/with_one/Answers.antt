@@ -16,8 +16,10 @@ mark-requires-clause-long c = ap length c.in_ok-more.ensures ∙ c.requires.mark
 pub marked_formula-requires-clause-marks : goal.marked_formula-requires-clause-marks
 marked_formula-requires-clause-marks c =
     let same = c.in_ok-more.ensures in
-    added_marks c.args.task.now c.requires.task c.in_ok-more.more.items c.mark.new.marks.items c.args.place (subst (AreMarks c.args.task.now) (sym same) c.requires.marks)
-    (subst (λ (ms : List Bool). IsKept (formula_of c.args.task.now) (marked ms) c.args.place) (sym same) c.requires.kept) c.mark.ensures.long c.mark.ensures.added
+    added_marks c.args.task.now c.requires.task c.in_ok-more.more.items c.mark.new.marks.items c.args.place
+    (subst (AreMarks c.args.task.now) (sym same) c.requires.marks)
+    (subst (λ (ms : List Bool). IsKept (formula_of c.args.task.now) (marked ms) c.args.place) (sym same) c.requires.kept)
+    c.mark.ensures.long c.mark.ensures.added
 
 pub returns : goal.returns
 returns c =
@@ -26,7 +28,8 @@ returns c =
     let same = c.in_ok-more.ensures in
     let old : AreMarks task c.in_ok-more.more.items = subst (AreMarks task) (sym same) c.requires.marks in
     let kept = subst (λ (ms : List Bool). IsKept (formula_of task) (marked ms) c.args.place) (sym same) c.requires.kept in
-    let are : AreMarks task more = added_marks task c.requires.task c.in_ok-more.more.items more c.args.place old kept c.mark.ensures.long c.mark.ensures.added in
+    let are : AreMarks task more =
+    added_marks task c.requires.task c.in_ok-more.more.items more c.args.place old kept c.mark.ensures.long c.mark.ensures.added in
     record {
       there = c.in_ok-formula.ensures.there;
       places = marked more;

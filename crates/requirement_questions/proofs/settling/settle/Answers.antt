@@ -30,4 +30,5 @@ returns-in_ok-new-in-Impossible c =
     let j = c.in-Some.joined in
     let joined : IsJoining (some_formulas q numbers) (Some j) = subst (IsJoining (some_formulas q numbers)) c.in-Some.is c.in_ok-joined.ensures in
     let lawful = subst (IsOutcome (tree_at j.table j.root) q.kind) c.in-Impossible.is c.in_ok-trace.ensures in
-    subst (λ r. IsRefuted q numbers r.certificate r.table r.root) (sym c.in_ok-new-in-Impossible.ensures.ok) (record { there = joined.0; formula = joined.1; lawful = lawful })
+    subst (λ r. IsRefuted q numbers r.certificate r.table r.root) (sym c.in_ok-new-in-Impossible.ensures.ok)
+    (record { there = joined.0; formula = joined.1; lawful = lawful })

@@ -10,7 +10,8 @@ pub given-preserved : goal.given-preserved
 given-preserved c =
     let q = c.args.question.now in
     let g = c.index-question-k.result in
-    let size : c.in_ok-steps.field-0 ≡ formula_size (formula_in g) = c.in_ok-steps.ensures.size ∙ ap (λ x. formula_size (formula_in x)) (sym c.index-question-k.is) in
+    let size : c.in_ok-steps.field-0 ≡ formula_size (formula_in g) =
+    c.in_ok-steps.ensures.size ∙ ap (λ x. formula_size (formula_in x)) (sym c.index-question-k.is) in
     let more = one_step q c.given.k g c.given-test.true c.index-question-k.is in
     record {
       steps = omega (arith, size, more, c.given.invariant.steps);

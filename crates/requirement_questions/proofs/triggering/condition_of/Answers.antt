@@ -26,4 +26,5 @@ returns c =
     let is = is_always c.node.result body (sym c.always_child.ensures ∙ c.in-Some.is) in
     let low : body < c.args.root = subst (IsFine (length s.names) c.args.root) is c.node.ensures.below in
     let always : tree_at s c.args.root ≡ made s.names (trees_of s) (nodes.Unary Always body) = c.node.ensures.tree ∙ ap (made s.names (trees_of s)) is in
-    condition_found s c.args.root body c.node-2.result c.condition_child.result (omega (arith, low, c.requires)) always c.node-2.ensures.tree c.node-2.ensures.below c.condition_child.ensures
+    condition_found s c.args.root body c.node-2.result c.condition_child.result (omega (arith, low, c.requires))
+    always c.node-2.ensures.tree c.node-2.ensures.below c.condition_child.ensures

@@ -13,5 +13,6 @@ returns c =
     let t = c.put_node.new.table in
     let copy = c.in-Some.copy in
     let put : IsPut s c.args.number old middle (Some copy) = subst (IsPut s c.args.number old middle) c.in-Some.is c.in_ok-copy.ensures in
-    let on : IsPutOn (nodes.Unary Eventually copy) middle t (Some c.in-Some-2.at) = subst (IsPutOn (nodes.Unary Eventually copy) middle t) c.in-Some-2.is c.in_ok-at.ensures in
+    let on : IsPutOn (nodes.Unary Eventually copy) middle t (Some c.in-Some-2.at) =
+    subst (IsPutOn (nodes.Unary Eventually copy) middle t) c.in-Some-2.is c.in_ok-at.ensures in
     eventually_on s middle t c.args.number copy c.in-Some-2.at put.0.tree on.0 on.1

@@ -10,4 +10,5 @@ none_left n (b ∷ bs) e = ap (λ k. first_lines k (b ∷ bs)) e
 pub returns-then-left-eq0 : goal.returns-then-left-eq0
 returns-then-left-eq0 c =
     let rest = drop c.loop-byte.byte-index c.args.text.now in
-    sym (append-nil c.loop-byte.lines.items) ∙ ap (λ t. c.loop-byte.lines.items ++ t) (sym (none_left c.loop-byte.left rest c.if-left-eq0.true)) ∙ c.loop-byte.invariant
+    sym (append-nil c.loop-byte.lines.items) ∙ ap (λ t. c.loop-byte.lines.items ++ t) (sym (none_left c.loop-byte.left rest c.if-left-eq0.true))
+    ∙ c.loop-byte.invariant

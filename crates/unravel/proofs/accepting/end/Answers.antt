@@ -24,7 +24,8 @@ returns-clause-answer c =
     let found = found_if f kind k questions.Accepted i.solver c.in_ok-found.found c.if-not-found.false c.in_ok-found.ensures.answer in
     let rows = c.in_ok-rows.rows.items in
     let is = close_is kind c.kind.result rows c.deref.result.now c.kind.ensures c.deref.ensures.value c.close_of.result c.close_of.ensures in
-    shows f kind k i c.in_ok-found.ensures.still.through (Accepted k) found rows c.in_ok-rows.ensures.count c.in_ok-rows.ensures.rows c.close_of.result c.in-Some.close is c.in-Some.is
+    shows f kind k i c.in_ok-found.ensures.still.through (Accepted k)
+    found rows c.in_ok-rows.ensures.count c.in_ok-rows.ensures.rows c.close_of.result c.in-Some.close is c.in-Some.is
 
 pub unreachable-requires : goal.unreachable-requires
 unreachable-requires c =
@@ -33,7 +34,9 @@ unreachable-requires c =
     let k = c.args.depth in
     let i = c.is_found.new.inputs in
     let found = found_if f kind k questions.Accepted i.solver c.in_ok-found.found c.if-not-found.false c.in_ok-found.ensures.answer in
-    let whole = kept_trans (list_of (up_to f kind k)) c.add_rest.new.inputs.solver.log.inputs i.solver.log.inputs c.in_ok-add_rest.ensures.whole c.in_ok-found.ensures.still.kept in
+    let whole = kept_trans (list_of (up_to f kind k))
+    c.add_rest.new.inputs.solver.log.inputs i.solver.log.inputs c.in_ok-add_rest.ensures.whole c.in_ok-found.ensures.still.kept in
     let rows = c.in_ok-rows.rows.items in
     let is = close_is kind c.kind.result rows c.deref.result.now c.kind.ensures c.deref.ensures.value c.close_of.result c.close_of.ensures in
-    some_rule f kind k i c.in_ok-found.ensures.still.through (Accepted k) found whole rows c.in_ok-rows.ensures.count c.in_ok-rows.ensures.rows refl c.close_of.result is c.in-None.is
+    some_rule f kind k i c.in_ok-found.ensures.still.through (Accepted k)
+    found whole rows c.in_ok-rows.ensures.count c.in_ok-rows.ensures.rows refl c.close_of.result is c.in-None.is

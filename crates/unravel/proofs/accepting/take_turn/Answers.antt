@@ -13,7 +13,8 @@ returns-in-Some-clause-answer c =
     let found = found_if f kind k questions.Accepted i.solver c.in_ok-found.found c.if-not-found.false c.in_ok-found.ensures.answer in
     let rows = c.in_ok-rows.rows.items in
     let is = close_is kind c.kind.result rows c.deref.result.now c.kind.ensures c.deref.ensures.value c.close_of.result c.close_of.ensures in
-    shows f kind k i c.in_ok-found.ensures.still.through (Accepted k) found rows c.in_ok-rows.ensures.count c.in_ok-rows.ensures.rows c.close_of.result c.in-Some.close is c.in-Some.is
+    shows f kind k i c.in_ok-found.ensures.still.through (Accepted k)
+    found rows c.in_ok-rows.ensures.count c.in_ok-rows.ensures.rows c.close_of.result c.in-Some.close is c.in-Some.is
 
 pub returns-clause-still : goal.returns-clause-still
 returns-clause-still c = still_then c.in_ok-found.ensures.still (still_more c.in_ok-found.ensures.still.through c.in_ok-add_constraints-in-None.ensures)

@@ -13,5 +13,6 @@ returns-in-Accepted c =
 
 pub returns-in-Unpruned : goal.returns-in-Unpruned
 returns-in-Unpruned c =
-    let here = of_layout c.of-layout.result c.args.closure.now Unpruned c.opposite.result c.of-layout.ensures.layout (c.opposite.ensures ∙ ap opposite c.may_prune.ensures) in
+    let here = of_layout c.of-layout.result c.args.closure.now Unpruned c.opposite.result c.of-layout.ensures.layout
+    (c.opposite.ensures ∙ ap opposite c.may_prune.ensures) in
     subst (λ q. c.opposite.result ≡ positive_of c.args.closure.now.formula c.args.closure.now.kind (letter_of c.args.depth q)) (sym c.in-Unpruned.is) here

@@ -29,4 +29,5 @@ pub returns-in-None-clause-settled : goal.returns-in-None-clause-settled
 returns-in-None-clause-settled c =
     let f = c.args.closure.now.formula in
     let kind = c.args.closure.now.kind in
-    bound_settles f kind c.args.limit (decisions.Undecided c.args.limit) (undecided_at f kind c.args.limit (subst (IsSettled f kind c.args.limit) c.in-None.is c.in_ok-decision.ensures))
+    bound_settles f kind c.args.limit (decisions.Undecided c.args.limit)
+    (undecided_at f kind c.args.limit (subst (IsSettled f kind c.args.limit) c.in-None.is c.in_ok-decision.ensures))

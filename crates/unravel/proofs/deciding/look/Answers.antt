@@ -22,7 +22,8 @@ returns-in_ok-targets-in-Pruned c =
     let k = c.args.depth in
     let asked = c.ask.new.inputs in
     let tells = subst (Tells f kind k asked.solver) c.in-Pruned.is c.in_ok-rule.ensures.tells in
-    let through = asked_through f kind k asked _ c.in_ok-rule.ensures.through (record { letters = c.in_ok-targets-in-Pruned.ensures.letters; inputs = c.in_ok-targets-in-Pruned.ensures.inputs; names = refl }) in
+    let through = asked_through f kind k asked _ c.in_ok-rule.ensures.through
+    (record { letters = c.in_ok-targets-in-Pruned.ensures.letters; inputs = c.in_ok-targets-in-Pruned.ensures.inputs; names = refl }) in
     (tells.0.0, tells.1.0, record { through = through; closed = c.in_ok-targets-in-Pruned.ensures.targets })
 
 pub returns-in-Open : goal.returns-in-Open
@@ -33,5 +34,7 @@ returns-in-Open c =
     let before = c.args.inputs.now in
     let asked = c.ask.new.inputs in
     let tells = subst (Tells f kind k asked.solver) c.in-Open.is c.in_ok-rule.ensures.tells in
-    let kept = kept_trans before.solver.log.inputs c.grow.new.inputs.solver.log.inputs asked.solver.log.inputs c.in_ok-grow.ensures.kept c.in_ok-rule.ensures.kept in
-    still_open_more f kind k before asked c.args.states.now.items c.ask.new.states.items c.requires.still kept c.in_ok-rule.ensures.through tells.0 tells.1 c.in_ok-rule.ensures.states
+    let kept =
+    kept_trans before.solver.log.inputs c.grow.new.inputs.solver.log.inputs asked.solver.log.inputs c.in_ok-grow.ensures.kept c.in_ok-rule.ensures.kept in
+    still_open_more f kind k before asked c.args.states.now.items c.ask.new.states.items c.requires.still kept c.in_ok-rule.ensures.through tells.0 tells.1
+    c.in_ok-rule.ensures.states

@@ -20,5 +20,6 @@ returns c =
     let k = c.args.depth in
     let targets = c.args.targets.items in
     let is_closed = subst (λ i. IsClosed f kind k i targets) (sym c.replace-solver.ensures.value) c.requires.closed in
-    let refutes = refutation f kind k c.replace-solver.result targets is_closed c.into_log-log.result c.into_log-log.ensures.log c.invariant.ensures c.into_log-log.ensures.lines in
+    let refutes = refutation f kind k c.replace-solver.result targets is_closed c.into_log-log.result c.into_log-log.ensures.log c.invariant.ensures
+    c.into_log-log.ensures.lines in
     (refl, subst (λ (d : DerivationValue). IsRefutation f kind k d targets) (sym c.of.ensures) refutes)

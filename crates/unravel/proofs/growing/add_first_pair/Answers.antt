@@ -5,4 +5,5 @@ pub returns-then-step-ne1 : goal.returns-then-step-ne1
 returns-then-step-ne1 c = more_none c.args.listed.now c.args.inputs.now c.requires.part
 
 pub returns : goal.returns
-returns c = more_then c.args.listed.now c.args.inputs.now c.add_numbers.new.inputs c.add_numbers-2.new.inputs c.in_ok-add_numbers.ensures c.in_ok-add_numbers-2.ensures
+returns c =
+    more_then c.args.listed.now c.args.inputs.now c.add_numbers.new.inputs c.add_numbers-2.new.inputs c.in_ok-add_numbers.ensures c.in_ok-add_numbers-2.ensures

@@ -27,7 +27,9 @@ clauses-preserved c =
     let here = subst (Contains new.solver.log.inputs) (are.stand.each c.clauses.index low) c.in_ok-add.ensures.there in
     record {
       more = more_then x c.args.inputs.now c.clauses.inputs new c.clauses.invariant.more c.in_ok-add.ensures.more;
-      there = there_next all c.clauses.inputs.solver.log.inputs new.solver.log.inputs c.clauses.index low c.clauses.invariant.there c.in_ok-add.ensures.more.kept here;
+      there =
+          there_next all c.clauses.inputs.solver.log.inputs new.solver.log.inputs c.clauses.index low c.clauses.invariant.there
+          c.in_ok-add.ensures.more.kept here;
     }
 
 pub returns-clause-there : goal.returns-clause-there
@@ -36,4 +38,5 @@ returns-clause-there c =
     let are = c.section-numbers.ensures.clauses in
     let all = signed_clauses x.formula x.kind (section_clauses x.formula x.kind c.args.step c.args.section) in
     let long = length-map (section_clauses x.formula x.kind c.args.step c.args.section) (map (literal_in x.kind (counts x.formula))) in
-    subst (All (Contains c.clauses.inputs.solver.log.inputs)) (take_all c.clauses.index all (omega (arith, are.count, long, c.clauses-test.false))) c.clauses.invariant.there
+    subst (All (Contains c.clauses.inputs.solver.log.inputs)) (take_all c.clauses.index all (omega (arith, are.count, long, c.clauses-test.false)))
+    c.clauses.invariant.there

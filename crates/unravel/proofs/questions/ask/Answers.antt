@@ -8,7 +8,8 @@ use Rattle.unravel.proofs.questions.ask.Goals as goal
 
 pub returns-in-Some-clause-states : goal.returns-in-Some-clause-states
 returns-in-Some-clause-states c =
-    subst (AreStatesBelow c.args.closure.now.formula c.args.closure.now.kind (c.args.depth + 1)) (sym c.in_ok-rule.ensures.still.states) c.in_ok-assume.ensures.0
+    subst (AreStatesBelow c.args.closure.now.formula c.args.closure.now.kind (c.args.depth + 1)) (sym c.in_ok-rule.ensures.still.states)
+    c.in_ok-assume.ensures.0
 
 pub accepting_rule-requires-clause-ready : goal.accepting_rule-requires-clause-ready
 accepting_rule-requires-clause-ready c = record { through = c.requires.through; states = c.in_ok-assume.ensures }
@@ -23,7 +24,8 @@ returns-then-not-unpruned-clause-states c =
 
 pub returns-then-not-unpruned-clause-kept : goal.returns-then-not-unpruned-clause-kept
 returns-then-not-unpruned-clause-kept c =
-    kept_trans c.args.inputs.now.solver.log.inputs c.accepting_rule.new.inputs.solver.log.inputs c.is_unpruned.new.inputs.solver.log.inputs c.in_ok-rule.ensures.still.kept c.in_ok-unpruned.ensures.still.kept
+    kept_trans c.args.inputs.now.solver.log.inputs c.accepting_rule.new.inputs.solver.log.inputs c.is_unpruned.new.inputs.solver.log.inputs
+    c.in_ok-rule.ensures.still.kept c.in_ok-unpruned.ensures.still.kept
 
 -- pruned: what refused acceptance refuses it with what the second question has put in
 pub returns-then-not-unpruned-clause-tells : goal.returns-then-not-unpruned-clause-tells
@@ -48,7 +50,8 @@ returns-clause-states c =
 
 pub returns-clause-kept : goal.returns-clause-kept
 returns-clause-kept c =
-    kept_trans c.args.inputs.now.solver.log.inputs c.accepting_rule.new.inputs.solver.log.inputs c.is_unpruned.new.inputs.solver.log.inputs c.in_ok-rule.ensures.still.kept c.in_ok-unpruned.ensures.still.kept
+    kept_trans c.args.inputs.now.solver.log.inputs c.accepting_rule.new.inputs.solver.log.inputs c.is_unpruned.new.inputs.solver.log.inputs
+    c.in_ok-rule.ensures.still.kept c.in_ok-unpruned.ensures.still.kept
 
 pub returns-clause-tells : goal.returns-clause-tells
 returns-clause-tells c =

@@ -29,12 +29,16 @@ numbers-preserved-then-is_among c =
     let items = AllZip-map (λ n. n) names c.in_ok-there.there.items c.in_ok-there.ensures.cases.0 ∙ map-id names in
     let named : Contains names (index + 1) =
     subst (λ ns. Contains ns (index + 1)) items
-    (Contains-permutation c.sort.new.self.items c.in_ok-there.there.items (index + 1) (IsPermutation-sym c.in_ok-there.there.items c.sort.new.self.items c.sort.ensures.permutation)
+    (Contains-permutation c.sort.new.self.items c.in_ok-there.there.items (index + 1)
+    (IsPermutation-sym c.in_ok-there.there.items c.sort.new.self.items c.sort.ensures.permutation)
     (subst (λ ns. Contains ns (index + 1)) c.deref.ensures.value sorted)) in
     let back : index + 1 - 1 ≡ index = omega arith in
     let at = subst (λ n. Contains c.args.inputs.now.solver.log.inputs (get_or list n [])) back (named_there x c.args.inputs.now (index + 1) c.requires named) in
     let here = All-contains (Contains cur) c.args.inputs.now.solver.log.inputs (get_or list index []) c.numbers.invariant.more.kept at in
-    record { more = c.numbers.invariant.more; there = there_next list cur cur index low c.numbers.invariant.there (more_none x c.numbers.inputs c.numbers.invariant.more.part).kept here }
+    record {
+      more = c.numbers.invariant.more;
+      there = there_next list cur cur index low c.numbers.invariant.there (more_none x c.numbers.inputs c.numbers.invariant.more.part).kept here;
+    }
 
 pub numbers-preserved : goal.numbers-preserved
 numbers-preserved c =
@@ -53,4 +57,5 @@ numbers-preserved c =
 pub returns-clause-whole : goal.returns-clause-whole
 returns-clause-whole c =
     let list = list_of c.args.listed.now in
-    subst (All (Contains c.numbers.inputs.solver.log.inputs)) (take_all c.numbers.index list (omega (arith, c.numbers-test.false, c.count-index-end.ensures))) c.numbers.invariant.there
+    subst (All (Contains c.numbers.inputs.solver.log.inputs)) (take_all c.numbers.index list (omega (arith, c.numbers-test.false, c.count-index-end.ensures)))
+    c.numbers.invariant.there

@@ -9,4 +9,5 @@ pub returns-clause-more : goal.returns-clause-more
 returns-clause-more c = subst (λ x. HasMore x c.args.inputs.now c.add_missing.new.inputs) c.of-listed.ensures c.in_ok-add_missing.ensures.more
 
 pub returns-clause-whole : goal.returns-clause-whole
-returns-clause-whole c = subst (λ x. All (Contains c.add_missing.new.inputs.solver.log.inputs) (list_of x)) c.of-listed.ensures c.in_ok-add_missing.ensures.whole
+returns-clause-whole c =
+    subst (λ x. All (Contains c.add_missing.new.inputs.solver.log.inputs) (list_of x)) c.of-listed.ensures c.in_ok-add_missing.ensures.whole

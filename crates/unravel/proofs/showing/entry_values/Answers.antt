@@ -4,4 +4,5 @@ use Rattle.unravel.proofs.showing.entry_values.Goals as goal
 
 pub value-requires : goal.value-requires
 value-requires c =
-    entry_has_value c.args.layout.now c.args.step _ c.args.solver.now c.entry-entry.result c.requires.room (c.requires.known c.loop-number.number-index 0 (omega arith)) c.entry-entry.ensures
+    entry_has_value c.args.layout.now c.args.step _ c.args.solver.now c.entry-entry.result c.requires.room
+    (c.requires.known c.loop-number.number-index 0 (omega arith)) c.entry-entry.ensures

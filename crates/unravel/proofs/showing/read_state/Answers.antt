@@ -13,13 +13,17 @@ pub entry_values-requires-2-clause-known : goal.entry_values-requires-2-clause-k
 entry_values-requires-2-clause-known c = nexts_all c.of-layout.result c.args.closure.now c.of-layout.ensures.layout c.nexts.result.now c.nexts.ensures.numbers
 
 pub entry_values-requires-3-clause-known : goal.entry_values-requires-3-clause-known
-entry_values-requires-3-clause-known c = yesterdays_all c.of-layout.result c.args.closure.now c.of-layout.ensures.layout c.yesterdays.result.now c.yesterdays.ensures.numbers
+entry_values-requires-3-clause-known c =
+    yesterdays_all c.of-layout.result c.args.closure.now c.of-layout.ensures.layout c.yesterdays.result.now c.yesterdays.ensures.numbers
 
 pub returns : goal.returns
 returns c =
     let v = value_of c.args.solver.now in
     record {
-      letters = values_are c.of-layout.result c.args.closure.now c.of-layout.ensures.layout v c.args.step (letters c.args.closure.now.formula) c.args.numbers.now c.in_ok-letters.letters.items c.in_ok-letters.ensures c.requires.numbers;
-      nexts = values_are c.of-layout.result c.args.closure.now c.of-layout.ensures.layout v c.args.step (nexts c.args.closure.now.formula) c.nexts.result.now c.in_ok-nexts.nexts.items c.in_ok-nexts.ensures c.nexts.ensures.numbers;
-      yesterdays = values_are c.of-layout.result c.args.closure.now c.of-layout.ensures.layout v c.args.step (yesterdays c.args.closure.now.formula) c.yesterdays.result.now c.in_ok-yesterdays.yesterdays.items c.in_ok-yesterdays.ensures c.yesterdays.ensures.numbers;
+      letters = values_are c.of-layout.result c.args.closure.now c.of-layout.ensures.layout v c.args.step (letters c.args.closure.now.formula)
+          c.args.numbers.now c.in_ok-letters.letters.items c.in_ok-letters.ensures c.requires.numbers;
+      nexts = values_are c.of-layout.result c.args.closure.now c.of-layout.ensures.layout v c.args.step (nexts c.args.closure.now.formula)
+          c.nexts.result.now c.in_ok-nexts.nexts.items c.in_ok-nexts.ensures c.nexts.ensures.numbers;
+      yesterdays = values_are c.of-layout.result c.args.closure.now c.of-layout.ensures.layout v c.args.step (yesterdays c.args.closure.now.formula)
+          c.yesterdays.result.now c.in_ok-yesterdays.yesterdays.items c.in_ok-yesterdays.ensures c.yesterdays.ensures.numbers;
     }

@@ -12,7 +12,8 @@ trace_of-requires-clause-run c =
     let f = c.args.closure.now.formula in
     let kind = c.args.closure.now.kind in
     let v = value_of c.args.solver.now in
-    let read : AreRead f kind v (c.args.depth + 1) c.deref.result.now = subst (AreRead f kind v (c.args.depth + 1)) (sym c.deref.ensures.value) c.in_ok-states.ensures in
+    let read : AreRead f kind v (c.args.depth + 1) c.deref.result.now =
+    subst (AreRead f kind v (c.args.depth + 1)) (sym c.deref.ensures.value) c.in_ok-states.ensures in
     let run : IsRun f c.args.depth (states_of f kind v) = c.requires.showing.run in
     read_run f kind v c.args.depth c.deref.result.now read run
 
@@ -21,7 +22,8 @@ trace_of-requires-clause-accepted c =
     let f = c.args.closure.now.formula in
     let kind = c.args.closure.now.kind in
     let v = value_of c.args.solver.now in
-    let read : AreRead f kind v (c.args.depth + 1) c.deref.result.now = subst (AreRead f kind v (c.args.depth + 1)) (sym c.deref.ensures.value) c.in_ok-states.ensures in
+    let read : AreRead f kind v (c.args.depth + 1) c.deref.result.now =
+    subst (AreRead f kind v (c.args.depth + 1)) (sym c.deref.ensures.value) c.in_ok-states.ensures in
     let run : IsRun f c.args.depth (states_of f kind v) = c.requires.showing.run in
     read_rule f kind v c.args.depth c.deref.result.now read run c.args.close c.requires.showing.rule
 
@@ -30,6 +32,7 @@ returns-clause-run c =
     let f = c.args.closure.now.formula in
     let kind = c.args.closure.now.kind in
     let v = value_of c.args.solver.now in
-    let read : AreRead f kind v (c.args.depth + 1) c.deref.result.now = subst (AreRead f kind v (c.args.depth + 1)) (sym c.deref.ensures.value) c.in_ok-states.ensures in
+    let read : AreRead f kind v (c.args.depth + 1) c.deref.result.now =
+    subst (AreRead f kind v (c.args.depth + 1)) (sym c.deref.ensures.value) c.in_ok-states.ensures in
     let run : IsRun f c.args.depth (states_of f kind v) = c.requires.showing.run in
     if_ok_more (read_trace f kind v c.args.depth c.deref.result.now read run c.args.close c.requires.showing.rule) c.trace_of.result c.trace_of.ensures.gives

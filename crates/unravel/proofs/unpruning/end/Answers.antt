@@ -17,5 +17,7 @@ returns-clause-answer c =
     let kind = c.args.closure.now.kind in
     let k = c.args.depth in
     let i = c.is_found.new.inputs in
-    let whole = kept_trans (list_of (up_to f kind k)) c.add_rest.new.inputs.solver.log.inputs i.solver.log.inputs c.in_ok-add_rest.ensures.whole c.in_ok-found.ensures.still.kept in
-    unpruned_answer f kind k i.solver c.in_ok-found.found (λ found. whole_unpruned f kind k i c.in_ok-found.ensures.still.through Unpruned found whole refl) c.in_ok-found.ensures.answer
+    let whole = kept_trans (list_of (up_to f kind k))
+    c.add_rest.new.inputs.solver.log.inputs i.solver.log.inputs c.in_ok-add_rest.ensures.whole c.in_ok-found.ensures.still.kept in
+    unpruned_answer f kind k i.solver c.in_ok-found.found (λ found. whole_unpruned f kind k i c.in_ok-found.ensures.still.through Unpruned found whole refl)
+    c.in_ok-found.ensures.answer

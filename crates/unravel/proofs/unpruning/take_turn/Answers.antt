@@ -15,7 +15,8 @@ returns-then-len-eq0-clause-answer c =
     let rows = c.in_ok-rows.rows.items in
     let pruned = c.in_ok-pruned.pruned.items in
     let are = prunings_are kind c.kind.result rows c.deref.result.now c.kind.ensures c.deref.ensures.value pruned c.in_ok-pruned.ensures in
-    unpruned f kind k i c.in_ok-found.ensures.still.through Unpruned found rows c.in_ok-rows.ensures.count c.in_ok-rows.ensures.rows pruned are (sym c.in_ok-pruned.pruned.ok.0 ∙ (sym c.len.ensures ∙ c.if-len-eq0.true))
+    unpruned f kind k i c.in_ok-found.ensures.still.through Unpruned found rows c.in_ok-rows.ensures.count c.in_ok-rows.ensures.rows pruned are
+    (sym c.in_ok-pruned.pruned.ok.0 ∙ (sym c.len.ensures ∙ c.if-len-eq0.true))
 
 pub returns-clause-still : goal.returns-clause-still
 returns-clause-still c = still_then c.in_ok-found.ensures.still (still_more c.in_ok-found.ensures.still.through c.in_ok-add_prunings.ensures)

@@ -15,7 +15,8 @@ lines-preserved c =
     let left = c.next_line.new.self in
     record {
       same = refl;
-      passed = blanks_passed _ _ before.number before.text.now left.number left.text.now c.in-Some.text.now c.lines.invariant.passed c.in-Some.ensures.number c.in-Some.ensures.front (sym c.is_blank.ensures ∙ c.if-not-is_blank.false);
+      passed = blanks_passed _ _ before.number before.text.now left.number left.text.now c.in-Some.text.now c.lines.invariant.passed c.in-Some.ensures.number
+          c.in-Some.ensures.front (sym c.is_blank.ensures ∙ c.if-not-is_blank.false);
       room = omega (arith, c.lines.invariant.room, c.in-Some.ensures.number, c.in-Some.ensures.shorter);
       order = omega (arith, c.lines.invariant.order, c.in-Some.ensures.number);
     }

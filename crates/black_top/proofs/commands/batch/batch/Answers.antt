@@ -6,7 +6,8 @@ use Rattle.black_top.proofs.Showing.{shown}
 use Rattle.black_top.proofs.commands.batch.batch.Goals as goal
 
 pub returns-then-text-gt-MAX_BATCH : goal.returns-then-text-gt-MAX_BATCH
-returns-then-text-gt-MAX_BATCH g c = shown (IsBatched c.args.options.kind c.args.options.depth c.args.text.now) (refused faults.Batch) c.refusal.result (too_many c.if-text-gt-MAX_BATCH.true) c.refusal.ensures
+returns-then-text-gt-MAX_BATCH g c = shown (IsBatched c.args.options.kind c.args.options.depth c.args.text.now) (refused faults.Batch) c.refusal.result
+    (too_many c.if-text-gt-MAX_BATCH.true) c.refusal.ensures
 
 pub returns : goal.returns
 returns g c =
@@ -14,4 +15,5 @@ returns g c =
     let wanted = c.args.options.depth in
     let text = c.args.text.now in
     shown (IsBatched kind wanted text) (batched c.deref.result.now) c.batched.result
-    (lines_answered kind wanted text c.unwrap_or-asked.result c.deref.result.now c.in_ok-found.found.items c.unwrap_or-asked.ensures c.if-text-gt-MAX_BATCH.false c.in_ok-found.ensures c.deref.ensures.value) c.batched.ensures
+    (lines_answered kind wanted text c.unwrap_or-asked.result c.deref.result.now c.in_ok-found.found.items c.unwrap_or-asked.ensures
+    c.if-text-gt-MAX_BATCH.false c.in_ok-found.ensures c.deref.ensures.value) c.batched.ensures

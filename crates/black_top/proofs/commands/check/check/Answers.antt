@@ -8,13 +8,15 @@ use Rattle.black_top.proofs.Showing.{shown, shown_as}
 use Rattle.black_top.proofs.commands.check.check.Goals as goal
 
 pub returns-in_default : goal.returns-in_default
-returns-in_default g c = shown (IsParted (IsChecked c.args.options.kind) c.args.input.now) (refused faults.NoSeparator) c.refusal.result (uncut c.in_default.ensures) c.refusal.ensures
+returns-in_default g c = shown (IsParted (IsChecked c.args.options.kind) c.args.input.now) (refused faults.NoSeparator) c.refusal.result
+    (uncut c.in_default.ensures) c.refusal.ensures
 
 pub returns-in-Refused : goal.returns-in-Refused
 returns-in-Refused g c =
     let parts = c.in-Some.parts in
     let refuses = rw c.in-Refused.is at c.in_ok-fault.ensures in
-    shown (IsParted (IsChecked c.args.options.kind) c.args.input.now) (refused c.in-Refused.fault) c.refusal-in-Refused.result (unread parts.formula.now parts.second.now c.in-Refused.fault c.in-Some.ensures refuses) c.refusal-in-Refused.ensures
+    shown (IsParted (IsChecked c.args.options.kind) c.args.input.now) (refused c.in-Refused.fault) c.refusal-in-Refused.result
+    (unread parts.formula.now parts.second.now c.in-Refused.fault c.in-Some.ensures refuses) c.refusal-in-Refused.ensures
 
 pub returns-in-Formula : goal.returns-in-Formula
 returns-in-Formula g c =

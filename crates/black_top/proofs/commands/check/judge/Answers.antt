@@ -11,11 +11,13 @@ pub returns-in-Err-Form : goal.returns-in-Err-Form
 returns-in-Err-Form g c =
     let byte = c.in-Err-Form.byte in
     let is = c.check.ensures.form byte (let a = c.in-Err-Form.is in let b = c.in-Err-Form.field-0-is in cc) in
-    shown (IsChecked c.args.kind (tree_at c.args.table.now c.args.root) c.args.text.now) (refused (faults.Certificate byte)) c.refusal.result (record { found = FormFault byte; is = is; shown = refl }) c.refusal.ensures
+    shown (IsChecked c.args.kind (tree_at c.args.table.now c.args.root) c.args.text.now) (refused (faults.Certificate byte)) c.refusal.result
+    (record { found = FormFault byte; is = is; shown = refl }) c.refusal.ensures
 
 pub returns-in-Err-Letters : goal.returns-in-Err-Letters
 returns-in-Err-Letters g c =
     let depth = c.in-Err-Letters.depth in
     let is = c.check.ensures.letters depth (let a = c.in-Err-Letters.is in let b = c.in-Err-Letters.field-0-is in cc) in
-    shown (IsChecked c.args.kind (tree_at c.args.table.now c.args.root) c.args.text.now) (refused (faults.Letters depth)) c.refusal-in-Err-Letters.result (record { found = TooManyLetters depth; is = is; shown = refl })
+    shown (IsChecked c.args.kind (tree_at c.args.table.now c.args.root) c.args.text.now) (refused (faults.Letters depth)) c.refusal-in-Err-Letters.result
+    (record { found = TooManyLetters depth; is = is; shown = refl })
     c.refusal-in-Err-Letters.ensures

@@ -24,4 +24,5 @@ pub summarize-requires-clause-ring : goal.summarize-requires-clause-ring
 summarize-requires-clause-ring c =
     let reading = rw c.in-Formula.is at c.in_ok-fault.ensures in
     let accepted = ring_accepted c.args.number c.requires.high c.printed_text.ensures.reads in
-    reads_ring c.args.number c.deref.result.now (tree_at c.in-Formula.table c.in-Formula.root) c.one_outcome.ensures.one_formula accepted (c.deref.ensures.value ∙ c.in_ok-text.ensures) reading.1
+    reads_ring c.args.number c.deref.result.now (tree_at c.in-Formula.table c.in-Formula.root) c.one_outcome.ensures.one_formula accepted
+    (c.deref.ensures.value ∙ c.in_ok-text.ensures) reading.1

@@ -19,7 +19,9 @@ returns c =
     let laid = c.of-layout.ensures.layout in
     let (limit, verdict, force, decided, is) = c.in_ok-verdict.ensures in
     let entries = length c.entries.result.now in
-    let about : Summary = record { number = n; nodes = c.len.result; entries = entries; letters = c.letters_through.result; verdict = c.in_ok-verdict.verdict } in
+    let about : Summary =
+    record { number = n; nodes = c.len.result; entries = entries; letters = c.letters_through.result; verdict = c.in_ok-verdict.verdict } in
     let nodes = c.len.ensures.count ∙ c.requires.nodes ∙ ap nodes_in c.requires.ring in
-    let comes = summed n limit c.len.result entries c.letters_through.result c.in_ok-verdict.verdict verdict value layout formula kind laid (in_force value (ring n) kinds.Infinite 64 limit formula kind force) decided nodes c.entries.ensures.closure.long c.letters_through.ensures is in
+    let comes = summed n limit c.len.result entries c.letters_through.result c.in_ok-verdict.verdict verdict value layout formula kind laid
+    (in_force value (ring n) kinds.Infinite 64 limit formula kind force) decided nodes c.entries.ensures.closure.long c.letters_through.ensures is in
     shown (IsShown n) (summary about) c.summary.result comes c.summary.ensures

@@ -11,4 +11,5 @@ returns-in-None c =
 pub returns-in-Some : goal.returns-in-Some
 returns-in-Some c =
     let parts = c.in-Some.parts in
-    shown_as (IsPartAnswer parts.formula.now (Some parts.second.now)) (IsDepasted c.args.input.now) c.answer_part-in-Some.result (λ a h. (parts.formula.now, Some parts.second.now, c.in-Some.ensures, h)) c.answer_part-in-Some.ensures
+    shown_as (IsPartAnswer parts.formula.now (Some parts.second.now)) (IsDepasted c.args.input.now) c.answer_part-in-Some.result
+    (λ a h. (parts.formula.now, Some parts.second.now, c.in-Some.ensures, h)) c.answer_part-in-Some.ensures

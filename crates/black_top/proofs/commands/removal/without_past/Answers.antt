@@ -9,7 +9,8 @@ use Rattle.black_top.proofs.commands.removal.without_past.Goals as goal
 pub returns-in-Err-Nodes : goal.returns-in-Err-Nodes
 returns-in-Err-Nodes c =
     let large = c.remove.ensures.nodes c.in-Err-Nodes.count (let a = c.in-Err-Nodes.is in let b = c.in-Err-Nodes.field-0-is in cc) in
-    shown (IsWithout (tree_at c.args.table.now c.args.root) (option_copied c.args.second)) (refused (faults.PastNodes c.in-Err-Nodes.count)) c.refusal.result (too_large c.in-Err-Nodes.count large) c.refusal.ensures
+    shown (IsWithout (tree_at c.args.table.now c.args.root) (option_copied c.args.second)) (refused (faults.PastNodes c.in-Err-Nodes.count)) c.refusal.result
+    (too_large c.in-Err-Nodes.count large) c.refusal.ensures
 
 pub returns-in-Ok : goal.returns-in-Ok
 returns-in-Ok c =

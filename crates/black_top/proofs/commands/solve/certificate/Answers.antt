@@ -26,7 +26,8 @@ returns c =
     let clauses : length (clause_list f kind depth) ≤ 18446744073709551615 = omega (arith, counted, c.count.type_inv) in
     let lines : length new.lines ≤ 18446744073709551615 = omega (arith, c.lines.ensures, c.lines.type_inv) in
     let refutes = c.requires.refutes in
-    let is = c.trimmed.ensures.verify f kind depth c.args.log new c.args.targets.now numbers M refutes.steps kept c.requires.fits refutes.letters refutes.closed c.requires.few clauses lines in
+    let is = c.trimmed.ensures.verify f kind depth c.args.log new c.args.targets.now numbers M refutes.steps kept c.requires.fits refutes.letters refutes.closed
+    c.requires.few clauses lines in
     let how : IsWritten f kind depth (text_of (written kind depth new.lines new.hints numbers)) = record {
       log = c.args.log;
       closing = c.args.targets.now;
@@ -38,6 +39,8 @@ returns c =
       spelled = refl;
     } in
     let text : Kind → List ℕ → List ℕ = λ k ns. text_of (written k depth new.lines new.hints ns) in
-    let lawful = subst (λ (k : Kind). IsLawfulAt f kind depth (text k c.deref.result.now)) (sym c.kind.ensures) (subst (λ (ns : List ℕ). IsLawfulAt f kind depth (text kind ns)) (sym c.deref.ensures.value) is) in
-    let said = subst (λ (k : Kind). IsWritten f kind depth (text k c.deref.result.now)) (sym c.kind.ensures) (subst (λ (ns : List ℕ). IsWritten f kind depth (text kind ns)) (sym c.deref.ensures.value) how) in
+    let lawful = subst (λ (k : Kind). IsLawfulAt f kind depth (text k c.deref.result.now)) (sym c.kind.ensures)
+    (subst (λ (ns : List ℕ). IsLawfulAt f kind depth (text kind ns)) (sym c.deref.ensures.value) is) in
+    let said = subst (λ (k : Kind). IsWritten f kind depth (text k c.deref.result.now)) (sym c.kind.ensures)
+    (subst (λ (ns : List ℕ). IsWritten f kind depth (text kind ns)) (sym c.deref.ensures.value) how) in
     added_so f kind depth c.append.result c.args.out.now.items c.append.new.out.items (text c.kind.result c.deref.result.now) lawful said c.append.ensures

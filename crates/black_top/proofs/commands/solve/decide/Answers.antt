@@ -37,7 +37,8 @@ shown_certificate-requires-clause-fits g c =
 pub returns-in-Undecided : goal.returns-in-Undecided
 returns-in-Undecided g c =
     let decision = rw c.in-Undecided.is at c.in_ok-depth.ensures.decision in
-    shown (IsDecided c.args.closure.now.formula c.args.closure.now.kind c.args.asked c.args.limit c.args.options.core c.args.options.cert) (undecided c.in-Undecided.depth) c.undecided.result
+    shown (IsDecided c.args.closure.now.formula c.args.closure.now.kind c.args.asked c.args.limit c.args.options.core c.args.options.cert)
+    (undecided c.in-Undecided.depth) c.undecided.result
     (undecided_yet c.in-Undecided.depth decision) c.undecided.ensures
 
 pub returns-in-Unsat : goal.returns-in-Unsat
@@ -45,5 +46,9 @@ returns-in-Unsat g c =
     let value = c.args.closure.now in
     let decision = rw c.in-Unsat.is at c.in_ok-depth.ensures.decision in
     let begun = c.in_ok-out-in-Unsat.out in
-    unsat_shown value.formula value.kind c.args.asked c.args.limit c.in-Unsat.depth c.args.options.core c.args.options.cert begun (record { status = begun.status; text = c.shown_certificate.new.out })
-    (option_copied c.as_deref.result) (option_map vec_items c.in_ok-conflict-in-Unsat.conflict) decision.0 c.in_ok-conflict-in-Unsat.ensures c.as_deref.ensures.value c.in_ok-out-in-Unsat.ensures refl c.in_ok-shown_certificate.ensures
+    unsat_shown value.formula value.kind c.args.asked c.args.limit c.in-Unsat.depth c.args.options.core c.args.options.cert begun (record {
+      status = begun.status;
+      text = c.shown_certificate.new.out;
+    })
+    (option_copied c.as_deref.result) (option_map vec_items c.in_ok-conflict-in-Unsat.conflict)
+    decision.0 c.in_ok-conflict-in-Unsat.ensures c.as_deref.ensures.value c.in_ok-out-in-Unsat.ensures refl c.in_ok-shown_certificate.ensures

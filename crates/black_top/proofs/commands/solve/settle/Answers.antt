@@ -15,7 +15,8 @@ decide-requires-clause-asked g c κs lives = number_small c.args.options.depth c
 pub decide-requires-clause-force : goal.decide-requires-clause-force
 decide-requires-clause-force g c κs lives =
     let value = c.in_ok-closure.closure in
-    subst (λ n. IsInForce value.formula value.kind n c.in-Ok.limit) (sym (number_is c.args.options.depth c.unwrap_or-asked.result c.unwrap_or-asked.ensures)) c.in-Ok.ensures.ok.0
+    subst (λ n. IsInForce value.formula value.kind n c.in-Ok.limit) (sym (number_is c.args.options.depth c.unwrap_or-asked.result c.unwrap_or-asked.ensures))
+    c.in-Ok.ensures.ok.0
 
 pub decide-requires-clause-given : goal.decide-requires-clause-given
 decide-requires-clause-given g c κs lives = subst HasNoFresh (sym c.in_ok-closure.ensures.formula) c.requires.given
@@ -28,7 +29,8 @@ returns-in-Ok g c =
     let value = c.in_ok-closure.closure in
     let limit = c.in-Ok.limit in
     shown_as (IsDecided value.formula value.kind c.unwrap_or-asked.result limit o.core o.cert) (IsSettled o.kind o.depth o.core o.cert f) c.decide.result
-    (settled_at value o.kind o.depth o.core o.cert f c.unwrap_or-asked.result limit closure.formula closure.kind c.unwrap_or-asked.ensures c.in-Ok.ensures.ok) c.decide.ensures
+    (settled_at value o.kind o.depth o.core o.cert f c.unwrap_or-asked.result limit closure.formula closure.kind c.unwrap_or-asked.ensures c.in-Ok.ensures.ok)
+    c.decide.ensures
 
 pub returns-in-Err : goal.returns-in-Err
 returns-in-Err g c =

@@ -7,4 +7,5 @@ returns-then-not-cert c = uncertified c.args.cert c.args.closure.now.formula c.a
 pub returns : goal.returns
 returns c =
     let value = c.args.closure.now in
-    certified c.args.cert value.formula value.kind c.args.depth c.certificate.result c.args.out.now.items c.certificate.new.out.items c.if-not-cert.false c.certificate.ensures
+    certified c.args.cert value.formula value.kind c.args.depth c.certificate.result c.args.out.now.items c.certificate.new.out.items c.if-not-cert.false
+    c.certificate.ensures

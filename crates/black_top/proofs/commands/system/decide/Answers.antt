@@ -24,7 +24,8 @@ returns-in-Fails c =
     let answer = rw c.in-Fails.is at c.in_ok-depth.ensures in
     let depth = c.in-Fails.depth in
     let path = c.in-Fails.trace in
-    shown_for_where (λ f g h. IsJoined f g h c.args.joined.now) (λ f g h. IsDecided f g h c.args.limit c.args.cert) (IsTrace path → ReadsBack path) (path_fails depth path) c.path_fails.result
+    shown_for_where (λ f g h. IsJoined f g h c.args.joined.now) (λ f g h. IsDecided f g h c.args.limit c.args.cert) (IsTrace path → ReadsBack path)
+    (path_fails depth path) c.path_fails.result
     (λ reads f g h is.
     let a = answer f g h is in
     broken depth path a.0 a.1 a.2 (reads (fails_on f g h c.args.limit is.forms depth path a.2).0.trace)) c.path_fails.ensures.reads c.path_fails.ensures.shows
@@ -32,7 +33,8 @@ returns-in-Fails c =
 pub returns-in-Undecided : goal.returns-in-Undecided
 returns-in-Undecided c =
     let answer = rw c.in-Undecided.is at c.in_ok-depth.ensures in
-    shown_for (λ f g h. IsJoined f g h c.args.joined.now) (λ f g h. IsDecided f g h c.args.limit c.args.cert) (undecided c.in-Undecided.depth) c.undecided.result
+    shown_for (λ f g h. IsJoined f g h c.args.joined.now) (λ f g h. IsDecided f g h c.args.limit c.args.cert) (undecided c.in-Undecided.depth)
+    c.undecided.result
     (λ f g h is. let a = answer f g h is in undecided_yet c.in-Undecided.depth a.0 a.1) c.undecided.ensures
 
 pub returns-then-not-cert : goal.returns-then-not-cert
@@ -47,7 +49,8 @@ returns-else-not-cert c =
     let answer = rw c.in-Holds.is at c.in_ok-depth.ensures in
     let depth = c.in-Holds.depth in
     let joined = c.args.joined.now in
-    shown_by (λ f g h. IsJoined f g h joined) (λ f g h. IsDecided f g h c.args.limit c.args.cert) (ProvesWhole true (tree_at joined.table joined.whole) depth) (paths_hold depth) c.proved.result
+    shown_by (λ f g h. IsJoined f g h joined) (λ f g h. IsDecided f g h c.args.limit c.args.cert) (ProvesWhole true (tree_at joined.table joined.whole) depth)
+    (paths_hold depth) c.proved.result
     (λ f g h proof is proves.
     let a = answer f g h is in
     let whole = subst (λ x. ProvesWhole true x depth proof) is.formulas.whole_is proves in
@@ -73,4 +76,5 @@ proved-requires-clause-refutes c =
     let answer = rw c.in-Holds.is at c.in_ok-depth.ensures in
     let value = c.args.closure.now in
     subst (IsRefutation value.formula value.kind c.in-Holds.depth c.in-Holds.log) (sym c.deref.ensures.value)
-    (kept_refuted c.args.joined.now c.args.limit c.in-Holds.depth c.in-Holds.log c.in-Holds.targets f g h is (answer f g h is) value.formula value.kind c.requires.formula c.requires.kind)
+    (kept_refuted c.args.joined.now c.args.limit c.in-Holds.depth c.in-Holds.log c.in-Holds.targets f g h is (answer f g h is)
+    value.formula value.kind c.requires.formula c.requires.kind)

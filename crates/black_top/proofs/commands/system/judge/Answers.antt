@@ -17,9 +17,11 @@ returns-in-Ok c =
     let value = c.in_ok-closure.closure in
     let closure = c.in_ok-closure.ensures in
     let of_kind = subst (λ k. IsLimit value.formula k depth limit) closure.kind c.in-Ok.ensures.ok in
-    shown_under (λ f g h. IsJoined f g h joined) (λ f g h. whole_size f g h ≤ 16384) (λ f g h. IsDecided f g h limit cert) (IsSettled depth cert) c.decide.result
+    shown_under (λ f g h. IsJoined f g h joined) (λ f g h. whole_size f g h ≤ 16384) (λ f g h. IsDecided f g h limit cert)
+    (IsSettled depth cert) c.decide.result
     (λ f g h a is few there.
-    settled_at depth cert f g h limit few is.forms (subst (λ x. IsLimit x kinds.Infinite depth limit) (closure.formula ∙ is.formulas.whole_is) of_kind) a there) c.decide.ensures
+    settled_at depth cert f g h limit few is.forms (subst (λ x. IsLimit x kinds.Infinite depth limit) (closure.formula ∙ is.formulas.whole_is) of_kind) a there)
+    c.decide.ensures
 
 pub returns-in-Err : goal.returns-in-Err
 returns-in-Err c =
@@ -32,4 +34,5 @@ returns-in-Err c =
     let of_kind = subst (λ k. IsTooDeep value.formula k depth limit) closure.kind c.in-Err.ensures.err in
     shown_both (λ f g h. IsJoined f g h joined) (λ f g h. whole_size f g h ≤ 16384) (IsSettled depth cert) (refused (faults.Letters limit)) c.refusal.result
     (λ f g h is few.
-    refused_letters depth cert f g h limit few is.forms (subst (λ x. IsTooDeep x kinds.Infinite depth limit) (closure.formula ∙ is.formulas.whole_is) of_kind)) c.refusal.ensures
+    refused_letters depth cert f g h limit few is.forms (subst (λ x. IsTooDeep x kinds.Infinite depth limit) (closure.formula ∙ is.formulas.whole_is) of_kind))
+    c.refusal.ensures

@@ -11,4 +11,5 @@ refused_part-requires c =
 pub returns-in-Refused : goal.returns-in-Refused
 returns-in-Refused c =
     let refuses = rw c.in-Refused.is at c.in_ok-table.ensures in
-    subst (IsPartRead c.args.text.now c.args.place) (sym c.refused_part.ensures) (refused_read c.args.text.now c.args.place c.in-Refused.fault c.requires.short refuses)
+    subst (IsPartRead c.args.text.now c.args.place) (sym c.refused_part.ensures)
+    (refused_read c.args.text.now c.args.place c.in-Refused.fault c.requires.short refuses)

@@ -14,11 +14,13 @@ pub returns-in-Refused : goal.returns-in-Refused
 returns-in-Refused c =
     let parts = c.in-Some.parts in
     let refuses = rw c.in-Refused.is at c.in_ok-fault.ensures in
-    shown (IsParted IsJudged c.args.input.now) (refused c.in-Refused.fault) c.refusal-in-Refused.result (unread parts.formula.now parts.second.now c.in-Refused.fault c.in-Some.ensures refuses) c.refusal-in-Refused.ensures
+    shown (IsParted IsJudged c.args.input.now) (refused c.in-Refused.fault) c.refusal-in-Refused.result
+    (unread parts.formula.now parts.second.now c.in-Refused.fault c.in-Some.ensures refuses) c.refusal-in-Refused.ensures
 
 pub returns-in-Formula : goal.returns-in-Formula
 returns-in-Formula c =
     let parts = c.in-Some.parts in
     let f = tree_at c.in-Formula.table c.in-Formula.root in
     let reading = rw c.in-Formula.is at c.in_ok-fault.ensures in
-    shown_as (IsJudged f parts.second.now) (IsParted IsJudged c.args.input.now) c.judge.result (λ a h. accepted parts.formula.now parts.second.now f a c.in-Some.ensures reading.1 h) c.judge.ensures
+    shown_as (IsJudged f parts.second.now) (IsParted IsJudged c.args.input.now) c.judge.result
+    (λ a h. accepted parts.formula.now parts.second.now f a c.in-Some.ensures reading.1 h) c.judge.ensures

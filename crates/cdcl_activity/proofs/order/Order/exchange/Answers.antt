@@ -20,7 +20,8 @@ returns-clause-first c =
     let a = c.index-a.ensures ∙ get_or_default letters c.args.one _ 0 low in
     let b = c.index-b.ensures ∙ get_or_default letters c.args.two _ 0 high in
     rw (ap (λ (v : OrderValue). get_or v.letters c.args.one 0) (sym c.self.view_is) ∙ sym a)
-    (place_first letters c.self.inside.places.items c.self.inside.count c.args.one c.args.two c.index-a.result.now c.index-b.result.now c.self.invariant low high a b)
+    (place_first letters c.self.inside.places.items c.self.inside.count c.args.one c.args.two c.index-a.result.now c.index-b.result.now
+    c.self.invariant low high a b)
 
 pub returns-clause-second : goal.returns-clause-second
 returns-clause-second c =
@@ -30,7 +31,8 @@ returns-clause-second c =
     let a = c.index-a.ensures ∙ get_or_default letters c.args.one _ 0 low in
     let b = c.index-b.ensures ∙ get_or_default letters c.args.two _ 0 high in
     rw (ap (λ (v : OrderValue). get_or v.letters c.args.two 0) (sym c.self.view_is) ∙ sym b)
-    (place_second letters c.self.inside.places.items c.self.inside.count c.args.one c.args.two c.index-a.result.now c.index-b.result.now c.self.invariant low high a b)
+    (place_second letters c.self.inside.places.items c.self.inside.count c.args.one c.args.two c.index-a.result.now c.index-b.result.now
+    c.self.invariant low high a b)
 
 pub returns-clause-others : goal.returns-clause-others
 returns-clause-others c = λ x no_a no_b.
@@ -41,5 +43,6 @@ returns-clause-others c = λ x no_a no_b.
     let b = c.index-b.ensures ∙ get_or_default letters c.args.two _ 0 high in
     let a_is = a ∙ ap (λ (v : OrderValue). get_or v.letters c.args.one 0) c.self.view_is in
     let b_is = b ∙ ap (λ (v : OrderValue). get_or v.letters c.args.two 0) c.self.view_is in
-    place_other letters c.self.inside.places.items c.self.inside.count c.args.one c.args.two c.index-a.result.now c.index-b.result.now c.self.invariant low high a b x (λ e. no_a (e ∙ a_is)) (λ e. no_b (e ∙ b_is))
+    place_other letters c.self.inside.places.items c.self.inside.count c.args.one c.args.two c.index-a.result.now c.index-b.result.now c.self.invariant low high
+    a b x (λ e. no_a (e ∙ a_is)) (λ e. no_b (e ∙ b_is))
     ∙ ap (λ (v : OrderValue). get_or v.places x 0) c.self.view_is

@@ -27,5 +27,6 @@ returns-clause-waiting c =
     inserted old new order place count (subst (λ ps. length ps ≡ length old.places) same c.exchange.ensures.size) low high
     (subst (λ ps. get_or ps (get_or old.letters place 0) 0 ≡ count) same c.exchange.ensures.first)
     (subst (λ ps. get_or ps (get_or old.letters count 0) 0 ≡ place) same c.exchange.ensures.second)
-    (subst (λ ps. (x : ℕ) → x ≢ get_or old.letters place 0 → x ≢ get_or old.letters count 0 → get_or ps x 0 ≡ get_or old.places x 0) same c.exchange.ensures.others)
+    (subst (λ ps. (x : ℕ) → x ≢ get_or old.letters place 0 → x ≢ get_or old.letters count 0 → get_or ps x 0 ≡ get_or old.places x 0)
+    same c.exchange.ensures.others)
     c.args.letter c.requires.known stands count_is above (ap (λ n. n + 1) count_is)

@@ -4,7 +4,8 @@ use Rattle.cdcl_analyze.proofs.marks.Marks.take_back.Given as goal
 
 abbrev pub invariant-back : goal.invariant-back
 invariant-back l = record {
-  back : IsBack l.initial.self-inside.outcomes.items l.initial.self-inside.consequences.items (length l.self-inside.consequences.items) l.self-inside.outcomes.items;
+  back : IsBack l.initial.self-inside.outcomes.items l.initial.self-inside.consequences.items (length l.self-inside.consequences.items)
+      l.self-inside.outcomes.items;
   consequences : l.self-inside.consequences.items ≡ take (length l.self-inside.consequences.items) l.initial.self-inside.consequences.items;
   low : (l.count ≤ length l.self-inside.consequences.items) ⊎ (l.self-inside.consequences.items ≡ l.initial.self-inside.consequences.items);
   bound : All (λ o. o ≤ l.self-inside.stamp + 1) l.self-inside.outcomes.items;

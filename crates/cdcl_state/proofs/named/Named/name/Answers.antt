@@ -7,7 +7,8 @@ pub returns-then-has-clause-kept : goal.returns-then-has-clause-kept
 returns-then-has-clause-kept c = All-contains_itself c.args.self.now
 
 pub returns-in_err-lengthen_flags-clause-kept : goal.returns-in_err-lengthen_flags-clause-kept
-returns-in_err-lengthen_flags-clause-kept c = subst (All (Contains c.self.inside.letters.items)) c.self.view_is (All-contains_itself c.self.inside.letters.items)
+returns-in_err-lengthen_flags-clause-kept c =
+    subst (All (Contains c.self.inside.letters.items)) c.self.view_is (All-contains_itself c.self.inside.letters.items)
 
 pub returns-in_err-push-clause-kept : goal.returns-in_err-push-clause-kept
 returns-in_err-push-clause-kept c =
@@ -17,4 +18,5 @@ returns-in_err-push-clause-kept c =
 pub returns-clause-kept : goal.returns-clause-kept
 returns-clause-kept c =
     let old = c.self.inside.letters.items in
-    subst (λ new. All (Contains new) c.args.self.now) (sym c.in_ok-push.ensures.items) (subst (All (Contains (old ++ c.args.letter ∷ []))) c.self.view_is (kept_push old c.args.letter))
+    subst (λ new. All (Contains new) c.args.self.now) (sym c.in_ok-push.ensures.items)
+    (subst (All (Contains (old ++ c.args.letter ∷ []))) c.self.view_is (kept_push old c.args.letter))

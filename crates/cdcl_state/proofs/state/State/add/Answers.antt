@@ -11,9 +11,12 @@ add_stored-requires-clause-same c = same_itself c.args.clause.now
 
 pub lead-requires-clause-known : goal.lead-requires-clause-known
 lead-requires-clause-known c =
-    let known : All (IsKnown c.self.inside.letters) c.args.clause.now = subst (λ (v : StateValue). All (IsKnown v.letters) c.args.clause.now) (sym c.self.view_is) c.requires in
-    stored_below c.self.inside.letters c.self.inside.assigned c.args.clause.now c.distinct.new.out.items c.self.invariant.room known c.in_ok-distinct.ensures.same
+    let known : All (IsKnown c.self.inside.letters) c.args.clause.now =
+    subst (λ (v : StateValue). All (IsKnown v.letters) c.args.clause.now) (sym c.self.view_is) c.requires in
+    stored_below c.self.inside.letters c.self.inside.assigned c.args.clause.now c.distinct.new.out.items c.self.invariant.room known
+    c.in_ok-distinct.ensures.same
 
 pub add_stored-requires-2-clause-same : goal.add_stored-requires-2-clause-same
 add_stored-requires-2-clause-same c =
-    subst (HaveSame c.args.clause.now) (sym c.deref.ensures.value) (same_again c.args.clause.now c.distinct.new.out.items c.lead.new.clause.items c.in_ok-distinct.ensures.same c.lead.ensures.same)
+    subst (HaveSame c.args.clause.now) (sym c.deref.ensures.value)
+    (same_again c.args.clause.now c.distinct.new.out.items c.lead.new.clause.items c.in_ok-distinct.ensures.same c.lead.ensures.same)

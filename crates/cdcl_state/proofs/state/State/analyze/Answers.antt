@@ -11,7 +11,8 @@ use Rattle.cdcl_analyze.specs.declared.analyze.Cut.TheVariants.{Decisions}
 use Rattle.cdcl_state.proofs.Short.{learnt_asserting}
 use Rattle.cdcl_state.proofs.state.State.analyze.Goals as goal
 
-answer_asserting : (log : LogValue) (trail : List Entry) (r : Result Learnt AllocError) → IsTrail log.inputs log.lines trail → IfOk r (IsLearnt log trail) → IfOk r (λ learnt. Decisions ≡ Decisions → All (IsDecision trail) learnt.places.items)
+answer_asserting : (log : LogValue) (trail : List Entry) (r : Result Learnt AllocError) → IsTrail log.inputs log.lines trail → IfOk r (IsLearnt log trail)
+    → IfOk r (λ learnt. Decisions ≡ Decisions → All (IsDecision trail) learnt.places.items)
     → IfOk r (λ learnt. (learnt.clause.items ≡ []) ⊎ IsAsserting trail learnt.places.items)
 answer_asserting log trail (Ok learnt) is_trail is decided = learnt_asserting log trail learnt is_trail is (decided refl)
 answer_asserting log trail (Err e) is_trail is decided = tt
@@ -22,4 +23,5 @@ returns-clause-asserting c =
     let is_trail = subst (λ (s : StateValue). IsTrail s.log.inputs s.log.lines s.trail) c.self.view_is c.self.invariant.ready.is_trail in
     answer_asserting c.args.self.now.log c.args.self.now.trail c.explain-2.result is_trail
     (subst (λ (s : StateValue). IfOk c.explain-2.result (IsLearnt s.log s.trail)) same c.explain-2.ensures.learnt)
-    (subst (λ (s : StateValue). IfOk c.explain-2.result (λ learnt. Decisions ≡ Decisions → All (IsDecision s.trail) learnt.places.items)) same c.explain-2.ensures.decided)
+    (subst (λ (s : StateValue). IfOk c.explain-2.result (λ learnt. Decisions ≡ Decisions → All (IsDecision s.trail) learnt.places.items))
+    same c.explain-2.ensures.decided)

@@ -10,9 +10,12 @@ invariant_of-self c =
     let b = c.cut.new.self in
     let log = c.self.inside.log in
     let n = c.front-count.result in
-    let back = back_of letters a b log c.self.inside.all_lines n c.args.level c.self.invariant.ready.is_trail c.cut.ensures.trail c.front-count.ensures.within c.front-count.ensures.low c.front-count.ensures.high in
-    state_back letters a b c.self.inside.watches c.self.inside.units.items log c.self.inside.propagated c.self.inside.lasting c.self.inside.units_done c.self.inside.units_trail (length c.self.inside.marks.stamps) c.self.inside.all_lines
-    c.smaller-lasting.result n c.args.level c.loosen.new.units_done c.loosen.new.units_trail c.self.invariant c.cut.ensures.trail c.cut.ensures.letters c.front-count.ensures.within back
+    let back = back_of letters a b log c.self.inside.all_lines n c.args.level c.self.invariant.ready.is_trail c.cut.ensures.trail c.front-count.ensures.within
+    c.front-count.ensures.low c.front-count.ensures.high in
+    state_back letters a b c.self.inside.watches c.self.inside.units.items log c.self.inside.propagated c.self.inside.lasting c.self.inside.units_done
+    c.self.inside.units_trail (length c.self.inside.marks.stamps) c.self.inside.all_lines
+    c.smaller-lasting.result n c.args.level c.loosen.new.units_done c.loosen.new.units_trail c.self.invariant c.cut.ensures.trail c.cut.ensures.letters
+    c.front-count.ensures.within back
     c.smaller-lasting.ensures.one c.smaller-lasting.ensures.two c.loosen.ensures.all
 
 pub returns : goal.returns
@@ -21,5 +24,6 @@ returns c =
     let a = c.self.inside.assigned in
     let b = c.cut.new.self in
     let log = c.self.inside.log in
-    let back = back_of letters a b log c.self.inside.all_lines c.front-count.result c.args.level c.self.invariant.ready.is_trail c.cut.ensures.trail c.front-count.ensures.within c.front-count.ensures.low c.front-count.ensures.high in
+    let back = back_of letters a b log c.self.inside.all_lines c.front-count.result c.args.level c.self.invariant.ready.is_trail c.cut.ensures.trail
+    c.front-count.ensures.within c.front-count.ensures.low c.front-count.ensures.high in
     subst (λ (s : StateValue). IsBack s (state_of letters b.trail log c.self.inside.all_lines) c.args.level) c.self.view_is back

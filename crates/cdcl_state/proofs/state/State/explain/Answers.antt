@@ -28,5 +28,7 @@ returns-clause-known c =
     let letters = c.self.inside.letters in
     let state = c.self.invariant in
     let learnt = c.in_ok-learnt.learnt in
-    let known = subst (All (λ e. IsKnown letters e.literal)) (sym c.of-graph.ensures.trail) (trail_known letters log.inputs log.lines a.trail state.ready.is_trail state.known_inputs state.known_lines state.decided) in
-    subst (λ (s : StateValue). All (IsKnown s.letters) learnt.clause.items) c.self.view_is (learnt_known letters c.of-graph.result.log c.of-graph.result.trail learnt c.in_ok-learnt.ensures.learnt known)
+    let known = subst (All (λ e. IsKnown letters e.literal)) (sym c.of-graph.ensures.trail)
+    (trail_known letters log.inputs log.lines a.trail state.ready.is_trail state.known_inputs state.known_lines state.decided) in
+    subst (λ (s : StateValue). All (IsKnown s.letters) learnt.clause.items) c.self.view_is
+    (learnt_known letters c.of-graph.result.log c.of-graph.result.trail learnt c.in_ok-learnt.ensures.learnt known)

@@ -36,7 +36,8 @@ returns-in-Some-clause-known c =
     let known = trail_known letters log.inputs log.lines a.trail state.ready.is_trail state.known_inputs state.known_lines state.decided in
     subst (λ (s : StateValue). All (IsKnown s.letters) learnt.clause.items) c.self.view_is
     (learnt_known letters c.of-graph.result.log (refuted_at c.of-graph.result.trail place) learnt c.in_ok-learnt-in-Some.ensures.learnt
-    (subst (λ t. All (λ e. IsKnown letters e.literal) (refuted_at t place)) (sym c.of-graph.ensures.trail) (refuted_known letters a.trail place c.place-place.ensures.within known)))
+    (subst (λ t. All (λ e. IsKnown letters e.literal) (refuted_at t place)) (sym c.of-graph.ensures.trail)
+    (refuted_known letters a.trail place c.place-place.ensures.within known)))
 
 -- a decision at the place would have another literal
 pub unreachable-requires : goal.unreachable-requires
@@ -44,6 +45,7 @@ unreachable-requires c =
     let trail = c.self.inside.assigned.trail in
     let place = c.place-place.result in
     let within = c.place-place.ensures.within in
-    let forced = subst (λ (s : StateValue). (p : ℕ) → IsDecision s.trail p → literal_at s.trail p ≢ opposite c.args.literal) (sym c.self.view_is) c.requires.forced in
+    let forced = subst (λ (s : StateValue). (p : ℕ) → IsDecision s.trail p → literal_at s.trail p ≢ opposite c.args.literal) (sym c.self.view_is)
+    c.requires.forced in
     let free = ap (λ (e : Entry). e.reason) (sym (c.entry.ensures ∙ get_or_default trail place _ blank_entry within)) ∙ c.in-None.is in
     forced place (record { within = within; free = free }) (c.place-place.ensures.there ∙ c.opposite.ensures)

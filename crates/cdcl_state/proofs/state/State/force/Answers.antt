@@ -10,6 +10,7 @@ invariant_of-self c =
     let a = c.self.inside.assigned in
     let e : Entry = forced_by c.args.literal c.args.line in
     let stands = subst (λ (s : StateValue). MayStand s e) (sym c.self.view_is) c.requires.stands in
-    state_assigned c.self.inside.letters a c.assign.new.self c.self.inside.watches c.self.inside.units.items c.self.inside.log c.self.inside.propagated c.self.inside.lasting c.self.inside.units_done c.self.inside.units_trail (length c.self.inside.marks.stamps) c.self.inside.all_lines e
+    state_assigned c.self.inside.letters a c.assign.new.self c.self.inside.watches c.self.inside.units.items c.self.inside.log c.self.inside.propagated
+    c.self.inside.lasting c.self.inside.units_done c.self.inside.units_trail (length c.self.inside.marks.stamps) c.self.inside.all_lines e
     c.self.invariant c.assign.ensures.letters stands.stands (λ free. cc)
     (is_ok c.assign.result) c.assign.ensures.trail

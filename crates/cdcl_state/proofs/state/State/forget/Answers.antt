@@ -10,5 +10,7 @@ pub invariant_of-self : goal.invariant_of-self
 invariant_of-self c =
     let s = c.self.inside in
     let v = c.in_ok-watches.watches in
-    state_gathered s.letters s.assigned s.watches v s.units.items s.log s.propagated s.lasting s.units_done s.units_trail (length s.marks.stamps) s.all_lines (length s.marks.stamps) false c.self.invariant
-    (gathered_copied s.log s.watches v c.self.invariant.ready.stored c.self.invariant.long c.in_ok-watches.ensures.copied) (c.in_ok-watches.ensures.lists ∙ c.self.invariant.ready.sized) refl
+    state_gathered s.letters s.assigned s.watches v s.units.items s.log s.propagated s.lasting s.units_done s.units_trail (length s.marks.stamps) s.all_lines
+    (length s.marks.stamps) false c.self.invariant
+    (gathered_copied s.log s.watches v c.self.invariant.ready.stored c.self.invariant.long c.in_ok-watches.ensures.copied)
+    (c.in_ok-watches.ensures.lists ∙ c.self.invariant.ready.sized) refl

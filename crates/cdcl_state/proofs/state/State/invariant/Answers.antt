@@ -9,4 +9,5 @@ returns-clause-short c =
     let log = c.self.inside.log in
     let state = c.self.invariant in
     subst (λ (s : StateValue). length s.trail ≤ s.letters + 1) c.self.view_is
-    (trail_short c.self.inside.letters a.values a.trail c.invariant.ensures (trail_known c.self.inside.letters log.inputs log.lines a.trail state.ready.is_trail state.known_inputs state.known_lines state.decided))
+    (trail_short c.self.inside.letters a.values a.trail c.invariant.ensures
+    (trail_known c.self.inside.letters log.inputs log.lines a.trail state.ready.is_trail state.known_inputs state.known_lines state.decided))

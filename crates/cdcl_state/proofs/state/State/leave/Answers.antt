@@ -10,7 +10,8 @@ returns-then-place-len-clause-decided c =
     let new = c.backjump.new.self.trail in
     let same : trail ≡ c.args.self.now.trail = ap (λ (s : StateValue). s.trail) c.self.view_is in
     let within = c.if-place-len.true in
-    kept_front c.args.kept.now trail c.first_other-place.result c.first_other-place.ensures.before c.self.inside.log.inputs c.self.inside.log.lines new c.self.invariant.ready.is_trail
+    kept_front c.args.kept.now trail c.first_other-place.result c.first_other-place.ensures.before c.self.inside.log.inputs c.self.inside.log.lines new
+    c.self.invariant.ready.is_trail
     (c.first_other-place.ensures.other (omega (arith, within, c.len.ensures)))
     (ap (λ (s : StateValue). s.trail) c.backjump.ensures.front ∙ ap (λ t. take (length new) t) (sym same))
     (subst (λ t. length new ≤ length t) (sym same) c.backjump.ensures.short) c.backjump.ensures.low

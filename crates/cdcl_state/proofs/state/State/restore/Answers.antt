@@ -14,7 +14,8 @@ complete-requires-clause-long c = rw c.view.ensures.same c.self.invariant.long
 pub complete-requires-clause-lines : goal.complete-requires-clause-lines
 complete-requires-clause-lines c =
     rw (c.view.ensures.same, c.self.invariant.ready.sized)
-    (room_known c.self.inside.letters (length c.self.inside.assigned.values) (length c.self.inside.marks.stamps) c.self.inside.log.lines c.self.invariant.room c.self.invariant.size c.self.invariant.known_lines)
+    (room_known c.self.inside.letters (length c.self.inside.assigned.values) (length c.self.inside.marks.stamps)
+    c.self.inside.log.lines c.self.invariant.room c.self.invariant.size c.self.invariant.known_lines)
 
 pub invariant_of-self : goal.invariant_of-self
 invariant_of-self c =
@@ -22,7 +23,8 @@ invariant_of-self c =
     let v = c.complete.new.watches in
     let gathered = subst (λ (l : LogValue). IsGathered (IsCarried false (names_of s.watches)) l v) c.view.ensures.same c.complete.ensures.kept in
     rw c.if-self.false
-    (state_gathered s.letters s.assigned s.watches v s.units.items s.log s.propagated s.lasting s.units_done s.units_trail (length s.marks.stamps) s.all_lines (length c.complete.new.marks.stamps) false c.self.invariant gathered
+    (state_gathered s.letters s.assigned s.watches v s.units.items s.log s.propagated s.lasting s.units_done s.units_trail (length s.marks.stamps) s.all_lines
+    (length c.complete.new.marks.stamps) false c.self.invariant gathered
     (c.complete.ensures.lists ∙ c.self.invariant.ready.sized) c.complete.ensures.size)
 
 pub invariant_of-self-2 : goal.invariant_of-self-2
@@ -30,5 +32,6 @@ invariant_of-self-2 c =
     let s = c.self.inside in
     let v = c.complete.new.watches in
     let gathered = subst (λ (l : LogValue). IsGathered (IsCarried true (names_of s.watches)) l v) c.view.ensures.same c.in_ok-complete.ensures.all_lines in
-    state_gathered s.letters s.assigned s.watches v s.units.items s.log s.propagated s.lasting s.units_done s.units_trail (length s.marks.stamps) s.all_lines (length c.complete.new.marks.stamps) true c.self.invariant gathered
+    state_gathered s.letters s.assigned s.watches v s.units.items s.log s.propagated s.lasting s.units_done s.units_trail (length s.marks.stamps) s.all_lines
+    (length c.complete.new.marks.stamps) true c.self.invariant gathered
     (c.complete.ensures.lists ∙ c.self.invariant.ready.sized) c.complete.ensures.size

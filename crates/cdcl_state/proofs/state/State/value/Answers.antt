@@ -14,5 +14,6 @@ returns-then-holds c = record {
 pub returns-then-holds-2 : goal.returns-then-holds-2
 returns-then-holds-2 c = record {
   when_true = λ wrong. absurd (false≢true wrong);
-  when_false = λ _. subst (λ (s : StateValue). Contains (literals_of s.trail) (opposite c.args.literal)) c.self.view_is (subst (Contains (literals_of c.self.inside.assigned.trail)) c.opposite.ensures (c.holds-2.ensures.0 c.if-holds-2.true));
+  when_false = λ _. subst (λ (s : StateValue). Contains (literals_of s.trail) (opposite c.args.literal)) c.self.view_is
+      (subst (Contains (literals_of c.self.inside.assigned.trail)) c.opposite.ensures (c.holds-2.ensures.0 c.if-holds-2.true));
 }

@@ -16,7 +16,8 @@ returns-clause-within c =
     let places = c.self.inside.places.items in
     let here = stands_there places c.self.inside.values c.self.inside.trail c.args.literal c.self.invariant.0 c.self.invariant.1
     (subst (λ (a : AssignedValue). Contains (literals_of a.trail) c.args.literal) (sym c.self.view_is) c.requires) in
-    let is : get_or places c.args.literal.letter.0 0 ≡ c.index.result.now = get_or_default places c.args.literal.letter.0 0 _ here.known ∙ sym c.index.ensures in
+    let is : get_or places c.args.literal.letter.0 0 ≡ c.index.result.now =
+    get_or_default places c.args.literal.letter.0 0 _ here.known ∙ sym c.index.ensures in
     subst (λ (a : AssignedValue). c.index.result.now < length a.trail) c.self.view_is (subst (λ k. k < length c.self.inside.trail) is here.within)
 
 pub returns-clause-there : goal.returns-clause-there
@@ -24,5 +25,7 @@ returns-clause-there c =
     let places = c.self.inside.places.items in
     let here = stands_there places c.self.inside.values c.self.inside.trail c.args.literal c.self.invariant.0 c.self.invariant.1
     (subst (λ (a : AssignedValue). Contains (literals_of a.trail) c.args.literal) (sym c.self.view_is) c.requires) in
-    let is : get_or places c.args.literal.letter.0 0 ≡ c.index.result.now = get_or_default places c.args.literal.letter.0 0 _ here.known ∙ sym c.index.ensures in
-    subst (λ (a : AssignedValue). literal_at a.trail c.index.result.now ≡ c.args.literal) c.self.view_is (subst (λ k. literal_at c.self.inside.trail k ≡ c.args.literal) is here.is)
+    let is : get_or places c.args.literal.letter.0 0 ≡ c.index.result.now =
+    get_or_default places c.args.literal.letter.0 0 _ here.known ∙ sym c.index.ensures in
+    subst (λ (a : AssignedValue). literal_at a.trail c.index.result.now ≡ c.args.literal) c.self.view_is
+    (subst (λ k. literal_at c.self.inside.trail k ≡ c.args.literal) is here.is)

@@ -18,10 +18,12 @@ invariant_of-self c =
     let same : length c.args.self.now.trail ≡ length trail = ap (λ (a : AssignedValue). length a.trail) (sym c.self.view_is) in
     let low : n < length trail = omega (arith, c.requires, same) in
     let whole : trail ≡ rest ++ entry ∷ [] =
-    sym (take_all (n + 1) trail (omega (arith, low))) ∙ take_more trail n blank_entry low ∙ ap₂ (λ ts e. ts ++ e ∷ []) (sym c.truncate.ensures) (sym c.get.ensures) in
+    sym (take_all (n + 1) trail (omega (arith, low))) ∙ take_more trail n blank_entry low
+    ∙ ap₂ (λ ts e. ts ++ e ∷ []) (sym c.truncate.ensures) (sym c.get.ensures) in
     rw c.clear.ensures (
       values_pop values rest entry (subst (AreValues values) whole c.self.invariant.0),
-      places_pop c.self.inside.places.items values rest entry entry.literal.letter.0 None (subst (ArePlaces c.self.inside.places.items values) whole c.self.invariant.1),
+      places_pop c.self.inside.places.items values rest entry entry.literal.letter.0 None
+          (subst (ArePlaces c.self.inside.places.items values) whole c.self.invariant.1),
     )
 
 -- what is taken off was true

@@ -15,6 +15,7 @@ returns c =
     let l = c.args.literal in
     let known = rw (← c.self.view_is) at c.requires in
     let at : c.index.result.now ≡ get_or truths (truth_place l) false =
-    c.index.ensures ∙ get_or_default truths c.place.result c.index.result.now false (omega (arith, c.place.ensures, place_known truths c.self.invariant l known)) ∙ ap (λ k. get_or truths k false) c.place.ensures in
+    c.index.ensures ∙ get_or_default truths c.place.result c.index.result.now false
+    (omega (arith, c.place.ensures, place_known truths c.self.invariant l known)) ∙ ap (λ k. get_or truths k false) c.place.ensures in
     subst (λ (vs : List (Option Bool)). (c.index.result.now ≡ true) ↔ (value_at vs l.letter.0 ≡ Some (not l.negated))) c.self.view_is
     (subst (λ b. (b ≡ true) ↔ (value_at (values_of truths) l.letter.0 ≡ Some (not l.negated))) (sym at) (holds_is truths c.self.invariant l known))

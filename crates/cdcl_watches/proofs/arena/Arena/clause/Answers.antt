@@ -8,5 +8,6 @@ use Rattle.cdcl_watches.proofs.arena.Arena.clause.Goals as goal
 pub returns : goal.returns
 returns c =
     c.new.ensures ∙ ap (λ xs. turned (map literal_of (slice_range xs (c.args.head + 2) (c.args.head + 2 + c.index.result.now)))) c.deref.ensures.value
-    ∙ clause_at_head c.self.inside.items.items (heads_of c.self.inside.items.items) c.self.invariant.0 c.args.head _ c.index.ensures (subst (λ (v : ArenaValue). Contains v.heads c.args.head) (sym c.self.view_is) c.requires)
+    ∙ clause_at_head c.self.inside.items.items (heads_of c.self.inside.items.items) c.self.invariant.0 c.args.head _ c.index.ensures
+    (subst (λ (v : ArenaValue). Contains v.heads c.args.head) (sym c.self.view_is) c.requires)
     ∙ ap (λ (v : ArenaValue). clause_of v.clauses (number_of v.heads c.args.head)) c.self.view_is

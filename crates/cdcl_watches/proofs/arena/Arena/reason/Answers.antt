@@ -9,5 +9,6 @@ returns-else-name c =
     let head = c.in-Some.head.now in
     let look = rw c.deref.ensures.value at c.in-Some.ensures.lookup in
     let there = noted_head (heads_of items) c.self.inside.reasons.items c.args.letter head c.self.invariant.1 look.3.0 look.1 c.if-head.false in
-    let low = subst (λ (v : ArenaValue). number_of v.heads head < length v.clauses) c.self.view_is (head_clause items (heads_of items) head c.self.invariant.0 there) in
+    let low = subst (λ (v : ArenaValue). number_of v.heads head < length v.clauses) c.self.view_is
+    (head_clause items (heads_of items) head c.self.invariant.0 there) in
     (number_of c.args.self.now.heads head, low, sym c.name.ensures ∙ c.if-name.false, c.clause.ensures)

@@ -9,5 +9,6 @@ invariant_of-result c = emptied_watchers c.in_ok-arena.arena c.in_ok-lists.lists
 
 pub returns : goal.returns
 returns c =
-    emptied_value c.in_ok-arena.arena c.in_ok-lists.lists (length c.self.inside.lists) c.in_ok-arena.ensures c.in_ok-lists.ensures (length c.args.self.now.lists)
+    emptied_value c.in_ok-arena.arena c.in_ok-lists.lists (length c.self.inside.lists) c.in_ok-arena.ensures c.in_ok-lists.ensures
+    (length c.args.self.now.lists)
     (sym (length_numbers c.self.inside.arena.heads c.self.invariant.none c.self.inside.lists) ∙ ap (λ (v : WatchValue). length v.lists) c.self.view_is)

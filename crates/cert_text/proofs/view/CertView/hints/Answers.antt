@@ -28,14 +28,16 @@ slice_bounds-new-count c =
     let bytes = c.self.inside.bytes.now in
     let low = line_low (certificate_in bytes) c.args.self.now c.args.line c.self.view_is c.requires.from_one c.requires.in_text in
     let at = c.index-span.ensures ∙ c.self.invariant.marks.each_span (c.args.line - 1) c.index-span.result.now low in
-    (hints_slice bytes (certificate_in bytes) (c.args.line - 1) c.index-span.result.now c.find-end.result c.self.invariant.is low at c.find-end.ensures.first).forward
+    (hints_slice bytes (certificate_in bytes) (c.args.line - 1)
+    c.index-span.result.now c.find-end.result c.self.invariant.is low at c.find-end.ensures.first).forward
 
 pub slice_bounds-new-start : goal.slice_bounds-new-start
 slice_bounds-new-start c =
     let bytes = c.self.inside.bytes.now in
     let low = line_low (certificate_in bytes) c.args.self.now c.args.line c.self.view_is c.requires.from_one c.requires.in_text in
     let at = c.index-span.ensures ∙ c.self.invariant.marks.each_span (c.args.line - 1) c.index-span.result.now low in
-    let forward = (hints_slice bytes (certificate_in bytes) (c.args.line - 1) c.index-span.result.now c.find-end.result c.self.invariant.is low at c.find-end.ensures.first).forward in
+    let forward = (hints_slice bytes (certificate_in bytes) (c.args.line - 1)
+    c.index-span.result.now c.find-end.result c.self.invariant.is low at c.find-end.ensures.first).forward in
     search (rules, forward)
 
 pub new-requires : goal.new-requires
@@ -43,7 +45,8 @@ new-requires c =
     let bytes = c.self.inside.bytes.now in
     let low = line_low (certificate_in bytes) c.args.self.now c.args.line c.self.view_is c.requires.from_one c.requires.in_text in
     let at = c.index-span.ensures ∙ c.self.invariant.marks.each_span (c.args.line - 1) c.index-span.result.now low in
-    let found = hints_slice bytes (certificate_in bytes) (c.args.line - 1) c.index-span.result.now c.find-end.result c.self.invariant.is low at c.find-end.ensures.first in
+    let found = hints_slice bytes (certificate_in bytes) (c.args.line - 1)
+    c.index-span.result.now c.find-end.result c.self.invariant.is low at c.find-end.ensures.first in
     (get_or (hints_of (certificate_in bytes).parts) (c.args.line - 1) [], found.fits, found.slice)
 
 pub returns : goal.returns
@@ -51,6 +54,7 @@ returns c =
     let bytes = c.self.inside.bytes.now in
     let low = line_low (certificate_in bytes) c.args.self.now c.args.line c.self.view_is c.requires.from_one c.requires.in_text in
     let at = c.index-span.ensures ∙ c.self.invariant.marks.each_span (c.args.line - 1) c.index-span.result.now low in
-    let found = hints_slice bytes (certificate_in bytes) (c.args.line - 1) c.index-span.result.now c.find-end.result c.self.invariant.is low at c.find-end.ensures.first in
+    let found = hints_slice bytes (certificate_in bytes) (c.args.line - 1)
+    c.index-span.result.now c.find-end.result c.self.invariant.is low at c.find-end.ensures.first in
     c.new.ensures ∙ ap hints_in found.slice ∙ hints_are (get_or (hints_of (certificate_in bytes).parts) (c.args.line - 1) []) found.fits
     ∙ ap (λ (d : Certificate). get_or (hints_of d.parts) (c.args.line - 1) []) c.self.view_is

@@ -12,8 +12,10 @@ returns-then-end c =
     let d = certificate_in bytes in
     let low = line_low d c.args.self.now c.args.line c.self.view_is c.requires.from_one c.requires.in_text in
     let at = c.index-end.ensures ∙ c.self.invariant.marks.each_end (c.args.line - 1) c.index-end.result.now low in
-    let none = end_open d.parts (c.args.line - 1) (let few = count_fits bytes d c.self.invariant.is in omega (arith, few, c.self.told.0)) low (sym at ∙ c.if-end.true) in
-    ap (λ (f : Form). f.lines) c.self.invariant.says ∙ user_last d.parts (c.args.line - 1) low none ∙ ap (λ (x : Certificate). last_user x.parts (c.args.line - 1)) c.self.view_is
+    let none = end_open d.parts (c.args.line - 1) (let few = count_fits bytes d c.self.invariant.is in omega (arith, few, c.self.told.0)) low
+    (sym at ∙ c.if-end.true) in
+    ap (λ (f : Form). f.lines) c.self.invariant.says ∙ user_last d.parts (c.args.line - 1) low none
+    ∙ ap (λ (x : Certificate). last_user x.parts (c.args.line - 1)) c.self.view_is
 
 pub returns-else-end : goal.returns-else-end
 returns-else-end c =

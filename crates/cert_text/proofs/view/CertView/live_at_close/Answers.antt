@@ -16,6 +16,7 @@ returns c =
     let at = c.index.ensures ∙ c.self.invariant.marks.each_end k c.index.result.now low in
     let number : suc k ≡ c.args.line = omega (arith, c.requires.from_one) in
     let same = ap (λ (x : Certificate). is_some (live_line x.parts (suc k))) c.self.view_is ∙ ap (λ m. is_some (live_line c.args.self.now.parts m)) number in (
-      λ is. sym same ∙ live_open d.parts k low (end_open d.parts k (let few = count_fits bytes d c.self.invariant.is in omega (arith, few, c.self.told.0)) low (sym at ∙ eqb-true c.index.result.now greatest_u64 is)),
+      λ is. sym same ∙ live_open d.parts k low (end_open d.parts k (let few = count_fits bytes d c.self.invariant.is in omega (arith, few, c.self.told.0)) low
+          (sym at ∙ eqb-true c.index.result.now greatest_u64 is)),
       λ is. eq-eqb c.index.result.now greatest_u64 (at ∙ end_of_open d.parts k (open_live d.parts k (same ∙ is))),
     )

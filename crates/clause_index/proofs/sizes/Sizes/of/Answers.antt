@@ -13,12 +13,24 @@ overflow_cast-result c =
 pub overflow_cast-result-2 : goal.overflow_cast-result-2
 overflow_cast-result-2 c =
     let f = c.args.closure.now.formula in
-    omega (arith, c.entries.ensures.few, c.entries.ensures.closure.long, yesterdays_few f, count_same f (yesterdays f) c.yesterdays.result.now c.yesterdays.ensures.numbers)
+    omega (
+      arith,
+      c.entries.ensures.few,
+      c.entries.ensures.closure.long,
+      yesterdays_few f,
+      count_same f (yesterdays f) c.yesterdays.result.now c.yesterdays.ensures.numbers,
+    )
 
 pub overflow_cast-result-3 : goal.overflow_cast-result-3
 overflow_cast-result-3 c =
     let f = c.args.closure.now.formula in
-    omega (arith, c.entries.ensures.few, c.entries.ensures.closure.long, eventualities_few f, count_same f (eventualities f) c.eventualities.result.now c.eventualities.ensures.numbers)
+    omega (
+      arith,
+      c.entries.ensures.few,
+      c.entries.ensures.closure.long,
+      eventualities_few f,
+      count_same f (eventualities f) c.eventualities.result.now c.eventualities.ensures.numbers,
+    )
 
 pub strong_count-requires : goal.strong_count-requires
 strong_count-requires c = omega (arith, c.entries.ensures.few, c.entries.ensures.closure.long, nexts_few c.args.closure.now.formula)
@@ -26,8 +38,10 @@ strong_count-requires c = omega (arith, c.entries.ensures.few, c.entries.ensures
 pub returns-clause-sizes : goal.returns-clause-sizes
 returns-clause-sizes c =
     let f = c.args.closure.now.formula in
-    sizes_made c.args.closure.now c.entries.result.now c.entries.ensures.closure c.kind.result c.gates_count-gates.result (length c.nexts.result.now) (length c.yesterdays.result.now) (length c.eventualities.result.now) c.strong_count.result
-    c.kind.ensures c.gates_count-gates.ensures (count_same f (nexts f) c.nexts.result.now c.nexts.ensures.numbers) (count_same f (yesterdays f) c.yesterdays.result.now c.yesterdays.ensures.numbers)
+    sizes_made c.args.closure.now c.entries.result.now c.entries.ensures.closure c.kind.result c.gates_count-gates.result (length c.nexts.result.now)
+    (length c.yesterdays.result.now) (length c.eventualities.result.now) c.strong_count.result
+    c.kind.ensures c.gates_count-gates.ensures (count_same f (nexts f) c.nexts.result.now c.nexts.ensures.numbers)
+    (count_same f (yesterdays f) c.yesterdays.result.now c.yesterdays.ensures.numbers)
     (count_same f (eventualities f) c.eventualities.result.now c.eventualities.ensures.numbers) c.strong_count.ensures
 
 pub returns-clause-few_nexts : goal.returns-clause-few_nexts

@@ -5,7 +5,8 @@ use Rattle.cnf_base.proofs.rows.Rows.truncate.Goals as goal
 
 pub returns-then-count-len : goal.returns-then-count-len
 returns-then-count-len g c =
-    let rows : length c.args.self.now ≤ c.args.count = omega (arith, c.if-count-len.true, c.len.ensures, ap length c.self.view_is, rows_len c.self.inside.items.items c.self.inside.ends.items) in
+    let rows : length c.args.self.now ≤ c.args.count =
+    omega (arith, c.if-count-len.true, c.len.ensures, ap length c.self.view_is, rows_len c.self.inside.items.items c.self.inside.ends.items) in
     sym (take_all c.args.count c.args.self.now rows)
 
 pub invariant_of-self : goal.invariant_of-self

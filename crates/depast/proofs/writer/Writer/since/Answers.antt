@@ -5,5 +5,7 @@ use Rattle.depast.proofs.writer.Writer.since.Goals as goal
 
 pub returns : goal.returns
 returns c l a b fs done =
-    past_done l two.Since a b fs since_axiom c.args.self.now.row.items c.put_name.new.row.items c.deref.result.now c.deref-2.result.now c.args.self.now.starts c.pop.new.self c.in-Some-top.ensures.0 c.in-Some-top.first c.in-Some.second
-    c.args.self.now.axioms.items c.put_since.new.axioms.items c.args.self.now.next done c.in-Some.ensures c.in-Some-top.ensures.1 c.deref.ensures.value c.deref-2.ensures.value (c.in_ok-put_since.ensures l) c.in_ok-put_name.ensures since_past
+    past_done l two.Since a b fs since_axiom c.args.self.now.row.items c.put_name.new.row.items c.deref.result.now c.deref-2.result.now c.args.self.now.starts
+    c.pop.new.self c.in-Some-top.ensures.0 c.in-Some-top.first c.in-Some.second
+    c.args.self.now.axioms.items c.put_since.new.axioms.items c.args.self.now.next done c.in-Some.ensures c.in-Some-top.ensures.1 c.deref.ensures.value
+    c.deref-2.ensures.value (c.in_ok-put_since.ensures l) c.in_ok-put_name.ensures since_past

@@ -54,7 +54,8 @@ returns-clause-layout c =
     let x = length-numbers_of f (nexts f) in
     let y = length-numbers_of f (yesterdays f) in
     let z = length-carried f in
-    counted c.args.closure.now c.kind.result (length c.entries.result.now) (length c.nexts.result.now + length c.yesterdays.result.now) (length c.eventualities.result.now)
+    counted c.args.closure.now c.kind.result (length c.entries.result.now) (length c.nexts.result.now + length c.yesterdays.result.now)
+    (length c.eventualities.result.now)
     c.kind.ensures c.entries.ensures.closure.long (omega arith) (ap length c.eventualities.ensures.numbers ∙ length-numbers_of f (eventualities f))
 
 pub returns-clause-first : goal.returns-clause-first

@@ -7,7 +7,8 @@ pub numbers-preserved : goal.numbers-preserved
 numbers-preserved c = (
   c.numbers.invariant.0,
   c.numbers.invariant.1,
-  ap (λ k. without k c.next.new.self) c.mark.ensures ∙ without_more c.numbers.self c.in-Some.number c.next.new.self ∙ ap (without c.numbers.self) (sym c.in-Some.ensures.steps) ∙ c.numbers.invariant.2,
+  ap (λ k. without k c.next.new.self) c.mark.ensures ∙ without_more c.numbers.self c.in-Some.number c.next.new.self
+      ∙ ap (without c.numbers.self) (sym c.in-Some.ensures.steps) ∙ c.numbers.invariant.2,
 )
 
 pub returns : goal.returns

@@ -22,4 +22,5 @@ returns-in-Some c =
 pub returns-in_default : goal.returns-in_default
 returns-in_default c =
     let value : List LiveLine → KeptValue = λ ls. record { lines = c.self.inside.lines; live = ls } in
-    sym c.self.view_is ∙ sym (ap value (kept_others c.self.inside.entries.items c.args.number c.in_default.ensures)) ∙ ap (λ k. without k (c.args.number ∷ [])) c.self.view_is
+    sym c.self.view_is ∙ sym (ap value (kept_others c.self.inside.entries.items c.args.number c.in_default.ensures))
+    ∙ ap (λ k. without k (c.args.number ∷ [])) c.self.view_is

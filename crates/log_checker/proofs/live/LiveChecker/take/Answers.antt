@@ -11,5 +11,7 @@ returns-in_ok-push-in-Line-clause-judged g c =
     let good = c.judge-good.result in
     let hints = c.in-Line.hints in
     let a = c.self.inside.assignment in
-    let here = subst (λ ls. IsTrue good ↔ IsStepAmong clauses (found c.self.inside.kept.live) (letters_in a) ls hints) c.again-again.ensures c.judge-good.ensures.judged in
-    subst (λ i. IsGoodItem clauses c.args.self.now i good) (sym c.in-Line.is) (subst (λ v. IsGoodItem clauses v (items.Line c.in-Line.literals hints) good) c.self.view_is here)
+    let here = subst (λ ls. IsTrue good ↔ IsStepAmong clauses (found c.self.inside.kept.live) (letters_in a) ls hints)
+    c.again-again.ensures c.judge-good.ensures.judged in
+    subst (λ i. IsGoodItem clauses c.args.self.now i good) (sym c.in-Line.is)
+    (subst (λ v. IsGoodItem clauses v (items.Line c.in-Line.literals hints) good) c.self.view_is here)

@@ -18,5 +18,6 @@ returns-then-last_user-self c =
 pub returns : goal.returns
 returns c =
     let at = c.args.self.now in
-    at_live at.view.now.parts at.line c.args.number at.from_one at.within c.if-number-lt1.false c.if-number-self.false (omega (arith, c.if-last_user-self.false, c.last_user.ensures))
+    at_live at.view.now.parts at.line c.args.number at.from_one at.within c.if-number-lt1.false c.if-number-self.false
+    (omega (arith, c.if-last_user-self.false, c.last_user.ensures))
     ∙ ap (λ ls. Some ls) (sym c.literals.ensures)

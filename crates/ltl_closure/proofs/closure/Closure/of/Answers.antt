@@ -19,5 +19,6 @@ invariant_of-result c = record {
   eventualities = rw c.deref-3.ensures.value at c.in_ok-eventualities.ensures ∙ is groups.Eventualities;
 }
   where
-    is : (g : Group) → group_numbers g 1 c.in_ok-walked.walked.entries.items ≡ numbers_of (tree_at c.args.table.now c.args.root) (filter (is_of g) (closure (tree_at c.args.table.now c.args.root)))
+    is : (g : Group) → group_numbers g 1 c.in_ok-walked.walked.entries.items ≡ numbers_of (tree_at c.args.table.now c.args.root)
+        (filter (is_of g) (closure (tree_at c.args.table.now c.args.root)))
     is g = group_is c.args.table.now.names (tree_at c.args.table.now c.args.root) g c.in_ok-walked.walked.entries.items c.in_ok-walked.ensures.entries

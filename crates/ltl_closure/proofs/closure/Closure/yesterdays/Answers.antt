@@ -9,4 +9,5 @@ pub returns-clause-known : goal.returns-clause-known
 returns-clause-known c =
     let f = tree_at c.self.inside.table.now c.self.inside.node in
     let is = c.deref.ensures.value ∙ c.self.invariant.yesterdays in
-    subst (λ s. All (IsNumber (length (closure s.formula))) c.deref.result.now) c.self.view_is (all_known (length (closure f)) c.deref.result.now (numbers_of f (yesterdays f)) is (yesterdays_known f))
+    subst (λ s. All (IsNumber (length (closure s.formula))) c.deref.result.now) c.self.view_is
+    (all_known (length (closure f)) c.deref.result.now (numbers_of f (yesterdays f)) is (yesterdays_known f))

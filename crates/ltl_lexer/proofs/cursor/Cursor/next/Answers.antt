@@ -8,6 +8,7 @@ pub returns-in_default-clause-moves : goal.returns-in_default-clause-moves
 returns-in_default-clause-moves c =
     let text = c.self.inside.text.now in (
       subst (λ (r : Remaining). IsLexFault r.place r.rest (c.self.inside.place + c.white_len.result)) c.self.view_is
-          (fault_at_place text c.self.inside.place c.white_len.result c.white_len.ensures.within c.white_len.ensures.white c.white_len.ensures.behind c.if-start-self.false c.self.invariant.0 c.in_default.ensures.none),
+          (fault_at_place text c.self.inside.place c.white_len.result c.white_len.ensures.within c.white_len.ensures.white c.white_len.ensures.behind
+          c.if-start-self.false c.self.invariant.0 c.in_default.ensures.none),
       drop_of_length-le text (omega arith),
     )

@@ -9,5 +9,6 @@ returns-clause-plain c =
     let within : c.args.letter < length c.self.inside.names.keys = rw length-map at there in
     let item = rw c.as_slice.ensures.keys at c.index-as_slice-letter.is in
     let text : get_or (map string_bytes c.self.inside.names.keys) c.args.letter [] ≡ c.as_str.result.now =
-    get_or-map string_bytes c.self.inside.names.keys c.args.letter c.index-as_slice-letter.result [] within ∙ ap string_bytes (sym item) ∙ sym c.as_str.ensures.value in
+    get_or-map string_bytes c.self.inside.names.keys c.args.letter c.index-as_slice-letter.result [] within ∙ ap string_bytes (sym item)
+    ∙ sym c.as_str.ensures.value in
     subst IsPlain text (c.self.invariant.0.plain c.args.letter there)

@@ -13,7 +13,8 @@ invariant_of-self-in-Ok c =
     let room : sizes c.self.inside.nodes.items + node_size c.args.node ≤ 16384 = omega arith in
     rw c.in-Ok.ensures.items (
       is_table-push (the_view c.self.inside) c.args.node c.self.invariant.0 may room,
-      flags_pushed (the_view c.self.inside) c.args.node c.self.inside.root_flags.items c.clear_children.new.flags.items c.self.invariant.0 may c.self.invariant.1
+      flags_pushed (the_view c.self.inside)
+          c.args.node c.self.inside.root_flags.items c.clear_children.new.flags.items c.self.invariant.0 may c.self.invariant.1
           (c.clear_children.ensures.count ∙ ap length c.in_ok-push.ensures.items)
           (rw c.in_ok-push.ensures.items at c.clear_children.ensures.each),
       omega (arith, sizes-push c.self.inside.nodes.items c.args.node),

@@ -13,4 +13,5 @@ returns-clause-text c =
 pub returns-clause-reads_back : goal.returns-clause-reads_back
 returns-clause-reads_back c =
     let is : view c.in_ok-value.value ≡ trace_data c.args.self.now = c.in_ok-value.ensures.value in
-    if_ok_both (λ s utf8 back good. (c.args.self.now, (utf8, back (rw is (trace_depth c.args.self.now)) ∙ ap Some is), good, c.in_ok-value.ensures.sets)) c.to_vec.result c.to_vec.ensures.utf8 c.to_vec.ensures.reads_back
+    if_ok_both (λ s utf8 back good. (c.args.self.now, (utf8, back (rw is (trace_depth c.args.self.now)) ∙ ap Some is), good, c.in_ok-value.ensures.sets))
+    c.to_vec.result c.to_vec.ensures.utf8 c.to_vec.ensures.reads_back

@@ -17,7 +17,8 @@ pub returns-clause-start : goal.returns-clause-start
 returns-clause-start c =
     let names = c.args.table.now.names in
     let parts = c.in_ok-parts.parts.items in
-    stands_seen names parts [] [] (λ i lt. subst (AreKept [] (formula_at (formulas_of names parts) i)) (sym (c.in_ok-parts.ensures.fresh i lt)) (none_last (watched (formula_at (formulas_of names parts) i)) (reach (formula_at (formulas_of names parts) i))))
+    stands_seen names parts [] [] (λ i lt. subst (AreKept [] (formula_at (formulas_of names parts) i)) (sym (c.in_ok-parts.ensures.fresh i lt))
+    (none_last (watched (formula_at (formulas_of names parts) i)) (reach (formula_at (formulas_of names parts) i))))
 
 pub returns-clause-all : goal.returns-clause-all
 returns-clause-all c = all_there c.args.table.now.names c.in_ok-parts.parts.items c.in_ok-parts.ensures.some c.in_ok-parts.ensures.parts

@@ -10,7 +10,8 @@ pub add-requires : goal.add-requires
 add-requires c =
     let x = c.args.listed.now in
     let is : c.deref.result.now ≡ clause_at (list_of x) c.args.number = c.deref.ensures.value ∙ (c.in_ok-spell.ensures ∙ c.clause-found.ensures) in
-    subst (All (IsKnown c.args.self.now.solver.letters)) (sym is) (known_at x c.args.number c.requires.number c.args.self.now.solver.letters c.requires.part.letters)
+    subst (All (IsKnown c.args.self.now.solver.letters)) (sym is)
+    (known_at x c.args.number c.requires.number c.args.self.now.solver.letters c.requires.part.letters)
 
 pub returns-clause-more : goal.returns-clause-more
 returns-clause-more c =
@@ -18,7 +19,8 @@ returns-clause-more c =
     let before = c.args.self.now.solver.log.inputs in
     let is : c.deref.result.now ≡ clause_at (list_of x) c.args.number = c.deref.ensures.value ∙ (c.in_ok-spell.ensures ∙ c.clause-found.ensures) in
     let now = c.in_ok-add.ensures.added.0 in
-    added_more x c.args.number c.requires.number c.args.self.now _ c.requires.part (ap (λ (s : SolverValue). s.log.inputs) now ∙ ap (λ l. before ++ l ∷ []) is) c.in_ok-push.ensures.items
+    added_more x c.args.number c.requires.number c.args.self.now _ c.requires.part (ap (λ (s : SolverValue). s.log.inputs) now ∙ ap (λ l. before ++ l ∷ []) is)
+    c.in_ok-push.ensures.items
     (ap (λ (s : SolverValue). s.letters) now)
 
 pub returns-clause-there : goal.returns-clause-there
