@@ -5,3 +5,4 @@ mod Asking
 mod Leaving
 mod Refuted
 mod Checked
+mod Verdicts

@@ -32,21 +32,19 @@ shown_where Comes Fact answer (Ok out) more fact shows = (answer, more fact, sho
 shown_where Comes Fact answer (Err e) more fact shows = tt
 
 -- what stands behind the first bytes
-behind : (first more whole text : List ℕ) (start : ℕ) → start ≡ length first
-    → whole ≡ first ++ more → text ≡ take (length whole - start) (drop start whole) → text ≡ more
-behind first more whole text start at is cut =
+behind : (first more whole : List ℕ) (start : ℕ) → start ≡ length first → whole ≡ first ++ more → take (length whole - start) (drop start whole) ≡ more
+behind first more whole start at is =
     let rest : drop start whole ≡ more = ap₂ drop at is ∙ drop-append_seam first more in
     let size : length whole - start ≡ length more = omega (arith, at, ap length is ∙ length-append first more) in
-    cut ∙ ap₂ take size rest ∙ take-length more
+    ap₂ take size rest ∙ take-length more
 
 -- UNSAT with the text of a lawful certificate behind it
-pub certified_shown : (kind : Kind) (f : Formula) (c : Certificate) (begun out : Output) (more text : List ℕ) (start : ℕ) → Shows begun (certified [])
+pub certified_shown : (kind : Kind) (f : Formula) (c : Certificate) (begun out : Output) (more whole : List ℕ) (start : ℕ) → Shows begun (certified [])
     → out.status ≡ begun.status → start ≡ length begun.text.items
-    → out.text.items ≡ begun.text.items ++ more → text ≡ take (length out.text.items - start) (drop start out.text.items) → IsLawful f kind c → IsTextOf text c
+    → out.text.items ≡ begun.text.items ++ more → whole ≡ out.text.items → IsLawful f kind c → IsTextOf (take (length whole - start) (drop start whole)) c
     → (a : Answer) × IsFound kind true f a × Shows out a
-certified_shown kind f c begun out more text start shows status at is cut lawful spelled =
-    let same : text ≡ more = behind begun.text.items more out.text.items text start at is cut in (
-      certified more,
-      certified_so c more refl lawful (subst (λ (bytes : List ℕ). IsTextOf bytes c) same spelled),
-      record { status = status ∙ shows.status; text = is ∙ ap (λ x. x ++ more) (shows.text ∙ append-nil (line (codes "UNSAT"))) },
-    )
+certified_shown kind f c begun out more whole start shows status at is same lawful spelled = (
+  certified more,
+  certified_so c more refl lawful (subst (λ (bytes : List ℕ). IsTextOf bytes c) (behind begun.text.items more whole start at (same ∙ is)) spelled),
+  record { status = status ∙ shows.status; text = is ∙ ap (λ x. x ++ more) (shows.text ∙ append-nil (line (codes "UNSAT"))) },
+)

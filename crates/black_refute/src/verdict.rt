@@ -26,7 +26,8 @@ fn add_reason(reason: Reason, out: &mut Vec<u8>) -> Result<(), AllocError>
             let mut buffer = Buffer::new();
             out.extend_from_slice(b"REJECTED layer ")?;
             out.extend_from_slice(buffer.format(number).as_bytes())?;
-            add_fault(fault, out)
+            add_fault(fault, out)?;
+            Ok(())
         }
         Reason::Line(number) => numbered(b"REJECTED line ", number.into(), out),
         Reason::Target => line(b"REJECTED target", out),

@@ -7,8 +7,9 @@ ghost use Rattle.trace_view.specs.Diagram.{opening};
 ghost use Rattle.trace_view.specs.Diagram.{sheet, band, edge, edges, numeral, stroke, wave, title, lanes_from};
 ghost use Rattle.trace_view.specs.Diagram.{arrow, head, band_of, arrow_of, picture, svg};
 
+use crate::Grid;
+use crate::grid::Row;
 use crate::names::{shown, widest};
-use crate::{Grid, Row};
 use itoa::Buffer;
 use std::alloc::{AllocError, Global};
 

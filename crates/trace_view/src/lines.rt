@@ -4,8 +4,9 @@ ghost use Rattle.std.specs.List.{flat_map};
 ghost use Rattle.trace_view.specs.Text.{below, spaces, measured, column, number, mark, under};
 ghost use Rattle.trace_view.specs.Text.{line, label, row_line, loop_line, block, block_at, text};
 
+use crate::Grid;
+use crate::grid::Row;
 use crate::names::{columns_of, shown, widest};
-use crate::{Grid, Row};
 use itoa::Buffer;
 use std::alloc::{AllocError, Global};
 

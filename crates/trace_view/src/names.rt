@@ -3,7 +3,7 @@
 ghost use Rattle.std.specs.Prelude.{◌≡◌, string_bytes, IfOk};
 ghost use Rattle.trace_view.specs.Names.{is_unfit, shown_char, shown, columns_of, widest};
 
-use crate::Row;
+use crate::grid::Row;
 use std::alloc::{AllocError, Global};
 use unicode_width::UnicodeWidthStr;
 

@@ -1,4 +1,4 @@
-use Rattle.std.proofs.Common.{refl, subst}
+use Rattle.std.proofs.Common.{◌∙◌, true, refl, subst}
 use Rattle.claims.specs.Lawful.{IsLawful}
 use Rattle.claim_check.specs.Data.{certificate_in}
 use Rattle.claim_text.specs.Text.{text_of}
@@ -19,9 +19,9 @@ returns-in-Verified c =
     certified_shown value.kind value.formula certificate c.in_ok-out.out (record {
       status = c.in_ok-out.out.status;
       text = c.append.new.out;
-    }) (text_of (certificate_in c.args.found.now)) c.index.result.now c.len-start.result
-    c.in_ok-out.ensures refl c.len-start.ensures c.in_ok-append.ensures c.index.ensures lawful c.in-Ok.ensures
+    }) (text_of (certificate_in c.args.found.now)) c.deref.result.now c.len-start.result
+    c.in_ok-out.ensures refl (c.len-start.ensures ∙ c.in_ok-out.out.text.ok.0) c.in_ok-append.ensures c.deref.ensures.value lawful c.in-Ok.ensures
 
-pub returns : goal.returns
-returns c =
+pub returns-in-Refused : goal.returns-in-Refused
+returns-in-Refused c =
     shown (IsFound c.args.closure.now.kind true c.args.closure.now.formula) undecided c.undecided-in-Refused.result open_yet c.undecided-in-Refused.ensures

@@ -41,8 +41,8 @@ returns-in-Undecided g c =
     (undecided c.in-Undecided.depth) c.undecided.result
     (undecided_yet c.in-Undecided.depth decision) c.undecided.ensures
 
-pub returns-in-Unsat : goal.returns-in-Unsat
-returns-in-Unsat g c =
+pub returns-in_ok-shown_certificate-in-Unsat : goal.returns-in_ok-shown_certificate-in-Unsat
+returns-in_ok-shown_certificate-in-Unsat g c =
     let value = c.args.closure.now in
     let decision = rw c.in-Unsat.is at c.in_ok-depth.ensures.decision in
     let begun = c.in_ok-out-in-Unsat.out in
@@ -51,4 +51,4 @@ returns-in-Unsat g c =
       text = c.shown_certificate.new.out;
     })
     (option_copied c.as_deref.result) (option_map vec_items c.in_ok-conflict-in-Unsat.conflict)
-    decision.0 c.in_ok-conflict-in-Unsat.ensures c.as_deref.ensures.value c.in_ok-out-in-Unsat.ensures refl c.in_ok-shown_certificate.ensures
+    decision.0 c.in_ok-conflict-in-Unsat.ensures c.as_deref.ensures.value c.in_ok-out-in-Unsat.ensures refl c.in_ok-shown_certificate-in-Unsat.ensures

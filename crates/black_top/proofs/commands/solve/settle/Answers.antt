@@ -32,8 +32,8 @@ returns-in-Ok g c =
     (settled_at value o.kind o.depth o.core o.cert f c.unwrap_or-asked.result limit closure.formula closure.kind c.unwrap_or-asked.ensures c.in-Ok.ensures.ok)
     c.decide.ensures
 
-pub returns-in-Err : goal.returns-in-Err
-returns-in-Err g c =
+pub returns : goal.returns
+returns g c =
     let f = tree_at c.args.table.now c.args.root in
     let o = c.args.options in
     let closure = c.in_ok-closure.ensures in

@@ -23,8 +23,8 @@ returns-in-Ok c =
     settled_at depth cert f g h limit few is.forms (subst (λ x. IsLimit x kinds.Infinite depth limit) (closure.formula ∙ is.formulas.whole_is) of_kind) a there)
     c.decide.ensures
 
-pub returns-in-Err : goal.returns-in-Err
-returns-in-Err c =
+pub returns : goal.returns
+returns c =
     let joined = c.args.joined.now in
     let depth = c.args.options.depth in
     let cert = c.args.options.cert in
