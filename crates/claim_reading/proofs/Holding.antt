@@ -63,7 +63,7 @@ module _ (f : Formula) (t : Trace) (good : IsTrace t) where
   -- a normal form is read as one that holds where it does
   readable_holds : (e : Norm) (i : ℕ) → IsPosition t i → Holds t (readable e) i ↔ Holds t (formula_of e) i
   readable_holds e i at =
-      let r = (norm_holds t good (readable e)).yes' in
+      let r = (norm_holds t good (readable e) true) in
       let is = readable_normal e in
       (λ h. subst (λ n. Holds t (formula_of n) i) is (r.back i at h), λ h. r.to i at (subst (λ n. Holds t (formula_of n) i) (sym is) h))
 
@@ -112,9 +112,9 @@ module _ (f : Formula) (stem loop_part : List Names) (some : 0 < length loop_par
       go : (p : Bool) → is_pending (r (suc i)) (NUntil a b) ≡ p → (j : ℕ) × (i < j) × IsMet (r j) (NUntil a b)
       go false is = (suc i, omega arith, λ x. absurd (clash _ x is))
       go true is =
-          let w = ((val_decides lasso some (NNext (NUntil a b)) (suc i) tt).0 is).1 in
-          let later = w.1 in
-          (w.0, omega (arith, later), λ x. (val_decides lasso some b w.0 tt).1 w.3)
+          let x = (val_decides lasso some (NNext (NUntil a b)) (suc i) tt).0 is in
+          let w = x.2 in
+          (w.0, omega (arith, x.1.0, w.1), λ x. (val_decides lasso some b w.0 tt).1 w.3)
   met _ h i = cc
 
   endless : AreEndless f r
@@ -128,7 +128,7 @@ ending f states some = record {
   linked = λ i lt. linked f (Finite states) some i (omega (arith, lt));
   last = λ a c. false_from_ne_true _ (λ p.
       let w = (val_decides (Finite states) some (NNext a) (length states - 1) (omega (arith, some))).0 p in
-      let past = w.0 in absurd (omega (arith, past, some)));
+      absurd (omega (arith, w.1, some)));
 }
 
 abbrev IsMade : (ℕ → Bool) → List Literal → Type 0

@@ -144,7 +144,7 @@ ending_none f k u head are c lawful =
 
 pub lawful_has_no_trace : LawfulHasNoTrace
 lawful_has_no_trace f Kinds.Infinite c lawful (Infinite stem loop_part) good kind holds =
-    let w = lasso_runs f stem loop_part good ((norm_holds (Infinite stem loop_part) good f).yes'.back 0 tt holds) in
+    let w = lasso_runs f stem loop_part good ((norm_holds (Infinite stem loop_part) good f true).back 0 tt holds) in
     let it = runs_unroll f _ _ w.0 w.1 w.2 in
     endless_none f (unrolled w.0 _ _) it.0 it.1 c lawful
 lawful_has_no_trace f Kinds.Finite c lawful (Finite states) good kind holds =

@@ -7,9 +7,9 @@ use Rattle.std.proofs.Math.ListN.{get_or-append}
 use Rattle.std.proofs.Math.Seq.{get_or-append_seam}
 use Rattle.ltl_syntax.specs.declared.node.UnaryOp.{UnaryOp}
 use Rattle.ltl_syntax.specs.declared.node.BinaryOp.{BinaryOp}
-use Rattle.ltl_syntax.specs.declared.node.UnaryOp.TheVariants.{Always, AlwaysIn, Eventually, EventuallyIn, Historically, HistoricallyIn, Next, NextTimes, Not}
-use Rattle.ltl_syntax.specs.declared.node.UnaryOp.TheVariants.{Once, OnceIn, WeakNext, WeakYesterday, Yesterday, YesterdayTimes}
-use Rattle.ltl_syntax.specs.declared.node.BinaryOp.TheVariants.{And, Iff, Implies, Or, Release, Since, StrongRelease, Trigger, Until, WeakUntil}
+use Rattle.ltl_syntax.specs.declared.node.UnaryOp.TheVariants.{HistoricallyIn}
+use Rattle.ltl_syntax.specs.declared.node.UnaryOp.TheVariants.{OnceIn, YesterdayTimes}
+use Rattle.ltl_syntax.specs.declared.node.BinaryOp.TheVariants.{And}
 use Rattle.ltl_syntax.specs.Formula.{Formula, Const, Letter, Unary, Binary}
 use Rattle.ltl_syntax.specs.Size.{operator_size, formula_size}
 use Rattle.ltl_syntax.specs.Table.{Table, tree_at}
@@ -31,33 +31,14 @@ range_small m n r s h = elim (cases_lt n m) [
   by (suc m) le = omega arith
 
 residue_small₁ : (op : UnaryOp) (r s : ℕ) → r ≤ 2 * s → residue_size₁ op r ≤ 2 * s + 2 * operator_size op
-residue_small₁ Not r s h = omega arith
-residue_small₁ Next r s h = omega arith
-residue_small₁ WeakNext r s h = omega arith
-residue_small₁ Eventually r s h = omega arith
-residue_small₁ Always r s h = omega arith
-residue_small₁ Yesterday r s h = omega arith
-residue_small₁ WeakYesterday r s h = omega arith
-residue_small₁ Once r s h = omega arith
-residue_small₁ Historically r s h = omega arith
-residue_small₁ (NextTimes n) r s h = omega arith
 residue_small₁ (YesterdayTimes n) r s h = omega (arith, step_small n r s h)
-residue_small₁ (EventuallyIn m n) r s h = omega arith
-residue_small₁ (AlwaysIn m n) r s h = omega arith
 residue_small₁ (OnceIn m n) r s h = range_small m n r s h
 residue_small₁ (HistoricallyIn m n) r s h = range_small m n r s h
+residue_small₁ op r s h = omega arith
 
 residue_small₂ : (op : BinaryOp) (r q : ℕ) → residue_size₂ op r q ≤ r + q + 1
 residue_small₂ And r q = omega arith
-residue_small₂ Or r q = omega arith
-residue_small₂ Implies r q = omega arith
-residue_small₂ Iff r q = omega arith
-residue_small₂ Until r q = omega arith
-residue_small₂ Release r q = omega arith
-residue_small₂ WeakUntil r q = omega arith
-residue_small₂ StrongRelease r q = omega arith
-residue_small₂ Since r q = omega arith
-residue_small₂ Trigger r q = omega arith
+residue_small₂ op r q = omega arith
 
 pub residue_small : (f : Formula) → residue_size f ≤ 2 * formula_size f
 residue_small (Const b) = omega arith
@@ -70,33 +51,14 @@ chain_few each zero r m e h = omega arith
 chain_few each (suc n) r m e h = let p : each * suc n ≤ 14 * suc n = mul-le-mul_right (suc n) e in omega (arith, p)
 
 axioms_few₁ : (op : UnaryOp) (r : ℕ) → r ≤ 32768 → axioms_size₁ op r ≤ 98323 * operator_size op
-axioms_few₁ Not r h = omega arith
-axioms_few₁ Next r h = omega arith
-axioms_few₁ WeakNext r h = omega arith
-axioms_few₁ Eventually r h = omega arith
-axioms_few₁ Always r h = omega arith
-axioms_few₁ Yesterday r h = omega arith
-axioms_few₁ WeakYesterday r h = omega arith
-axioms_few₁ Once r h = omega arith
-axioms_few₁ Historically r h = omega arith
-axioms_few₁ (NextTimes n) r h = omega arith
 axioms_few₁ (YesterdayTimes n) r h = chain_few 14 n r 0 (omega arith) h
-axioms_few₁ (EventuallyIn m n) r h = omega arith
-axioms_few₁ (AlwaysIn m n) r h = omega arith
 axioms_few₁ (OnceIn m n) r h = chain_few 14 n r m (omega arith) h
 axioms_few₁ (HistoricallyIn m n) r h = chain_few 13 n r m (omega arith) h
+axioms_few₁ op r h = omega arith
 
 axioms_few₂ : (op : BinaryOp) (r q : ℕ) → r + q ≤ 32768 → axioms_size₂ op r q ≤ 98323
 axioms_few₂ And r q h = omega arith
-axioms_few₂ Or r q h = omega arith
-axioms_few₂ Implies r q h = omega arith
-axioms_few₂ Iff r q h = omega arith
-axioms_few₂ Until r q h = omega arith
-axioms_few₂ Release r q h = omega arith
-axioms_few₂ WeakUntil r q h = omega arith
-axioms_few₂ StrongRelease r q h = omega arith
-axioms_few₂ Since r q h = omega arith
-axioms_few₂ Trigger r q h = omega arith
+axioms_few₂ op r q h = omega arith
 
 pub axioms_few : (f : Formula) → formula_size f ≤ 16384 → axioms_size f ≤ 98323 * formula_size f
 axioms_few (Const b) h = omega arith

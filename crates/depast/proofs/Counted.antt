@@ -3,9 +3,9 @@ use Rattle.std.proofs.Common.{◌≡◌, ℕ, zero, suc, ◌+◌, ◌-◌, ◌*�
 use Rattle.std.proofs.lemmas.Bool.{cases_lt, cond-true, cond-false}
 use Rattle.ltl_syntax.specs.declared.node.UnaryOp.{UnaryOp}
 use Rattle.ltl_syntax.specs.declared.node.BinaryOp.{BinaryOp}
-use Rattle.ltl_syntax.specs.declared.node.UnaryOp.TheVariants.{Always, AlwaysIn, Eventually, EventuallyIn, Historically, HistoricallyIn, Next, NextTimes, Not}
-use Rattle.ltl_syntax.specs.declared.node.UnaryOp.TheVariants.{Once, OnceIn, WeakNext, WeakYesterday, Yesterday, YesterdayTimes}
-use Rattle.ltl_syntax.specs.declared.node.BinaryOp.TheVariants.{And, Iff, Implies, Or, Release, Since, StrongRelease, Trigger, Until, WeakUntil}
+use Rattle.ltl_syntax.specs.declared.node.UnaryOp.TheVariants.{Historically, HistoricallyIn}
+use Rattle.ltl_syntax.specs.declared.node.UnaryOp.TheVariants.{Once, OnceIn, WeakYesterday, Yesterday, YesterdayTimes}
+use Rattle.ltl_syntax.specs.declared.node.BinaryOp.TheVariants.{And, Or, Since, Trigger}
 use Rattle.ltl_syntax.specs.Formula.{Formula, Const, Letter, Unary, Binary}
 use Rattle.ltl_syntax.specs.Size.{formula_size}
 use Rattle.depast.specs.Depast.{residue, residue₁, residue₂, axioms, axioms₁, axioms₂, step_back, joined_back, back_axioms, conjoined, depast, letter_for}
@@ -50,33 +50,19 @@ module _ (z : ℕ → Formula) (small : (k : ℕ) → formula_size (z k) ≡ 1) 
   ]
 
   residue_sized₁ : (k : ℕ) (op : UnaryOp) (c : Formula) → formula_size (residue₁ z k op c) ≡ residue_size₁ op (formula_size c)
-  residue_sized₁ k Not c = refl
-  residue_sized₁ k Next c = refl
-  residue_sized₁ k WeakNext c = refl
-  residue_sized₁ k Eventually c = refl
-  residue_sized₁ k Always c = refl
   residue_sized₁ k Yesterday c = small k
   residue_sized₁ k WeakYesterday c = small k
   residue_sized₁ k Once c = small k
   residue_sized₁ k Historically c = small k
-  residue_sized₁ k (NextTimes n) c = refl
   residue_sized₁ k (YesterdayTimes n) c = step_sized k c n
-  residue_sized₁ k (EventuallyIn m n) c = refl
-  residue_sized₁ k (AlwaysIn m n) c = refl
   residue_sized₁ k (OnceIn m n) c = range_sized Or _ k c m n
   residue_sized₁ k (HistoricallyIn m n) c = range_sized And _ k c m n
+  residue_sized₁ k op c = refl
 
   residue_sized₂ : (k : ℕ) (op : BinaryOp) (c d : Formula) → formula_size (residue₂ z k op c d) ≡ residue_size₂ op (formula_size c) (formula_size d)
-  residue_sized₂ k And c d = refl
-  residue_sized₂ k Or c d = refl
-  residue_sized₂ k Implies c d = refl
-  residue_sized₂ k Iff c d = refl
-  residue_sized₂ k Until c d = refl
-  residue_sized₂ k Release c d = refl
-  residue_sized₂ k WeakUntil c d = refl
-  residue_sized₂ k StrongRelease c d = refl
   residue_sized₂ k Since c d = small k
   residue_sized₂ k Trigger c d = small k
+  residue_sized₂ k op c d = refl
 
   residue_sized : (n : ℕ) (f : Formula) → formula_size (residue z n f) ≡ residue_size f
   residue_sized n (Const b) = refl
@@ -107,33 +93,19 @@ module _ (z : ℕ → Formula) (small : (k : ℕ) → formula_size (z k) ≡ 1) 
   weak_yesterday_sized a y one = omega (arith, one)
 
   axioms_sized₁ : (k : ℕ) (op : UnaryOp) (c : Formula) → said_size (axioms₁ z k op c) ≡ axioms_size₁ op (formula_size c)
-  axioms_sized₁ k Not c = refl
-  axioms_sized₁ k Next c = refl
-  axioms_sized₁ k WeakNext c = refl
-  axioms_sized₁ k Eventually c = refl
-  axioms_sized₁ k Always c = refl
   axioms_sized₁ k Yesterday c = omega (arith, small k)
   axioms_sized₁ k WeakYesterday c = omega (arith, small k)
   axioms_sized₁ k Once c = omega (arith, small k)
   axioms_sized₁ k Historically c = omega (arith, small k)
-  axioms_sized₁ k (NextTimes n) c = refl
   axioms_sized₁ k (YesterdayTimes n) c = chain_sized yesterday_axiom 14 k c yesterday_sized n
-  axioms_sized₁ k (EventuallyIn m n) c = refl
-  axioms_sized₁ k (AlwaysIn m n) c = refl
   axioms_sized₁ k (OnceIn m n) c = chain_sized yesterday_axiom 14 k c yesterday_sized n
   axioms_sized₁ k (HistoricallyIn m n) c = chain_sized weak_yesterday_axiom 13 k c weak_yesterday_sized n
+  axioms_sized₁ k op c = refl
 
   axioms_sized₂ : (k : ℕ) (op : BinaryOp) (c d : Formula) → said_size (axioms₂ z k op c d) ≡ axioms_size₂ op (formula_size c) (formula_size d)
-  axioms_sized₂ k And c d = refl
-  axioms_sized₂ k Or c d = refl
-  axioms_sized₂ k Implies c d = refl
-  axioms_sized₂ k Iff c d = refl
-  axioms_sized₂ k Until c d = refl
-  axioms_sized₂ k Release c d = refl
-  axioms_sized₂ k WeakUntil c d = refl
-  axioms_sized₂ k StrongRelease c d = refl
   axioms_sized₂ k Since c d = omega (arith, small k)
   axioms_sized₂ k Trigger c d = omega (arith, small k)
+  axioms_sized₂ k op c d = refl
 
   axioms_sized : (n : ℕ) (f : Formula) → said_size (axioms z n f) ≡ axioms_size f
   axioms_sized n (Const b) = refl

@@ -2,9 +2,8 @@
 use Rattle.std.proofs.Common.{◌≤◌, arith}
 use Rattle.ltl_syntax.specs.declared.node.UnaryOp.{UnaryOp}
 use Rattle.ltl_syntax.specs.declared.node.BinaryOp.{BinaryOp}
-use Rattle.ltl_syntax.specs.declared.node.UnaryOp.TheVariants.{Always, AlwaysIn, Eventually, EventuallyIn, Historically, HistoricallyIn, Next, NextTimes, Not}
-use Rattle.ltl_syntax.specs.declared.node.UnaryOp.TheVariants.{Once, OnceIn, WeakNext, WeakYesterday, Yesterday, YesterdayTimes}
-use Rattle.ltl_syntax.specs.declared.node.BinaryOp.TheVariants.{And, Iff, Implies, Or, Release, Since, StrongRelease, Trigger, Until, WeakUntil}
+use Rattle.ltl_syntax.specs.declared.node.UnaryOp.TheVariants.{Not}
+use Rattle.ltl_syntax.specs.declared.node.BinaryOp.TheVariants.{And}
 use Rattle.ltl_syntax.specs.Formula.{Formula, Const, Letter, Unary, Binary}
 use Rattle.ltl_syntax.specs.Size.{operator_size, formula_size}
 use Rattle.depast.specs.Depast.{taken, taken₁, taken₂}
@@ -12,32 +11,11 @@ use Rattle.depast.specs.Laws.{HasFewNames}
 
 taken₁_few : (op : UnaryOp) → taken₁ op ≤ operator_size op
 taken₁_few Not = omega arith
-taken₁_few Next = omega arith
-taken₁_few WeakNext = omega arith
-taken₁_few Eventually = omega arith
-taken₁_few Always = omega arith
-taken₁_few Yesterday = omega arith
-taken₁_few WeakYesterday = omega arith
-taken₁_few Once = omega arith
-taken₁_few Historically = omega arith
-taken₁_few (NextTimes n) = omega arith
-taken₁_few (YesterdayTimes n) = omega arith
-taken₁_few (EventuallyIn m n) = omega arith
-taken₁_few (AlwaysIn m n) = omega arith
-taken₁_few (OnceIn m n) = omega arith
-taken₁_few (HistoricallyIn m n) = omega arith
+taken₁_few op = omega arith
 
 taken₂_few : (op : BinaryOp) → taken₂ op ≤ 1
 taken₂_few And = omega arith
-taken₂_few Or = omega arith
-taken₂_few Implies = omega arith
-taken₂_few Iff = omega arith
-taken₂_few Until = omega arith
-taken₂_few Release = omega arith
-taken₂_few WeakUntil = omega arith
-taken₂_few StrongRelease = omega arith
-taken₂_few Since = omega arith
-taken₂_few Trigger = omega arith
+taken₂_few op = omega arith
 
 pub taken_few : (f : Formula) → taken f ≤ formula_size f
 taken_few (Const b) = omega arith

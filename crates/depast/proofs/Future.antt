@@ -3,9 +3,9 @@ use Rattle.std.proofs.Common.{ℕ, zero, suc, ◌+◌, ◌-◌, Bool, true, fals
 use Rattle.std.specs.Prelude.{⊤}
 use Rattle.ltl_syntax.specs.declared.node.UnaryOp.{UnaryOp}
 use Rattle.ltl_syntax.specs.declared.node.BinaryOp.{BinaryOp}
-use Rattle.ltl_syntax.specs.declared.node.UnaryOp.TheVariants.{Always, AlwaysIn, Eventually, EventuallyIn, Historically, HistoricallyIn, Next, NextTimes, Not}
-use Rattle.ltl_syntax.specs.declared.node.UnaryOp.TheVariants.{Once, OnceIn, WeakNext, WeakYesterday, Yesterday, YesterdayTimes}
-use Rattle.ltl_syntax.specs.declared.node.BinaryOp.TheVariants.{And, Iff, Implies, Or, Release, Since, StrongRelease, Trigger, Until, WeakUntil}
+use Rattle.ltl_syntax.specs.declared.node.UnaryOp.TheVariants.{Historically, HistoricallyIn}
+use Rattle.ltl_syntax.specs.declared.node.UnaryOp.TheVariants.{Once, OnceIn, WeakYesterday, Yesterday, YesterdayTimes}
+use Rattle.ltl_syntax.specs.declared.node.BinaryOp.TheVariants.{And, Or, Since, Trigger}
 use Rattle.ltl_syntax.specs.Formula.{Formula, Const, Letter, Unary, Binary}
 use Rattle.depast.specs.Depast.{taken, step_back, joined_back, residue, residue₁, residue₂, yesterday_axiom, weak_yesterday_axiom, since_axiom, trigger_axiom}
 use Rattle.depast.specs.Depast.{back_axioms, axioms, axioms₁, axioms₂, conjoined, letter_for, depast}
@@ -42,33 +42,19 @@ module _ (z : ℕ → Formula) (plain : (k : ℕ) → IsFuture (z k)) where
   joined_future op b f w h m (suc (suc n)) = (f, joined_future op b f w h m (suc n), h (m + suc n))
 
   residue₁_future : (op : UnaryOp) (k : ℕ) (c : Formula) → IsFuture c → IsFuture (residue₁ z k op c)
-  residue₁_future Not k c h = (tt, h)
-  residue₁_future Next k c h = (tt, h)
-  residue₁_future WeakNext k c h = (tt, h)
-  residue₁_future Eventually k c h = (tt, h)
-  residue₁_future Always k c h = (tt, h)
   residue₁_future Yesterday k c h = plain k
   residue₁_future WeakYesterday k c h = plain k
   residue₁_future Once k c h = plain k
   residue₁_future Historically k c h = plain k
-  residue₁_future (NextTimes n) k c h = (tt, h)
   residue₁_future (YesterdayTimes n) k c h = step_future k c h n
-  residue₁_future (EventuallyIn m n) k c h = (tt, h)
-  residue₁_future (AlwaysIn m n) k c h = (tt, h)
   residue₁_future (OnceIn m n) k c h = joined_future Or false tt (step_back z k c) (step_future k c h) m (suc n - m)
   residue₁_future (HistoricallyIn m n) k c h = joined_future And true tt (step_back z k c) (step_future k c h) m (suc n - m)
+  residue₁_future op k c h = (tt, h)
 
   residue₂_future : (op : BinaryOp) (k : ℕ) (c d : Formula) → IsFuture c → IsFuture d → IsFuture (residue₂ z k op c d)
-  residue₂_future And k c d h i = (tt, h, i)
-  residue₂_future Or k c d h i = (tt, h, i)
-  residue₂_future Implies k c d h i = (tt, h, i)
-  residue₂_future Iff k c d h i = (tt, h, i)
-  residue₂_future Until k c d h i = (tt, h, i)
-  residue₂_future Release k c d h i = (tt, h, i)
-  residue₂_future WeakUntil k c d h i = (tt, h, i)
-  residue₂_future StrongRelease k c d h i = (tt, h, i)
   residue₂_future Since k c d h i = plain k
   residue₂_future Trigger k c d h i = plain k
+  residue₂_future op k c d h i = (tt, h, i)
 
   residue_future : (f : Formula) (n : ℕ) → IsFuture (residue z n f)
   residue_future (Const b) n = tt
@@ -84,33 +70,19 @@ module _ (z : ℕ → Formula) (plain : (k : ℕ) → IsFuture (z k)) where
       (s (step_back z k c n) (k + n) (step_future k c h n), tt)
 
   axioms₁_future : (op : UnaryOp) (k : ℕ) (c : Formula) → IsFuture c → AreFuture (axioms₁ z k op c)
-  axioms₁_future Not k c h = tt
-  axioms₁_future Next k c h = tt
-  axioms₁_future WeakNext k c h = tt
-  axioms₁_future Eventually k c h = tt
-  axioms₁_future Always k c h = tt
   axioms₁_future Yesterday k c h = (yesterday_future c k h, tt)
   axioms₁_future WeakYesterday k c h = (weak_yesterday_future c k h, tt)
   axioms₁_future Once k c h = (since_future (Const true) c k tt h, tt)
   axioms₁_future Historically k c h = (trigger_future (Const false) c k tt h, tt)
-  axioms₁_future (NextTimes n) k c h = tt
   axioms₁_future (YesterdayTimes n) k c h = back_future yesterday_axiom yesterday_future k c h n
-  axioms₁_future (EventuallyIn m n) k c h = tt
-  axioms₁_future (AlwaysIn m n) k c h = tt
   axioms₁_future (OnceIn m n) k c h = back_future yesterday_axiom yesterday_future k c h n
   axioms₁_future (HistoricallyIn m n) k c h = back_future weak_yesterday_axiom weak_yesterday_future k c h n
+  axioms₁_future op k c h = tt
 
   axioms₂_future : (op : BinaryOp) (k : ℕ) (c d : Formula) → IsFuture c → IsFuture d → AreFuture (axioms₂ z k op c d)
-  axioms₂_future And k c d h i = tt
-  axioms₂_future Or k c d h i = tt
-  axioms₂_future Implies k c d h i = tt
-  axioms₂_future Iff k c d h i = tt
-  axioms₂_future Until k c d h i = tt
-  axioms₂_future Release k c d h i = tt
-  axioms₂_future WeakUntil k c d h i = tt
-  axioms₂_future StrongRelease k c d h i = tt
   axioms₂_future Since k c d h i = (since_future c d k h i, tt)
   axioms₂_future Trigger k c d h i = (trigger_future c d k h i, tt)
+  axioms₂_future op k c d h i = tt
 
   axioms_future : (f : Formula) (n : ℕ) → AreFuture (axioms z n f)
   axioms_future (Const b) n = tt

@@ -2,9 +2,9 @@
 use Rattle.std.proofs.Common.{◌≡◌, ℕ, zero, suc, ◌+◌, ◌≤◌, ◌<◌, refl, arith, List, [], ◌∷◌, ◌++◌, length, length-append}
 use Rattle.ltl_syntax.specs.declared.node.UnaryOp.{UnaryOp}
 use Rattle.ltl_syntax.specs.declared.node.BinaryOp.{BinaryOp}
-use Rattle.ltl_syntax.specs.declared.node.UnaryOp.TheVariants.{Always, AlwaysIn, Eventually, EventuallyIn, Historically, HistoricallyIn, Next, NextTimes, Not}
-use Rattle.ltl_syntax.specs.declared.node.UnaryOp.TheVariants.{Once, OnceIn, WeakNext, WeakYesterday, Yesterday, YesterdayTimes}
-use Rattle.ltl_syntax.specs.declared.node.BinaryOp.TheVariants.{And, Iff, Implies, Or, Release, Since, StrongRelease, Trigger, Until, WeakUntil}
+use Rattle.ltl_syntax.specs.declared.node.UnaryOp.TheVariants.{HistoricallyIn}
+use Rattle.ltl_syntax.specs.declared.node.UnaryOp.TheVariants.{OnceIn, YesterdayTimes}
+use Rattle.ltl_syntax.specs.declared.node.BinaryOp.TheVariants.{And}
 use Rattle.ltl_syntax.specs.Formula.{Formula, Const, Letter, Unary, Binary}
 use Rattle.ltl_syntax.specs.Size.{formula_size}
 use Rattle.depast.specs.Depast.{taken, taken₁, taken₂, residue, yesterday_axiom, weak_yesterday_axiom, back_axioms, step_back, axioms, axioms₁, axioms₂}
@@ -17,33 +17,14 @@ module _ (z : ℕ → Formula) where
   length-back says k c (suc n) = omega (arith, length-back says k c n, length-append (back_axioms says z k c n) (says (step_back z k c n) (z (k + n)) ∷ []))
 
   length-axioms₁ : (op : UnaryOp) (k : ℕ) (c : Formula) → length (axioms₁ z k op c) ≡ taken₁ op
-  length-axioms₁ Not k c = refl
-  length-axioms₁ Next k c = refl
-  length-axioms₁ WeakNext k c = refl
-  length-axioms₁ Eventually k c = refl
-  length-axioms₁ Always k c = refl
-  length-axioms₁ Yesterday k c = refl
-  length-axioms₁ WeakYesterday k c = refl
-  length-axioms₁ Once k c = refl
-  length-axioms₁ Historically k c = refl
-  length-axioms₁ (NextTimes n) k c = refl
   length-axioms₁ (YesterdayTimes n) k c = length-back yesterday_axiom k c n
-  length-axioms₁ (EventuallyIn m n) k c = refl
-  length-axioms₁ (AlwaysIn m n) k c = refl
   length-axioms₁ (OnceIn m n) k c = length-back yesterday_axiom k c n
   length-axioms₁ (HistoricallyIn m n) k c = length-back weak_yesterday_axiom k c n
+  length-axioms₁ op k c = refl
 
   length-axioms₂ : (op : BinaryOp) (k : ℕ) (c d : Formula) → length (axioms₂ z k op c d) ≡ taken₂ op
   length-axioms₂ And k c d = refl
-  length-axioms₂ Or k c d = refl
-  length-axioms₂ Implies k c d = refl
-  length-axioms₂ Iff k c d = refl
-  length-axioms₂ Until k c d = refl
-  length-axioms₂ Release k c d = refl
-  length-axioms₂ WeakUntil k c d = refl
-  length-axioms₂ StrongRelease k c d = refl
-  length-axioms₂ Since k c d = refl
-  length-axioms₂ Trigger k c d = refl
+  length-axioms₂ op k c d = refl
 
   -- each name has one axiom
   pub length-axioms : (f : Formula) (n : ℕ) → length (axioms z n f) ≡ taken f

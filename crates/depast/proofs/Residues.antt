@@ -5,28 +5,28 @@ use Rattle.std.specs.Prelude.{⊤}
 use Rattle.std.proofs.lemmas.Bool.{cases_lt}
 use Rattle.ltl_syntax.specs.declared.node.UnaryOp.{UnaryOp}
 use Rattle.ltl_syntax.specs.declared.node.BinaryOp.{BinaryOp}
-use Rattle.ltl_syntax.specs.declared.node.UnaryOp.TheVariants.{Always, AlwaysIn, Eventually, EventuallyIn, Historically, HistoricallyIn, Next, NextTimes, Not}
-use Rattle.ltl_syntax.specs.declared.node.UnaryOp.TheVariants.{Once, OnceIn, WeakNext, WeakYesterday, Yesterday, YesterdayTimes}
+use Rattle.ltl_syntax.specs.declared.node.UnaryOp.TheVariants.{Historically, HistoricallyIn}
+use Rattle.ltl_syntax.specs.declared.node.UnaryOp.TheVariants.{Once, OnceIn, WeakYesterday, Yesterday, YesterdayTimes}
 use Rattle.ltl_syntax.specs.declared.node.BinaryOp.TheVariants.{And, Iff, Implies, Or, Release, Since, StrongRelease, Trigger, Until, WeakUntil}
 use Rattle.ltl_syntax.specs.Formula.{Atom, Formula, Const, Letter, Unary, Binary}
 use Rattle.ltl_word.specs.declared.trace.Trace.{Trace}
 use Rattle.ltl_word.specs.Trace.{IsTrace, IsPosition}
-use Rattle.ltl_word.specs.Claims.{Claim, Always', Never, AtNext, AtWeakNext, IsUntil, IsReleased, AtYesterday, AtWeakYesterday, AtNextTimes, IsEventuallyIn}
-use Rattle.ltl_word.specs.Claims.{IsAlwaysIn, IsOnceIn, IsHistoricallyIn}
+use Rattle.ltl_syntax.specs.Shape.{Past, Step, Exactly, Between, shape}
+use Rattle.ltl_word.specs.Claims.{Claim, Always', Never, IsSomewhere, IsEverywhere, OfShape, IsUntil, IsReleased, IsSince, IsTriggered}
 use Rattle.ltl_word.specs.Holds.{Holds}
 use Rattle.ltl_word.specs.Propositional.{HasLetter}
 use Rattle.ltl_word.proofs.Decided.{Holds_decided, position_below}
-use Rattle.ltl_word.proofs.Agreement.{IsRange, Same, Same-self, Same-then, Same-turned, Same-not, Same-and, Same-or, Same-implies, Same-iff, Same-until}
-use Rattle.ltl_word.proofs.Agreement.{Same-released, Same-next, Same-weak_next, Same-since, Same-triggered, Same-yesterday, Same-weak_yesterday}
-use Rattle.ltl_word.proofs.Bounded.{Same-eventually_in, Same-always_in, Same-times, Same-yesterdays, here_once, once_here, here_historically, historically_here}
-use Rattle.ltl_word.proofs.Bounded.{once_earlier, earlier_once, historically_earlier, earlier_historically}
+use Rattle.ltl_word.proofs.Agreement.{IsRange, Same, Same-self, Same-then, Same-turned, Same-back, Same-and, Same-or, Same-implies, Same-iff, Same-until}
+use Rattle.ltl_word.proofs.Agreement.{Same-released, Same-since, Same-triggered}
+use Rattle.ltl_word.proofs.Reached.{Same-somewhere, Same-everywhere, Same-shape}
+use Rattle.ltl_word.proofs.Steps.{exactly_peels, between_peels, some_later, every_later, some_here, every_here, once_is, historically_is}
 use Rattle.depast.specs.Depast.{taken, taken₁, conjoined, step_back, joined_back, residue, residue₁, residue₂, yesterday_axiom, weak_yesterday_axiom}
 use Rattle.depast.specs.Depast.{back_axioms, axioms, axioms₁, axioms₂}
 use Rattle.depast.specs.Lifting.{counted, meanings, meanings₁, meanings₂}
 use Rattle.depast.specs.Laws.{IsPart}
 use Rattle.depast.proofs.Lists.{Contains-nil, Contains-cons_cases}
-use Rattle.depast.specs.Future.{IsFuture₁, IsFuture₂}
-use Rattle.depast.proofs.Ranges.{SomeStep, EachStep, once_steps, steps_once, historically_steps, steps_historically, no_step, one_step, step_one, last_step}
+use Rattle.depast.specs.Future.{IsFuture₂}
+use Rattle.depast.proofs.Ranges.{SomeStep, EachStep, Back, WeakBack, some_steps, every_steps, no_step, one_step, step_one, last_step}
 use Rattle.depast.proofs.Ranges.{step_last, each_one, one_each, each_last, last_each}
 use Rattle.depast.proofs.Axioms.{yesterday_is, yesterday_has, weak_yesterday_is, weak_yesterday_has, since_is, since_has, trigger_is, trigger_has}
 
@@ -53,25 +53,15 @@ module _ (t u : Trace) (good : IsTrace t) (fine : IsTrace u) (at0 : IsPosition u
   Same-false : Same P (U (Const false)) Never
   Same-false = record { to = λ i q x. cc; back = λ i q x. absurd x }
 
-  -- an operator that does not look back, over formulas that agree
-  future₁ : (op : UnaryOp) (c a : Formula) → IsFuture₁ op → Same P (U c) (T a) → Same P (U (Unary op c)) (T (Unary op a))
-  future₁ Not c a f s = Same-not _ _ s
-  future₁ Next c a f s = turn _ (λ R. AtNext R (T a)) (Same-next range _ _ s)
-  future₁ WeakNext c a f s = turn _ (λ R. AtWeakNext R (T a)) (Same-weak_next range _ _ s)
-  future₁ Eventually c a f s = turn _ (λ R. IsUntil R Always' (T a)) (Same-until range _ _ _ _ (Same-self Always') s)
-  future₁ Always c a f s = turn _ (λ R. IsReleased R Never (T a)) (Same-released range _ _ _ _ (Same-self Never) s)
-  future₁ Yesterday c a f s = absurd f
-  future₁ WeakYesterday c a f s = absurd f
-  future₁ Once c a f s = absurd f
-  future₁ Historically c a f s = absurd f
-  future₁ (NextTimes n) c a f s =
-      turn _ (λ R. AtNextTimes R n (T a))
-      (Same-then _ _ _ (Same-times n (U c) P) (Same-then _ _ _ (Same-eventually_in range n n _ _ s) (Same-turned _ _ (Same-times n (T a) P))))
-  future₁ (YesterdayTimes n) c a f s = absurd f
-  future₁ (EventuallyIn m n) c a f s = turn _ (λ R. IsEventuallyIn R m n (T a)) (Same-eventually_in range m n _ _ s)
-  future₁ (AlwaysIn m n) c a f s = turn _ (λ R. IsAlwaysIn R m n (T a)) (Same-always_in range m n _ _ s)
-  future₁ (OnceIn m n) c a f s = absurd f
-  future₁ (HistoricallyIn m n) c a f s = absurd f
+  -- an operator over formulas that agree
+  kept₁ : (op : UnaryOp) (c a : Formula) → Same P (U c) (T a) → Same P (U (Unary op c)) (T (Unary op a))
+  kept₁ op c a s = turn _ (λ R. OfShape R (shape op) (T a)) (Same-shape range (shape op) (U c) (T a) s)
+
+  once_since : (c a : Formula) → Same P (U c) (T a) → Same P (IsSince (U (Const true)) (U c)) (T (Unary Once a))
+  once_since c a s = Same-then _ _ _ (Same-since range _ _ _ _ Same-true s) (Same-back _ _ (λ i q. once_is P (T a) i))
+
+  historically_triggered : (c a : Formula) → Same P (U c) (T a) → Same P (IsTriggered (U (Const false)) (U c)) (T (Unary Historically a))
+  historically_triggered c a s = Same-then _ _ _ (Same-triggered range _ _ _ _ Same-false s) (Same-back _ _ (λ i q. historically_is P (T a) i))
 
   future₂ : (op : BinaryOp) (c d a b : Formula) → IsFuture₂ op → Same P (U c) (T a) → Same P (U d) (T b) → Same P (U (Binary op c d)) (T (Binary op a b))
   future₂ And c d a b f r s = Same-and _ _ _ _ r s
@@ -121,28 +111,27 @@ module _ (t u : Trace) (good : IsTrace t) (fine : IsTrace u) (at0 : IsPosition u
   module _ (z : ℕ → Formula) where
     -- the letters on the way back are what they stand for
     module _ (k : ℕ) (c a : Formula) (s : Same P (U c) (T a)) where
-      back₀ : Same P (U c) (IsOnceIn 0 0 (T a))
-      back₀ = Same-then _ _ _ s (record { to = λ i q x. here_once (T a) i x; back = λ i q x. once_here (T a) i x })
+      back₀ : Same P (U c) (Back (T a) 0)
+      back₀ = Same-then _ _ _ s (Same-back _ _ (λ i q. some_here P (T a) Past (Exactly 0) (λ j k w. omega arith) i (omega arith)))
 
-      weak_back₀ : Same P (U c) (IsHistoricallyIn 0 0 (T a))
-      weak_back₀ = Same-then _ _ _ s (record { to = λ i q x. here_historically (T a) i x; back = λ i q x. historically_here (T a) i x })
+      weak_back₀ : Same P (U c) (WeakBack (T a) 0)
+      weak_back₀ = Same-then _ _ _ s (Same-back _ _ (λ i q. every_here P (T a) Past (Between 0 0) (λ j k w. omega arith) i (omega arith, omega arith)))
 
-      back_more : (n : ℕ) (d : Formula) → Same P (U d) (IsOnceIn n n (T a)) → Same P (AtYesterday (U d)) (IsOnceIn (suc n) (suc n) (T a))
-      back_more n d r =
-          Same-then _ _ _ (Same-yesterday range _ _ r) (record { to = λ i q x. earlier_once (T a) n n i x; back = λ i q x. once_earlier (T a) n n i x })
+      back_more : (n : ℕ) (d : Formula) → Same P (U d) (Back (T a) n) → Same P (IsSomewhere Always' Past Step (U d)) (Back (T a) (suc n))
+      back_more n d r = Same-then _ _ _ (Same-somewhere range Past Step _ _ r)
+          (Same-back _ _ (λ i q. some_later P (T a) (position_below u) Past (exactly_peels n) i (λ j k w. omega arith)))
 
-      weak_back_more : (n : ℕ) (d : Formula) → Same P (U d) (IsHistoricallyIn n n (T a))
-          → Same P (AtWeakYesterday (U d)) (IsHistoricallyIn (suc n) (suc n) (T a))
-      weak_back_more n d r = Same-then _ _ _ (Same-weak_yesterday range _ _ r)
-          (record { to = λ i q x. earlier_historically (T a) n n i x; back = λ i q x. historically_earlier (T a) n n i x })
+      weak_back_more : (n : ℕ) (d : Formula) → Same P (U d) (WeakBack (T a) n) → Same P (IsEverywhere Always' Past Step (U d)) (WeakBack (T a) (suc n))
+      weak_back_more n d r = Same-then _ _ _ (Same-everywhere range Past Step _ _ r)
+          (Same-back _ _ (λ i q. every_later P (T a) (position_below u) Past (between_peels n n) i (λ j k w. omega arith)))
 
-      back_from : (n : ℕ) → AllHold (back_axioms yesterday_axiom z k c n) → Same P (U (step_back z k c n)) (IsOnceIn n n (T a))
+      back_from : (n : ℕ) → AllHold (back_axioms yesterday_axiom z k c n) → Same P (U (step_back z k c n)) (Back (T a) n)
       back_from zero h = back₀
       back_from (suc n) h =
           let r = hold_split (back_axioms yesterday_axiom z k c n) (yesterday_axiom (step_back z k c n) (z (k + n)) ∷ []) h in
           Same-then _ _ _ (yesterday_is P (position_below u) (U (step_back z k c n)) (U (z (k + n))) r.1.0) (back_more n (step_back z k c n) (back_from n r.0))
 
-      weak_back_from : (n : ℕ) → AllHold (back_axioms weak_yesterday_axiom z k c n) → Same P (U (step_back z k c n)) (IsHistoricallyIn n n (T a))
+      weak_back_from : (n : ℕ) → AllHold (back_axioms weak_yesterday_axiom z k c n) → Same P (U (step_back z k c n)) (WeakBack (T a) n)
       weak_back_from zero h = weak_back₀
       weak_back_from (suc n) h =
           let r = hold_split (back_axioms weak_yesterday_axiom z k c n) (weak_yesterday_axiom (step_back z k c n) (z (k + n)) ∷ []) h in
@@ -157,49 +146,34 @@ module _ (t u : Trace) (good : IsTrace t) (fine : IsTrace u) (at0 : IsPosition u
         | inr ge ↦ fewer says n j ge (hold_split (back_axioms says z k c n) (says (step_back z k c n) (z (k + n)) ∷ []) h).0
       ]
 
-      joined_once : (m n : ℕ) → ((j : ℕ) → j ≤ n → Same P (U (step_back z k c j)) (IsOnceIn j j (T a)))
-          → Same P (U (joined_back Or false (step_back z k c) m (suc n - m))) (IsOnceIn m n (T a))
-      joined_once m n h = Same-then _ _ _ (some_joined (step_back z k c) (λ j. IsOnceIn j j (T a)) m (suc n - m) (λ j low high. h j (omega arith)))
-          (record { to = λ i q x. steps_once (T a) m n i x; back = λ i q x. once_steps (T a) m n i x })
+      joined_once : (m n : ℕ) → ((j : ℕ) → j ≤ n → Same P (U (step_back z k c j)) (Back (T a) j))
+          → Same P (U (joined_back Or false (step_back z k c) m (suc n - m))) (T (Unary (OnceIn m n) a))
+      joined_once m n h = Same-then _ _ _ (some_joined (step_back z k c) (Back (T a)) m (suc n - m) (λ j low high. h j (omega arith)))
+          (Same-back _ _ (λ i q. some_steps (T a) m n i))
 
-      joined_historically : (m n : ℕ) → ((j : ℕ) → j ≤ n → Same P (U (step_back z k c j)) (IsHistoricallyIn j j (T a)))
-          → Same P (U (joined_back And true (step_back z k c) m (suc n - m))) (IsHistoricallyIn m n (T a))
-      joined_historically m n h =
-          Same-then _ _ _ (each_joined (step_back z k c) (λ j. IsHistoricallyIn j j (T a)) m (suc n - m) (λ j low high. h j (omega arith)))
-          (record { to = λ i q x. steps_historically (T a) m n i x; back = λ i q x. historically_steps (T a) m n i x })
+      joined_historically : (m n : ℕ) → ((j : ℕ) → j ≤ n → Same P (U (step_back z k c j)) (WeakBack (T a) j))
+          → Same P (U (joined_back And true (step_back z k c) m (suc n - m))) (T (Unary (HistoricallyIn m n) a))
+      joined_historically m n h = Same-then _ _ _ (each_joined (step_back z k c) (WeakBack (T a)) m (suc n - m) (λ j low high. h j (omega arith)))
+          (Same-back _ _ (λ i q. every_steps (T a) m n i))
 
     -- an operator's residue, where its axioms hold
     from₁ : (op : UnaryOp) (k : ℕ) (c a : Formula) → Same P (U c) (T a) → AllHold (axioms₁ z k op c) → Same P (U (residue₁ z k op c)) (T (Unary op a))
-    from₁ Not k c a s h = future₁ Not c a tt s
-    from₁ Next k c a s h = future₁ Next c a tt s
-    from₁ WeakNext k c a s h = future₁ WeakNext c a tt s
-    from₁ Eventually k c a s h = future₁ Eventually c a tt s
-    from₁ Always k c a s h = future₁ Always c a tt s
-    from₁ Yesterday k c a s h = Same-then _ _ _ (yesterday_is P (position_below u) (U c) (U (z k)) h.0) (Same-yesterday range _ _ s)
-    from₁ WeakYesterday k c a s h = Same-then _ _ _ (weak_yesterday_is P (position_below u) (U c) (U (z k)) h.0) (Same-weak_yesterday range _ _ s)
-    from₁ Once k c a s h = Same-then _ _ _ (since_is P (position_below u) (U (Const true)) (U c) (U (z k)) h.0) (Same-since range _ _ _ _ Same-true s)
+    from₁ Yesterday k c a s h = Same-then _ _ _ (yesterday_is P (position_below u) (U c) (U (z k)) h.0) (Same-somewhere range Past Step _ _ s)
+    from₁ WeakYesterday k c a s h = Same-then _ _ _ (weak_yesterday_is P (position_below u) (U c) (U (z k)) h.0) (Same-everywhere range Past Step _ _ s)
+    from₁ Once k c a s h = Same-then _ _ _ (since_is P (position_below u) (U (Const true)) (U c) (U (z k)) h.0) (once_since c a s)
     from₁ Historically k c a s h = Same-then _ _ _ (trigger_is P (position_below u) (U (Const false)) (U c) (U (z k)) (Holds_decided u fine (Const false)) h.0)
-        (Same-triggered range _ _ _ _ Same-false s)
-    from₁ (NextTimes n) k c a s h = future₁ (NextTimes n) c a tt s
-    from₁ (YesterdayTimes n) k c a s h = Same-then _ _ _ (back_from k c a s n h) (Same-turned _ _ (Same-yesterdays n (T a)))
-    from₁ (EventuallyIn m n) k c a s h = future₁ (EventuallyIn m n) c a tt s
-    from₁ (AlwaysIn m n) k c a s h = future₁ (AlwaysIn m n) c a tt s
+        (historically_triggered c a s)
+    from₁ (YesterdayTimes n) k c a s h = back_from k c a s n h
     from₁ (OnceIn m n) k c a s h = joined_once k c a s m n (λ j le. back_from k c a s j (fewer k c a s yesterday_axiom n j le h))
     from₁ (HistoricallyIn m n) k c a s h = joined_historically k c a s m n (λ j le. weak_back_from k c a s j (fewer k c a s weak_yesterday_axiom n j le h))
+    from₁ op k c a s h = kept₁ op c a s
 
     from₂ : (op : BinaryOp) (k : ℕ) (c d a b : Formula) → Same P (U c) (T a) → Same P (U d) (T b) → AllHold (axioms₂ z k op c d)
         → Same P (U (residue₂ z k op c d)) (T (Binary op a b))
-    from₂ And k c d a b r s h = future₂ And c d a b tt r s
-    from₂ Or k c d a b r s h = future₂ Or c d a b tt r s
-    from₂ Implies k c d a b r s h = future₂ Implies c d a b tt r s
-    from₂ Iff k c d a b r s h = future₂ Iff c d a b tt r s
-    from₂ Until k c d a b r s h = future₂ Until c d a b tt r s
-    from₂ Release k c d a b r s h = future₂ Release c d a b tt r s
-    from₂ WeakUntil k c d a b r s h = future₂ WeakUntil c d a b tt r s
-    from₂ StrongRelease k c d a b r s h = future₂ StrongRelease c d a b tt r s
     from₂ Since k c d a b r s h = Same-then _ _ _ (since_is P (position_below u) (U c) (U d) (U (z k)) h.0) (Same-since range _ _ _ _ r s)
     from₂ Trigger k c d a b r s h =
         Same-then _ _ _ (trigger_is P (position_below u) (U c) (U d) (U (z k)) (Holds_decided u fine c) h.0) (Same-triggered range _ _ _ _ r s)
+    from₂ op k c d a b r s h = future₂ op c d a b tt r s
 
     -- the letters of the formula hold where they did
     abbrev pub LettersAgree : Formula → Type 0
@@ -251,11 +225,11 @@ module _ (t u : Trace) (good : IsTrace t) (fine : IsTrace u) (at0 : IsPosition u
     Stands c xs a = Same P (U c) (T a) × AllHold xs
 
     module _ (k : ℕ) (c a : Formula) (s : Same P (U c) (T a)) where
-      back_meant : (n : ℕ) → ((j : ℕ) → j < n → Same P (U (z (k + j))) (IsOnceIn (suc j) (suc j) (T a))) → Same P (U (step_back z k c n)) (IsOnceIn n n (T a))
+      back_meant : (n : ℕ) → ((j : ℕ) → j < n → Same P (U (z (k + j))) (Back (T a) (suc j))) → Same P (U (step_back z k c n)) (Back (T a) n)
       back_meant zero h = back₀ k c a s
       back_meant (suc n) h = h n (omega arith)
 
-      back_hold : (n : ℕ) → ((j : ℕ) → j < n → Same P (U (z (k + j))) (IsOnceIn (suc j) (suc j) (T a))) → AllHold (back_axioms yesterday_axiom z k c n)
+      back_hold : (n : ℕ) → ((j : ℕ) → j < n → Same P (U (z (k + j))) (Back (T a) (suc j))) → AllHold (back_axioms yesterday_axiom z k c n)
       back_hold zero h = tt
       back_hold (suc n) h =
           hold_append (back_axioms yesterday_axiom z k c n) (yesterday_axiom (step_back z k c n) (z (k + n)) ∷ []) (back_hold n (λ j lt. h j (omega arith))) (
@@ -265,12 +239,12 @@ module _ (t u : Trace) (good : IsTrace t) (fine : IsTrace u) (at0 : IsPosition u
             tt,
           )
 
-      weak_back_meant : (n : ℕ) → ((j : ℕ) → j < n → Same P (U (z (k + j))) (IsHistoricallyIn (suc j) (suc j) (T a)))
-          → Same P (U (step_back z k c n)) (IsHistoricallyIn n n (T a))
+      weak_back_meant : (n : ℕ) → ((j : ℕ) → j < n → Same P (U (z (k + j))) (WeakBack (T a) (suc j)))
+          → Same P (U (step_back z k c n)) (WeakBack (T a) n)
       weak_back_meant zero h = weak_back₀ k c a s
       weak_back_meant (suc n) h = h n (omega arith)
 
-      weak_back_hold : (n : ℕ) → ((j : ℕ) → j < n → Same P (U (z (k + j))) (IsHistoricallyIn (suc j) (suc j) (T a)))
+      weak_back_hold : (n : ℕ) → ((j : ℕ) → j < n → Same P (U (z (k + j))) (WeakBack (T a) (suc j)))
           → AllHold (back_axioms weak_yesterday_axiom z k c n)
       weak_back_hold zero h = tt
       weak_back_hold (suc n) h = hold_append (back_axioms weak_yesterday_axiom z k c n) (weak_yesterday_axiom (step_back z k c n) (z (k + n)) ∷ [])
@@ -283,24 +257,20 @@ module _ (t u : Trace) (good : IsTrace t) (fine : IsTrace u) (at0 : IsPosition u
 
       -- the letters of a chain, read as claims
       once_meant : (n : ℕ) → AreMeant k (counted (λ m. Unary (YesterdayTimes m) a) n) → (j : ℕ)
-          → j < n → Same P (U (z (k + j))) (IsOnceIn (suc j) (suc j) (T a))
-      once_meant n h j lt = Same-then _ _ _ (meant_at k (λ m. Unary (YesterdayTimes m) a) n h j lt) (Same-yesterdays (suc j) (T a))
+          → j < n → Same P (U (z (k + j))) (Back (T a) (suc j))
+      once_meant n h j lt = meant_at k (λ m. Unary (YesterdayTimes m) a) n h j lt
 
       historically_meant : (n : ℕ) → AreMeant k (counted (λ m. Unary (HistoricallyIn m m) a) n) → (j : ℕ)
-          → j < n → Same P (U (z (k + j))) (IsHistoricallyIn (suc j) (suc j) (T a))
+          → j < n → Same P (U (z (k + j))) (WeakBack (T a) (suc j))
       historically_meant n h j lt = meant_at k (λ m. Unary (HistoricallyIn m m) a) n h j lt
 
     stands₁ : (op : UnaryOp) (k : ℕ) (c a : Formula) → Same P (U c) (T a) → AreMeant k (meanings₁ op a)
         → Stands (residue₁ z k op c) (axioms₁ z k op c) (Unary op a)
-    stands₁ Not k c a s h = (future₁ Not c a tt s, tt)
-    stands₁ Next k c a s h = (future₁ Next c a tt s, tt)
-    stands₁ WeakNext k c a s h = (future₁ WeakNext c a tt s, tt)
-    stands₁ Eventually k c a s h = (future₁ Eventually c a tt s, tt)
-    stands₁ Always k c a s h = (future₁ Always c a tt s, tt)
     stands₁ Yesterday k c a s h = (
       h.0,
       (
-        yesterday_has P (position_below u) (U c) (U (z k)) (Holds_decided u fine c) (Same-then _ _ _ h.0 (Same-turned _ _ (Same-yesterday range _ _ s))) at0,
+        yesterday_has P (position_below u) (U c) (U (z k)) (Holds_decided u fine c)
+            (Same-then _ _ _ h.0 (Same-turned _ _ (Same-somewhere range Past Step _ _ s))) at0,
         tt,
       ),
     )
@@ -308,7 +278,7 @@ module _ (t u : Trace) (good : IsTrace t) (fine : IsTrace u) (at0 : IsPosition u
       h.0,
       (
         weak_yesterday_has P (position_below u) (U c) (U (z k)) (Holds_decided u fine c)
-            (Same-then _ _ _ h.0 (Same-turned _ _ (Same-weak_yesterday range _ _ s))) at0,
+            (Same-then _ _ _ h.0 (Same-turned _ _ (Same-everywhere range Past Step _ _ s))) at0,
         tt,
       ),
     )
@@ -316,7 +286,7 @@ module _ (t u : Trace) (good : IsTrace t) (fine : IsTrace u) (at0 : IsPosition u
       h.0,
       (
         since_has P (position_below u) (U (Const true)) (U c) (U (z k)) (Holds_decided u fine (z k))
-            (Same-then _ _ _ h.0 (Same-turned _ _ (Same-since range _ _ _ _ Same-true s))) at0,
+            (Same-then _ _ _ h.0 (Same-turned _ _ (once_since c a s))) at0,
         tt,
       ),
     )
@@ -324,33 +294,23 @@ module _ (t u : Trace) (good : IsTrace t) (fine : IsTrace u) (at0 : IsPosition u
       h.0,
       (
         trigger_has P (position_below u) (U (Const false)) (U c) (U (z k)) (Holds_decided u fine (Const false)) (Holds_decided u fine (z k))
-            (Same-then _ _ _ h.0 (Same-turned _ _ (Same-triggered range _ _ _ _ Same-false s))) at0,
+            (Same-then _ _ _ h.0 (Same-turned _ _ (historically_triggered c a s))) at0,
         tt,
       ),
     )
-    stands₁ (NextTimes n) k c a s h = (future₁ (NextTimes n) c a tt s, tt)
     stands₁ (YesterdayTimes n) k c a s h =
         let m = once_meant k c a s n h in
-        (Same-then _ _ _ (back_meant k c a s n m) (Same-turned _ _ (Same-yesterdays n (T a))), back_hold k c a s n m)
-    stands₁ (EventuallyIn m n) k c a s h = (future₁ (EventuallyIn m n) c a tt s, tt)
-    stands₁ (AlwaysIn m n) k c a s h = (future₁ (AlwaysIn m n) c a tt s, tt)
+        (back_meant k c a s n m, back_hold k c a s n m)
     stands₁ (OnceIn m n) k c a s h =
         let l = once_meant k c a s n h in
         (joined_once k c a s m n (λ j le. back_meant k c a s j (λ i lt. l i (omega arith))), back_hold k c a s n l)
     stands₁ (HistoricallyIn m n) k c a s h =
         let l = historically_meant k c a s n h in
         (joined_historically k c a s m n (λ j le. weak_back_meant k c a s j (λ i lt. l i (omega arith))), weak_back_hold k c a s n l)
+    stands₁ op k c a s h = (kept₁ op c a s, tt)
 
     stands₂ : (op : BinaryOp) (k : ℕ) (c d a b : Formula) → Same P (U c) (T a) → Same P (U d) (T b) → AreMeant k (meanings₂ op a b)
         → Stands (residue₂ z k op c d) (axioms₂ z k op c d) (Binary op a b)
-    stands₂ And k c d a b r s h = (future₂ And c d a b tt r s, tt)
-    stands₂ Or k c d a b r s h = (future₂ Or c d a b tt r s, tt)
-    stands₂ Implies k c d a b r s h = (future₂ Implies c d a b tt r s, tt)
-    stands₂ Iff k c d a b r s h = (future₂ Iff c d a b tt r s, tt)
-    stands₂ Until k c d a b r s h = (future₂ Until c d a b tt r s, tt)
-    stands₂ Release k c d a b r s h = (future₂ Release c d a b tt r s, tt)
-    stands₂ WeakUntil k c d a b r s h = (future₂ WeakUntil c d a b tt r s, tt)
-    stands₂ StrongRelease k c d a b r s h = (future₂ StrongRelease c d a b tt r s, tt)
     stands₂ Since k c d a b r s h = (
       h.0,
       (
@@ -367,6 +327,7 @@ module _ (t u : Trace) (good : IsTrace t) (fine : IsTrace u) (at0 : IsPosition u
         tt,
       ),
     )
+    stands₂ op k c d a b r s h = (future₂ op c d a b tt r s, tt)
 
     -- where the letters are what they mean, residues hold where the parts do, and each axiom holds
     pub length-meanings : (f : Formula) → length (meanings f) ≡ taken f
@@ -374,37 +335,10 @@ module _ (t u : Trace) (good : IsTrace t) (fine : IsTrace u) (at0 : IsPosition u
     length-meanings (Letter p) = refl
     length-meanings (Unary op a) = omega (arith, length-meanings a, length-meanings₁ op a, length-append (meanings a) (meanings₁ op a)) where
       length-meanings₁ : (op : UnaryOp) (a : Formula) → length (meanings₁ op a) ≡ taken₁ op
-      length-meanings₁ Not a = refl
-      length-meanings₁ Next a = refl
-      length-meanings₁ WeakNext a = refl
-      length-meanings₁ Eventually a = refl
-      length-meanings₁ Always a = refl
-      length-meanings₁ Yesterday a = refl
-      length-meanings₁ WeakYesterday a = refl
-      length-meanings₁ Once a = refl
-      length-meanings₁ Historically a = refl
-      length-meanings₁ (NextTimes n) a = refl
       length-meanings₁ (YesterdayTimes n) a = length-counted (λ m. Unary (YesterdayTimes m) a) n
-      length-meanings₁ (EventuallyIn m n) a = refl
-      length-meanings₁ (AlwaysIn m n) a = refl
       length-meanings₁ (OnceIn m n) a = length-counted (λ m. Unary (YesterdayTimes m) a) n
       length-meanings₁ (HistoricallyIn m n) a = length-counted (λ m. Unary (HistoricallyIn m m) a) n
-    length-meanings (Binary And a b) =
-        omega (arith, length-meanings a, length-meanings b, length-append (meanings a) (meanings b ++ []), length-append (meanings b) [])
-    length-meanings (Binary Or a b) =
-        omega (arith, length-meanings a, length-meanings b, length-append (meanings a) (meanings b ++ []), length-append (meanings b) [])
-    length-meanings (Binary Implies a b) =
-        omega (arith, length-meanings a, length-meanings b, length-append (meanings a) (meanings b ++ []), length-append (meanings b) [])
-    length-meanings (Binary Iff a b) =
-        omega (arith, length-meanings a, length-meanings b, length-append (meanings a) (meanings b ++ []), length-append (meanings b) [])
-    length-meanings (Binary Until a b) =
-        omega (arith, length-meanings a, length-meanings b, length-append (meanings a) (meanings b ++ []), length-append (meanings b) [])
-    length-meanings (Binary Release a b) =
-        omega (arith, length-meanings a, length-meanings b, length-append (meanings a) (meanings b ++ []), length-append (meanings b) [])
-    length-meanings (Binary WeakUntil a b) =
-        omega (arith, length-meanings a, length-meanings b, length-append (meanings a) (meanings b ++ []), length-append (meanings b) [])
-    length-meanings (Binary StrongRelease a b) =
-        omega (arith, length-meanings a, length-meanings b, length-append (meanings a) (meanings b ++ []), length-append (meanings b) [])
+      length-meanings₁ op a = refl
     length-meanings (Binary Since a b) = omega (
       arith,
       length-meanings a,
@@ -419,6 +353,8 @@ module _ (t u : Trace) (good : IsTrace t) (fine : IsTrace u) (at0 : IsPosition u
       length-append (meanings a) (meanings b ++ Binary Trigger a b ∷ []),
       length-append (meanings b) (Binary Trigger a b ∷ []),
     )
+    length-meanings (Binary op a b) =
+        omega (arith, length-meanings a, length-meanings b, length-append (meanings a) (meanings b ++ []), length-append (meanings b) [])
 
     -- the meanings of an operator's operands, and its own
     one_meant : (n : ℕ) (op : UnaryOp) (a : Formula) → AreMeant n (meanings (Unary op a)) → AreMeant n (meanings a) × AreMeant (n + taken a) (meanings₁ op a)

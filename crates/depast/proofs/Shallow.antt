@@ -3,9 +3,9 @@ use Rattle.std.proofs.Common.{ℕ, zero, suc, ◌+◌, ◌<◌, ◌≤◌, max, 
 use Rattle.std.specs.Prelude.{⊤}
 use Rattle.ltl_syntax.specs.declared.node.UnaryOp.{UnaryOp}
 use Rattle.ltl_syntax.specs.declared.node.BinaryOp.{BinaryOp}
-use Rattle.ltl_syntax.specs.declared.node.UnaryOp.TheVariants.{Always, AlwaysIn, Eventually, EventuallyIn, Historically, HistoricallyIn, Next, NextTimes, Not}
-use Rattle.ltl_syntax.specs.declared.node.UnaryOp.TheVariants.{Once, OnceIn, WeakNext, WeakYesterday, Yesterday, YesterdayTimes}
-use Rattle.ltl_syntax.specs.declared.node.BinaryOp.TheVariants.{And, Iff, Implies, Or, Release, Since, StrongRelease, Trigger, Until, WeakUntil}
+use Rattle.ltl_syntax.specs.declared.node.UnaryOp.TheVariants.{Historically, HistoricallyIn}
+use Rattle.ltl_syntax.specs.declared.node.UnaryOp.TheVariants.{Once, OnceIn, WeakYesterday, Yesterday, YesterdayTimes}
+use Rattle.ltl_syntax.specs.declared.node.BinaryOp.TheVariants.{And, Since, Trigger}
 use Rattle.ltl_syntax.specs.Formula.{Formula, Const, Letter, Unary, Binary}
 use Rattle.ltl_word.specs.Depth.{past_depth}
 use Rattle.depast.specs.Lifting.{counted, meanings, meanings₁, meanings₂}
@@ -27,62 +27,26 @@ shallow_counted h g zero k = tt
 shallow_counted h g (suc n) k = shallow_append h (counted g n) (g (suc n) ∷ []) (shallow_counted h g n (λ j lt. k j (omega arith))) (k n (omega arith), tt)
 
 shallow₁ : (op : UnaryOp) (a : Formula) → AreShallow (past_depth (Unary op a)) (meanings₁ op a)
-shallow₁ Not a = tt
-shallow₁ Next a = tt
-shallow₁ WeakNext a = tt
-shallow₁ Eventually a = tt
-shallow₁ Always a = tt
 shallow₁ Yesterday a = (omega arith, tt)
 shallow₁ WeakYesterday a = (omega arith, tt)
 shallow₁ Once a = (omega arith, tt)
 shallow₁ Historically a = (omega arith, tt)
-shallow₁ (NextTimes n) a = tt
 shallow₁ (YesterdayTimes n) a = shallow_counted (n + past_depth a) (λ m. Unary (YesterdayTimes m) a) n (λ j lt. omega arith)
-shallow₁ (EventuallyIn m n) a = tt
-shallow₁ (AlwaysIn m n) a = tt
 shallow₁ (OnceIn m n) a = shallow_counted (n + past_depth a) (λ k. Unary (YesterdayTimes k) a) n (λ j lt. omega arith)
 shallow₁ (HistoricallyIn m n) a = shallow_counted (n + past_depth a) (λ k. Unary (HistoricallyIn k k) a) n (λ j lt. omega arith)
+shallow₁ op a = tt
 
 shallow₂ : (op : BinaryOp) (a b : Formula) → AreShallow (past_depth (Binary op a b)) (meanings₂ op a b)
-shallow₂ And a b = tt
-shallow₂ Or a b = tt
-shallow₂ Implies a b = tt
-shallow₂ Iff a b = tt
-shallow₂ Until a b = tt
-shallow₂ Release a b = tt
-shallow₂ WeakUntil a b = tt
-shallow₂ StrongRelease a b = tt
 shallow₂ Since a b = (omega arith, tt)
 shallow₂ Trigger a b = (omega arith, tt)
+shallow₂ op a b = tt
 
 deeper₁ : (op : UnaryOp) (a : Formula) → past_depth a ≤ past_depth (Unary op a)
-deeper₁ Not a = omega arith
-deeper₁ Next a = omega arith
-deeper₁ WeakNext a = omega arith
-deeper₁ Eventually a = omega arith
-deeper₁ Always a = omega arith
-deeper₁ Yesterday a = omega arith
-deeper₁ WeakYesterday a = omega arith
-deeper₁ Once a = omega arith
-deeper₁ Historically a = omega arith
-deeper₁ (NextTimes n) a = omega arith
-deeper₁ (YesterdayTimes n) a = omega arith
-deeper₁ (EventuallyIn m n) a = omega arith
-deeper₁ (AlwaysIn m n) a = omega arith
-deeper₁ (OnceIn m n) a = omega arith
-deeper₁ (HistoricallyIn m n) a = omega arith
+deeper₁ op a = omega arith
 
 deeper₂ : (op : BinaryOp) (a b : Formula) → max (past_depth a) (past_depth b) ≤ past_depth (Binary op a b)
 deeper₂ And a b = omega arith
-deeper₂ Or a b = omega arith
-deeper₂ Implies a b = omega arith
-deeper₂ Iff a b = omega arith
-deeper₂ Until a b = omega arith
-deeper₂ Release a b = omega arith
-deeper₂ WeakUntil a b = omega arith
-deeper₂ StrongRelease a b = omega arith
-deeper₂ Since a b = omega arith
-deeper₂ Trigger a b = omega arith
+deeper₂ op a b = omega arith
 
 shallow : (f : Formula) → AreShallow (past_depth f) (meanings f)
 shallow (Const b) = tt

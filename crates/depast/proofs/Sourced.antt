@@ -8,7 +8,7 @@ use Rattle.ltl_syntax.specs.declared.node.Node.{Node}
 use Rattle.ltl_syntax.specs.declared.node.Node.TheVariants as nodes
 use Rattle.ltl_syntax.specs.Formula.{Formula, Const}
 use Rattle.ltl_syntax.specs.Table.{Table, tree_at, trees_of, made}
-use Rattle.ltl_word.specs.Claims.{Claim, AtYesterdayTimes, IsHistoricallyIn}
+use Rattle.ltl_word.specs.Claims.{Claim}
 use Rattle.ltl_word.specs.Holds.{Holds}
 use Rattle.lasso_eval.specs.Under.{IsUnder, Here, Below}
 use Rattle.depast.specs.declared.sources.Source.{Source}
@@ -16,6 +16,7 @@ use Rattle.depast.specs.Lifting.{counted, meanings, meanings₁, meanings₂}
 use Rattle.depast.specs.Postorder.{Ends, IsNode, operands}
 use Rattle.depast.specs.Sources.{behind, IsSource, AreSources, own_meanings, meanings_by, blank_source}
 use Rattle.depast.specs.Writing.{trees_at}
+use Rattle.depast.proofs.Ranges.{Back, WeakBack}
 
 -- ---- rows of sources
 
@@ -50,16 +51,16 @@ here_source t root number under = record {
       (λ h. (omega arith, subst (Holds u (tree_at t number)) (sym e) h), λ w. subst (Holds u (tree_at t number)) e w.1);
 }
 
-back_says : (A : Claim) (m i : ℕ) → AtYesterdayTimes m A i ↔ ((m ≤ i) × A (i - m))
+back_says : (A : Claim) (m i : ℕ) → Back A m i ↔ ((m ≤ i) × A (i - m))
 back_says A m i = (
   λ w. let e : w.0 ≡ i - m = let j = w.1 in omega arith in (let j = w.1 in omega arith, subst A e w.2),
   λ w. (i - m, let j = w.0 in omega arith, w.1),
 )
 
-weakly_says : (A : Claim) (m i : ℕ) → IsHistoricallyIn m m A i ↔ (m ≤ i → A (i - m))
+weakly_says : (A : Claim) (m i : ℕ) → WeakBack A m i ↔ (m ≤ i → A (i - m))
 weakly_says A m i = (
-  λ h le. h (i - m) (omega arith) (omega arith),
-  λ h j low high. let e : i - m ≡ j = omega arith in subst A e (h (omega arith)),
+  λ h le. h (i - m) (omega arith, omega arith),
+  λ h j far. let e : i - m ≡ j = omega arith in subst A e (h (omega arith)),
 )
 
 pub behind_source : (t : Table) (root a m : ℕ) (beyond : Bool) → IsUnder t root a

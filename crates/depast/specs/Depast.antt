@@ -7,25 +7,13 @@ use Rattle.ltl_syntax.specs.declared.node.UnaryOp.TheVariants.{Always, AlwaysIn,
 use Rattle.ltl_syntax.specs.declared.node.UnaryOp.TheVariants.{Once, OnceIn, WeakNext, WeakYesterday, Yesterday, YesterdayTimes}
 use Rattle.ltl_syntax.specs.declared.node.BinaryOp.TheVariants.{And, Iff, Implies, Or, Release, Since, StrongRelease, Trigger, Until, WeakUntil}
 use Rattle.ltl_syntax.specs.Formula.{Formula, Const, Letter, Unary, Binary}
+use Rattle.ltl_syntax.specs.Shape.{shape}
+use Rattle.ltl_word.specs.Depth.{steps_back}
 use Rattle.depast.specs.Names.{most_leading, new_letter}
 
 -- how many names an operator takes: a bounded one as many as it looks back
 abbrev pub taken₁ : UnaryOp → ℕ
-taken₁ Not = 0
-taken₁ Next = 0
-taken₁ WeakNext = 0
-taken₁ Eventually = 0
-taken₁ Always = 0
-taken₁ Yesterday = 1
-taken₁ WeakYesterday = 1
-taken₁ Once = 1
-taken₁ Historically = 1
-taken₁ (NextTimes n) = 0
-taken₁ (YesterdayTimes n) = n
-taken₁ (EventuallyIn m n) = 0
-taken₁ (AlwaysIn m n) = 0
-taken₁ (OnceIn m n) = n
-taken₁ (HistoricallyIn m n) = n
+taken₁ op = steps_back (shape op)
 
 abbrev pub taken₂ : BinaryOp → ℕ
 taken₂ And = 0

@@ -5,15 +5,19 @@ use Rattle.std.proofs.Common.{le-ltb}
 use Rattle.std.proofs.lemmas.Bool.{cases_lt, cond-true, cond-false, lt-ltb}
 use Rattle.std.proofs.Math.Nat.{mod-add-div', mod-lt}
 use Rattle.ltl_syntax.specs.declared.node.UnaryOp.TheVariants.{AlwaysIn, EventuallyIn, HistoricallyIn, NextTimes, OnceIn, YesterdayTimes}
+use Rattle.ltl_syntax.specs.Shape.{Direction, Future, Past, Range, Between}
+use Rattle.ltl_syntax.specs.Formula.{Formula}
 use Rattle.ltl_word.specs.declared.trace.Trace.{Trace}
 use Rattle.ltl_word.specs.declared.trace.Trace.TheVariants.{Infinite, Finite}
-use Rattle.ltl_word.specs.Trace.{IsPosition}
-use Rattle.ltl_word.specs.Claims.{Claim, Always', IsEventuallyIn, IsAlwaysIn, IsOnceIn, IsHistoricallyIn}
+use Rattle.ltl_word.specs.Trace.{IsTrace, IsPosition}
+use Rattle.ltl_word.specs.Claims.{Claim, Always', Reached, IsSomewhere, IsEverywhere}
 use Rattle.ltl_word.specs.Holds.{Holds}
-use Rattle.ltl_word.proofs.Bounded.{times_in, in_times, yesterdays_in, in_yesterdays}
+use Rattle.ltl_word.specs.Depth.{past_depth}
+use Rattle.ltl_word.proofs.Reached.{later_le, some_exactly}
+use Rattle.ltl_word.proofs.Steps.{by_form}
 use Rattle.ltl_word.proofs.Repeats.{Repeats}
-use Rattle.lasso_eval.specs.Cells.{columns}
-use Rattle.lasso_eval.specs.Rows.{cell, IsRow}
+use Rattle.lasso_eval.specs.Cells.{columns, loop_start}
+use Rattle.lasso_eval.specs.Rows.{cell, IsRow, Tells}
 use Rattle.lasso_eval.specs.Windows.{same, shows}
 use Rattle.lasso_eval.specs.Following.{FollowsOne}
 use Rattle.lasso_eval.proofs.Turning.{Turns, Holds-turns}
@@ -31,6 +35,31 @@ module _ (A : Claim) (p start : ℕ) (ra : Repeats A p start) where
   rounds_earlier (suc c) r x =
       let e : start + (r + suc c * p) ≡ start + (r + c * p) + p = omega arith in
       rounds_earlier c r (ra.earlier (start + (r + c * p)) (omega arith) (subst A e x))
+
+-- what a window shows of a claim: a value that is seen is that of a position, each position is seen, and one without the claim is unseen
+record IsWindow (P : Claim) (d : Direction) (r : Range) (A seen unseen : Claim) (i : ℕ) : Type 0 where
+  from_seen : (j : ℕ) → Reached Always' d r i j → seen j → Reached P d r i j × A j
+  to_seen : (j : ℕ) → Reached P d r i j → A j → Reached Always' d r i j × seen j
+  from_unseen : (j : ℕ) → Reached Always' d r i j → unseen j → Reached P d r i j × (A j → ⊥)
+  either : (j : ℕ) → Reached P d r i j → A j ⊎ (Reached Always' d r i j × unseen j)
+
+module _ {P A seen unseen : Claim} (d : Direction) (r : Range) (i : ℕ) (window : IsWindow P d r A seen unseen i) where
+  some_told : (v : Bool) → IsTrue v ↔ IsSomewhere Always' d r seen i → IsTrue v ↔ IsSomewhere P d r A i
+  some_told v tells = (
+    λ e. let s = tells.0 e in let x = window.from_seen s.0 s.1 s.2 in (s.0, x.0, x.1),
+    λ s. let x = window.to_seen s.0 s.1 s.2 in tells.1 (s.0, x.0, x.1),
+  )
+
+  every_told : (v : Bool) → IsTrue (not v) ↔ IsSomewhere Always' d r unseen i → IsTrue v ↔ IsEverywhere P d r A i
+  every_told true tells = (
+    λ e j reached. elim (window.either j reached) [ inl x ↦ x | inr s ↦ let f = tells.1 (j, s.0, s.1) in absurd (cc) ],
+    λ f. refl,
+  )
+  every_told false tells = (λ e. absurd (cc), λ f. let s = tells.0 refl in let x = window.from_unseen s.0 s.1 s.2 in absurd (x.1 (f s.0 x.0)))
+
+not_both : (v : Bool) → IsTrue v → IsTrue (not v) → ⊥
+not_both true e f = cc
+not_both false e f = cc
 
 module _ (A : Claim) (a : List Bool) (n : ℕ) (told : IsRow n A a) where
   -- the position is there, and this value says of it what the cells show
@@ -105,10 +134,7 @@ module _ (A : Claim) (a : List Bool) (n : ℕ) (told : IsRow n A a) where
   missed t start w j s = elim (shown_at t start w j) [
     | inl v ↦ (v.1.there, λ x. not_both v.0 (v.1.tells.1 x) (sym (v.1.shown false) ∙ s))
     | inr none ↦ let f = none.1 false in absurd (cc)
-  ] where
-    not_both : (v : Bool) → IsTrue v → IsTrue (not v) → ⊥
-    not_both true e f = cc
-    not_both false e f = cc
+  ]
 
   hit_or_missed : (t : Trace) (start : ℕ) → Turns t n start A → (j : ℕ) → IsPosition t j → A j ⊎ IsTrue (shows false a start j)
   hit_or_missed t start w j at = elim (shown_at t start w j) [
@@ -119,99 +145,83 @@ module _ (A : Claim) (a : List Bool) (n : ℕ) (told : IsRow n A a) where
     either true tells s = inl (tells.0 refl)
     either false tells s = inr s
 
-  module _ (first last i : ℕ) where
-    pub eventually_in_told : (t : Trace) (start : ℕ) → Turns t n start A → (v : Bool)
-        → IsTrue v ↔ IsEventuallyIn Always' first last (λ j. IsTrue (shows true a start j)) i
-        → IsTrue v ↔ IsEventuallyIn (IsPosition t) first last A i
-    eventually_in_told t start turns v tells = (
-      λ e. let w = tells.0 e in let x = found t start turns w.0 w.4 in (w.0, w.1, w.2, x.0, x.1),
-      λ w. tells.1 (w.0, w.1, w.2, tt, finds t start turns w.0 w.3 w.4),
-    )
+  pub ahead : (t : Trace) (start : ℕ) → Turns t n start A → (r : Range) (i : ℕ)
+      → IsWindow (IsPosition t) Future r A (λ j. IsTrue (shows true a start j)) (λ j. IsTrue (shows false a start j)) i
+  ahead t start w r i = record {
+    from_seen = λ j at s. let x = found t start w j s in ((at.0, x.0), x.1);
+    to_seen = λ j at x. ((at.0, tt), finds t start w j at.1 x);
+    from_unseen = λ j at s. let x = missed t start w j s in ((at.0, x.0), x.1);
+    either = λ j at. elim (hit_or_missed t start w j at.1) [ inl x ↦ inl x | inr s ↦ inr ((at.0, tt), s) ];
+  }
 
-    pub always_in_told : (t : Trace) (start : ℕ) → Turns t n start A → (v : Bool)
-        → IsTrue (not v) ↔ IsEventuallyIn Always' first last (λ j. IsTrue (shows false a start j)) i
-        → IsTrue v ↔ IsAlwaysIn (IsPosition t) first last A i
-    always_in_told t start turns true tells = (
-      λ e j low high at. elim (hit_or_missed t start turns j at) [ inl x ↦ x | inr s ↦ let f = tells.1 (j, low, high, tt, s) in absurd (cc) ],
-      λ f. refl,
-    )
-    always_in_told t start turns false tells = (
-      λ e. absurd (cc),
-      λ f. let w = tells.0 refl in let x = missed t start turns w.0 w.4 in absurd (x.1 (f w.0 w.1 w.2 x.0)),
-    )
+  pub behind : (P : Claim) (r : Range) (i : ℕ) → i < n → IsWindow P Past r A (λ j. IsTrue (cell a j)) (λ j. IsTrue (not (cell a j))) i
+  behind P r i low = record {
+    from_seen = λ j at s. (at, (here j at).0 s);
+    to_seen = λ j at x. (at, (here j at).1 x);
+    from_unseen = λ j at s. (at, λ x. not_both (cell a j) ((here j at).1 x) s);
+    either = λ j at. told_or (cell a j) at (here j at);
+  } where
+    here : (j : ℕ) → Reached P Past r i j → IsTrue (cell a j) ↔ A j
+    here j at = told.right j (let le = later_le r j i at in omega (arith, le, low))
 
-    pub once_in_told : i < n → (v : Bool) → IsTrue v ↔ IsOnceIn first last (λ j. IsTrue (cell a j)) i → IsTrue v ↔ IsOnceIn first last A i
-    once_in_told low v tells = (
-      λ e. let w = tells.0 e in (w.0, w.1, w.2, (told.right w.0 (omega (arith, w.1, low))).0 w.3),
-      λ w. tells.1 (w.0, w.1, w.2, (told.right w.0 (omega (arith, w.1, low))).1 w.3),
-    )
-
-    pub historically_in_told : i < n → (v : Bool) → IsTrue (not v) ↔ IsOnceIn first last (λ j. IsTrue (not (cell a j))) i
-        → IsTrue v ↔ IsHistoricallyIn first last A i
-    historically_in_told low true tells = (
-      λ e j from to. told_or (cell a j) (told.right j (omega (arith, from, low))) (λ s. let f = tells.1 (j, from, to, s) in cc),
-      λ f. refl,
-    ) where
-      told_or : (b : Bool) {B : Type 0} → IsTrue b ↔ B → (IsTrue (not b) → ⊥) → B
-      told_or true says not_so = says.0 refl
-      told_or false says not_so = absurd (not_so refl)
-    historically_in_told low false tells = (
-      λ e. absurd (cc),
-      λ f. let w = tells.0 refl in let is = (told.right w.0 (omega (arith, w.1, low))).1 (f w.0 w.1 w.2) in let n = w.3 in not_both (cell a w.0) is n,
-    ) where
-      not_both : (b : Bool) {B : Type 0} → IsTrue b → IsTrue (not b) → B
-      not_both true e f = absurd (cc)
-      not_both false e f = absurd (cc)
+    told_or : (b : Bool) {B R : Type 0} → R → IsTrue b ↔ B → B ⊎ (R × IsTrue (not b))
+    told_or true at says = inl (says.0 refl)
+    told_or false at says = inr (at, refl)
 
 -- the row has the value where the window ahead has it, and where the window behind has it
 abbrev pub IsLaterRow : Bool → ℕ → ℕ → List Bool → ℕ → List Bool → Type 0
 IsLaterRow sought first last a start row =
-    (i : ℕ) → i < length a → IsTrue (same sought (cell row i)) ↔ IsEventuallyIn Always' first last (λ j. IsTrue (shows sought a start j)) i
+    (i : ℕ) → i < length a → IsTrue (same sought (cell row i)) ↔ IsSomewhere Always' Future (Between first last) (λ j. IsTrue (shows sought a start j)) i
 
 abbrev pub IsEarlierRow : Bool → ℕ → ℕ → List Bool → List Bool → Type 0
-IsEarlierRow sought first last a row = (i : ℕ) → i < length a → IsTrue (same sought (cell row i)) ↔ IsOnceIn first last (λ j. IsTrue (same sought (cell a j))) i
+IsEarlierRow sought first last a row =
+    (i : ℕ) → i < length a → IsTrue (same sought (cell row i)) ↔ IsSomewhere Always' Past (Between first last) (λ j. IsTrue (same sought (cell a j))) i
 
 module _ (first last : ℕ) (a row : List Bool) (start : ℕ) (count : length row ≡ length a) where
+  module _ (t : Trace) (depth : ℕ) (f : Formula) (told : Tells t depth f a) (r : Range) (i : ℕ) where
+    window_ahead : IsTrace t → start ≡ loop_start t depth → past_depth f ≤ depth
+        → IsWindow (IsPosition t) Future r (Holds t f) (λ j. IsTrue (shows true a start j)) (λ j. IsTrue (shows false a start j)) i
+    window_ahead good at deep = ahead (Holds t f) a (columns t depth) told t start (Holds-turns t good depth (columns t depth) start f refl at deep) r i
+
+    window_behind : i < columns t depth → IsWindow (IsPosition t) Past r (Holds t f) (λ j. IsTrue (cell a j)) (λ j. IsTrue (not (cell a j))) i
+    window_behind low = behind (Holds t f) a (columns t depth) told (IsPosition t) r i low
+
   pub eventually_in_follows : IsLaterRow true first last a start row → FollowsOne (EventuallyIn first last) a start row
   eventually_in_follows each t depth f good at deep told = record {
     count = count ∙ told.count;
-    right = λ i h. eventually_in_told (Holds t f) a (columns t depth) told first last i t start
-        (Holds-turns t good depth (columns t depth) start f refl at deep) (cell row i) (each i (omega (arith, told.count, h)));
+    right = λ i h. some_told Future (Between first last) i (window_ahead t depth f told (Between first last) i good at (omega arith)) (cell row i)
+        (each i (omega (arith, told.count, h)));
   }
 
   pub always_in_follows : IsLaterRow false first last a start row → FollowsOne (AlwaysIn first last) a start row
   always_in_follows each t depth f good at deep told = record {
     count = count ∙ told.count;
-    right = λ i h. always_in_told (Holds t f) a (columns t depth) told first last i t start (Holds-turns t good depth (columns t depth) start f refl at deep)
-        (cell row i) (each i (omega (arith, told.count, h)));
+    right = λ i h. every_told Future (Between first last) i (window_ahead t depth f told (Between first last) i good at (omega arith)) (cell row i)
+        (each i (omega (arith, told.count, h)));
   }
 
   pub once_in_follows : IsEarlierRow true first last a row → FollowsOne (OnceIn first last) a start row
   once_in_follows each t depth f good at deep told = record {
     count = count ∙ told.count;
-    right = λ i h. once_in_told (Holds t f) a (columns t depth) told first last i h (cell row i) (each i (omega (arith, told.count, h)));
+    right = λ i h. some_told Past (Between first last) i (window_behind t depth f told (Between first last) i h) (cell row i)
+        (each i (omega (arith, told.count, h)));
   }
 
   pub historically_in_follows : IsEarlierRow false first last a row → FollowsOne (HistoricallyIn first last) a start row
   historically_in_follows each t depth f good at deep told = record {
     count = count ∙ told.count;
-    right = λ i h. historically_in_told (Holds t f) a (columns t depth) told first last i h (cell row i) (each i (omega (arith, told.count, h)));
+    right = λ i h. every_told Past (Between first last) i (window_behind t depth f told (Between first last) i h) (cell row i)
+        (each i (omega (arith, told.count, h)));
   }
 
+-- n positions away is between n and n away
 module _ (times : ℕ) (a row : List Bool) (start : ℕ) (count : length row ≡ length a) where
   pub next_times_follows : IsLaterRow true times times a start row → FollowsOne (NextTimes times) a start row
-  next_times_follows each t depth f good at deep told = record {
-    count = count ∙ told.count;
-    right = λ i h.
-        let w = eventually_in_told (Holds t f) a (columns t depth) told times times i t start (Holds-turns t good depth (columns t depth) start f refl at deep)
-        (cell row i) (each i (omega (arith, told.count, h))) in
-        (λ e. in_times (Holds t f) times i (IsPosition t) (w.0 e), λ x. w.1 (times_in (Holds t f) times i (IsPosition t) x));
-  }
+  next_times_follows each t depth f good at deep told =
+      let window = eventually_in_follows times times a row start count each t depth f good at deep told in
+      record { count = window.count; right = λ i h. by_form (window.right i h) (some_exactly (IsPosition t) (Holds t f) Future times i) }
 
   pub yesterday_times_follows : IsEarlierRow true times times a row → FollowsOne (YesterdayTimes times) a start row
-  yesterday_times_follows each t depth f good at deep told = record {
-    count = count ∙ told.count;
-    right = λ i h.
-        let w = once_in_told (Holds t f) a (columns t depth) told times times i h (cell row i) (each i (omega (arith, told.count, h))) in
-        (λ e. in_yesterdays (Holds t f) times i (w.0 e), λ x. w.1 (yesterdays_in (Holds t f) times i x));
-  }
+  yesterday_times_follows each t depth f good at deep told =
+      let window = once_in_follows times times a row start count each t depth f good at deep told in
+      record { count = window.count; right = λ i h. by_form (window.right i h) (some_exactly (IsPosition t) (Holds t f) Past times i) }

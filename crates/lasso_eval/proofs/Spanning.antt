@@ -2,8 +2,10 @@
 use Rattle.std.proofs.Common.{◌≡◌, ℕ, zero, suc, ◌+◌, ◌-◌, ◌<◌, ◌≤◌, Bool, true, false, ◌&&◌, ◌||◌, List, IsTrue, ◌⊎◌, inl, inr, ◌↔◌, refl, sym, subst, arith}
 use Rattle.std.specs.Prelude.{⊤}
 use Rattle.std.proofs.lemmas.Bool.{cases_lt}
-use Rattle.ltl_word.specs.Claims.{Claim, IsUntil, IsReleased, AtYesterday, AtWeakYesterday, IsSince, IsTriggered}
+use Rattle.ltl_syntax.specs.Shape.{Past, Step}
+use Rattle.ltl_word.specs.Claims.{Claim, Always', IsSomewhere, IsEverywhere, IsUntil, IsReleased, IsSince, IsTriggered}
 use Rattle.ltl_word.proofs.Expansion.{IsClosed, until_in, until_out, release_in, release_out, since_in, since_out, trigger_in, trigger_out}
+use Rattle.ltl_word.proofs.Steps.{next_is, weak_next_is, by_form}
 use Rattle.ltl_word.proofs.Repeats.{Repeats, moved_down, moved_up}
 use Rattle.lasso_eval.specs.declared.span.Span.{Span}
 use Rattle.lasso_eval.specs.Rows.{cell}
@@ -27,7 +29,7 @@ module _ (span : Span) (a b : List Bool) (x y : ℕ → Bool) (X Y : Claim) (n :
         → (c i : ℕ) → i + c ≡ n → IsTrue (swept_back span a b c i v) ↔ (P i × IsUntil P X Y i)
     until_swept rule v e zero i at = let h : n ≡ i = omega arith in subst (λ m. IsTrue v ↔ (P m × IsUntil P X Y m)) h e
     until_swept rule v e (suc c) i at =
-        let next = until_swept rule v e c (suc i) (omega arith) in
+        let next = by_form (until_swept rule v e c (suc i) (omega arith)) (next_is P (IsUntil P X Y) i) in
         let low : i < n = omega arith in
         let told = or_tells (y i) (x i && swept_back span a b c (suc i) v) (ty i low) (and_tells (x i) (swept_back span a b c (suc i) v) (tx i low) next) in
         subst (λ r. IsTrue r ↔ (P i × IsUntil P X Y i)) (sym (rule i (swept_back span a b c (suc i) v))) (
@@ -39,7 +41,7 @@ module _ (span : Span) (a b : List Bool) (x y : ℕ → Bool) (X Y : Claim) (n :
         → (c i : ℕ) → i + c ≡ n → IsTrue (swept_back span a b c i v) ↔ (P i → IsReleased P X Y i)
     release_swept rule v e zero i at = let h : n ≡ i = omega arith in subst (λ m. IsTrue v ↔ (P m → IsReleased P X Y m)) h e
     release_swept rule v e (suc c) i at =
-        let next = release_swept rule v e c (suc i) (omega arith) in
+        let next = by_form (release_swept rule v e c (suc i) (omega arith)) (weak_next_is P (IsReleased P X Y) i) in
         let low : i < n = omega arith in
         let told = and_tells (y i) (x i || swept_back span a b c (suc i) v) (ty i low) (or_tells (x i) (swept_back span a b c (suc i) v) (tx i low) next) in
         subst (λ r. IsTrue r ↔ (P i → IsReleased P X Y i)) (sym (rule i (swept_back span a b c (suc i) v))) (
@@ -61,13 +63,14 @@ module _ (span : Span) (a b : List Bool) (x y : ℕ → Bool) (X Y : Claim) (n :
   release_within rule = release_swept Within within_closed (λ i h. h) rule true (λ e at. absurd (omega arith), λ w. refl)
 
   -- from the value before a position to the one at it
-  since_step : IsUntilRule span a b x y → (i : ℕ) → i < n → IsTrue (swept_before span a b i) ↔ AtYesterday (IsSince X Y) i
+  since_step : IsUntilRule span a b x y → (i : ℕ) → i < n → IsTrue (swept_before span a b i) ↔ IsSomewhere Always' Past Step (IsSince X Y) i
       → IsTrue (swept_before span a b (suc i)) ↔ IsSince X Y i
   since_step rule i low before =
       let told = or_tells (y i) (x i && swept_before span a b i) (ty i low) (and_tells (x i) (swept_before span a b i) (tx i low) before) in
       subst (λ r. IsTrue r ↔ IsSince X Y i) (sym (rule i (swept_before span a b i))) (λ t. since_in X Y i (told.0 t), λ s. told.1 (since_out X Y i s))
 
-  since_before : IsUntilRule span a b x y → beyond span ≡ false → (i : ℕ) → i ≤ n → IsTrue (swept_before span a b i) ↔ AtYesterday (IsSince X Y) i
+  since_before : IsUntilRule span a b x y → beyond span ≡ false → (i : ℕ) → i ≤ n
+      → IsTrue (swept_before span a b i) ↔ IsSomewhere Always' Past Step (IsSince X Y) i
   since_before rule none zero le = (λ e. absurd (cc), λ w. let h : suc w.0 ≡ 0 = w.1 in absurd (omega arith))
   since_before rule none (suc i) le =
       let here = since_step rule i (omega arith) (since_before rule none i (omega arith)) in (
@@ -78,14 +81,15 @@ module _ (span : Span) (a b : List Bool) (x y : ℕ → Bool) (X Y : Claim) (n :
   pub since_swept : IsUntilRule span a b x y → beyond span ≡ false → (i : ℕ) → i < n → IsTrue (swept_before span a b (suc i)) ↔ IsSince X Y i
   since_swept rule none i low = since_step rule i low (since_before rule none i (omega arith))
 
-  trigger_step : IsReleaseRule span a b x y → (i : ℕ) → i < n → IsTrue (swept_before span a b i) ↔ AtWeakYesterday (IsTriggered X Y) i
+  trigger_step : IsReleaseRule span a b x y → (i : ℕ) → i < n → IsTrue (swept_before span a b i) ↔ IsEverywhere Always' Past Step (IsTriggered X Y) i
       → IsTrue (swept_before span a b (suc i)) ↔ IsTriggered X Y i
   trigger_step rule i low before =
       let told = and_tells (y i) (x i || swept_before span a b i) (ty i low) (or_tells (x i) (swept_before span a b i) (tx i low) before) in
       subst (λ r. IsTrue r ↔ IsTriggered X Y i) (sym (rule i (swept_before span a b i)))
       (λ t. trigger_in X Y i (told.0 t), λ s. told.1 (trigger_out X Y i (told_decided (x i) (tx i low)) s))
 
-  trigger_before : IsReleaseRule span a b x y → beyond span ≡ true → (i : ℕ) → i ≤ n → IsTrue (swept_before span a b i) ↔ AtWeakYesterday (IsTriggered X Y) i
+  trigger_before : IsReleaseRule span a b x y → beyond span ≡ true → (i : ℕ) → i ≤ n
+      → IsTrue (swept_before span a b i) ↔ IsEverywhere Always' Past Step (IsTriggered X Y) i
   trigger_before rule all zero le = (λ e j h. absurd (omega (arith, h)), λ w. all)
   trigger_before rule all (suc i) le =
       let here = trigger_step rule i (omega arith) (trigger_before rule all i (omega arith)) in (

@@ -6,13 +6,15 @@ use Rattle.std.proofs.Common.{le-ltb}
 use Rattle.ltl_syntax.specs.declared.node.UnaryOp.TheVariants.{Always, Eventually, Historically, Next, Not, Once, WeakNext, WeakYesterday, Yesterday}
 use Rattle.ltl_syntax.specs.declared.node.BinaryOp.TheVariants.{And, Iff, Implies, Or, Release, Since, StrongRelease, Trigger, Until, WeakUntil}
 use Rattle.ltl_syntax.specs.declared.node.BinaryOp.{BinaryOp}
+use Rattle.ltl_syntax.specs.Shape.{Past, Step}
 use Rattle.ltl_syntax.specs.Formula.{Formula, Unary, Binary}
 use Rattle.ltl_word.specs.declared.trace.Trace.{Trace}
 use Rattle.ltl_word.specs.declared.trace.Trace.TheVariants.{Infinite, Finite}
 use Rattle.ltl_word.specs.Trace.{IsTrace, IsPosition}
-use Rattle.ltl_word.specs.Claims.{Claim, Always', Never, AtNext, AtWeakNext, AtYesterday, AtWeakYesterday}
+use Rattle.ltl_word.specs.Claims.{Claim, Always', Never, IsSomewhere, IsEverywhere}
 use Rattle.ltl_word.specs.Holds.{Holds}
 use Rattle.ltl_word.specs.Depth.{past_depth}
+use Rattle.ltl_word.proofs.Steps.{next_is, weak_next_is, eventually_is, always_is, once_is, historically_is, by_form}
 use Rattle.lasso_eval.specs.declared.local.Connective.{Connective}
 use Rattle.lasso_eval.specs.declared.local.Connective.TheVariants as connectives
 use Rattle.lasso_eval.specs.declared.span.Span.{Span}
@@ -96,35 +98,35 @@ module _ (A : Claim) (a : List Bool) (n : ℕ) (told : IsRow n A a) where
         (λ t. subst A end (up (back.0 t)), λ w. back.1 (down (subst A (sym end) w)))
   ]
 
-  next_told : (t : Trace) (start : ℕ) → Turns t n start A → (i : ℕ) → i < n → IsTrue (later a start false i) ↔ AtNext (IsPosition t) A i
+  next_told : (t : Trace) (start : ℕ) → Turns t n start A → (i : ℕ) → i < n → IsTrue (later a start false i) ↔ (IsPosition t (suc i) × A (suc i))
   next_told (Infinite stem loop_part) start w i h =
       let l = next_looped start (length loop_part) w.0 w.1 (w.2.later start (omega arith)) (w.2.earlier start (omega arith)) false i h in
       (λ t. (tt, l.0 t), λ u. l.1 u.1)
   next_told (Finite states) start w i h = elim (cases_lt (suc i) n) [
-    | inl within ↦ let l = told_next i within in subst (λ b. IsTrue b ↔ AtNext (IsPosition (Finite states)) A i) (sym (inner start false i within))
+    | inl within ↦ let l = told_next i within in subst (λ b. IsTrue b ↔ (IsPosition (Finite states) (suc i) × A (suc i))) (sym (inner start false i within))
         (λ t. (omega (arith, w.1, within), l.0 t), λ u. l.1 u.1)
-    | inr past ↦ subst (λ b. IsTrue b ↔ AtNext (IsPosition (Finite states)) A i) (sym (ended start false i (omega arith) w.0))
+    | inr past ↦ subst (λ b. IsTrue b ↔ (IsPosition (Finite states) (suc i) × A (suc i))) (sym (ended start false i (omega arith) w.0))
         (λ t. absurd (cc), λ u. absurd (omega (arith, u.0, past, w.1)))
   ]
 
-  weak_next_told : (t : Trace) (start : ℕ) → Turns t n start A → (i : ℕ) → i < n → IsTrue (later a start true i) ↔ AtWeakNext (IsPosition t) A i
+  weak_next_told : (t : Trace) (start : ℕ) → Turns t n start A → (i : ℕ) → i < n → IsTrue (later a start true i) ↔ (IsPosition t (suc i) → A (suc i))
   weak_next_told (Infinite stem loop_part) start w i h =
       let l = next_looped start (length loop_part) w.0 w.1 (w.2.later start (omega arith)) (w.2.earlier start (omega arith)) true i h in
       (λ t at. l.0 t, λ f. l.1 (f tt))
   weak_next_told (Finite states) start w i h = elim (cases_lt (suc i) n) [
-    | inl within ↦ let l = told_next i within in subst (λ b. IsTrue b ↔ AtWeakNext (IsPosition (Finite states)) A i) (sym (inner start true i within))
+    | inl within ↦ let l = told_next i within in subst (λ b. IsTrue b ↔ (IsPosition (Finite states) (suc i) → A (suc i))) (sym (inner start true i within))
         (λ t at. l.0 t, λ f. l.1 (f (omega (arith, w.1, within))))
-    | inr past ↦ subst (λ b. IsTrue b ↔ AtWeakNext (IsPosition (Finite states)) A i) (sym (ended start true i (omega arith) w.0))
+    | inr past ↦ subst (λ b. IsTrue b ↔ (IsPosition (Finite states) (suc i) → A (suc i))) (sym (ended start true i (omega arith) w.0))
         (λ t at. absurd (omega (arith, at, past, w.1)), λ f. refl)
   ]
 
-  yesterday_told : (i : ℕ) → i < n → IsTrue (earlier a false i) ↔ AtYesterday A i
+  yesterday_told : (i : ℕ) → i < n → IsTrue (earlier a false i) ↔ IsSomewhere Always' Past Step A i
   yesterday_told zero h = (λ e. absurd (cc), λ w. absurd (omega (arith, w.1)))
   yesterday_told (suc i) h =
       let l = told.right i (omega arith) in
       (λ t. (i, refl, l.0 t), λ w. let e : w.0 ≡ i = omega (arith, w.1) in l.1 (subst A e w.2))
 
-  weak_yesterday_told : (i : ℕ) → i < n → IsTrue (earlier a true i) ↔ AtWeakYesterday A i
+  weak_yesterday_told : (i : ℕ) → i < n → IsTrue (earlier a true i) ↔ IsEverywhere Always' Past Step A i
   weak_yesterday_told zero h = (λ e j w. absurd (omega (arith, w)), λ f. refl)
   weak_yesterday_told (suc i) h =
       let l = told.right i (omega arith) in
@@ -137,13 +139,15 @@ pub next_follows : (a row : List Bool) (start : ℕ) → length row ≡ length a
     → FollowsOne Next a start row
 next_follows a row start count each t depth f good at deep told =
     row_of_values (columns t depth) (length a) (Holds t (Unary Next f)) row (later a start false) told.count count each
-    (next_told (Holds t f) a (columns t depth) told t start (Holds-turns t good depth (columns t depth) start f refl at deep))
+    (λ i h. by_form (next_told (Holds t f) a (columns t depth) told t start (Holds-turns t good depth (columns t depth) start f refl at (omega arith)) i h)
+    (next_is (IsPosition t) (Holds t f) i))
 
 pub weak_next_follows : (a row : List Bool) (start : ℕ) → length row ≡ length a → ((i : ℕ) → i < length a → cell row i ≡ later a start true i)
     → FollowsOne WeakNext a start row
 weak_next_follows a row start count each t depth f good at deep told =
     row_of_values (columns t depth) (length a) (Holds t (Unary WeakNext f)) row (later a start true) told.count count each
-    (weak_next_told (Holds t f) a (columns t depth) told t start (Holds-turns t good depth (columns t depth) start f refl at deep))
+    (λ i h. by_form (weak_next_told (Holds t f) a (columns t depth) told t start (Holds-turns t good depth (columns t depth) start f refl at (omega arith)) i h)
+    (weak_next_is (IsPosition t) (Holds t f) i))
 
 pub yesterday_follows : (a row : List Bool) (start : ℕ) → length row ≡ length a → ((i : ℕ) → i < length a → cell row i ≡ earlier a false i)
     → FollowsOne Yesterday a start row
@@ -175,28 +179,34 @@ module _ (a row : List Bool) (start : ℕ) (count : length row ≡ length a) whe
   pub eventually_follows : IsSweptBack spans.Eventually a a start row → FollowsOne Eventually a start row
   eventually_follows each t depth f good at deep told =
       let n = length a in
-      let turns = Holds-turns t good depth n start f told.count at deep in
+      let turns = Holds-turns t good depth n start f told.count at (omega arith) in
       row_of_values (columns t depth) n (Holds t (Unary Eventually f)) row _ told.count count each
-      (λ i h. until_told spans.Eventually a a (λ j. true) (cell a) Always' (Holds t f) n (truth n) (λ j low. told.right j (omega (arith, told.count, low)))
+      (λ i h. by_form (until_told spans.Eventually a a (λ j. true) (cell a) Always' (Holds t f) n (truth n)
+      (λ j low. told.right j (omega (arith, told.count, low)))
       t start (Always-turns t n start (Holds t f) turns) turns (λ j v. refl) i (omega (arith, told.count, h)))
+      (eventually_is (IsPosition t) (Holds t f) i))
 
   pub always_follows : IsSweptBack spans.Always a a start row → FollowsOne Always a start row
   always_follows each t depth f good at deep told =
       let n = length a in
-      let turns = Holds-turns t good depth n start f told.count at deep in
+      let turns = Holds-turns t good depth n start f told.count at (omega arith) in
       row_of_values (columns t depth) n (Holds t (Unary Always f)) row _ told.count count each
-      (λ i h. release_told spans.Always a a (λ j. false) (cell a) Never (Holds t f) n (falsity n) (λ j low. told.right j (omega (arith, told.count, low)))
+      (λ i h. by_form (release_told spans.Always a a (λ j. false) (cell a) Never (Holds t f) n (falsity n)
+      (λ j low. told.right j (omega (arith, told.count, low)))
       t start (Never-turns t n start (Holds t f) turns) turns (λ j v. refl) i (omega (arith, told.count, h)))
+      (always_is (IsPosition t) (Holds t f) i))
 
   pub once_follows : IsSweptOn spans.Eventually a a row → FollowsOne Once a start row
   once_follows each t depth f good at deep told =
       row_of_values (columns t depth) (length a) (Holds t (Unary Once f)) row _ told.count count each
-      (since_swept spans.Eventually a a (λ j. true) (cell a) Always' (Holds t f) (columns t depth) (truth _) (λ j low. told.right j low) (λ j v. refl) refl)
+      (λ i h. by_form (since_swept spans.Eventually a a (λ j. true) (cell a) Always' (Holds t f) (columns t depth) (truth _)
+      (λ j low. told.right j low) (λ j v. refl) refl i h) (once_is (IsPosition t) (Holds t f) i))
 
   pub historically_follows : IsSweptOn spans.Always a a row → FollowsOne Historically a start row
   historically_follows each t depth f good at deep told =
       row_of_values (columns t depth) (length a) (Holds t (Unary Historically f)) row _ told.count count each
-      (trigger_swept spans.Always a a (λ j. false) (cell a) Never (Holds t f) (columns t depth) (falsity _) (λ j low. told.right j low) (λ j v. refl) refl)
+      (λ i h. by_form (trigger_swept spans.Always a a (λ j. false) (cell a) Never (Holds t f) (columns t depth) (falsity _)
+      (λ j low. told.right j low) (λ j v. refl) refl i h) (historically_is (IsPosition t) (Holds t f) i))
 
 module _ (a b row : List Bool) (start : ℕ) (count : length row ≡ length a) where
   pub since_follows : IsSweptOn spans.Until a b row → FollowsTwo Since a b start row

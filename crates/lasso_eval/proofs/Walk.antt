@@ -12,9 +12,7 @@ use Rattle.ltl_syntax.specs.Table.{Table, tree_at, trees_of, made, has_child, Is
 use Rattle.ltl_syntax.specs.Formula.{Formula, Unary, Binary, nodes_in}
 use Rattle.ltl_syntax.specs.declared.node.UnaryOp.{UnaryOp}
 use Rattle.ltl_syntax.specs.declared.node.BinaryOp.{BinaryOp}
-use Rattle.ltl_syntax.specs.declared.node.UnaryOp.TheVariants.{Always, AlwaysIn, Eventually, EventuallyIn, Historically, HistoricallyIn, Next, NextTimes, Not}
-use Rattle.ltl_syntax.specs.declared.node.UnaryOp.TheVariants.{Once, OnceIn, WeakNext, WeakYesterday, Yesterday, YesterdayTimes}
-use Rattle.ltl_syntax.specs.declared.node.BinaryOp.TheVariants.{And, Iff, Implies, Or, Release, Since, StrongRelease, Trigger, Until, WeakUntil}
+use Rattle.ltl_syntax.specs.declared.node.BinaryOp.TheVariants.{And}
 use Rattle.ltl_word.specs.Depth.{past_depth}
 use Rattle.lasso_eval.specs.Rows.{cell}
 use Rattle.lasso_eval.specs.Under.{IsUnder, Here, Below}
@@ -151,33 +149,11 @@ module _ (t : Table) (k : ℕ) (marks : List Bool) where
 
 -- past operators are nested no deeper in a child
 deeper_one : (op : UnaryOp) (f : Formula) → past_depth f ≤ past_depth (Unary op f)
-deeper_one Not f = omega arith
-deeper_one Next f = omega arith
-deeper_one WeakNext f = omega arith
-deeper_one Eventually f = omega arith
-deeper_one Always f = omega arith
-deeper_one Yesterday f = omega arith
-deeper_one WeakYesterday f = omega arith
-deeper_one Once f = omega arith
-deeper_one Historically f = omega arith
-deeper_one (NextTimes n) f = omega arith
-deeper_one (YesterdayTimes n) f = omega arith
-deeper_one (EventuallyIn m n) f = omega arith
-deeper_one (AlwaysIn m n) f = omega arith
-deeper_one (OnceIn m n) f = omega arith
-deeper_one (HistoricallyIn m n) f = omega arith
+deeper_one op f = omega arith
 
 deeper_two : (op : BinaryOp) (f g : Formula) → max (past_depth f) (past_depth g) ≤ past_depth (Binary op f g)
 deeper_two And f g = omega arith
-deeper_two Or f g = omega arith
-deeper_two Implies f g = omega arith
-deeper_two Iff f g = omega arith
-deeper_two Until f g = omega arith
-deeper_two Release f g = omega arith
-deeper_two WeakUntil f g = omega arith
-deeper_two StrongRelease f g = omega arith
-deeper_two Since f g = omega arith
-deeper_two Trigger f g = omega arith
+deeper_two op f g = omega arith
 
 child_shallow : (t : Table) (node : Node) (child : ℕ) → IsTrue (has_child child node)
     → past_depth (tree_at t child) ≤ past_depth (made t.names (trees_of t) node)

@@ -4,7 +4,8 @@ use Rattle.std.proofs.Common.{◌↔◌, refl, sym, ◌∙◌, ap, subst, ltb, a
 use Rattle.std.proofs.Common.{le-ltb}
 use Rattle.std.proofs.lemmas.Bool.{cases_lt, cond-false}
 use Rattle.std.proofs.Math.Nat.{add-mod_right}
-use Rattle.ltl_word.specs.Claims.{Claim, Always', IsEventuallyIn, IsOnceIn}
+use Rattle.ltl_syntax.specs.Shape.{Future, Past, Between}
+use Rattle.ltl_word.specs.Claims.{Claim, Always', IsSomewhere}
 use Rattle.lasso_eval.specs.Rows.{cell}
 use Rattle.lasso_eval.specs.Windows.{same, shows, IsNearest, IsLatest, IsAtMost, IsAtLeast}
 
@@ -64,23 +65,24 @@ module _ (S : Claim) where
 
   -- the nearest place tells of the whole window
   pub nearest_tells : (first last i : ℕ) (nearest : Option ℕ) → IsNearest S (i + first) nearest
-      → IsAtMost nearest (i + last) ↔ IsEventuallyIn Always' first last S i
-  nearest_tells first last i None is = (λ never. absurd never, λ w. is w.0 w.1 w.4)
+      → IsAtMost nearest (i + last) ↔ IsSomewhere Always' Future (Between first last) S i
+  nearest_tells first last i None is = (λ never. absurd never, λ w. is w.0 w.1.0.0 w.2)
   nearest_tells first last i (Some place) is = (
-    λ le. (place, is.0, le, tt, is.1),
+    λ le. (place, ((is.0, le), tt), is.1),
     λ w. elim (cases_lt w.0 place) [
-      | inl before ↦ absurd (is.2 w.0 w.1 before w.4)
-      | inr after ↦ omega (arith, w.2)
+      | inl before ↦ absurd (is.2 w.0 w.1.0.0 before w.2)
+      | inr after ↦ omega (arith, w.1.0.1)
     ],
   )
 
-  pub latest_tells : (first last i : ℕ) (latest : Option ℕ) → IsLatest S (i + 1 - first) latest → IsAtLeast latest (i - last) ↔ IsOnceIn first last S i
-  latest_tells first last i None is = (λ never. absurd never, λ w. is w.0 (omega (arith, w.1)) w.3)
+  pub latest_tells : (first last i : ℕ) (latest : Option ℕ) → IsLatest S (i + 1 - first) latest
+      → IsAtLeast latest (i - last) ↔ IsSomewhere Always' Past (Between first last) S i
+  latest_tells first last i None is = (λ never. absurd never, λ w. is w.0 (omega (arith, w.1.0)) w.2)
   latest_tells first last i (Some place) is = (
-    λ le. (place, omega (arith, is.0), omega (arith, le), is.1),
+    λ le. (place, (omega (arith, is.0), omega (arith, le)), is.1),
     λ w. elim (cases_lt place w.0) [
-      | inl after ↦ absurd (is.2 w.0 after (omega (arith, w.1)) w.3)
-      | inr before ↦ omega (arith, w.2)
+      | inl after ↦ absurd (is.2 w.0 after (omega (arith, w.1.0)) w.2)
+      | inr before ↦ omega (arith, w.1.1)
     ],
   )
 

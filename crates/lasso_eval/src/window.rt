@@ -6,7 +6,8 @@
 // numbers of the operator cost nothing. On a loop the pass begins one round before, since what is
 // not found within one round is never found. What is n positions on is the window from n to n.
 ghost use Rattle.std.specs.Prelude.{◌≡◌, ◌+◌, ◌-◌, ◌<◌, ◌≤◌, ◌↔◌, ℕ, length, if◌then◌else◌, Some, IfOk, IsTrue};
-ghost use Rattle.ltl_word.specs.Claims.{Always', IsEventuallyIn, IsOnceIn};
+ghost use Rattle.ltl_syntax.specs.Shape.{Future, Past, Between};
+ghost use Rattle.ltl_word.specs.Claims.{Always', IsSomewhere};
 ghost use Rattle.lasso_eval.specs.Cells.{max_cells};
 ghost use Rattle.lasso_eval.specs.Rows.{cell};
 ghost use Rattle.lasso_eval.specs.Windows.{same, shows, IsNearest, IsAtMost, IsAtLeast};
@@ -95,7 +96,7 @@ pub fn later_row(
     requires few { length a.now ≤ max_cells }
     ensures count { IfOk result (λ row. length row ≡ length a.now) }
     ensures each { IfOk result (λ row. (i : ℕ) → i < length a.now → IsTrue (same sought (cell row i))
-        ↔ IsEventuallyIn Always' first last (λ j. IsTrue (shows sought a.now loop_start j)) i) }
+        ↔ IsSomewhere Always' Future (Between first last) (λ j. IsTrue (shows sought a.now loop_start j)) i) }
 {
     let mut nearest = nearest_behind(sought, first, a, loop_start);
     let mut cells = vec![in alloc; false; a.len()]?;
@@ -128,7 +129,7 @@ pub fn earlier_row(
 ) -> Result<Row, AllocError>
     ensures count { IfOk result (λ row. length row ≡ length a.now) }
     ensures each { IfOk result (λ row. (i : ℕ) → i < length a.now → IsTrue (same sought (cell row i))
-        ↔ IsOnceIn first last (λ j. IsTrue (same sought (cell a.now j))) i) }
+        ↔ IsSomewhere Always' Past (Between first last) (λ j. IsTrue (same sought (cell a.now j))) i) }
 {
     let mut latest = None;
     let mut cells = Vec::with_capacity(alloc, a.len())?;

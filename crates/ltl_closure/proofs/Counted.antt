@@ -5,10 +5,10 @@ use Rattle.std.proofs.lemmas.List.{length-map}
 use Rattle.std.proofs.lemmas.List.Elements.{Contains-append_left, Contains-push}
 use Rattle.ltl_syntax.specs.Table.{Table, tree_at}
 use Rattle.ltl_syntax.specs.Size.{sizes}
-use Rattle.ltl_closure.specs.Norm.{Norm, NConst, pos_of}
+use Rattle.ltl_closure.specs.Norm.{Norm, NConst, norm, pos_of}
 use Rattle.ltl_closure.specs.Closure.{closure, walk, with_new, added, holds_entry}
 use Rattle.ltl_closure.specs.Keys.{asking, joined, own, key_of}
-use Rattle.ltl_closure.specs.Plan.{Progress, signed, negated, step, run, IsWalking}
+use Rattle.ltl_closure.specs.Plan.{Progress, negated, step, run, IsWalking}
 use Rattle.ltl_closure.specs.declared.entry.Entry.{Entry}
 use Rattle.ltl_closure.specs.declared.key.Key.{Key}
 use Rattle.ltl_closure.specs.declared.plan.Work.{Work}
@@ -102,7 +102,7 @@ with_new_grows kept (x ∷ xs) =
     omega arith
 
 step_grows : (t : Table) (w : Work) (kept values : List Norm) → length kept ≤ length (step t w (record { kept = kept; values = values })).kept
-step_grows t (works.Visit n s) kept values = with_new_grows kept (walk (signed s (tree_at t n)))
+step_grows t (works.Visit n s) kept values = with_new_grows kept (walk (norm s (tree_at t n)))
 step_grows t (works.Const b) kept values = with_new_grows kept (own (NConst b))
 step_grows t (works.Ask r) kept [] = omega arith
 step_grows t (works.Ask r) kept (a ∷ vs) = with_new_grows kept (own (asking r a))

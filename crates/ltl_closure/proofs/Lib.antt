@@ -1,5 +1,6 @@
 pub mod Lists
 pub mod Entries
+mod Made
 pub mod Brought
 pub mod Again
 pub mod Places

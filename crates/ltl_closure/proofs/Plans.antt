@@ -1,15 +1,17 @@
 -- The plan of a node makes its normal form, and is less work than the node.
-use Rattle.std.proofs.Common.{◌≡◌, ℕ, zero, suc, ◌+◌, ◌<◌, Bool, true, false, not, refl, sym, ◌∙◌, ap, arith, List, [], ◌∷◌, ◌++◌, length}
+use Rattle.std.proofs.Common.{◌≡◌, ℕ, zero, suc, ◌+◌, ◌<◌, Bool, true, false, not, refl, sym, subst, ◌∙◌, ap, arith, List, [], ◌∷◌, ◌++◌, length}
 use Rattle.ltl_syntax.specs.declared.node.UnaryOp.{UnaryOp}
 use Rattle.ltl_syntax.specs.declared.node.BinaryOp.{BinaryOp}
-use Rattle.ltl_syntax.specs.declared.node.UnaryOp.TheVariants as one
 use Rattle.ltl_syntax.specs.declared.node.BinaryOp.TheVariants as two
+use Rattle.ltl_syntax.specs.Shape.{Direction, Future, Past, Range, Step, Ever, Exactly, Between, Shape, Negation, Somewhere, Everywhere, shape}
 use Rattle.ltl_syntax.specs.Formula.{Unary, Binary}
 use Rattle.ltl_syntax.specs.Table.{Table, tree_at}
-use Rattle.ltl_closure.specs.Norm.{Norm, NConst, NAnd, NOr, times, window}
+use Rattle.ltl_closure.specs.Norm.{Norm, NConst, conjunction, request, until, times, in_range, looking, under, over, norm}
 use Rattle.ltl_closure.specs.Closure.{walk, with_new}
 use Rattle.ltl_closure.specs.Keys.{asking, joined, own}
-use Rattle.ltl_closure.specs.Plan.{signed, Progress, reached, step, run, AreReady, unary_plan, binary_plan, times_plan, window_plan, cost, window_cost, weights}
+use Rattle.ltl_closure.specs.Plan.{Progress, reached, step, run, AreReady, conjunction_key, request_key, until_key, times_plan, window_plan, range_plan}
+use Rattle.ltl_closure.specs.Plan.{looking_plan, shape_plan, unary_plan, pair_plan, nested_plan, binary_plan, window_cost, range_cost, shape_cost, cost}
+use Rattle.ltl_closure.specs.Plan.{weights}
 use Rattle.ltl_closure.specs.declared.key.Request.{Request}
 use Rattle.ltl_closure.specs.declared.key.Request.TheVariants as asks
 use Rattle.ltl_closure.specs.declared.key.Connective.{Connective}
@@ -36,6 +38,23 @@ join_walk joins.Release a b kept = thrice kept (walk a) (walk b) (own (joined jo
 join_walk joins.Since a b kept = thrice kept (walk a) (walk b) (own (joined joins.Since a b))
 join_walk joins.Trigger a b kept = thrice kept (walk a) (walk b) (own (joined joins.Trigger a b))
 
+-- the operators of keys are those of normal forms
+asking_is : (some : Bool) (side : Direction) (a : Norm) → asking (request_key some side) a ≡ request some side a
+asking_is true Future a = refl
+asking_is false Future a = refl
+asking_is true Past a = refl
+asking_is false Past a = refl
+
+until_is : (some : Bool) (side : Direction) (a b : Norm) → joined (until_key some side) a b ≡ until some side a b
+until_is true Future a b = refl
+until_is false Future a b = refl
+until_is true Past a b = refl
+until_is false Past a b = refl
+
+conjunction_is : (s : Bool) (a b : Norm) → joined (conjunction_key s) a b ≡ conjunction s a b
+conjunction_is true a b = refl
+conjunction_is false a b = refl
+
 pub run-append : (t : Table) (ws vs : List Work) (p : Progress) → run t (ws ++ vs) p ≡ run t vs (run t ws p)
 run-append t [] vs p = refl
 run-append t (w ∷ ws) vs p = run-append t ws vs (step t w p)
@@ -53,11 +72,11 @@ abbrev pub Makes : Table → List Work → Norm → Type 0
 Makes t ws g = (p : Progress) → (run t ws p ≡ reached g p) × AreReady t ws p
 
 module _ (t : Table) where
-  visit : (n : ℕ) (s : Bool) → n < length t.nodes → Makes t (works.Visit n s ∷ []) (signed s (tree_at t n))
+  visit : (n : ℕ) (s : Bool) → n < length t.nodes → Makes t (works.Visit n s ∷ []) (norm s (tree_at t n))
   visit n s lt p = (refl, (lt, tt))
 
-  constant : (b : Bool) → Makes t (works.Const b ∷ []) (NConst b)
-  constant b p = (refl, (tt, tt))
+  constant_makes : (b : Bool) → Makes t (works.Const b ∷ []) (NConst b)
+  constant_makes b p = (refl, (tt, tt))
 
   ask : (r : Request) (ws : List Work) (a : Norm) → Makes t ws a → Makes t (ws ++ works.Ask r ∷ []) (asking r a)
   ask r ws a m p =
@@ -77,89 +96,71 @@ module _ (t : Table) where
         ready-append t ws (vs ++ works.Join c ∷ []) p w.1 (rw w.0 (ready-append t vs (works.Join c ∷ []) (reached a p) v.1 (rw v.0 (tt, tt)))),
       )
 
-  -- a range, with the connective and the request that it is of
-  times_makes : (r : Request) (s : Bool) (a n : ℕ) → a < length t.nodes → Makes t (times_plan r s a n) (times (asking r) n (signed s (tree_at t a)))
-  times_makes r s a zero lt = visit a s lt
-  times_makes r s a (suc n) lt = ask r (times_plan r s a n) _ (times_makes r s a n lt)
+  -- ---- over one operand
 
-  window_makes : (c : Connective) (z : Bool) (r : Request) (s : Bool) (x : ℕ) → x < length t.nodes → (a b : ℕ)
-      → Makes t (window_plan c z r s x a b) (window (joined c) (NConst z) (asking r) a b (signed s (tree_at t x)))
-  window_makes c z r s x lt zero zero = visit x s lt
-  window_makes c z r s x lt zero (suc b) = join c (works.Visit x s ∷ []) (window_plan c z r s x zero b ++ works.Ask r ∷ []) _ _ (visit x s lt)
-      (ask r (window_plan c z r s x zero b) _ (window_makes c z r s x lt zero b))
-  window_makes c z r s x lt (suc a) (suc b) = ask r (window_plan c z r s x a b) _ (window_makes c z r s x lt a b)
-  window_makes c z r s x lt (suc a) zero = constant z
+  module _ (some : Bool) (side : Direction) (s : Bool) (a : ℕ) (lt : a < length t.nodes) where
+    abbrev c : Norm
+    c = norm s (tree_at t a)
 
-  pub unary_makes : (s : Bool) (op : UnaryOp) (a : ℕ) → a < length t.nodes → Makes t (unary_plan s op a) (signed s (Unary op (tree_at t a)))
-  unary_makes true one.Not a lt = visit a false lt
-  unary_makes false one.Not a lt = visit a true lt
-  unary_makes true one.Next a lt = ask asks.Next (works.Visit a true ∷ []) _ (visit a true lt)
-  unary_makes false one.Next a lt = ask asks.WeakNext (works.Visit a false ∷ []) _ (visit a false lt)
-  unary_makes true one.WeakNext a lt = ask asks.WeakNext (works.Visit a true ∷ []) _ (visit a true lt)
-  unary_makes false one.WeakNext a lt = ask asks.Next (works.Visit a false ∷ []) _ (visit a false lt)
-  unary_makes true one.Yesterday a lt = ask asks.Yesterday (works.Visit a true ∷ []) _ (visit a true lt)
-  unary_makes false one.Yesterday a lt = ask asks.WeakYesterday (works.Visit a false ∷ []) _ (visit a false lt)
-  unary_makes true one.WeakYesterday a lt = ask asks.WeakYesterday (works.Visit a true ∷ []) _ (visit a true lt)
-  unary_makes false one.WeakYesterday a lt = ask asks.Yesterday (works.Visit a false ∷ []) _ (visit a false lt)
-  unary_makes true one.Eventually a lt = join joins.Until (works.Const true ∷ []) (works.Visit a true ∷ []) _ _ (constant true) (visit a true lt)
-  unary_makes false one.Eventually a lt = join joins.Release (works.Const false ∷ []) (works.Visit a false ∷ []) _ _ (constant false) (visit a false lt)
-  unary_makes true one.Always a lt = join joins.Release (works.Const false ∷ []) (works.Visit a true ∷ []) _ _ (constant false) (visit a true lt)
-  unary_makes false one.Always a lt = join joins.Until (works.Const true ∷ []) (works.Visit a false ∷ []) _ _ (constant true) (visit a false lt)
-  unary_makes true one.Once a lt = join joins.Since (works.Const true ∷ []) (works.Visit a true ∷ []) _ _ (constant true) (visit a true lt)
-  unary_makes false one.Once a lt = join joins.Trigger (works.Const false ∷ []) (works.Visit a false ∷ []) _ _ (constant false) (visit a false lt)
-  unary_makes true one.Historically a lt = join joins.Trigger (works.Const false ∷ []) (works.Visit a true ∷ []) _ _ (constant false) (visit a true lt)
-  unary_makes false one.Historically a lt = join joins.Since (works.Const true ∷ []) (works.Visit a false ∷ []) _ _ (constant true) (visit a false lt)
-  unary_makes true (one.NextTimes n) a lt = times_makes asks.Next true a n lt
-  unary_makes false (one.NextTimes n) a lt = times_makes asks.WeakNext false a n lt
-  unary_makes true (one.YesterdayTimes n) a lt = times_makes asks.Yesterday true a n lt
-  unary_makes false (one.YesterdayTimes n) a lt = times_makes asks.WeakYesterday false a n lt
-  unary_makes true (one.EventuallyIn m n) a lt = window_makes joins.Or false asks.Next true a lt m n
-  unary_makes false (one.EventuallyIn m n) a lt = window_makes joins.And true asks.WeakNext false a lt m n
-  unary_makes true (one.AlwaysIn m n) a lt = window_makes joins.And true asks.WeakNext true a lt m n
-  unary_makes false (one.AlwaysIn m n) a lt = window_makes joins.Or false asks.Next false a lt m n
-  unary_makes true (one.OnceIn m n) a lt = window_makes joins.Or false asks.Yesterday true a lt m n
-  unary_makes false (one.OnceIn m n) a lt = window_makes joins.And true asks.WeakYesterday false a lt m n
-  unary_makes true (one.HistoricallyIn m n) a lt = window_makes joins.And true asks.WeakYesterday true a lt m n
-  unary_makes false (one.HistoricallyIn m n) a lt = window_makes joins.Or false asks.Yesterday false a lt m n
+    here : Makes t (works.Visit a s ∷ []) c
+    here = visit a s lt
+
+    asked : (ws : List Work) (g : Norm) → Makes t ws g → Makes t (ws ++ works.Ask (request_key some side) ∷ []) (request some side g)
+    asked ws g m = subst (Makes t (ws ++ works.Ask (request_key some side) ∷ [])) (asking_is some side g) (ask (request_key some side) ws g m)
+
+    times_makes : (n : ℕ) → Makes t (times_plan (request_key some side) s a n) (times (request some side) n c)
+    times_makes zero = here
+    times_makes (suc n) = asked (times_plan (request_key some side) s a n) _ (times_makes n)
+
+    range_makes : (m n : ℕ) → Makes t (range_plan some (request_key some side) s a m n) (in_range some (request some side) m n c)
+    range_makes zero zero = here
+    range_makes zero (suc n) = let rest = asked (range_plan some (request_key some side) s a zero n) _ (range_makes zero n) in
+        subst (Makes t (range_plan some (request_key some side) s a zero (suc n))) (conjunction_is (not some) c _)
+        (join (conjunction_key (not some)) (works.Visit a s ∷ []) _ _ _ here rest)
+    range_makes (suc m) (suc n) = asked (range_plan some (request_key some side) s a m n) _ (range_makes m n)
+    range_makes (suc m) zero = constant_makes (not some)
+
+    looking_makes : (range : Range) → Makes t (looking_plan some side range s a) (looking some side range c)
+    looking_makes Step = asked (works.Visit a s ∷ []) _ here
+    looking_makes Ever = subst (Makes t (looking_plan some side Ever s a)) (until_is some side (NConst some) c)
+        (join (until_key some side) (works.Const some ∷ []) (works.Visit a s ∷ []) _ _ (constant_makes some) here)
+    looking_makes (Exactly n) = times_makes n
+    looking_makes (Between m n) = range_makes m n
+
+  shape_makes : (s : Bool) (look : Shape) (a : ℕ) → a < length t.nodes → Makes t (shape_plan s look a) (over s look (norm (under s look) (tree_at t a)))
+  shape_makes s Negation a lt = visit a (not s) lt
+  shape_makes s (Somewhere side range) a lt = looking_makes s side s a lt range
+  shape_makes s (Everywhere side range) a lt = looking_makes (not s) side s a lt range
+
+  pub unary_makes : (s : Bool) (op : UnaryOp) (a : ℕ) → a < length t.nodes → Makes t (unary_plan s op a) (norm s (Unary op (tree_at t a)))
+  unary_makes s op a lt = shape_makes s (shape op) a lt
+
+  -- ---- over two operands
 
   module _ (a b : ℕ) (la : a < length t.nodes) (lb : b < length t.nodes) where
     -- two visits and their connective
-    pair : (c : Connective) (s r : Bool)
-        → Makes t (works.Visit a s ∷ works.Visit b r ∷ works.Join c ∷ []) (joined c (signed s (tree_at t a)) (signed r (tree_at t b)))
-    pair c s r = join c (works.Visit a s ∷ []) (works.Visit b r ∷ []) _ _ (visit a s la) (visit b r lb)
+    pair : (c : Connective) (s r : Bool) (g : Norm) → joined c (norm s (tree_at t a)) (norm r (tree_at t b)) ≡ g → Makes t (pair_plan c s r a b) g
+    pair c s r g is = subst (Makes t (pair_plan c s r a b)) is (join c (works.Visit a s ∷ []) (works.Visit b r ∷ []) _ _ (visit a s la) (visit b r lb))
 
-    nested : (c d : Connective) (s : Bool) → Makes t (works.Visit b s ∷ works.Visit a s ∷ works.Visit b s ∷ works.Join c ∷ works.Join d ∷ []) (joined d
-        (signed s (tree_at t b)) (joined c (signed s (tree_at t a)) (signed s (tree_at t b))))
-    nested c d s = join d (works.Visit b s ∷ []) (works.Visit a s ∷ works.Visit b s ∷ works.Join c ∷ []) _ _ (visit b s lb) (pair c s s)
+    nested : (inner outer : Connective) (s : Bool) (i g : Norm) → joined inner (norm s (tree_at t a)) (norm s (tree_at t b)) ≡ i
+        → joined outer (norm s (tree_at t b)) i ≡ g → Makes t (nested_plan inner outer s a b) g
+    nested inner outer s i g is whole = subst (Makes t (nested_plan inner outer s a b)) whole
+        (join outer (works.Visit b s ∷ []) (pair_plan inner s s a b) _ _ (visit b s lb) (pair inner s s i is))
 
-    crossed : (s : Bool) → Makes t (binary_plan s two.Iff a b) (NOr (NAnd (signed true (tree_at t a)) (signed s (tree_at t b)))
-        (NAnd (signed false (tree_at t a)) (signed (not s) (tree_at t b))))
-    crossed true = join joins.Or (works.Visit a true ∷ works.Visit b true ∷ works.Join joins.And ∷ [])
-        (works.Visit a false ∷ works.Visit b false ∷ works.Join joins.And ∷ []) _ _ (pair joins.And true true) (pair joins.And false false)
-    crossed false = join joins.Or (works.Visit a true ∷ works.Visit b false ∷ works.Join joins.And ∷ [])
-        (works.Visit a false ∷ works.Visit b true ∷ works.Join joins.And ∷ []) _ _ (pair joins.And true false) (pair joins.And false true)
+    pub binary_makes : (s : Bool) (op : BinaryOp) → Makes t (binary_plan s op a b) (norm s (Binary op (tree_at t a) (tree_at t b)))
+    binary_makes s two.And = pair (conjunction_key s) s s _ (conjunction_is s _ _)
+    binary_makes s two.Or = pair (conjunction_key (not s)) s s _ (conjunction_is (not s) _ _)
+    binary_makes s two.Implies = pair (conjunction_key (not s)) (not s) s _ (conjunction_is (not s) _ _)
+    binary_makes s two.Iff = join joins.Or (pair_plan joins.And true s a b) (pair_plan joins.And false (not s) a b) _ _ (pair joins.And true s _ refl)
+        (pair joins.And false (not s) _ refl)
+    binary_makes s two.Until = pair (until_key s Future) s s _ (until_is s Future _ _)
+    binary_makes s two.Release = pair (until_key (not s) Future) s s _ (until_is (not s) Future _ _)
+    binary_makes s two.WeakUntil = nested (conjunction_key (not s)) (until_key (not s) Future) s _ _ (conjunction_is (not s) _ _) (until_is (not s) Future _ _)
+    binary_makes s two.StrongRelease = nested (conjunction_key s) (until_key s Future) s _ _ (conjunction_is s _ _) (until_is s Future _ _)
+    binary_makes s two.Since = pair (until_key s Past) s s _ (until_is s Past _ _)
+    binary_makes s two.Trigger = pair (until_key (not s) Past) s s _ (until_is (not s) Past _ _)
 
-    pub binary_makes : (s : Bool) (op : BinaryOp) → Makes t (binary_plan s op a b) (signed s (Binary op (tree_at t a) (tree_at t b)))
-    binary_makes true two.And = pair joins.And true true
-    binary_makes false two.And = pair joins.Or false false
-    binary_makes true two.Or = pair joins.Or true true
-    binary_makes false two.Or = pair joins.And false false
-    binary_makes true two.Implies = pair joins.Or false true
-    binary_makes false two.Implies = pair joins.And true false
-    binary_makes true two.Iff = crossed true
-    binary_makes false two.Iff = crossed false
-    binary_makes true two.Until = pair joins.Until true true
-    binary_makes false two.Until = pair joins.Release false false
-    binary_makes true two.Release = pair joins.Release true true
-    binary_makes false two.Release = pair joins.Until false false
-    binary_makes true two.WeakUntil = nested joins.Or joins.Release true
-    binary_makes false two.WeakUntil = nested joins.And joins.Until false
-    binary_makes true two.StrongRelease = nested joins.And joins.Until true
-    binary_makes false two.StrongRelease = nested joins.Or joins.Release false
-    binary_makes true two.Since = pair joins.Since true true
-    binary_makes false two.Since = pair joins.Trigger false false
-    binary_makes true two.Trigger = pair joins.Trigger true true
-    binary_makes false two.Trigger = pair joins.Since false false
+  -- ---- the work that a plan is
 
   times_weigh : (r : Request) (s : Bool) (x n : ℕ) → weights t (times_plan r s x n) ≡ cost (tree_at t x) + n
   times_weigh r s x zero = omega arith
@@ -177,40 +178,22 @@ module _ (t : Table) where
   window_weigh c z r s x (suc a) (suc b) = omega (arith, window_weigh c z r s x a b, weights-append t (window_plan c z r s x a b) (works.Ask r ∷ []))
   window_weigh c z r s x (suc a) zero = omega arith
 
+  looking_weighs : (some : Bool) (side : Direction) (range : Range) (s : Bool) (a : ℕ)
+      → weights t (looking_plan some side range s a) < range_cost range (cost (tree_at t a)) + 3
+  looking_weighs some side Step s a = omega arith
+  looking_weighs some side Ever s a = omega arith
+  looking_weighs some side (Exactly n) s a = omega (arith, times_weigh (request_key some side) s a n)
+  looking_weighs some side (Between m n) s a = omega (arith, window_weigh (conjunction_key (not some)) (not some) (request_key some side) s a m n)
+
+  shape_less : (s : Bool) (look : Shape) (a : ℕ) → weights t (shape_plan s look a) + 1 < shape_cost look (cost (tree_at t a))
+  shape_less s Negation a = omega arith
+  shape_less s (Somewhere side range) a = omega (arith, looking_weighs s side range s a)
+  shape_less s (Everywhere side range) a = omega (arith, looking_weighs (not s) side range s a)
+
   -- the plan and the note of its number are less work than the node
   pub unary_less : (s : Bool) (op : UnaryOp) (a : ℕ) → weights t (unary_plan s op a) + 1 < cost (Unary op (tree_at t a))
-  unary_less true one.Not a = omega arith
-  unary_less false one.Not a = omega arith
-  unary_less true one.Next a = omega arith
-  unary_less false one.Next a = omega arith
-  unary_less true one.WeakNext a = omega arith
-  unary_less false one.WeakNext a = omega arith
-  unary_less true one.Eventually a = omega arith
-  unary_less false one.Eventually a = omega arith
-  unary_less true one.Always a = omega arith
-  unary_less false one.Always a = omega arith
-  unary_less true one.Yesterday a = omega arith
-  unary_less false one.Yesterday a = omega arith
-  unary_less true one.WeakYesterday a = omega arith
-  unary_less false one.WeakYesterday a = omega arith
-  unary_less true one.Once a = omega arith
-  unary_less false one.Once a = omega arith
-  unary_less true one.Historically a = omega arith
-  unary_less false one.Historically a = omega arith
-  unary_less true (one.NextTimes n) a = omega (arith, times_weigh asks.Next true a n)
-  unary_less false (one.NextTimes n) a = omega (arith, times_weigh asks.WeakNext false a n)
-  unary_less true (one.YesterdayTimes n) a = omega (arith, times_weigh asks.Yesterday true a n)
-  unary_less false (one.YesterdayTimes n) a = omega (arith, times_weigh asks.WeakYesterday false a n)
-  unary_less true (one.EventuallyIn m n) a = omega (arith, window_weigh joins.Or false asks.Next true a m n)
-  unary_less false (one.EventuallyIn m n) a = omega (arith, window_weigh joins.And true asks.WeakNext false a m n)
-  unary_less true (one.AlwaysIn m n) a = omega (arith, window_weigh joins.And true asks.WeakNext true a m n)
-  unary_less false (one.AlwaysIn m n) a = omega (arith, window_weigh joins.Or false asks.Next false a m n)
-  unary_less true (one.OnceIn m n) a = omega (arith, window_weigh joins.Or false asks.Yesterday true a m n)
-  unary_less false (one.OnceIn m n) a = omega (arith, window_weigh joins.And true asks.WeakYesterday false a m n)
-  unary_less true (one.HistoricallyIn m n) a = omega (arith, window_weigh joins.And true asks.WeakYesterday true a m n)
-  unary_less false (one.HistoricallyIn m n) a = omega (arith, window_weigh joins.Or false asks.Yesterday false a m n)
+  unary_less s op a = shape_less s (shape op) a
 
   pub binary_less : (s : Bool) (op : BinaryOp) (a b : ℕ) → weights t (binary_plan s op a b) + 1 < cost (Binary op (tree_at t a) (tree_at t b))
-  binary_less true two.And a b = omega arith
-  binary_less false two.And a b = omega arith
+  binary_less s two.And a b = omega arith
   binary_less s op a b = omega arith

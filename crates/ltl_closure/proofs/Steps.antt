@@ -1,13 +1,12 @@
 -- The pieces of work over the walk's state.
 use Rattle.std.proofs.Common.{◌≡◌, ℕ, ◌<◌, Bool, true, false, ◌++◌, ◌∷◌, [], List, reverse, OnOk, Result, Ok, Err, arith}
 use Rattle.std.proofs.lemmas.List.{reverse-append}
+use Rattle.ltl_syntax.specs.Shape.{Shape, Negation, Somewhere, Everywhere, shape}
 use Rattle.ltl_syntax.specs.Formula.{Atom, Formula, Const, Letter, Unary, Binary}
 use Rattle.ltl_syntax.specs.Table.{Table, tree_at}
-use Rattle.ltl_syntax.specs.declared.node.UnaryOp.{UnaryOp}
-use Rattle.ltl_syntax.specs.declared.node.UnaryOp.TheVariants as one
-use Rattle.ltl_closure.specs.Norm.{Norm, NConst, NLetter}
+use Rattle.ltl_closure.specs.Norm.{Norm, NConst, NLetter, norm}
 use Rattle.ltl_closure.specs.Keys.{IsKey, Enters}
-use Rattle.ltl_closure.specs.Plan.{signed, cost, operator_cost, IsWalking}
+use Rattle.ltl_closure.specs.Plan.{cost, shape_cost, IsWalking}
 use Rattle.ltl_closure.specs.Walking.{IsAt, letter_work, Puts}
 use Rattle.ltl_closure.specs.declared.key.Request.{Request}
 use Rattle.ltl_closure.specs.declared.key.Connective.{Connective}
@@ -56,7 +55,7 @@ module _ (t : Table) (old new : Walk) where
   negate_put a p w = at_new (keys.NotLetter a) _ p
       (λ n e. negate_at t old.root old.shared.keys.keys old.shared.entries.items old.memo (reverse old.work.items) a (reverse old.numbers.items) _ _ n w e)
 
-  pub visit_const_put : (i : ℕ) (s b : Bool) → Puts old (keys.Const b) (reverse old.work.items) new → signed s (tree_at t i) ≡ NConst b
+  pub visit_const_put : (i : ℕ) (s b : Bool) → Puts old (keys.Const b) (reverse old.work.items) new → norm s (tree_at t i) ≡ NConst b
       → IsAt t old (works.Visit i s ∷ reverse old.work.items) → IsAt t new (reverse new.work.items)
   visit_const_put i s b p is w = at_new (keys.Const b) _ p (λ n e. visit_const t old.root old.shared.keys.keys old.shared.entries.items old.memo
       (reverse old.work.items) i s b b (reverse old.numbers.items) _ _ n w is e)
@@ -68,25 +67,13 @@ module _ (t : Table) (old new : Walk) where
   visit_letter_put i false a key p is fits w = at_new key _ p (λ n e. visit_negated t old.root old.shared.keys.keys old.shared.entries.items old.memo
       (reverse old.work.items) i a key (reverse old.numbers.items) _ _ n w is fits e)
 
-operator_costs : (op : UnaryOp) (d : ℕ) → 0 < operator_cost op d
-operator_costs one.Not d = omega arith
-operator_costs one.Next d = omega arith
-operator_costs one.WeakNext d = omega arith
-operator_costs one.Eventually d = omega arith
-operator_costs one.Always d = omega arith
-operator_costs one.Yesterday d = omega arith
-operator_costs one.WeakYesterday d = omega arith
-operator_costs one.Once d = omega arith
-operator_costs one.Historically d = omega arith
-operator_costs (one.NextTimes n) d = omega arith
-operator_costs (one.YesterdayTimes n) d = omega arith
-operator_costs (one.EventuallyIn m n) d = omega arith
-operator_costs (one.AlwaysIn m n) d = omega arith
-operator_costs (one.OnceIn m n) d = omega arith
-operator_costs (one.HistoricallyIn m n) d = omega arith
+shape_costs : (look : Shape) (d : ℕ) → 0 < shape_cost look d
+shape_costs Negation d = omega arith
+shape_costs (Somewhere side range) d = omega arith
+shape_costs (Everywhere side range) d = omega arith
 
 pub cost_positive : (f : Formula) → 0 < cost f
 cost_positive (Const b) = omega arith
 cost_positive (Letter p) = omega arith
-cost_positive (Unary op a) = operator_costs op (cost a)
+cost_positive (Unary op a) = shape_costs (shape op) (cost a)
 cost_positive (Binary op a b) = omega arith

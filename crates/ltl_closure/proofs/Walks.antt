@@ -6,11 +6,11 @@ use Rattle.ltl_syntax.specs.declared.node.UnaryOp.{UnaryOp}
 use Rattle.ltl_syntax.specs.declared.node.BinaryOp.{BinaryOp}
 use Rattle.ltl_syntax.specs.Table.{Table, tree_at}
 use Rattle.ltl_syntax.specs.Size.{sizes}
-use Rattle.ltl_closure.specs.Norm.{Norm, NConst, NLetter, NNotLetter, pos_of}
+use Rattle.ltl_closure.specs.Norm.{Norm, NConst, NLetter, NNotLetter, norm, pos_of}
 use Rattle.ltl_closure.specs.Closure.{closure, walk, with_new, added, holds_entry}
 use Rattle.ltl_closure.specs.Entries.{place_in, AreEntries}
 use Rattle.ltl_closure.specs.Keys.{asking, joined, operands, own, IsKey, HasOperands, AreShared, AreDistinct, Enters}
-use Rattle.ltl_closure.specs.Plan.{signed, Progress, reached, run, AreReady, TopIs, unary_plan, binary_plan, memo_at, HasRoom, IsKnown, IsWalking}
+use Rattle.ltl_closure.specs.Plan.{Progress, reached, run, AreReady, TopIs, unary_plan, binary_plan, memo_at, HasRoom, IsKnown, IsWalking}
 use Rattle.ltl_closure.specs.declared.entry.Entry.{Entry}
 use Rattle.ltl_closure.specs.declared.key.Request.{Request}
 use Rattle.ltl_closure.specs.declared.key.Request.TheVariants as asks
@@ -196,8 +196,8 @@ module _ (t : Table) (root : ℕ) (ks : List Key) (xs : List Entry) (memo : Memo
     ends = w.ends;
   }
     where
-      top : (kept values : List Norm) → TopIs (signed s (tree_at t i)) values → (a ∷ rest) ≡ map (place_in kept) values
-          → ((v : Norm) → Contains values v → Contains kept v) → Contains kept (signed s (tree_at t i)) × (a ≡ place_in kept (signed s (tree_at t i)))
+      top : (kept values : List Norm) → TopIs (norm s (tree_at t i)) values → (a ∷ rest) ≡ map (place_in kept) values
+          → ((v : Norm) → Contains values v → Contains kept v) → Contains kept (norm s (tree_at t i)) × (a ≡ place_in kept (norm s (tree_at t i)))
       top kept [] is waiting there = absurd is
       top kept (v ∷ vs) is waiting there =
           let e : a ≡ place_in kept v = cc in
@@ -220,16 +220,16 @@ module _ (t : Table) (root : ℕ) (ks : List Key) (xs : List Entry) (memo : Memo
   visit_known i s numbers w nonzero = elim (w.known i s w.ready.0) [
     | inl zero ↦ absurd (nonzero zero)
     | inr k ↦
-        let same : with_new w.progress.kept (walk (signed s (tree_at t i))) ≡ w.progress.kept =
-        walk_again w.progress.kept w.shared.closed (signed s (tree_at t i)) k.0 in
-        let here : reached (signed s (tree_at t i)) w.progress ≡ record { kept = w.progress.kept; values = signed s (tree_at t i) ∷ w.progress.values } =
-        ap (λ kept. let p : Progress = record { kept = kept; values = signed s (tree_at t i) ∷ w.progress.values } in p) same in
+        let same : with_new w.progress.kept (walk (norm s (tree_at t i))) ≡ w.progress.kept =
+        walk_again w.progress.kept w.shared.closed (norm s (tree_at t i)) k.0 in
+        let here : reached (norm s (tree_at t i)) w.progress ≡ record { kept = w.progress.kept; values = norm s (tree_at t i) ∷ w.progress.values } =
+        ap (λ kept. let p : Progress = record { kept = kept; values = norm s (tree_at t i) ∷ w.progress.values } in p) same in
         record {
-          progress = record { kept = w.progress.kept; values = signed s (tree_at t i) ∷ w.progress.values };
+          progress = record { kept = w.progress.kept; values = norm s (tree_at t i) ∷ w.progress.values };
           distinct = w.distinct;
           shared = w.shared;
           few = w.few;
-          there = λ v c. elim (Contains-cons_cases (signed s (tree_at t i)) w.progress.values v c) [
+          there = λ v c. elim (Contains-cons_cases (norm s (tree_at t i)) w.progress.values v c) [
             | inl e ↦ subst (Contains w.progress.kept) e k.0
             | inr h ↦ w.there v h
           ];
@@ -243,7 +243,7 @@ module _ (t : Table) (root : ℕ) (ks : List Key) (xs : List Entry) (memo : Memo
 
   -- a plan that makes the node's normal form stands for the walk
   planned : (i : ℕ) (s : Bool) (numbers : List ℕ) (plan : List Work) → IsWalking t root ks xs numbers memo (works.Visit i s ∷ todo)
-      → Makes t plan (signed s (tree_at t i)) → IsWalking t root ks xs numbers memo (plan ++ works.Keep i s ∷ todo)
+      → Makes t plan (norm s (tree_at t i)) → IsWalking t root ks xs numbers memo (plan ++ works.Keep i s ∷ todo)
   planned i s numbers plan w makes =
       let m = makes w.progress in record {
         progress = w.progress;
@@ -270,7 +270,7 @@ module _ (t : Table) (root : ℕ) (ks : List Key) (xs : List Entry) (memo : Memo
 
   -- a constant
   pub visit_const : (i : ℕ) (s b c : Bool) (numbers : List ℕ) (ks' : List Key) (xs' : List Entry) (n : ℕ)
-      → IsWalking t root ks xs numbers memo (works.Visit i s ∷ todo) → signed s (tree_at t i) ≡ NConst b → Enters ks xs (keys.Const b) ks' xs' n
+      → IsWalking t root ks xs numbers memo (works.Visit i s ∷ todo) → norm s (tree_at t i) ≡ NConst b → Enters ks xs (keys.Const b) ks' xs' n
       → IsWalking t root ks' xs' (n ∷ numbers) memo todo
   visit_const i s b c numbers ks' xs' n w is enters =
       rw w.waiting (put_at w.progress.kept w.progress.values (NConst b) (keys.Const b) w.distinct w.few w.shared w.there w.room w.known

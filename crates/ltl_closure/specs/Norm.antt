@@ -1,8 +1,8 @@
 -- The negation normal form.
 use Rattle.std.specs.Prelude.{ℕ, zero, suc, Bool, true, false, not}
 use Rattle.ltl_syntax.specs.Formula.{Atom, Formula, Const, Letter, Unary, Binary}
-use Rattle.ltl_syntax.specs.declared.node.UnaryOp.TheVariants.{Always, AlwaysIn, Eventually, EventuallyIn, Historically, HistoricallyIn, Next, NextTimes, Not}
-use Rattle.ltl_syntax.specs.declared.node.UnaryOp.TheVariants.{Once, OnceIn, WeakNext, WeakYesterday, Yesterday, YesterdayTimes}
+use Rattle.ltl_syntax.specs.Shape.{Direction, Future, Past, Range, Step, Ever, Exactly, Between, Shape, Negation, Somewhere, Everywhere, shape}
+use Rattle.ltl_syntax.specs.declared.node.UnaryOp.TheVariants.{Next, Not, WeakNext, WeakYesterday, Yesterday}
 use Rattle.ltl_syntax.specs.declared.node.BinaryOp.TheVariants.{And, Iff, Implies, Or, Release, Since, StrongRelease, Trigger, Until, WeakUntil}
 
 -- formulas in normal form
@@ -48,69 +48,73 @@ abbrev pub chain : (Norm → Norm → Norm) → (Norm → Norm) → ℕ → Norm
 chain J N zero c = c
 chain J N (suc m) c = J c (N (chain J N m c))
 
--- somewhere in a range, and everywhere in it
-abbrev pub some_in : (Norm → Norm) → ℕ → ℕ → Norm → Norm
-some_in N a b c = window NOr (NConst false) N a b c
+-- ---- an operator with `true`, and its dual with `false`
 
-abbrev pub every_in : (Norm → Norm) → ℕ → ℕ → Norm → Norm
-every_in N a b c = window NAnd (NConst true) N a b c
+abbrev pub constant : Bool → Bool → Norm
+constant true b = NConst b
+constant false b = NConst (not b)
 
--- the normal form of a formula, and that of its negation
-abbrev mutual
-  pub pos_of : Formula → Norm
-  pos_of (Const b) = NConst b
-  pos_of (Letter p) = NLetter p
-  pos_of (Unary Not a) = neg_of a
-  pos_of (Binary And a b) = NAnd (pos_of a) (pos_of b)
-  pos_of (Binary Or a b) = NOr (pos_of a) (pos_of b)
-  pos_of (Binary Implies a b) = NOr (neg_of a) (pos_of b)
-  pos_of (Binary Iff a b) = NOr (NAnd (pos_of a) (pos_of b)) (NAnd (neg_of a) (neg_of b))
-  pos_of (Unary Next a) = NNext (pos_of a)
-  pos_of (Unary WeakNext a) = NWeakNext (pos_of a)
-  pos_of (Unary Eventually a) = NUntil (NConst true) (pos_of a)
-  pos_of (Unary Always a) = NRelease (NConst false) (pos_of a)
-  pos_of (Binary Until a b) = NUntil (pos_of a) (pos_of b)
-  pos_of (Binary Release a b) = NRelease (pos_of a) (pos_of b)
-  pos_of (Binary WeakUntil a b) = NRelease (pos_of b) (NOr (pos_of a) (pos_of b))
-  pos_of (Binary StrongRelease a b) = NUntil (pos_of b) (NAnd (pos_of a) (pos_of b))
-  pos_of (Unary Yesterday a) = NYesterday (pos_of a)
-  pos_of (Unary WeakYesterday a) = NWeakYesterday (pos_of a)
-  pos_of (Unary Once a) = NSince (NConst true) (pos_of a)
-  pos_of (Unary Historically a) = NTrigger (NConst false) (pos_of a)
-  pos_of (Unary (NextTimes n) a) = times NNext n (pos_of a)
-  pos_of (Unary (YesterdayTimes n) a) = times NYesterday n (pos_of a)
-  pos_of (Unary (EventuallyIn m n) a) = some_in NNext m n (pos_of a)
-  pos_of (Unary (AlwaysIn m n) a) = every_in NWeakNext m n (pos_of a)
-  pos_of (Unary (OnceIn m n) a) = some_in NYesterday m n (pos_of a)
-  pos_of (Unary (HistoricallyIn m n) a) = every_in NWeakYesterday m n (pos_of a)
-  pos_of (Binary Since a b) = NSince (pos_of a) (pos_of b)
-  pos_of (Binary Trigger a b) = NTrigger (pos_of a) (pos_of b)
+abbrev pub letter : Bool → Atom → Norm
+letter true p = NLetter p
+letter false p = NNotLetter p
 
-  pub neg_of : Formula → Norm
-  neg_of (Const b) = NConst (not b)
-  neg_of (Letter p) = NNotLetter p
-  neg_of (Unary Not a) = pos_of a
-  neg_of (Binary And a b) = NOr (neg_of a) (neg_of b)
-  neg_of (Binary Or a b) = NAnd (neg_of a) (neg_of b)
-  neg_of (Binary Implies a b) = NAnd (pos_of a) (neg_of b)
-  neg_of (Binary Iff a b) = NOr (NAnd (pos_of a) (neg_of b)) (NAnd (neg_of a) (pos_of b))
-  neg_of (Unary Next a) = NWeakNext (neg_of a)
-  neg_of (Unary WeakNext a) = NNext (neg_of a)
-  neg_of (Unary Eventually a) = NRelease (NConst false) (neg_of a)
-  neg_of (Unary Always a) = NUntil (NConst true) (neg_of a)
-  neg_of (Binary Until a b) = NRelease (neg_of a) (neg_of b)
-  neg_of (Binary Release a b) = NUntil (neg_of a) (neg_of b)
-  neg_of (Binary WeakUntil a b) = NUntil (neg_of b) (NAnd (neg_of a) (neg_of b))
-  neg_of (Binary StrongRelease a b) = NRelease (neg_of b) (NOr (neg_of a) (neg_of b))
-  neg_of (Unary Yesterday a) = NWeakYesterday (neg_of a)
-  neg_of (Unary WeakYesterday a) = NYesterday (neg_of a)
-  neg_of (Unary Once a) = NTrigger (NConst false) (neg_of a)
-  neg_of (Unary Historically a) = NSince (NConst true) (neg_of a)
-  neg_of (Unary (NextTimes n) a) = times NWeakNext n (neg_of a)
-  neg_of (Unary (YesterdayTimes n) a) = times NWeakYesterday n (neg_of a)
-  neg_of (Unary (EventuallyIn m n) a) = every_in NWeakNext m n (neg_of a)
-  neg_of (Unary (AlwaysIn m n) a) = some_in NNext m n (neg_of a)
-  neg_of (Unary (OnceIn m n) a) = every_in NWeakYesterday m n (neg_of a)
-  neg_of (Unary (HistoricallyIn m n) a) = some_in NYesterday m n (neg_of a)
-  neg_of (Binary Since a b) = NTrigger (neg_of a) (neg_of b)
-  neg_of (Binary Trigger a b) = NSince (neg_of a) (neg_of b)
+abbrev pub conjunction : Bool → Norm → Norm → Norm
+conjunction true = NAnd
+conjunction false = NOr
+
+abbrev pub disjunction : Bool → Norm → Norm → Norm
+disjunction s = conjunction (not s)
+
+-- the request for the position one step away on this side
+abbrev pub request : Bool → Direction → Norm → Norm
+request true Future = NNext
+request false Future = NWeakNext
+request true Past = NYesterday
+request false Past = NWeakYesterday
+
+abbrev pub until : Bool → Direction → Norm → Norm → Norm
+until true Future = NUntil
+until false Future = NRelease
+until true Past = NSince
+until false Past = NTrigger
+
+-- somewhere at the places that are a to b steps away, and with `false` everywhere
+abbrev pub in_range : Bool → (Norm → Norm) → ℕ → ℕ → Norm → Norm
+in_range some N a b c = window (disjunction some) (NConst (not some)) N a b c
+
+-- somewhere in the range, and with `false` everywhere
+abbrev pub looking : Bool → Direction → Range → Norm → Norm
+looking some side Step c = request some side c
+looking some side Ever c = until some side (NConst some) c
+looking some side (Exactly n) c = times (request some side) n c
+looking some side (Between a b) c = in_range some (request some side) a b c
+
+-- the sign of an operator's operand, and the operator over the operand's normal form
+abbrev pub under : Bool → Shape → Bool
+under s Negation = not s
+under s (Somewhere side range) = s
+under s (Everywhere side range) = s
+
+abbrev pub over : Bool → Shape → Norm → Norm
+over s Negation c = c
+over s (Somewhere side range) c = looking s side range c
+over s (Everywhere side range) c = looking (not s) side range c
+
+-- the normal form of a formula, and with `false` that of its negation
+abbrev pub norm : Bool → Formula → Norm
+norm s (Const b) = constant s b
+norm s (Letter p) = letter s p
+norm s (Unary op a) = over s (shape op) (norm (under s (shape op)) a)
+norm s (Binary And a b) = conjunction s (norm s a) (norm s b)
+norm s (Binary Or a b) = disjunction s (norm s a) (norm s b)
+norm s (Binary Implies a b) = disjunction s (norm (not s) a) (norm s b)
+norm s (Binary Iff a b) = NOr (NAnd (norm true a) (norm s b)) (NAnd (norm false a) (norm (not s) b))
+norm s (Binary Until a b) = until s Future (norm s a) (norm s b)
+norm s (Binary Release a b) = until (not s) Future (norm s a) (norm s b)
+norm s (Binary WeakUntil a b) = until (not s) Future (norm s b) (disjunction s (norm s a) (norm s b))
+norm s (Binary StrongRelease a b) = until s Future (norm s b) (conjunction s (norm s a) (norm s b))
+norm s (Binary Since a b) = until s Past (norm s a) (norm s b)
+norm s (Binary Trigger a b) = until (not s) Past (norm s a) (norm s b)
+
+abbrev pub pos_of : Formula → Norm
+pos_of f = norm true f

@@ -2,12 +2,12 @@
 use Rattle.std.specs.Prelude.{◌≡◌, ℕ, zero, suc, ◌+◌, ◌*◌, ◌<◌, ◌≤◌, ◌⊎◌, Bool, true, false, not, List, [], ◌∷◌, ◌++◌, length, map, slice_index_or, Contains}
 use Rattle.ltl_syntax.specs.declared.node.UnaryOp.{UnaryOp}
 use Rattle.ltl_syntax.specs.declared.node.BinaryOp.{BinaryOp}
-use Rattle.ltl_syntax.specs.declared.node.UnaryOp.TheVariants as one
 use Rattle.ltl_syntax.specs.declared.node.BinaryOp.TheVariants as two
+use Rattle.ltl_syntax.specs.Shape.{Direction, Future, Past, Range, Step, Ever, Exactly, Between, Shape, Negation, Somewhere, Everywhere, shape}
 use Rattle.ltl_syntax.specs.Formula.{Atom, Formula, Const, Letter, Unary, Binary}
 use Rattle.ltl_syntax.specs.Table.{Table, tree_at}
 use Rattle.ltl_syntax.specs.Size.{sizes}
-use Rattle.ltl_closure.specs.Norm.{Norm, NConst, NLetter, NNotLetter, pos_of, neg_of}
+use Rattle.ltl_closure.specs.Norm.{Norm, NConst, NLetter, NNotLetter, norm, pos_of}
 use Rattle.ltl_closure.specs.Closure.{walk, with_new}
 use Rattle.ltl_closure.specs.Entries.{place_in}
 use Rattle.ltl_closure.specs.Keys.{asking, joined, own, AreShared, AreDistinct}
@@ -20,11 +20,6 @@ use Rattle.ltl_closure.specs.declared.key.Key.{Key}
 use Rattle.ltl_closure.specs.declared.plan.Work.{Work}
 use Rattle.ltl_closure.specs.declared.plan.Work.TheVariants as works
 use Rattle.ltl_closure.specs.declared.memo.Memo.{Memo}
-
--- the normal form of a formula, or with `false` that of its negation
-abbrev pub signed : Bool → Formula → Norm
-signed true f = pos_of f
-signed false f = neg_of f
 
 -- the kept part of the closure, and the normal forms whose numbers wait, the last first
 pub record Progress : Type 0 where
@@ -55,7 +50,7 @@ negate_step kept (a ∷ vs) = record { kept = with_new kept (own (negated a)); v
 
 -- what a piece of work does
 abbrev pub step : Table → Work → Progress → Progress
-step t (works.Visit n s) p = reached (signed s (tree_at t n)) p
+step t (works.Visit n s) p = reached (norm s (tree_at t n)) p
 step t (works.Const b) p = record { kept = with_new p.kept (own (NConst b)); values = NConst b ∷ p.values }
 step t (works.Ask r) p = ask_step r p.kept p.values
 step t (works.Join c) p = join_step c p.kept p.values
@@ -90,7 +85,7 @@ IsReady t (works.Const b) p = Unit {0}
 IsReady t (works.Ask r) p = HasOne p.values
 IsReady t (works.Join c) p = HasTwo p.values
 IsReady t works.Negate p = HasLetter p.values
-IsReady t (works.Keep n s) p = (n < length t.nodes) × TopIs (signed s (tree_at t n)) p.values
+IsReady t (works.Keep n s) p = (n < length t.nodes) × TopIs (norm s (tree_at t n)) p.values
 
 abbrev pub AreReady : Table → List Work → Progress → Type 0
 AreReady t [] p = Unit {0}
@@ -107,10 +102,6 @@ window_plan c z r s n zero (suc b) = works.Visit n s ∷ ((window_plan c z r s n
 window_plan c z r s n (suc a) (suc b) = window_plan c z r s n a b ++ works.Ask r ∷ []
 window_plan c z r s n (suc a) zero = works.Const z ∷ []
 
-abbrev pub range_plan : Bool → Request → Bool → ℕ → ℕ → ℕ → List Work
-range_plan true r s n a b = window_plan joins.Or false r s n a b
-range_plan false r s n a b = window_plan joins.And true r s n a b
-
 -- for a request once, and for some or all positions on one side
 abbrev pub request_plan : Request → Bool → ℕ → List Work
 request_plan r s n = works.Visit n s ∷ works.Ask r ∷ []
@@ -118,85 +109,67 @@ request_plan r s n = works.Visit n s ∷ works.Ask r ∷ []
 abbrev pub span_plan : Bool → Connective → Bool → ℕ → List Work
 span_plan some c s n = works.Const some ∷ works.Visit n s ∷ works.Join c ∷ []
 
--- a request, or the weak one
-abbrev pub next_request : Bool → Request
-next_request true = asks.Next
-next_request false = asks.WeakNext
+-- the operators of keys, and their duals with `false`
+abbrev pub conjunction_key : Bool → Connective
+conjunction_key true = joins.And
+conjunction_key false = joins.Or
 
-abbrev pub yesterday_request : Bool → Request
-yesterday_request true = asks.Yesterday
-yesterday_request false = asks.WeakYesterday
+abbrev pub request_key : Bool → Direction → Request
+request_key true Future = asks.Next
+request_key false Future = asks.WeakNext
+request_key true Past = asks.Yesterday
+request_key false Past = asks.WeakYesterday
 
--- the connective that looks for some position, or at all of them
-abbrev pub future_connective : Bool → Connective
-future_connective true = joins.Until
-future_connective false = joins.Release
+abbrev pub until_key : Bool → Direction → Connective
+until_key true Future = joins.Until
+until_key false Future = joins.Release
+until_key true Past = joins.Since
+until_key false Past = joins.Trigger
 
-abbrev pub past_connective : Bool → Connective
-past_connective true = joins.Since
-past_connective false = joins.Trigger
+abbrev pub range_plan : Bool → Request → Bool → ℕ → ℕ → ℕ → List Work
+range_plan some r s n a b = window_plan (conjunction_key (not some)) (not some) r s n a b
+
+-- somewhere in a range, and with `false` everywhere
+abbrev pub looking_plan : Bool → Direction → Range → Bool → ℕ → List Work
+looking_plan some side Step s a = request_plan (request_key some side) s a
+looking_plan some side Ever s a = span_plan some (until_key some side) s a
+looking_plan some side (Exactly n) s a = times_plan (request_key some side) s a n
+looking_plan some side (Between m n) s a = range_plan some (request_key some side) s a m n
 
 -- what there is to do for an operator. Its negation has the dual operator, over the operand's negation
+abbrev pub shape_plan : Bool → Shape → ℕ → List Work
+shape_plan s Negation a = works.Visit a (not s) ∷ []
+shape_plan s (Somewhere side range) a = looking_plan s side range s a
+shape_plan s (Everywhere side range) a = looking_plan (not s) side range s a
+
 abbrev pub unary_plan : Bool → UnaryOp → ℕ → List Work
-unary_plan s one.Not a = works.Visit a (not s) ∷ []
-unary_plan s one.Next a = request_plan (next_request s) s a
-unary_plan s one.WeakNext a = request_plan (next_request (not s)) s a
-unary_plan s one.Yesterday a = request_plan (yesterday_request s) s a
-unary_plan s one.WeakYesterday a = request_plan (yesterday_request (not s)) s a
-unary_plan s one.Eventually a = span_plan s (future_connective s) s a
-unary_plan s one.Always a = span_plan (not s) (future_connective (not s)) s a
-unary_plan s one.Once a = span_plan s (past_connective s) s a
-unary_plan s one.Historically a = span_plan (not s) (past_connective (not s)) s a
-unary_plan s (one.NextTimes n) a = times_plan (next_request s) s a n
-unary_plan s (one.YesterdayTimes n) a = times_plan (yesterday_request s) s a n
-unary_plan s (one.EventuallyIn m n) a = range_plan s (next_request s) s a m n
-unary_plan s (one.AlwaysIn m n) a = range_plan (not s) (next_request (not s)) s a m n
-unary_plan s (one.OnceIn m n) a = range_plan s (yesterday_request s) s a m n
-unary_plan s (one.HistoricallyIn m n) a = range_plan (not s) (yesterday_request (not s)) s a m n
+unary_plan s op a = shape_plan s (shape op) a
 
 abbrev pub connective_of : Bool → BinaryOp → Connective
-connective_of true two.And = joins.And
-connective_of false two.And = joins.Or
-connective_of true two.Or = joins.Or
-connective_of false two.Or = joins.And
-connective_of true two.Implies = joins.Or
-connective_of false two.Implies = joins.And
-connective_of true two.Iff = joins.Or
-connective_of false two.Iff = joins.Or
-connective_of true two.Until = joins.Until
-connective_of false two.Until = joins.Release
-connective_of true two.Release = joins.Release
-connective_of false two.Release = joins.Until
-connective_of true two.WeakUntil = joins.Release
-connective_of false two.WeakUntil = joins.Until
-connective_of true two.StrongRelease = joins.Until
-connective_of false two.StrongRelease = joins.Release
-connective_of true two.Since = joins.Since
-connective_of false two.Since = joins.Trigger
-connective_of true two.Trigger = joins.Trigger
-connective_of false two.Trigger = joins.Since
+connective_of s two.And = conjunction_key s
+connective_of s two.Or = conjunction_key (not s)
+connective_of s two.Implies = conjunction_key (not s)
+connective_of s two.Iff = joins.Or
+connective_of s two.Until = until_key s Future
+connective_of s two.Release = until_key (not s) Future
+connective_of s two.WeakUntil = until_key (not s) Future
+connective_of s two.StrongRelease = until_key s Future
+connective_of s two.Since = until_key s Past
+connective_of s two.Trigger = until_key (not s) Past
 
-abbrev pub plain_plan : Bool → BinaryOp → ℕ → ℕ → List Work
-plain_plan s op a b = works.Visit a s ∷ works.Visit b s ∷ works.Join (connective_of s op) ∷ []
+-- two visits and their connective, and two connectives where the second operand is walked twice
+abbrev pub pair_plan : Connective → Bool → Bool → ℕ → ℕ → List Work
+pair_plan c s r a b = works.Visit a s ∷ works.Visit b r ∷ works.Join c ∷ []
 
-abbrev pub nested_plan : Bool → Connective → BinaryOp → ℕ → ℕ → List Work
-nested_plan s inner op a b = works.Visit b s ∷ works.Visit a s ∷ works.Visit b s ∷ works.Join inner ∷ works.Join (connective_of s op) ∷ []
+abbrev pub nested_plan : Connective → Connective → Bool → ℕ → ℕ → List Work
+nested_plan inner outer s a b = works.Visit b s ∷ works.Visit a s ∷ works.Visit b s ∷ works.Join inner ∷ works.Join outer ∷ []
 
 abbrev pub binary_plan : Bool → BinaryOp → ℕ → ℕ → List Work
-binary_plan s two.And a b = plain_plan s two.And a b
-binary_plan s two.Or a b = plain_plan s two.Or a b
-binary_plan s two.Implies a b = works.Visit a (not s) ∷ works.Visit b s ∷ works.Join (connective_of s two.Implies) ∷ []
-binary_plan s two.Iff a b =
-    works.Visit a true ∷ works.Visit b s ∷ works.Join joins.And ∷ works.Visit a false ∷ works.Visit b (not s) ∷ works.Join joins.And
-    ∷ works.Join (connective_of s two.Iff) ∷ []
-binary_plan s two.Until a b = plain_plan s two.Until a b
-binary_plan s two.Release a b = plain_plan s two.Release a b
-binary_plan true two.WeakUntil a b = nested_plan true joins.Or two.WeakUntil a b
-binary_plan false two.WeakUntil a b = nested_plan false joins.And two.WeakUntil a b
-binary_plan true two.StrongRelease a b = nested_plan true joins.And two.StrongRelease a b
-binary_plan false two.StrongRelease a b = nested_plan false joins.Or two.StrongRelease a b
-binary_plan s two.Since a b = plain_plan s two.Since a b
-binary_plan s two.Trigger a b = plain_plan s two.Trigger a b
+binary_plan s two.Implies a b = pair_plan (connective_of s two.Implies) (not s) s a b
+binary_plan s two.Iff a b = pair_plan joins.And true s a b ++ (pair_plan joins.And false (not s) a b ++ works.Join (connective_of s two.Iff) ∷ [])
+binary_plan s two.WeakUntil a b = nested_plan (conjunction_key (not s)) (connective_of s two.WeakUntil) s a b
+binary_plan s two.StrongRelease a b = nested_plan (conjunction_key s) (connective_of s two.StrongRelease) s a b
+binary_plan s op a b = pair_plan (connective_of s op) s s a b
 
 -- the most steps that a range takes over an operand that takes d, and that an operator takes
 abbrev pub window_cost : ℕ → ℕ → ℕ → ℕ
@@ -205,28 +178,22 @@ window_cost zero (suc b) d = d + window_cost zero b d + 2
 window_cost (suc a) (suc b) d = window_cost a b d + 1
 window_cost (suc a) zero d = 1
 
-abbrev pub operator_cost : UnaryOp → ℕ → ℕ
-operator_cost one.Not d = d + 4
-operator_cost one.Next d = d + 4
-operator_cost one.WeakNext d = d + 4
-operator_cost one.Eventually d = d + 4
-operator_cost one.Always d = d + 4
-operator_cost one.Yesterday d = d + 4
-operator_cost one.WeakYesterday d = d + 4
-operator_cost one.Once d = d + 4
-operator_cost one.Historically d = d + 4
-operator_cost (one.NextTimes n) d = d + n + 4
-operator_cost (one.YesterdayTimes n) d = d + n + 4
-operator_cost (one.EventuallyIn m n) d = window_cost m n d + 4
-operator_cost (one.AlwaysIn m n) d = window_cost m n d + 4
-operator_cost (one.OnceIn m n) d = window_cost m n d + 4
-operator_cost (one.HistoricallyIn m n) d = window_cost m n d + 4
+abbrev pub range_cost : Range → ℕ → ℕ
+range_cost Step d = d
+range_cost Ever d = d
+range_cost (Exactly n) d = d + n
+range_cost (Between m n) d = window_cost m n d
+
+abbrev pub shape_cost : Shape → ℕ → ℕ
+shape_cost Negation d = d + 4
+shape_cost (Somewhere side range) d = range_cost range d + 4
+shape_cost (Everywhere side range) d = range_cost range d + 4
 
 -- the most steps that a tree takes, were nothing shared
 abbrev pub cost : Formula → ℕ
 cost (Const b) = 1
 cost (Letter p) = 2
-cost (Unary op a) = operator_cost op (cost a)
+cost (Unary op a) = shape_cost (shape op) (cost a)
 cost (Binary op a b) = 2 * cost a + 2 * cost b + 6
 
 abbrev pub weight : Table → Work → ℕ
@@ -256,7 +223,7 @@ IsWithin m n = (n < length m.positive.items) × (n < length m.negative.items)
 abbrev pub IsKnown : Table → List Norm → Memo → Type 0
 IsKnown t kept memo =
     (n : ℕ) (s : Bool) → n < length t.nodes → (memo_at memo n s ≡ 0)
-    ⊎ (Contains kept (signed s (tree_at t n)) × (memo_at memo n s ≡ place_in kept (signed s (tree_at t n))))
+    ⊎ (Contains kept (norm s (tree_at t n)) × (memo_at memo n s ≡ place_in kept (norm s (tree_at t n))))
 
 -- a walk from the root's tree: the waiting numbers, the last first, are those of normal forms that are there, and the work that is
 -- left ends with the root's normal form

@@ -4,7 +4,7 @@ use Rattle.ltl_syntax.specs.declared.node.Kind.TheVariants as Kinds
 use Rattle.ltl_syntax.specs.Formula.{Atom, Name, Formula, Const, Letter, Unary, Binary}
 use Rattle.ltl_syntax.specs.declared.node.UnaryOp.TheVariants.{Always, Eventually, EventuallyIn, NextTimes, Not, OnceIn, WeakNext}
 use Rattle.ltl_syntax.specs.declared.node.BinaryOp.TheVariants.{And, Iff}
-use Rattle.ltl_closure.specs.Norm.{Norm, NConst, NLetter, NNotLetter, NAnd, NOr, NNext, NWeakNext, NYesterday, NUntil, NRelease, pos_of, neg_of}
+use Rattle.ltl_closure.specs.Norm.{Norm, NConst, NLetter, NNotLetter, NAnd, NOr, NNext, NWeakNext, NYesterday, NUntil, NRelease, norm, pos_of}
 use Rattle.ltl_closure.specs.Closure.{closure}
 use Rattle.ltl_closure.specs.Run.{bound}
 
@@ -54,11 +54,11 @@ recurring = Binary And (Unary Always (Unary Eventually (Letter p))) (Unary Alway
 pub record WorkedNormalForms : Type 0 where
   -- of `F[1,3] p` and its negation
   pub some : pos_of (Unary (EventuallyIn 1 3) (Letter p)) ≡ NNext (NOr (NLetter p) (NNext (NOr (NLetter p) (NNext (NLetter p)))))
-  pub every : neg_of (Unary (EventuallyIn 1 3) (Letter p)) ≡ NWeakNext (NAnd (NNotLetter p) (NWeakNext (NAnd (NNotLetter p) (NWeakNext (NNotLetter p)))))
+  pub every : norm false (Unary (EventuallyIn 1 3) (Letter p)) ≡ NWeakNext (NAnd (NNotLetter p) (NWeakNext (NAnd (NNotLetter p) (NWeakNext (NNotLetter p)))))
   -- of `O[2,3] p`
   pub once : pos_of (Unary (OnceIn 2 3) (Letter p)) ≡ NYesterday (NYesterday (NOr (NLetter p) (NYesterday (NLetter p))))
   -- the negation of `X[2] p` looks for no position
-  pub times : neg_of (Unary (NextTimes 2) (Letter p)) ≡ NWeakNext (NWeakNext (NNotLetter p))
+  pub times : norm false (Unary (NextTimes 2) (Letter p)) ≡ NWeakNext (NWeakNext (NNotLetter p))
 
 pub record WorkedClosures : Type 0 where
   -- of `false` and of `wX false`

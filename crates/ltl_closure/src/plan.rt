@@ -1,6 +1,7 @@
 // What there is to do for a node: its operands from left to right, and then the entry of its own operator.
 ghost use Rattle.std.specs.Prelude.{◌≡◌, ◌++◌, reverse, OnOk};
-ghost use Rattle.ltl_closure.specs.Plan.{next_request, yesterday_request, future_connective, past_connective, request_plan, span_plan, times_plan, window_plan, range_plan, unary_plan, connective_of, binary_plan};
+ghost use Rattle.ltl_syntax.specs.Shape.{Future, Past};
+ghost use Rattle.ltl_closure.specs.Plan.{request_key, until_key, request_plan, span_plan, times_plan, window_plan, range_plan, unary_plan, connective_of, binary_plan};
 
 use crate::key::{Connective, Request};
 use ltl_syntax::{BinaryOp, UnaryOp};
@@ -150,7 +151,7 @@ fn plan_range(
 
 /// The request of the next position, or the weak one.
 fn next(strong: bool) -> Request
-    ensures { result ≡ next_request strong }
+    ensures { result ≡ request_key strong Future }
 {
     if strong {
         Request::Next
@@ -161,7 +162,7 @@ fn next(strong: bool) -> Request
 
 /// The request of the position before, or the weak one.
 fn yesterday(strong: bool) -> Request
-    ensures { result ≡ yesterday_request strong }
+    ensures { result ≡ request_key strong Past }
 {
     if strong {
         Request::Yesterday
@@ -172,7 +173,7 @@ fn yesterday(strong: bool) -> Request
 
 /// The connective that looks for some position from one on, or at all of them.
 fn future(some: bool) -> Connective
-    ensures { result ≡ future_connective some }
+    ensures { result ≡ until_key some Future }
 {
     if some {
         Connective::Until
@@ -183,7 +184,7 @@ fn future(some: bool) -> Connective
 
 /// The connective that looks for some position up to one, or at all of them.
 fn past(some: bool) -> Connective
-    ensures { result ≡ past_connective some }
+    ensures { result ≡ until_key some Past }
 {
     if some {
         Connective::Since

@@ -1,5 +1,5 @@
 -- The trace of an accepted run is one of its kind, and it satisfies the formula.
-use Rattle.std.proofs.Common.{ℕ, ◌<◌, [], ◌∷◌, length, subst, sym, arith}
+use Rattle.std.proofs.Common.{ℕ, ◌<◌, [], ◌∷◌, length, subst, sym, arith, true}
 use Rattle.ltl_syntax.specs.declared.node.Kind.{Kind}
 use Rattle.ltl_syntax.specs.declared.node.Kind.TheVariants as Kinds
 use Rattle.ltl_syntax.specs.Formula.{Formula}
@@ -22,7 +22,7 @@ first_position (Infinite stem loop_part) good = tt
 first_position (Finite states) good = good
 
 satisfies : (f : Formula) (t : Trace) → IsTrace t → Holds t (formula_of (pos_of f)) 0 → Satisfies t f
-satisfies f t good h = (norm_holds t good f).yes'.to 0 (first_position t good) h
+satisfies f t good h = (norm_holds t good f true).to 0 (first_position t good) h
 
 pub run_satisfies : (f : Formula) (kind : Kind) (k : ℕ) (r : States) (close : Close) (t : Trace) → IsRun f k r → Accepts close f r k kind
     → GivesTrace f r k close t → IsTrace t × IsOfKind t kind × Satisfies t f

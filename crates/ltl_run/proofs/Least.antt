@@ -1,5 +1,5 @@
 -- An accepted run of least length is unpruned, and what a verdict says of traces.
-use Rattle.std.proofs.Common.{◌≡◌, ℕ, zero, suc, ◌-◌, ◌<◌, ◌≤◌, inl, inr, arith, refl, length, Contains, IsTrue}
+use Rattle.std.proofs.Common.{◌≡◌, ℕ, zero, suc, ◌-◌, ◌<◌, ◌≤◌, inl, inr, arith, refl, length, Contains, IsTrue, true}
 use Rattle.ltl_syntax.specs.declared.node.Kind.{Kind}
 use Rattle.ltl_syntax.specs.declared.node.Kind.TheVariants as Kinds
 use Rattle.std.proofs.lemmas.Bool.{cases_lt}
@@ -99,12 +99,12 @@ unsat_sound f kind limit k n (all_pruned le open' rejected none) acc =
 -- a trace of the kind that satisfies the formula gives an accepted run
 pub trace_runs : (f : Formula) (kind : Kind) (t : Trace) → IsTrace t → IsOfKind t kind → Satisfies t f → (k : ℕ) × HasAccepted f kind k
 trace_runs f Kinds.Infinite (Infinite stem loop_part) good is h =
-    trace_accepted f stem loop_part good ((norm_holds (Infinite stem loop_part) good f).yes'.back 0 tt h)
+    trace_accepted f stem loop_part good ((norm_holds (Infinite stem loop_part) good f true).back 0 tt h)
 trace_runs f Kinds.Finite (Infinite stem loop_part) good is h = absurd is
 trace_runs f Kinds.Infinite (Finite states) good is h = absurd is
 trace_runs f Kinds.Finite (Finite states) good is h =
     let e : length states ≡ suc (length states - 1) = omega arith in
-    (length states - 1, finite_accepted f states (length states - 1) e ((norm_holds (Finite states) good f).yes'.back 0 good h))
+    (length states - 1, finite_accepted f states (length states - 1) e ((norm_holds (Finite states) good f true).back 0 good h))
 
 pub unsat_has_no_trace : (f : Formula) (kind : Kind) (limit k : ℕ) (t : Trace) → IsVerdict f kind limit (Unsat k) → IsTrace t → IsOfKind t kind
     → Satisfies t f → ⊥

@@ -1,26 +1,22 @@
 -- At positions the normal form holds where the formula does, and that of its negation where the formula does not.
 use Rattle.std.proofs.Common.{ℕ, zero, suc, inl, inr, refl, arith, Bool, true, false, not, IsTrue}
+use Rattle.ltl_syntax.specs.Shape.{Direction, Future, Past, Range, Step, Ever, Exactly, Between, Shape, Negation, Somewhere, Everywhere, shape}
 use Rattle.ltl_syntax.specs.Formula.{Formula, Const, Letter, Unary, Binary}
-use Rattle.ltl_syntax.specs.declared.node.UnaryOp.TheVariants.{Always, AlwaysIn, Eventually, EventuallyIn, Historically, HistoricallyIn, Next, NextTimes, Not}
-use Rattle.ltl_syntax.specs.declared.node.UnaryOp.TheVariants.{Once, OnceIn, WeakNext, WeakYesterday, Yesterday, YesterdayTimes}
+use Rattle.ltl_syntax.specs.declared.node.UnaryOp.TheVariants.{Not}
 use Rattle.ltl_syntax.specs.declared.node.BinaryOp.TheVariants.{And, Iff, Implies, Or, Release, Since, StrongRelease, Trigger, Until, WeakUntil}
 use Rattle.ltl_word.specs.declared.trace.Trace.{Trace}
 use Rattle.ltl_word.specs.Trace.{IsPosition, IsTrace}
-use Rattle.ltl_word.specs.Claims.{Claim, Always', Never, IsEventuallyIn, IsAlwaysIn, IsOnceIn, IsHistoricallyIn}
+use Rattle.ltl_word.specs.Claims.{Claim, Always', Never, IsLater, Reached, IsSomewhere, IsEverywhere, OfShape}
 use Rattle.ltl_word.specs.Holds.{Holds}
 use Rattle.ltl_word.proofs.Search.{IsDecided}
-use Rattle.ltl_word.proofs.Duality.{Negated, Always_decided, Never_decided}
-use Rattle.ltl_word.proofs.Decided.{Holds_decided, Position_decided, position_below, horizon}
-use Rattle.ltl_word.proofs.Agreement.{IsRange, Same, Same-self, Same-turned, Same-not, Same-next, Same-weak_next, Same-yesterday, Same-weak_yesterday}
-use Rattle.ltl_word.proofs.Agreement.{Same-then, Same-never, Same-always, Same-and, Same-or, Same-no_and, Same-no_or, Same-until, Same-released, Same-no_next}
-use Rattle.ltl_word.proofs.Agreement.{Same-no_weak_next, Same-no_until, Same-no_release, Same-since, Same-triggered, Same-no_yesterday, Same-no_weak_yesterday}
-use Rattle.ltl_word.proofs.Agreement.{Same-no_since, Same-no_trigger}
-use Rattle.ltl_word.proofs.Bounded.{eventually_later, later_eventually, always_later, later_always, eventually_out, eventually_in, always_out, always_in}
-use Rattle.ltl_word.proofs.Bounded.{eventually_here, here_eventually, always_here, here_always, once_earlier, earlier_once, historically_earlier}
-use Rattle.ltl_word.proofs.Bounded.{earlier_historically, once_out, once_in, historically_out, historically_in, once_here, here_once, historically_here}
-use Rattle.ltl_word.proofs.Bounded.{here_historically, Same-eventually_in, Same-always_in, Same-once_in, Same-historically_in, Same-no_eventually_in}
-use Rattle.ltl_word.proofs.Bounded.{Same-no_always_in, Same-no_once_in, Same-no_historically_in, Same-times, Same-yesterdays}
-use Rattle.ltl_closure.specs.Norm.{Norm, NNext, NWeakNext, NYesterday, NWeakYesterday, times, some_in, every_in, formula_of, pos_of, neg_of}
+use Rattle.ltl_word.proofs.Duality.{Negated}
+use Rattle.ltl_word.proofs.Decided.{Holds_decided, Position_decided, position_below, horizon, near}
+use Rattle.ltl_word.proofs.Agreement.{IsRange, Same, Same-self, Same-then, Same-back, Same-and, Same-or, Same-no_and, Same-no_or, Same-until, Same-released}
+use Rattle.ltl_word.proofs.Agreement.{Same-no_until, Same-no_release, Same-since, Same-triggered, Same-no_since, Same-no_trigger}
+use Rattle.ltl_word.proofs.Reached.{Same-somewhere, Same-everywhere, Same-no_somewhere, Same-no_everywhere}
+use Rattle.ltl_word.proofs.Steps.{Peels, exactly_peels, between_peels, first_peels, IsAway, IsHereOnly, some_here, every_here, some_later, every_later}
+use Rattle.ltl_word.proofs.Steps.{some_first, every_first, eventually_is, always_is, once_is, historically_is}
+use Rattle.ltl_closure.specs.Norm.{Norm, NConst, conjunction, disjunction, request, until, times, in_range, looking, under, over, formula_of, norm}
 
 not_both : (b : Bool) → IsTrue b → IsTrue (not b) → ⊥
 not_both true e d = cc
@@ -37,219 +33,196 @@ module _ (t : Trace) (good : IsTrace t) where
   abbrev decided : (f : Formula) → IsDecided (Holds t f)
   decided = Holds_decided t good
 
-  abbrev at : IsDecided (IsPosition t)
-  at = Position_decided t
-
   abbrev P : Claim
   P = IsPosition t
 
   range : IsRange P P
   range = record { closed = position_below t; whole = λ i p. p }
 
-  Same-true : Same P (Is (pos_of (Const true))) Always'
+  Same-true : Same P (Is (NConst true)) Always'
   Same-true = record { to = λ i q x. tt; back = λ i q x. refl }
 
-  Same-false : Same P (Is (pos_of (Const false))) Never
+  Same-false : Same P (Is (NConst false)) Never
   Same-false = record { to = λ i q x. cc; back = λ i q x. absurd x }
 
-  -- the rows of the bounded operators hold where these do
-  times_next : (n : ℕ) (c : Norm) → Same P (Is (times NNext n c)) (IsEventuallyIn P n n (Is c))
-  times_next zero c = record { to = λ i q x. here_eventually P (Is c) i q x; back = λ i q w. eventually_here P (Is c) i w }
-  times_next (suc n) c = Same-then _ _ _ (Same-next range _ _ (times_next n c))
-      (record { to = λ i q w. later_eventually P (Is c) (position_below t) n n i w; back = λ i q w. eventually_later P (Is c) (position_below t) n n i w })
+  -- ---- one operand: the normal form over some position that is reached, and with `false` over every one
 
-  times_weak_next : (n : ℕ) (c : Norm) → Same P (Is (times NWeakNext n c)) (IsAlwaysIn P n n (Is c))
-  times_weak_next zero c = record { to = λ i q x. here_always P (Is c) i x; back = λ i q w. always_here P (Is c) i q w }
-  times_weak_next (suc n) c = Same-then _ _ _ (Same-weak_next range _ _ (times_weak_next n c))
-      (record { to = λ i q w. later_always P (Is c) (position_below t) n n i w; back = λ i q w. always_later P (Is c) (position_below t) n n i w })
+  abbrev Seen : Bool → Direction → Range → Claim → Claim
+  Seen true d r A i = IsSomewhere P d r A i
+  Seen false d r A i = IsEverywhere P d r A i
 
-  times_yesterday : (n : ℕ) (c : Norm) → Same P (Is (times NYesterday n c)) (IsOnceIn n n (Is c))
-  times_yesterday zero c = record { to = λ i q x. here_once (Is c) i x; back = λ i q w. once_here (Is c) i w }
-  times_yesterday (suc n) c = Same-then _ _ _ (Same-yesterday range _ _ (times_yesterday n c))
-      (record { to = λ i q w. earlier_once (Is c) n n i w; back = λ i q w. once_earlier (Is c) n n i w })
+  Same-seen : (some : Bool) (d : Direction) (r : Range) (A C : Claim) → Same P A C → Same P (Seen some d r A) (Seen some d r C)
+  Same-seen true d r A C f = Same-somewhere range d r A C f
+  Same-seen false d r A C f = Same-everywhere range d r A C f
 
-  times_weak_yesterday : (n : ℕ) (c : Norm) → Same P (Is (times NWeakYesterday n c)) (IsHistoricallyIn n n (Is c))
-  times_weak_yesterday zero c = record { to = λ i q x. here_historically (Is c) i x; back = λ i q w. historically_here (Is c) i w }
-  times_weak_yesterday (suc n) c = Same-then _ _ _ (Same-weak_yesterday range _ _ (times_weak_yesterday n c))
-      (record { to = λ i q w. earlier_historically (Is c) n n i w; back = λ i q w. historically_earlier (Is c) n n i w })
+  here : (d : Direction) (r : Range) (i : ℕ) → P i → IsLater r i i → Reached P d r i i
+  here Future r i q w = (w, q)
+  here Past r i q w = w
 
-  some_next : (a b : ℕ) (c : Norm) → Same P (Is (some_in NNext a b c)) (IsEventuallyIn P a b (Is c))
-  some_next zero zero c = record { to = λ i q x. here_eventually P (Is c) i q x; back = λ i q w. eventually_here P (Is c) i w }
-  some_next zero (suc b) c = Same-then _ _ _ (Same-or _ _ _ _ (Same-self (Is c)) (Same-next range _ _ (some_next zero b c)))
-      (record { to = λ i q w. eventually_in P (Is c) (position_below t) b i q w; back = λ i q w. eventually_out P (Is c) (position_below t) b i w })
-  some_next (suc a) (suc b) c = Same-then _ _ _ (Same-next range _ _ (some_next a b c))
-      (record { to = λ i q w. later_eventually P (Is c) (position_below t) a b i w; back = λ i q w. eventually_later P (Is c) (position_below t) a b i w })
-  some_next (suc a) zero c = record { to = λ i q e. absurd (cc); back = λ i q w. absurd (omega arith) }
+  seen_here : (some : Bool) (d : Direction) (r : Range) (A : Claim) → IsHereOnly r → ((i : ℕ) → IsLater r i i) → Same P A (Seen some d r A)
+  seen_here true d r A only w = Same-back _ _ (λ i q. some_here P A d r only i (here d r i q (w i)))
+  seen_here false d r A only w = Same-back _ _ (λ i q. every_here P A d r only i (here d r i q (w i)))
 
-  every_next : (a b : ℕ) (c : Norm) → Same P (Is (every_in NWeakNext a b c)) (IsAlwaysIn P a b (Is c))
-  every_next zero zero c = record { to = λ i q x. here_always P (Is c) i x; back = λ i q w. always_here P (Is c) i q w }
-  every_next zero (suc b) c = Same-then _ _ _ (Same-and _ _ _ _ (Same-self (Is c)) (Same-weak_next range _ _ (every_next zero b c)))
-      (record { to = λ i q w. always_in P (Is c) (position_below t) b i w; back = λ i q w. always_out P (Is c) (position_below t) b i q w })
-  every_next (suc a) (suc b) c = Same-then _ _ _ (Same-weak_next range _ _ (every_next a b c))
-      (record { to = λ i q w. later_always P (Is c) (position_below t) a b i w; back = λ i q w. always_later P (Is c) (position_below t) a b i w })
-  every_next (suc a) zero c = record { to = λ i q e j low high at'. absurd (omega arith); back = λ i q w. refl }
+  seen_later : (some : Bool) (d : Direction) (r s : Range) (A : Claim) → Peels r s → IsAway r → Same P (Seen some d Step (Seen some d s A)) (Seen some d r A)
+  seen_later true d r s A peels is = Same-back _ _ (λ i q. some_later P A (position_below t) d peels i is)
+  seen_later false d r s A peels is = Same-back _ _ (λ i q. every_later P A (position_below t) d peels i is)
 
-  some_yesterday : (a b : ℕ) (c : Norm) → Same P (Is (some_in NYesterday a b c)) (IsOnceIn a b (Is c))
-  some_yesterday zero zero c = record { to = λ i q x. here_once (Is c) i x; back = λ i q w. once_here (Is c) i w }
-  some_yesterday zero (suc b) c = Same-then _ _ _ (Same-or _ _ _ _ (Same-self (Is c)) (Same-yesterday range _ _ (some_yesterday zero b c)))
-      (record { to = λ i q w. once_in (Is c) b i w; back = λ i q w. once_out (Is c) b i w })
-  some_yesterday (suc a) (suc b) c = Same-then _ _ _ (Same-yesterday range _ _ (some_yesterday a b c))
-      (record { to = λ i q w. earlier_once (Is c) a b i w; back = λ i q w. once_earlier (Is c) a b i w })
-  some_yesterday (suc a) zero c = record { to = λ i q e. absurd (cc); back = λ i q w. absurd (omega arith) }
+  request_holds : (some : Bool) (d : Direction) (c : Norm) → Same P (Is (request some d c)) (Seen some d Step (Is c))
+  request_holds true Future c = Same-self _
+  request_holds false Future c = Same-self _
+  request_holds true Past c = Same-self _
+  request_holds false Past c = Same-self _
 
-  every_yesterday : (a b : ℕ) (c : Norm) → Same P (Is (every_in NWeakYesterday a b c)) (IsHistoricallyIn a b (Is c))
-  every_yesterday zero zero c = record { to = λ i q x. here_historically (Is c) i x; back = λ i q w. historically_here (Is c) i w }
-  every_yesterday zero (suc b) c = Same-then _ _ _ (Same-and _ _ _ _ (Same-self (Is c)) (Same-weak_yesterday range _ _ (every_yesterday zero b c)))
-      (record { to = λ i q w. historically_in (Is c) b i w; back = λ i q w. historically_out (Is c) b i w })
-  every_yesterday (suc a) (suc b) c = Same-then _ _ _ (Same-weak_yesterday range _ _ (every_yesterday a b c))
-      (record { to = λ i q w. earlier_historically (Is c) a b i w; back = λ i q w. historically_earlier (Is c) a b i w })
-  every_yesterday (suc a) zero c = record { to = λ i q e j low high. absurd (omega arith); back = λ i q w. refl }
+  stepped : (some : Bool) (d : Direction) (s : Range) (c e : Norm) → Same P (Is e) (Seen some d s (Is c))
+      → Same P (Is (request some d e)) (Seen some d Step (Seen some d s (Is c)))
+  stepped some d s c e f = Same-then _ _ _ (request_holds some d e) (Same-seen some d Step _ _ f)
 
-  -- both halves at once, since each needs the other below a negation
-  pub record Both (f : Formula) : Type 0 where
-    pub yes' : Same P (Is (pos_of f)) (Holds t f)
-    pub no' : Same P (Is (neg_of f)) (Negated (Holds t f))
+  further_holds : (some : Bool) (d : Direction) (r s : Range) (c e : Norm) → Peels r s → IsAway r → Same P (Is e) (Seen some d s (Is c))
+      → Same P (Is (request some d e)) (Seen some d r (Is c))
+  further_holds some d r s c e peels is f = Same-then _ _ _ (stepped some d s c e f) (seen_later some d r s (Is c) peels is)
 
-  pub norm_holds : (f : Formula) → Both f
-  norm_holds (Const b) = record {
-    yes' = Same-self _;
-    no' = record { to = λ i q e d. not_both b d e; back = λ i q h. not_either b h };
+  times_holds : (some : Bool) (d : Direction) (n : ℕ) (c : Norm) → Same P (Is (times (request some d) n c)) (Seen some d (Exactly n) (Is c))
+  times_holds some d zero c = seen_here some d (Exactly 0) (Is c) (λ i j w. omega arith) (λ i. omega arith)
+  times_holds some d (suc n) c =
+      further_holds some d (Exactly (suc n)) (Exactly n) c _ (exactly_peels n) (λ i j w. omega arith) (times_holds some d n c)
+
+  -- a range from here on: here, or and with `false` behind one step
+  first_holds : (some : Bool) (d : Direction) (b : ℕ) (c e : Norm) → Same P (Is e) (Seen some d (Between 0 b) (Is c))
+      → Same P (Is (disjunction some c (request some d e))) (Seen some d (Between 0 (suc b)) (Is c))
+  first_holds true d b c e f = Same-then _ _ _ (Same-or _ _ _ _ (Same-self (Is c)) (stepped true d (Between 0 b) c e f))
+      (Same-back _ _ (λ i q. some_first P (Is c) (position_below t) d (first_peels b) i (here d (Between 0 (suc b)) i q (omega arith, omega arith))))
+  first_holds false d b c e f = Same-then _ _ _ (Same-and _ _ _ _ (Same-self (Is c)) (stepped false d (Between 0 b) c e f))
+      (Same-back _ _ (λ i q. every_first P (Is c) (position_below t) d (first_peels b) i (here d (Between 0 (suc b)) i q (omega arith, omega arith))))
+
+  nothing : (d : Direction) (a i j : ℕ) → Reached P d (Between (suc a) zero) i j → ⊥
+  nothing Future a i j w = omega arith
+  nothing Past a i j w = omega arith
+
+  nowhere : (some : Bool) (d : Direction) (a : ℕ) (A : Claim) → Same P (Is (NConst (not some))) (Seen some d (Between (suc a) zero) A)
+  nowhere true d a A = record { to = λ i q e. absurd (cc); back = λ i q w. absurd (nothing d a i w.0 w.1) }
+  nowhere false d a A = record { to = λ i q e j w. absurd (nothing d a i j w); back = λ i q w. refl }
+
+  range_holds : (some : Bool) (d : Direction) (a b : ℕ) (c : Norm) → Same P (Is (in_range some (request some d) a b c)) (Seen some d (Between a b) (Is c))
+  range_holds some d zero zero c = seen_here some d (Between 0 0) (Is c) (λ i j w. omega arith) (λ i. (omega arith, omega arith))
+  range_holds some d zero (suc b) c = first_holds some d b c _ (range_holds some d zero b c)
+  range_holds some d (suc a) (suc b) c =
+      further_holds some d (Between (suc a) (suc b)) (Between a b) c _ (between_peels a b) (λ i j w. omega arith) (range_holds some d a b c)
+  range_holds some d (suc a) zero c = nowhere some d a (Is c)
+
+  ever_holds : (some : Bool) (d : Direction) (c : Norm) → Same P (Is (until some d (NConst some) c)) (Seen some d Ever (Is c))
+  ever_holds true Future c = Same-then _ _ _ (Same-until range _ _ _ _ Same-true (Same-self (Is c))) (Same-back _ _ (λ i q. eventually_is P (Is c) i))
+  ever_holds false Future c = Same-then _ _ _ (Same-released range _ _ _ _ Same-false (Same-self (Is c))) (Same-back _ _ (λ i q. always_is P (Is c) i))
+  ever_holds true Past c = Same-then _ _ _ (Same-since range _ _ _ _ Same-true (Same-self (Is c))) (Same-back _ _ (λ i q. once_is P (Is c) i))
+  ever_holds false Past c = Same-then _ _ _ (Same-triggered range _ _ _ _ Same-false (Same-self (Is c))) (Same-back _ _ (λ i q. historically_is P (Is c) i))
+
+  looking_holds : (some : Bool) (d : Direction) (r : Range) (c : Norm) → Same P (Is (looking some d r c)) (Seen some d r (Is c))
+  looking_holds some d Step c = request_holds some d c
+  looking_holds some d Ever c = ever_holds some d c
+  looking_holds some d (Exactly n) c = times_holds some d n c
+  looking_holds some d (Between a b) c = range_holds some d a b c
+
+  -- ---- a claim, and with `false` its negation
+
+  abbrev pub Signed : Bool → Claim → Claim
+  Signed true A = A
+  Signed false A = Negated A
+
+  -- the normal form of the formula or of its negation, by the sign
+  abbrev Stands : Bool → Norm → Formula → Type 0
+  Stands s n f = Same P (Is n) (Signed s (Holds t f))
+
+  shape_holds : (s : Bool) (look : Shape) (a : Formula) → ((r : Bool) → Stands r (norm r a) a)
+      → Same P (Is (over s look (norm (under s look) a))) (Signed s (OfShape P look (Holds t a)))
+  shape_holds true Negation a h = h false
+  shape_holds false Negation a h = record {
+    to = λ i q x k. k ((h true).to i q x);
+    back = λ i q k. elim (decided a i) [ yes x ↦ (h true).back i q x | no n ↦ absurd (k n) ];
   }
-  norm_holds (Letter p) = record { yes' = Same-self _; no' = Same-self _ }
-  norm_holds (Unary Not a) = let r = norm_holds a in record {
-    yes' = r.no';
-    no' = record {
-      to = λ i q x h. h (r.yes'.to i q x);
-      back = λ i q h. elim (decided a i) [ yes x ↦ r.yes'.back i q x | no n ↦ absurd (h n) ];
-    };
-  }
-  norm_holds (Binary And a b) = let r = norm_holds a in let s = norm_holds b in record {
-    yes' = Same-and _ _ _ _ r.yes' s.yes';
-    no' = Same-no_and _ _ _ _ (decided a) r.no' s.no';
-  }
-  norm_holds (Binary Or a b) = let r = norm_holds a in let s = norm_holds b in record {
-    yes' = Same-or _ _ _ _ r.yes' s.yes';
-    no' = Same-no_or _ _ _ _ (decided a) r.no' s.no';
-  }
-  norm_holds (Binary Implies a b) = let r = norm_holds a in let s = norm_holds b in record {
-    yes' = record {
-      to = λ i q w x. elim w [ inl n ↦ absurd (r.no'.to i q n x) | inr y ↦ s.yes'.to i q y ];
-      back = λ i q h. elim (decided a i) [ yes x ↦ inr (s.yes'.back i q (h x)) | no n ↦ inl (r.no'.back i q n) ];
-    };
-    no' = record {
-      to = λ i q w h. s.no'.to i q w.1 (h (r.yes'.to i q w.0));
+  shape_holds true (Somewhere d r) a h = Same-then _ _ _ (looking_holds true d r (norm true a)) (Same-somewhere range d r _ _ (h true))
+  shape_holds false (Somewhere d r) a h = Same-then _ _ _ (looking_holds false d r (norm false a)) (Same-no_somewhere range d r _ _ (h false))
+  shape_holds true (Everywhere d r) a h = Same-then _ _ _ (looking_holds false d r (norm true a)) (Same-everywhere range d r _ _ (h true))
+  shape_holds false (Everywhere d r) a h = Same-then _ _ _ (looking_holds true d r (norm false a))
+      (Same-no_everywhere range d r _ _ (Position_decided t) (decided a) (near t good (Unary Not a)) (h false))
+
+  module _ (a b : Formula) (x y : Norm) where
+    both_hold : (s : Bool) → Stands s x a → Stands s y b → Stands s (conjunction s x y) (Binary And a b)
+    both_hold true f g = Same-and _ _ _ _ f g
+    both_hold false f g = Same-no_and _ _ _ _ (decided a) f g
+
+    either_holds : (s : Bool) → Stands s x a → Stands s y b → Stands s (disjunction s x y) (Binary Or a b)
+    either_holds true f g = Same-or _ _ _ _ f g
+    either_holds false f g = Same-no_or _ _ _ _ (decided a) f g
+
+    implied_holds : (s : Bool) → Stands (not s) x a → Stands s y b → Stands s (disjunction s x y) (Binary Implies a b)
+    implied_holds true f g = record {
+      to = λ i q w k. elim w [ inl n ↦ absurd (f.to i q n k) | inr v ↦ g.to i q v ];
+      back = λ i q h. elim (decided a i) [ yes k ↦ inr (g.back i q (h k)) | no n ↦ inl (f.back i q n) ];
+    }
+    implied_holds false f g = record {
+      to = λ i q w h. g.to i q w.1 (h (f.to i q w.0));
       back = λ i q h. elim (decided a i) [
-        | yes x ↦ (r.yes'.back i q x, s.no'.back i q (λ y. h (λ x'. y)))
-        | no n ↦ absurd (h (λ x. absurd (n x)))
+        | yes k ↦ (f.back i q k, g.back i q (λ v. h (λ k'. v)))
+        | no n ↦ absurd (h (λ k. absurd (n k)))
       ];
-    };
+    }
+
+    until_holds : (s : Bool) → Stands s x a → Stands s y b → Stands s (until s Future x y) (Binary Until a b)
+    until_holds true f g = Same-until range _ _ _ _ f g
+    until_holds false f g = Same-no_until range _ _ _ _ (decided a) (decided b) f g
+
+    release_holds : (s : Bool) → Stands s x a → Stands s y b → Stands s (until (not s) Future x y) (Binary Release a b)
+    release_holds true f g = Same-released range _ _ _ _ f g
+    release_holds false f g = Same-no_release range _ _ _ _ (Position_decided t) (decided a) (decided b) (horizon t good _ (Unary Not b)) f g
+
+    since_holds : (s : Bool) → Stands s x a → Stands s y b → Stands s (until s Past x y) (Binary Since a b)
+    since_holds true f g = Same-since range _ _ _ _ f g
+    since_holds false f g = Same-no_since range _ _ _ _ (decided a) (decided b) f g
+
+    trigger_holds : (s : Bool) → Stands s x a → Stands s y b → Stands s (until (not s) Past x y) (Binary Trigger a b)
+    trigger_holds true f g = Same-triggered range _ _ _ _ f g
+    trigger_holds false f g = Same-no_trigger range _ _ _ _ (decided a) (decided b) f g
+
+  iff_holds : (s : Bool) (a b : Formula) → ((r : Bool) → Stands r (norm r a) a) → ((r : Bool) → Stands r (norm r b) b)
+      → Stands s (norm s (Binary Iff a b)) (Binary Iff a b)
+  iff_holds true a b f g = record {
+    to = λ i q w. elim w [
+      | inl v ↦ (λ x. (g true).to i q v.1, λ y. (f true).to i q v.0)
+      | inr v ↦ (λ x. absurd ((f false).to i q v.0 x), λ y. absurd ((g false).to i q v.1 y))
+    ];
+    back = λ i q h. elim (decided a i) [
+      | yes x ↦ inl ((f true).back i q x, (g true).back i q (h.0 x))
+      | no n ↦ inr ((f false).back i q n, (g false).back i q (λ y. n (h.1 y)))
+    ];
   }
-  norm_holds (Binary Iff a b) = let r = norm_holds a in let s = norm_holds b in record {
-    yes' = record {
-      to = λ i q w. elim w [
-        | inl v ↦ (λ x. s.yes'.to i q v.1, λ y. r.yes'.to i q v.0)
-        | inr v ↦ (λ x. absurd (r.no'.to i q v.0 x), λ y. absurd (s.no'.to i q v.1 y))
-      ];
-      back = λ i q h. elim (decided a i) [
-        | yes x ↦ inl (r.yes'.back i q x, s.yes'.back i q (h.0 x))
-        | no n ↦ inr (r.no'.back i q n, s.no'.back i q (λ y. n (h.1 y)))
-      ];
-    };
-    no' = record {
-      to = λ i q w h. elim w [
-        | inl v ↦ s.no'.to i q v.1 (h.0 (r.yes'.to i q v.0))
-        | inr v ↦ r.no'.to i q v.0 (h.1 (s.yes'.to i q v.1))
-      ];
-      back = λ i q h. elim (decided a i) [
-        | yes x ↦ inl (r.yes'.back i q x, s.no'.back i q (λ y. h (λ x'. y, λ y'. x)))
-        | no n ↦ elim (decided b i) [
-          | yes y ↦ inr (r.no'.back i q n, s.yes'.back i q y)
-          | no m ↦ absurd (h (λ x. absurd (n x), λ y. absurd (m y)))
-        ]
-      ];
-    };
+  iff_holds false a b f g = record {
+    to = λ i q w h. elim w [
+      | inl v ↦ (g false).to i q v.1 (h.0 ((f true).to i q v.0))
+      | inr v ↦ (f false).to i q v.0 (h.1 ((g true).to i q v.1))
+    ];
+    back = λ i q h. elim (decided a i) [
+      | yes x ↦ inl ((f true).back i q x, (g false).back i q (λ y. h (λ x'. y, λ y'. x)))
+      | no n ↦ elim (decided b i) [
+        | yes y ↦ inr ((f false).back i q n, (g true).back i q y)
+        | no m ↦ absurd (h (λ x. absurd (n x), λ y. absurd (m y)))
+      ]
+    ];
   }
-  norm_holds (Unary Next a) = let r = norm_holds a in record {
-    yes' = Same-next range _ _ r.yes';
-    no' = Same-no_next range _ _ r.no';
-  }
-  norm_holds (Unary WeakNext a) = let r = norm_holds a in record {
-    yes' = Same-weak_next range _ _ r.yes';
-    no' = Same-no_weak_next range _ _ at r.no';
-  }
-  norm_holds (Unary Eventually a) = let r = norm_holds a in record {
-    yes' = Same-until range _ _ _ _ Same-true r.yes';
-    no' = Same-no_until range _ _ _ _ Always_decided (decided a) (Same-then _ _ _ Same-false Same-never) r.no';
-  }
-  norm_holds (Unary Always a) = let r = norm_holds a in record {
-    yes' = Same-released range _ _ _ _ Same-false r.yes';
-    no' = Same-no_release range _ _ _ _ at Never_decided (decided a) (horizon t good _ (Unary Not a)) (Same-then _ _ _ Same-true Same-always) r.no';
-  }
-  norm_holds (Binary Until a b) = let r = norm_holds a in let s = norm_holds b in record {
-    yes' = Same-until range _ _ _ _ r.yes' s.yes';
-    no' = Same-no_until range _ _ _ _ (decided a) (decided b) r.no' s.no';
-  }
-  norm_holds (Binary Release a b) = let r = norm_holds a in let s = norm_holds b in record {
-    yes' = Same-released range _ _ _ _ r.yes' s.yes';
-    no' = Same-no_release range _ _ _ _ at (decided a) (decided b) (horizon t good _ (Unary Not b)) r.no' s.no';
-  }
-  norm_holds (Binary WeakUntil a b) = let r = norm_holds a in let s = norm_holds b in record {
-    yes' = Same-released range _ _ _ _ s.yes' (Same-or _ _ _ _ r.yes' s.yes');
-    no' = Same-no_release range _ _ _ _ at (decided b) (decided (Binary Or a b)) (horizon t good _ (Unary Not (Binary Or a b))) s.no'
-        (Same-no_or _ _ _ _ (decided a) r.no' s.no');
-  }
-  norm_holds (Binary StrongRelease a b) = let r = norm_holds a in let s = norm_holds b in record {
-    yes' = Same-until range _ _ _ _ s.yes' (Same-and _ _ _ _ r.yes' s.yes');
-    no' = Same-no_until range _ _ _ _ (decided b) (decided (Binary And a b)) s.no' (Same-no_and _ _ _ _ (decided a) r.no' s.no');
-  }
-  norm_holds (Unary Yesterday a) = let r = norm_holds a in record {
-    yes' = Same-yesterday range _ _ r.yes';
-    no' = Same-no_yesterday range _ _ r.no';
-  }
-  norm_holds (Unary WeakYesterday a) = let r = norm_holds a in record {
-    yes' = Same-weak_yesterday range _ _ r.yes';
-    no' = Same-no_weak_yesterday range _ _ r.no';
-  }
-  norm_holds (Unary Once a) = let r = norm_holds a in record {
-    yes' = Same-since range _ _ _ _ Same-true r.yes';
-    no' = Same-no_since range _ _ _ _ Always_decided (decided a) (Same-then _ _ _ Same-false Same-never) r.no';
-  }
-  norm_holds (Unary Historically a) = let r = norm_holds a in record {
-    yes' = Same-triggered range _ _ _ _ Same-false r.yes';
-    no' = Same-no_trigger range _ _ _ _ Never_decided (decided a) (Same-then _ _ _ Same-true Same-always) r.no';
-  }
-  norm_holds (Binary Since a b) = let r = norm_holds a in let s = norm_holds b in record {
-    yes' = Same-since range _ _ _ _ r.yes' s.yes';
-    no' = Same-no_since range _ _ _ _ (decided a) (decided b) r.no' s.no';
-  }
-  norm_holds (Binary Trigger a b) = let r = norm_holds a in let s = norm_holds b in record {
-    yes' = Same-triggered range _ _ _ _ r.yes' s.yes';
-    no' = Same-no_trigger range _ _ _ _ (decided a) (decided b) r.no' s.no';
-  }
-  norm_holds (Unary (NextTimes n) a) = let r = norm_holds a in record {
-    yes' = Same-then _ _ _ (times_next n (pos_of a)) (Same-then _ _ _ (Same-eventually_in range n n _ _ r.yes') (Same-turned _ _ (Same-times n (Holds t a) P)));
-    no' = Same-then _ _ _ (times_weak_next n (neg_of a))
-        (Same-then _ _ _ (Same-no_eventually_in range n n _ _ r.no') (Same-not _ _ (Same-turned _ _ (Same-times n (Holds t a) P))));
-  }
-  norm_holds (Unary (YesterdayTimes n) a) = let r = norm_holds a in record {
-    yes' =
-        Same-then _ _ _ (times_yesterday n (pos_of a)) (Same-then _ _ _ (Same-once_in range n n _ _ r.yes') (Same-turned _ _ (Same-yesterdays n (Holds t a))));
-    no' = Same-then _ _ _ (times_weak_yesterday n (neg_of a))
-        (Same-then _ _ _ (Same-no_once_in range n n _ _ r.no') (Same-not _ _ (Same-turned _ _ (Same-yesterdays n (Holds t a)))));
-  }
-  norm_holds (Unary (EventuallyIn m n) a) = let r = norm_holds a in record {
-    yes' = Same-then _ _ _ (some_next m n (pos_of a)) (Same-eventually_in range m n _ _ r.yes');
-    no' = Same-then _ _ _ (every_next m n (neg_of a)) (Same-no_eventually_in range m n _ _ r.no');
-  }
-  norm_holds (Unary (AlwaysIn m n) a) = let r = norm_holds a in record {
-    yes' = Same-then _ _ _ (every_next m n (pos_of a)) (Same-always_in range m n _ _ r.yes');
-    no' = Same-then _ _ _ (some_next m n (neg_of a)) (Same-no_always_in range m n _ _ at (decided a) r.no');
-  }
-  norm_holds (Unary (OnceIn m n) a) = let r = norm_holds a in record {
-    yes' = Same-then _ _ _ (some_yesterday m n (pos_of a)) (Same-once_in range m n _ _ r.yes');
-    no' = Same-then _ _ _ (every_yesterday m n (neg_of a)) (Same-no_once_in range m n _ _ r.no');
-  }
-  norm_holds (Unary (HistoricallyIn m n) a) = let r = norm_holds a in record {
-    yes' = Same-then _ _ _ (every_yesterday m n (pos_of a)) (Same-historically_in range m n _ _ r.yes');
-    no' = Same-then _ _ _ (some_yesterday m n (neg_of a)) (Same-no_historically_in range m n _ _ (decided a) r.no');
-  }
+
+  pub norm_holds : (f : Formula) (s : Bool) → Same P (Is (norm s f)) (Signed s (Holds t f))
+  norm_holds (Const b) true = Same-self _
+  norm_holds (Const b) false = record { to = λ i q e d. not_both b d e; back = λ i q h. not_either b h }
+  norm_holds (Letter p) true = Same-self _
+  norm_holds (Letter p) false = Same-self _
+  norm_holds (Unary op a) s = shape_holds s (shape op) a (norm_holds a)
+  norm_holds (Binary And a b) s = both_hold a b _ _ s (norm_holds a s) (norm_holds b s)
+  norm_holds (Binary Or a b) s = either_holds a b _ _ s (norm_holds a s) (norm_holds b s)
+  norm_holds (Binary Implies a b) s = implied_holds a b _ _ s (norm_holds a (not s)) (norm_holds b s)
+  norm_holds (Binary Iff a b) s = iff_holds s a b (norm_holds a) (norm_holds b)
+  norm_holds (Binary Until a b) s = until_holds a b _ _ s (norm_holds a s) (norm_holds b s)
+  norm_holds (Binary Release a b) s = release_holds a b _ _ s (norm_holds a s) (norm_holds b s)
+  norm_holds (Binary WeakUntil a b) s =
+      release_holds b (Binary Or a b) _ _ s (norm_holds b s) (either_holds a b _ _ s (norm_holds a s) (norm_holds b s))
+  norm_holds (Binary StrongRelease a b) s =
+      until_holds b (Binary And a b) _ _ s (norm_holds b s) (both_hold a b _ _ s (norm_holds a s) (norm_holds b s))
+  norm_holds (Binary Since a b) s = since_holds a b _ _ s (norm_holds a s) (norm_holds b s)
+  norm_holds (Binary Trigger a b) s = trigger_holds a b _ _ s (norm_holds a s) (norm_holds b s)

@@ -1,17 +1,18 @@
 -- The letters of a closure are those of its formula, and the trees of a table have plain names.
-use Rattle.std.proofs.Common.{◌≡◌, ℕ, zero, suc, ◌<◌, ◌⊎◌, inl, inr, Bool, true, false, List, [], ◌∷◌, ◌++◌, length, get_or, Contains, All, sym, subst, arith}
+use Rattle.std.proofs.Common.{◌≡◌, ℕ, zero, suc, ◌<◌, ◌⊎◌, inl, inr, Bool, true, false, not, List, [], ◌∷◌, ◌++◌, length, get_or, Contains, All}
+use Rattle.std.proofs.Common.{sym, subst, arith}
 use Rattle.std.proofs.lemmas.Bool.{cases_lt}
 use Rattle.std.proofs.lemmas.List.{get_or_past}
 use Rattle.std.proofs.lemmas.List.Elements.{Contains-append_cases}
 use Rattle.ltl_syntax.specs.declared.node.Node.{Node}
 use Rattle.ltl_syntax.specs.declared.node.Node.TheVariants as nodes
-use Rattle.ltl_syntax.specs.declared.node.UnaryOp.TheVariants as one
 use Rattle.ltl_syntax.specs.declared.node.BinaryOp.TheVariants as two
+use Rattle.ltl_syntax.specs.Shape.{Direction, Future, Past, Range, Step, Ever, Exactly, Between, Shape, Negation, Somewhere, Everywhere, shape}
 use Rattle.ltl_syntax.specs.Formula.{Atom, Formula, Const, Letter, Unary, Binary}
 use Rattle.ltl_syntax.specs.Table.{Table, IsPlain, IsTable, tree_among, made, trees_after, trees_of, tree_at}
 use Rattle.ltl_word.specs.Propositional.{HasLetter}
 use Rattle.ltl_closure.specs.Norm.{Norm, NConst, NLetter, NNotLetter, NAnd, NOr, NNext, NWeakNext, NYesterday, NWeakYesterday, NUntil, NRelease, NSince}
-use Rattle.ltl_closure.specs.Norm.{NTrigger, formula_of, times, window, pos_of, neg_of}
+use Rattle.ltl_closure.specs.Norm.{NTrigger, formula_of, conjunction, request, until, times, in_range, looking, under, over, norm, pos_of}
 use Rattle.ltl_closure.specs.Closure.{walk, closure}
 use Rattle.ltl_closure.proofs.Lists.{Contains-nil, Contains-cons_cases}
 use Rattle.ltl_closure.proofs.Entries.{Contains-walk}
@@ -54,23 +55,55 @@ module _ (p : Atom) where
   walked (NSince a b) c = elim (over_two a b _ c (λ d. not_two _ _ d (λ e. cc) (λ e. cc))) [ inl l ↦ inl (walked a l) | inr r ↦ inr (walked b r) ]
   walked (NTrigger a b) c = elim (over_two a b _ c (λ d. not_two _ _ d (λ e. cc) (λ e. cc))) [ inl l ↦ inl (walked a l) | inr r ↦ inr (walked b r) ]
 
-  -- iterates have no letter but the operand's
-  module _ (N : Norm → Norm) (out : (c : Norm) → Has (N c) → Has c) where
-    of_times : (n : ℕ) (c : Norm) → Has (times N n c) → Has c
+  of_conjunction : (s : Bool) (c d : Norm) → Has (conjunction s c d) → Has c ⊎ Has d
+  of_conjunction true c d h = h
+  of_conjunction false c d h = h
+
+  of_until : (some : Bool) (side : Direction) (c d : Norm) → Has (until some side c d) → Has c ⊎ Has d
+  of_until true Future c d h = h
+  of_until false Future c d h = h
+  of_until true Past c d h = h
+  of_until false Past c d h = h
+
+  of_request : (some : Bool) (side : Direction) (c : Norm) → Has (request some side c) → Has c
+  of_request true Future c h = h
+  of_request false Future c h = h
+  of_request true Past c h = h
+  of_request false Past c h = h
+
+  -- what looks at a range has no letter but the operand's
+  module _ (some : Bool) (side : Direction) where
+    of_times : (n : ℕ) (c : Norm) → Has (times (request some side) n c) → Has c
     of_times zero c h = h
-    of_times (suc n) c h = of_times n c (out (times N n c) h)
+    of_times (suc n) c h = of_times n c (of_request some side (times (request some side) n c) h)
 
-    of_window : (J : Norm → Norm → Norm) (b : Bool) → ((c d : Norm) → Has (J c d) → Has c ⊎ Has d) → (m n : ℕ) (c : Norm)
-        → Has (window J (NConst b) N m n c) → Has c
-    of_window J b join zero zero c h = h
-    of_window J b join zero (suc n) c h =
-        elim (join c (N (window J (NConst b) N zero n c)) h) [ inl l ↦ l | inr r ↦ of_window J b join zero n c (out (window J (NConst b) N zero n c) r) ]
-    of_window J b join (suc m) (suc n) c h = of_window J b join m n c (out (window J (NConst b) N m n c) h)
-    of_window J b join (suc m) zero c h = absurd h
+    of_range : (m n : ℕ) (c : Norm) → Has (in_range some (request some side) m n c) → Has c
+    of_range zero zero c h = h
+    of_range zero (suc n) c h = let rest = in_range some (request some side) zero n c in elim (of_conjunction (not some) c (request some side rest) h) [
+      | inl l ↦ l
+      | inr r ↦ of_range zero n c (of_request some side rest r)
+    ]
+    of_range (suc m) (suc n) c h = of_range m n c (of_request some side (in_range some (request some side) m n c) h)
+    of_range (suc m) zero c h = absurd h
 
-  second_only : {A : Type 0} → ⊥ ⊎ A → A
-  second_only (inl x) = absurd x
-  second_only (inr a) = a
+    of_looking : (range : Range) (c : Norm) → Has (looking some side range c) → Has c
+    of_looking Step c h = of_request some side c h
+    of_looking Ever c h = elim (of_until some side (NConst some) c h) [ inl l ↦ absurd l | inr r ↦ r ]
+    of_looking (Exactly n) c h = of_times n c h
+    of_looking (Between m n) c h = of_range m n c h
+
+  of_shape : (s : Bool) (look : Shape) (c : Norm) → Has (over s look c) → Has c
+  of_shape s Negation c h = h
+  of_shape s (Somewhere side range) c h = of_looking s side range c h
+  of_shape s (Everywhere side range) c h = of_looking (not s) side range c h
+
+  of_letter : (s : Bool) (q : Atom) → Has (norm s (Letter q)) → q ≡ p
+  of_letter true q h = h
+  of_letter false q h = h
+
+  of_constant : (s b : Bool) → Has (norm s (Const b)) → ⊥
+  of_constant true b h = h
+  of_constant false b h = h
 
   both : {A B C D : Type 0} → (A → C) → (B → D) → A ⊎ B → C ⊎ D
   both f g (inl a) = inl (f a)
@@ -81,58 +114,26 @@ module _ (p : Atom) where
   one_of f g (inr b) = g b
 
   -- the normal forms of a formula and of its negation have no letter but the formula's
-  abbrev IsFrom : Formula → Type 0
-  IsFrom f = (Has (pos_of f) → HasLetter f p) × (Has (neg_of f) → HasLetter f p)
-
-  spans : (a : Formula) → IsFrom a → (⊥ ⊎ Has (pos_of a) → HasLetter a p) × (⊥ ⊎ Has (neg_of a) → HasLetter a p)
-  spans a r = (λ h. r.0 (second_only h), λ h. r.1 (second_only h))
-
-  some_positions : (N : Norm → Norm) → ((c : Norm) → Has (N c) → Has c) → (m n : ℕ) (c : Norm) → Has (window NOr (NConst false) N m n c) → Has c
-  some_positions N out m n c h = of_window N out NOr false (λ x y w. w) m n c h
-
-  every_position : (N : Norm → Norm) → ((c : Norm) → Has (N c) → Has c) → (m n : ℕ) (c : Norm) → Has (window NAnd (NConst true) N m n c) → Has c
-  every_position N out m n c h = of_window N out NAnd true (λ x y w. w) m n c h
-
-  from_norm : (f : Formula) → IsFrom f
-  from_norm (Const b) = (λ h. h, λ h. h)
-  from_norm (Letter q) = (λ h. h, λ h. h)
-  from_norm (Unary one.Not a) = let r = from_norm a in (r.1, r.0)
-  from_norm (Unary one.Next a) = let r = from_norm a in (r.0, r.1)
-  from_norm (Unary one.WeakNext a) = let r = from_norm a in (r.0, r.1)
-  from_norm (Unary one.Yesterday a) = let r = from_norm a in (r.0, r.1)
-  from_norm (Unary one.WeakYesterday a) = let r = from_norm a in (r.0, r.1)
-  from_norm (Unary one.Eventually a) = spans a (from_norm a)
-  from_norm (Unary one.Always a) = spans a (from_norm a)
-  from_norm (Unary one.Once a) = spans a (from_norm a)
-  from_norm (Unary one.Historically a) = spans a (from_norm a)
-  from_norm (Unary (one.NextTimes n) a) = let r = from_norm a in
-      (λ h. r.0 (of_times NNext (λ c x. x) n (pos_of a) h), λ h. r.1 (of_times NWeakNext (λ c x. x) n (neg_of a) h))
-  from_norm (Unary (one.YesterdayTimes n) a) = let r = from_norm a in
-      (λ h. r.0 (of_times NYesterday (λ c x. x) n (pos_of a) h), λ h. r.1 (of_times NWeakYesterday (λ c x. x) n (neg_of a) h))
-  from_norm (Unary (one.EventuallyIn m n) a) = let r = from_norm a in
-      (λ h. r.0 (some_positions NNext (λ c x. x) m n (pos_of a) h), λ h. r.1 (every_position NWeakNext (λ c x. x) m n (neg_of a) h))
-  from_norm (Unary (one.AlwaysIn m n) a) = let r = from_norm a in
-      (λ h. r.0 (every_position NWeakNext (λ c x. x) m n (pos_of a) h), λ h. r.1 (some_positions NNext (λ c x. x) m n (neg_of a) h))
-  from_norm (Unary (one.OnceIn m n) a) = let r = from_norm a in
-      (λ h. r.0 (some_positions NYesterday (λ c x. x) m n (pos_of a) h), λ h. r.1 (every_position NWeakYesterday (λ c x. x) m n (neg_of a) h))
-  from_norm (Unary (one.HistoricallyIn m n) a) = let r = from_norm a in
-      (λ h. r.0 (every_position NWeakYesterday (λ c x. x) m n (pos_of a) h), λ h. r.1 (some_positions NYesterday (λ c x. x) m n (neg_of a) h))
-  from_norm (Binary two.And a b) = let r = from_norm a in let q = from_norm b in (both r.0 q.0, both r.1 q.1)
-  from_norm (Binary two.Or a b) = let r = from_norm a in let q = from_norm b in (both r.0 q.0, both r.1 q.1)
-  from_norm (Binary two.Until a b) = let r = from_norm a in let q = from_norm b in (both r.0 q.0, both r.1 q.1)
-  from_norm (Binary two.Release a b) = let r = from_norm a in let q = from_norm b in (both r.0 q.0, both r.1 q.1)
-  from_norm (Binary two.Since a b) = let r = from_norm a in let q = from_norm b in (both r.0 q.0, both r.1 q.1)
-  from_norm (Binary two.Trigger a b) = let r = from_norm a in let q = from_norm b in (both r.0 q.0, both r.1 q.1)
-  from_norm (Binary two.Implies a b) = let r = from_norm a in let q = from_norm b in (both r.1 q.0, both r.0 q.1)
-  from_norm (Binary two.Iff a b) = let r = from_norm a in let q = from_norm b in (one_of (both r.0 q.0) (both r.1 q.1), one_of (both r.0 q.1) (both r.1 q.0))
-  from_norm (Binary two.WeakUntil a b) = let r = from_norm a in let q = from_norm b in
-      (one_of (λ h. inr (q.0 h)) (both r.0 q.0), one_of (λ h. inr (q.1 h)) (both r.1 q.1))
-  from_norm (Binary two.StrongRelease a b) = let r = from_norm a in let q = from_norm b in
-      (one_of (λ h. inr (q.0 h)) (both r.0 q.0), one_of (λ h. inr (q.1 h)) (both r.1 q.1))
+  from_norm : (f : Formula) (s : Bool) → Has (norm s f) → HasLetter f p
+  from_norm (Const b) s h = of_constant s b h
+  from_norm (Letter q) s h = of_letter s q h
+  from_norm (Unary op a) s h = from_norm a (under s (shape op)) (of_shape s (shape op) _ h)
+  from_norm (Binary two.And a b) s h = both (from_norm a s) (from_norm b s) (of_conjunction s _ _ h)
+  from_norm (Binary two.Or a b) s h = both (from_norm a s) (from_norm b s) (of_conjunction (not s) _ _ h)
+  from_norm (Binary two.Implies a b) s h = both (from_norm a (not s)) (from_norm b s) (of_conjunction (not s) _ _ h)
+  from_norm (Binary two.Iff a b) s h = one_of (both (from_norm a true) (from_norm b s)) (both (from_norm a false) (from_norm b (not s))) h
+  from_norm (Binary two.Until a b) s h = both (from_norm a s) (from_norm b s) (of_until s Future _ _ h)
+  from_norm (Binary two.Release a b) s h = both (from_norm a s) (from_norm b s) (of_until (not s) Future _ _ h)
+  from_norm (Binary two.WeakUntil a b) s h = one_of (λ r. inr (from_norm b s r))
+      (λ r. both (from_norm a s) (from_norm b s) (of_conjunction (not s) _ _ r)) (of_until (not s) Future _ _ h)
+  from_norm (Binary two.StrongRelease a b) s h = one_of (λ r. inr (from_norm b s r))
+      (λ r. both (from_norm a s) (from_norm b s) (of_conjunction s _ _ r)) (of_until s Future _ _ h)
+  from_norm (Binary two.Since a b) s h = both (from_norm a s) (from_norm b s) (of_until s Past _ _ h)
+  from_norm (Binary two.Trigger a b) s h = both (from_norm a s) (from_norm b s) (of_until (not s) Past _ _ h)
 
 -- a letter of the closure stands in the formula
 pub closure_letter : (f : Formula) (p : Atom) → Contains (closure f) (NLetter p) → HasLetter f p
-closure_letter f p c = (from_norm p f).0 (walked p (pos_of f) (Contains-walk f (NLetter p) c))
+closure_letter f p c = from_norm p f true (walked p (pos_of f) (Contains-walk f (NLetter p) c))
 
 module _ (names : List (List ℕ)) (plain : (i : ℕ) → i < length names → IsPlain (get_or names i [])) where
   name_plain : (n : ℕ) → IsPlain (get_or names n [])

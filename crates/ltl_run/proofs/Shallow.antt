@@ -5,54 +5,22 @@ use Rattle.std.proofs.lemmas.List.{length-append}
 use Rattle.std.proofs.lemmas.List.Elements.{All-nil, All-cons, All-append}
 use Rattle.ltl_syntax.specs.declared.node.UnaryOp.{UnaryOp}
 use Rattle.ltl_syntax.specs.declared.node.BinaryOp.{BinaryOp}
-use Rattle.ltl_syntax.specs.declared.node.UnaryOp.TheVariants.{Always, AlwaysIn, Eventually, EventuallyIn, Historically, HistoricallyIn, Next, NextTimes, Not}
-use Rattle.ltl_syntax.specs.declared.node.UnaryOp.TheVariants.{Once, OnceIn, WeakNext, WeakYesterday, Yesterday, YesterdayTimes}
-use Rattle.ltl_syntax.specs.declared.node.BinaryOp.TheVariants.{And, Iff, Implies, Or, Release, Since, StrongRelease, Trigger, Until, WeakUntil}
+use Rattle.ltl_syntax.specs.declared.node.BinaryOp.TheVariants.{And}
 use Rattle.ltl_syntax.specs.Formula.{Formula, Const, Letter, Unary, Binary, nodes_in}
 use Rattle.ltl_word.specs.Depth.{past_depth}
 use Rattle.ltl_syntax.specs.Replacement.{Places, replaced_from}
 use Rattle.ltl_syntax.proofs.Places.{replaced-cut}
 
 depth_unary : (op : UnaryOp) (a : Formula) → past_depth a ≤ past_depth (Unary op a)
-depth_unary Not a = omega arith
-depth_unary Next a = omega arith
-depth_unary WeakNext a = omega arith
-depth_unary Eventually a = omega arith
-depth_unary Always a = omega arith
-depth_unary Yesterday a = omega arith
-depth_unary WeakYesterday a = omega arith
-depth_unary Once a = omega arith
-depth_unary Historically a = omega arith
-depth_unary (NextTimes n) a = omega arith
-depth_unary (YesterdayTimes n) a = omega arith
-depth_unary (EventuallyIn m n) a = omega arith
-depth_unary (AlwaysIn m n) a = omega arith
-depth_unary (OnceIn m n) a = omega arith
-depth_unary (HistoricallyIn m n) a = omega arith
+depth_unary op a = omega arith
 
 depth_left : (op : BinaryOp) (a b : Formula) → past_depth a ≤ past_depth (Binary op a b)
 depth_left And a b = omega arith
-depth_left Or a b = omega arith
-depth_left Implies a b = omega arith
-depth_left Iff a b = omega arith
-depth_left Until a b = omega arith
-depth_left Release a b = omega arith
-depth_left WeakUntil a b = omega arith
-depth_left StrongRelease a b = omega arith
-depth_left Since a b = omega arith
-depth_left Trigger a b = omega arith
+depth_left op a b = omega arith
 
 depth_right : (op : BinaryOp) (a b : Formula) → past_depth b ≤ past_depth (Binary op a b)
 depth_right And a b = omega arith
-depth_right Or a b = omega arith
-depth_right Implies a b = omega arith
-depth_right Iff a b = omega arith
-depth_right Until a b = omega arith
-depth_right Release a b = omega arith
-depth_right WeakUntil a b = omega arith
-depth_right StrongRelease a b = omega arith
-depth_right Since a b = omega arith
-depth_right Trigger a b = omega arith
+depth_right op a b = omega arith
 
 module _ (P : Places) (h : ℕ) where
   -- past operators are nested at most h deep

@@ -7,6 +7,7 @@ use Rattle.ltl_word.specs.declared.trace.Trace.{Trace}
 use Rattle.ltl_word.specs.Trace.{IsPosition, state_at}
 use Rattle.ltl_word.specs.Claims.{Claim}
 use Rattle.ltl_word.specs.Holds.{Holds, name_of}
+use Rattle.ltl_word.proofs.Steps.{weak_next_is}
 use Rattle.ltl_closure.specs.Norm.{Norm, NConst, NLetter, NNotLetter, NAnd, NOr, NNext, NWeakNext, NYesterday, NWeakYesterday, NUntil, NRelease, NSince}
 use Rattle.ltl_closure.specs.Norm.{NTrigger, formula_of}
 use Rattle.ltl_closure.specs.Closure.{closure}
@@ -168,10 +169,10 @@ module _ (f : Formula) (t : Trace) (r : States) (D : Claim) (g : Follows f t r D
   ]
   sound (NNext a) c i d v =
       let w = g.next i d a c v in
-      (g.position (suc i) w.0, sound a (has_first a (NNext a) [] refl c) (suc i) w.0 w.1)
-  sound (NWeakNext a) c i d v = λ at.
+      (suc i, (refl, g.position (suc i) w.0), sound a (has_first a (NNext a) [] refl c) (suc i) w.0 w.1)
+  sound (NWeakNext a) c i d v = (weak_next_is (IsPosition t) (Holds t (formula_of a)) i).1 (λ at.
       let w = g.weak_next i d a c v at in
-      sound a (has_first a (NWeakNext a) [] refl c) (suc i) w.0 w.1
+      sound a (has_first a (NWeakNext a) [] refl c) (suc i) w.0 w.1)
   sound (NYesterday a) c i d v =
       let w = g.yesterday i d a c v in
       (w.0, w.1, sound a (has_first a (NYesterday a) [] refl c) w.0 w.2 w.3)

@@ -1,6 +1,6 @@
 -- A trace that satisfies a formula gives an accepted run.
-use Rattle.std.proofs.Common.{◌≡◌, ℕ, zero, suc, ◌+◌, ◌-◌, ◌*◌, ◌<◌, ◌≤◌, ◌⊎◌, inl, inr, subst, arith, refl, List, [], ◌∷◌, ◌++◌, length, Contains, All}
-use Rattle.std.proofs.Common.{Decides, Bool, not, IsTrue, ◌&&◌, ◌||◌}
+use Rattle.std.proofs.Common.{◌≡◌, ℕ, zero, suc, ◌+◌, ◌-◌, ◌*◌, ◌<◌, ◌≤◌, ◌⊎◌, inl, inr, subst, arith, refl, sym, List, [], ◌∷◌, ◌++◌, length, Contains, All}
+use Rattle.std.proofs.Common.{Decides, Bool, true, not, IsTrue, ◌&&◌, ◌||◌}
 use Rattle.ltl_syntax.specs.declared.node.Kind.TheVariants as Kinds
 use Rattle.std.proofs.lemmas.Bool.{cases_lt, and_parts, and_from, or_cases, or_left, or_right, not-true, false_from_ne_true, not_from_false}
 use Rattle.std.proofs.lemmas.List.Elements.{All-append, All-cons, All-nil, All-contains}
@@ -80,8 +80,12 @@ module _ (t : Trace) (good : IsTrace t) where
       (trigger_out (Holds t (formula_of a)) (Holds t (formula_of b)) i (Holds_decided t good (formula_of a) i))
 
   next_case : (e : Norm) → IsTrue (is_next e) → (i : ℕ) → IsPosition t (suc i) → states_of i e ≡ val (states_of (suc i)) (argument e)
-  next_case (NNext a) h i at = one_answer _ _ (Decides-to (basic (NNext a) i) (λ w. w.1) (λ x. (at, x))) (val_decides a (suc i) at)
-  next_case (NWeakNext a) h i at = one_answer _ _ (Decides-to (basic (NWeakNext a) i) (λ g. g at) (λ x p. x)) (val_decides a (suc i) at)
+  next_case (NNext a) h i at =
+      one_answer _ _ (Decides-to (basic (NNext a) i) (λ w. subst (Holds t (formula_of a)) (sym w.1.0) w.2) (λ x. (suc i, (refl, at), x)))
+      (val_decides a (suc i) at)
+  next_case (NWeakNext a) h i at =
+      one_answer _ _ (Decides-to (basic (NWeakNext a) i) (λ g. g (suc i) (refl, at)) (λ x j w. subst (Holds t (formula_of a)) w.0 x))
+      (val_decides a (suc i) at)
   next_case (NUntil a b) h i at = cc
   next_case (NConst x) h i at = cc
   next_case (NLetter x) h i at = cc
@@ -146,16 +150,17 @@ walk_shallow : (g : Norm) (h : ℕ) → past_depth (formula_of g) ≤ h → All 
 walk_shallow (NConst b) h le = All-cons (IsShallow h) (NConst b) [] le (All-nil (IsShallow h))
 walk_shallow (NLetter p) h le = All-cons (IsShallow h) (NLetter p) [] le (All-nil (IsShallow h))
 walk_shallow (NNotLetter p) h le =
-    All-cons (IsShallow h) (NLetter p) (NNotLetter p ∷ []) le (All-cons (IsShallow h) (NNotLetter p) [] le (All-nil (IsShallow h)))
+    All-cons (IsShallow h) (NLetter p) (NNotLetter p ∷ []) (omega arith) (All-cons (IsShallow h) (NNotLetter p) [] le (All-nil (IsShallow h)))
 walk_shallow (NAnd a b) h le = shallow_two h _ _ (NAnd a b) (walk_shallow a h (omega arith)) (walk_shallow b h (omega arith)) le
 walk_shallow (NOr a b) h le = shallow_two h _ _ (NOr a b) (walk_shallow a h (omega arith)) (walk_shallow b h (omega arith)) le
-walk_shallow (NNext a) h le = shallow_one h _ (NNext a) (walk_shallow a h le) le
-walk_shallow (NWeakNext a) h le = shallow_one h _ (NWeakNext a) (walk_shallow a h le) le
+walk_shallow (NNext a) h le = shallow_one h _ (NNext a) (walk_shallow a h (omega arith)) le
+walk_shallow (NWeakNext a) h le = shallow_one h _ (NWeakNext a) (walk_shallow a h (omega arith)) le
 walk_shallow (NYesterday a) h le = shallow_one h _ (NYesterday a) (walk_shallow a h (omega arith)) (omega arith)
 walk_shallow (NWeakYesterday a) h le = shallow_one h _ (NWeakYesterday a) (walk_shallow a h (omega arith)) (omega arith)
-walk_shallow (NUntil a b) h le = shallow_three h _ _ (NUntil a b) (NNext (NUntil a b)) (walk_shallow a h (omega arith)) (walk_shallow b h (omega arith)) le le
+walk_shallow (NUntil a b) h le =
+    shallow_three h _ _ (NUntil a b) (NNext (NUntil a b)) (walk_shallow a h (omega arith)) (walk_shallow b h (omega arith)) le (omega arith)
 walk_shallow (NRelease a b) h le =
-    shallow_three h _ _ (NRelease a b) (NWeakNext (NRelease a b)) (walk_shallow a h (omega arith)) (walk_shallow b h (omega arith)) le le
+    shallow_three h _ _ (NRelease a b) (NWeakNext (NRelease a b)) (walk_shallow a h (omega arith)) (walk_shallow b h (omega arith)) le (omega arith)
 walk_shallow (NSince a b) h le =
     shallow_three h _ _ (NSince a b) (NYesterday (NSince a b)) (walk_shallow a h (omega arith)) (walk_shallow b h (omega arith)) le le
 walk_shallow (NTrigger a b) h le =
@@ -176,7 +181,7 @@ module _ (f : Formula) (stem loop_part : List Names) (some : 0 < length loop_par
 
   shallow : (e : Norm) → Contains (closure f) e → IsShallow h e
   unfolding h
-  shallow e c = let d = (norm_depth f).0 in All-contains (IsShallow h) (walk (pos_of f)) e (walk_shallow (pos_of f) h (omega arith)) (Contains-walk f e c)
+  shallow e c = let d = norm_depth f true in All-contains (IsShallow h) (walk (pos_of f)) e (walk_shallow (pos_of f) h (omega arith)) (Contains-walk f e c)
 
   repeats : (e : Norm) → past_depth (formula_of e) ≤ h → Repeats (Holds t (formula_of e)) (length loop_part) from
   unfolding from
@@ -219,7 +224,8 @@ module _ (f : Formula) (stem loop_part : List Names) (some : 0 < length loop_par
   fulfils (NUntil a b) i le p =
       let k = from + length loop_part in
       let x = (val_decides t some (NNext (NUntil a b)) (from + length loop_part) tt).0 p in
-      let u = x.1 in
+      let e : suc (from + length loop_part) ≡ x.0 = x.1.0 in
+      let u = x.2 in
       let w = met_within b (repeats b (omega arith)) u.0 u.0 (omega arith) (omega arith) u.3 in
       (w.0, w.1, w.2, (val_decides t some b w.0 tt).1 w.3)
   fulfils _ i le p = cc

@@ -1,5 +1,5 @@
 -- What the laws of runs say. They are stated for both kinds of trace.
-use Rattle.std.specs.Prelude.{◌≡◌, ℕ, ◌+◌, ◌-◌, ◌*◌, ◌<◌, ◌≤◌, ◌↔◌, Bool, List, length, All}
+use Rattle.std.specs.Prelude.{◌≡◌, ℕ, ◌+◌, ◌-◌, ◌*◌, ◌<◌, ◌≤◌, ◌↔◌, Bool, false, List, length, All}
 use Rattle.ltl_syntax.specs.declared.node.Kind.{Kind}
 use Rattle.ltl_syntax.specs.declared.node.Kind.TheVariants as Kinds
 use Rattle.ltl_syntax.specs.Formula.{Formula, HasNoFresh}
@@ -9,7 +9,7 @@ use Rattle.ltl_word.specs.declared.trace.Trace.TheVariants.{Infinite}
 use Rattle.ltl_word.specs.Trace.{Names, IsTrace, IsOfKind, IsPosition}
 use Rattle.ltl_word.specs.Holds.{Holds, Satisfies}
 use Rattle.ltl_word.specs.Depth.{past_depth}
-use Rattle.ltl_closure.specs.Norm.{Norm, NAnd, NOr, times, chain, some_in, every_in, formula_of, pos_of, neg_of}
+use Rattle.ltl_closure.specs.Norm.{Norm, times, chain, disjunction, in_range, formula_of, norm, pos_of}
 use Rattle.ltl_closure.specs.Closure.{eventualities}
 use Rattle.ltl_closure.specs.Run.{States, IsRun, IsAccepted, IsPrunedAt, IsUnpruned, HasAccepted, Verdict, IsVerdict, Sat, Unsat, Undecided, bound, carry}
 use Rattle.ltl_closure.specs.Run.{spliced, rotated}
@@ -26,12 +26,12 @@ NormalFormAgrees = (t : Trace) (f : Formula) (i : ℕ) → IsTrace t → IsPosit
 
 -- the normal form of its negation holds at the positions where the formula does not
 abbrev pub NegationAgrees : Type 0
-NegationAgrees = (t : Trace) (f : Formula) (i : ℕ) → IsTrace t → IsPosition t i → Holds t (formula_of (neg_of f)) i ↔ (Holds t f i → ⊥)
+NegationAgrees = (t : Trace) (f : Formula) (i : ℕ) → IsTrace t → IsPosition t i → Holds t (formula_of (norm false f)) i ↔ (Holds t f i → ⊥)
 
 -- a bounded operator whose first number is not above its second is iterates of a request over a chain of disjunctions, or of conjunctions
 abbrev pub RangesAreIterated : Type 0
-RangesAreIterated = (N : Norm → Norm) (a b : ℕ) (c : Norm) → a ≤ b
-    → (some_in N a b c ≡ times N a (chain NOr N (b - a) c)) × (every_in N a b c ≡ times N a (chain NAnd N (b - a) c))
+RangesAreIterated = (some : Bool) (N : Norm → Norm) (a b : ℕ) (c : Norm) → a ≤ b
+    → in_range some N a b c ≡ times N a (chain (disjunction some) N (b - a) c)
 
 -- the trace of a run that a rule accepts is one of the run's kind and satisfies the formula
 abbrev pub RunsSatisfy : Type 0

@@ -1,10 +1,10 @@
 -- The sizes of a table's nodes, with one node more. Each node has a size of at least 1.
 use Rattle.std.proofs.Common.{◌≡◌, ℕ, zero, suc, ◌+◌, ◌≤◌, List, [], ◌∷◌, ◌++◌, length, Some, arith, slice_get, subst}
 use Rattle.ltl_syntax.specs.declared.node.UnaryOp.{UnaryOp}
-use Rattle.ltl_syntax.specs.declared.node.UnaryOp.TheVariants as one
 use Rattle.ltl_syntax.specs.declared.node.Node.{Node}
 use Rattle.ltl_syntax.specs.declared.node.Node.TheVariants as nodes
-use Rattle.ltl_syntax.specs.Size.{operator_size, node_size, sizes, HasOrder, HaveOrder}
+use Rattle.ltl_syntax.specs.Shape.{Range, Step, Ever, Exactly, Between, Shape, Negation, Somewhere, Everywhere, shape}
+use Rattle.ltl_syntax.specs.Size.{range_size, shape_size, operator_size, node_size, sizes, HasOrder, HaveOrder}
 
 pub sizes-push : (ns : List Node) (n : Node) → sizes (ns ++ n ∷ []) ≡ sizes ns + node_size n
 sizes-push [] n = omega arith
@@ -14,22 +14,19 @@ pub ordered-push : (ns : List Node) (n : Node) → HaveOrder ns → HasOrder n �
 ordered-push [] n h k = (k, tt)
 ordered-push (x ∷ ns) n h k = (h.0, ordered-push ns n h.1 k)
 
+some_range_size : (range : Range) → 1 ≤ range_size range
+some_range_size Step = omega arith
+some_range_size Ever = omega arith
+some_range_size (Exactly n) = omega arith
+some_range_size (Between a b) = omega arith
+
+some_shape_size : (look : Shape) → 1 ≤ shape_size look
+some_shape_size Negation = omega arith
+some_shape_size (Somewhere side range) = some_range_size range
+some_shape_size (Everywhere side range) = some_range_size range
+
 pub some_operator_size : (op : UnaryOp) → 1 ≤ operator_size op
-some_operator_size one.Not = omega arith
-some_operator_size one.Next = omega arith
-some_operator_size one.WeakNext = omega arith
-some_operator_size one.Eventually = omega arith
-some_operator_size one.Always = omega arith
-some_operator_size one.Yesterday = omega arith
-some_operator_size one.WeakYesterday = omega arith
-some_operator_size one.Once = omega arith
-some_operator_size one.Historically = omega arith
-some_operator_size (one.NextTimes n) = omega arith
-some_operator_size (one.YesterdayTimes n) = omega arith
-some_operator_size (one.EventuallyIn a b) = omega arith
-some_operator_size (one.AlwaysIn a b) = omega arith
-some_operator_size (one.OnceIn a b) = omega arith
-some_operator_size (one.HistoricallyIn a b) = omega arith
+some_operator_size op = some_shape_size (shape op)
 
 pub some_node_size : (n : Node) → 1 ≤ node_size n
 some_node_size (nodes.Const b) = omega arith

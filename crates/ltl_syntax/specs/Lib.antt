@@ -1,5 +1,6 @@
 pub mod Formula
 pub mod FormulaCode
+pub mod Shape
 pub mod Size
 pub mod Table
 pub mod Roots

@@ -1,46 +1,40 @@
 -- How much of the limit on a formula's size its operators take: a bounded operator as much as it looks ahead or back.
 use Rattle.std.specs.Prelude.{ℕ, ◌+◌, ◌≤◌, max, List, [], ◌∷◌, ⊤}
 use Rattle.ltl_syntax.specs.declared.node.UnaryOp.{UnaryOp}
-use Rattle.ltl_syntax.specs.declared.node.UnaryOp.TheVariants as one
 use Rattle.ltl_syntax.specs.declared.node.Node.{Node}
 use Rattle.ltl_syntax.specs.declared.node.Node.TheVariants as nodes
+use Rattle.ltl_syntax.specs.Shape.{Range, Step, Ever, Exactly, Between, Shape, Negation, Somewhere, Everywhere, shape}
 use Rattle.ltl_syntax.specs.Formula.{Formula, Const, Letter, Unary, Binary}
 
--- a bounded operator has its last number for its size, but at least 1, and each other one has 1
+-- a range has its last number for its size, but at least 1, and each other one has 1
+abbrev pub range_size : Range → ℕ
+range_size Step = 1
+range_size Ever = 1
+range_size (Exactly n) = max n 1
+range_size (Between a b) = max b 1
+
+abbrev pub shape_size : Shape → ℕ
+shape_size Negation = 1
+shape_size (Somewhere side range) = range_size range
+shape_size (Everywhere side range) = range_size range
+
 abbrev pub operator_size : UnaryOp → ℕ
-operator_size one.Not = 1
-operator_size one.Next = 1
-operator_size one.WeakNext = 1
-operator_size one.Eventually = 1
-operator_size one.Always = 1
-operator_size one.Yesterday = 1
-operator_size one.WeakYesterday = 1
-operator_size one.Once = 1
-operator_size one.Historically = 1
-operator_size (one.NextTimes n) = max n 1
-operator_size (one.YesterdayTimes n) = max n 1
-operator_size (one.EventuallyIn a b) = max b 1
-operator_size (one.AlwaysIn a b) = max b 1
-operator_size (one.OnceIn a b) = max b 1
-operator_size (one.HistoricallyIn a b) = max b 1
+operator_size op = shape_size (shape op)
 
 -- a first number is not above its second
+abbrev pub IsRange : Range → Type 0
+IsRange Step = ⊤
+IsRange Ever = ⊤
+IsRange (Exactly n) = ⊤
+IsRange (Between a b) = a ≤ b
+
+abbrev pub HasRange : Shape → Type 0
+HasRange Negation = ⊤
+HasRange (Somewhere side range) = IsRange range
+HasRange (Everywhere side range) = IsRange range
+
 abbrev pub IsInOrder : UnaryOp → Type 0
-IsInOrder one.Not = ⊤
-IsInOrder one.Next = ⊤
-IsInOrder one.WeakNext = ⊤
-IsInOrder one.Eventually = ⊤
-IsInOrder one.Always = ⊤
-IsInOrder one.Yesterday = ⊤
-IsInOrder one.WeakYesterday = ⊤
-IsInOrder one.Once = ⊤
-IsInOrder one.Historically = ⊤
-IsInOrder (one.NextTimes n) = ⊤
-IsInOrder (one.YesterdayTimes n) = ⊤
-IsInOrder (one.EventuallyIn a b) = a ≤ b
-IsInOrder (one.AlwaysIn a b) = a ≤ b
-IsInOrder (one.OnceIn a b) = a ≤ b
-IsInOrder (one.HistoricallyIn a b) = a ≤ b
+IsInOrder op = HasRange (shape op)
 
 -- the size of a formula: the sum over its nodes
 abbrev pub formula_size : Formula → ℕ

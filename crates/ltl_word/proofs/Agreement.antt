@@ -1,6 +1,6 @@
 -- Claims that agree at the numbers of a range: the operators keep agreement, and a dual agrees with the negation of its operator.
-use Rattle.std.proofs.Common.{◌≡◌, ℕ, zero, suc, ◌⊎◌, inl, inr, ◌↔◌, subst, arith, refl}
-use Rattle.ltl_word.specs.Claims.{Claim, AtNext, AtWeakNext, IsUntil, IsReleased, IsSince, IsTriggered, AtYesterday, AtWeakYesterday, Always', Never}
+use Rattle.std.proofs.Common.{ℕ, ◌⊎◌, inl, inr, ◌↔◌, arith}
+use Rattle.ltl_word.specs.Claims.{Claim, IsUntil, IsReleased, IsSince, IsTriggered, Always', Never}
 use Rattle.ltl_word.proofs.Search.{IsDecided, ¬_decided}
 use Rattle.ltl_word.proofs.Expansion.{IsClosed}
 use Rattle.ltl_word.proofs.Duality.{Negated, HasHorizon, Released-from_no_until, no_release-from_until, no_until-from_release, Released-from_not, Since_decided}
@@ -57,6 +57,10 @@ Same-then A B C f g = record { to = λ i q a. g.to i q (f.to i q a); back = λ i
 
 pub Same-turned : {Q : Claim} (A B : Claim) → Same Q A B → Same Q B A
 Same-turned A B f = record { to = f.back; back = f.to }
+
+-- from agreement number by number, the other way round
+pub Same-back : {Q : Claim} (A B : Claim) → ((i : ℕ) → Q i → B i ↔ A i) → Same Q A B
+Same-back A B f = record { to = λ i q a. (f i q).1 a; back = λ i q b. (f i q).0 b }
 
 pub Same-never : {Q : Claim} → Same Q Never (Negated Always')
 Same-never = record { to = λ i q x. absurd x; back = λ i q h. h tt }
@@ -133,33 +137,6 @@ module _ {P Q : Claim} (range : IsRange P Q) where
   pub Same-released : (A B C D : Claim) → Same Q A C → Same Q B D → Same Q (IsReleased P A B) (IsReleased P C D)
   Same-released A B C D f g = record { to = Released-maps range A B C D f.to g.to; back = Released-maps range C D A B f.back g.back }
 
-  pub Same-next : (A C : Claim) → Same Q A C → Same Q (AtNext P A) (AtNext P C)
-  Same-next A C f = record {
-    to = λ i q w. (w.0, f.to (suc i) (range.whole (suc i) w.0) w.1);
-    back = λ i q w. (w.0, f.back (suc i) (range.whole (suc i) w.0) w.1);
-  }
-
-  pub Same-weak_next : (A C : Claim) → Same Q A C → Same Q (AtWeakNext P A) (AtWeakNext P C)
-  Same-weak_next A C f = record {
-    to = λ i q h p. f.to (suc i) (range.whole (suc i) p) (h p);
-    back = λ i q h p. f.back (suc i) (range.whole (suc i) p) (h p);
-  }
-
-  pub Same-no_next : (A C : Claim) → Same Q C (Negated A) → Same Q (AtWeakNext P C) (Negated (AtNext P A))
-  Same-no_next A C f = record {
-    to = λ i q h w. f.to (suc i) (range.whole (suc i) w.0) (h w.0) w.1;
-    back = λ i q h p. f.back (suc i) (range.whole (suc i) p) (λ x. h (p, x));
-  }
-
-  pub Same-no_weak_next : (A C : Claim) → IsDecided P → Same Q C (Negated A) → Same Q (AtNext P C) (Negated (AtWeakNext P A))
-  Same-no_weak_next A C dp f = record {
-    to = λ i q w h. f.to (suc i) (range.whole (suc i) w.0) w.1 (h w.0);
-    back = λ i q h. elim (dp (suc i)) [
-      | yes p ↦ (p, f.back (suc i) (range.whole (suc i) p) (λ x. h (λ p'. x)))
-      | no n ↦ absurd (h (λ p. absurd (n p)))
-    ];
-  }
-
   -- the release of what is not is what is no until
   pub Same-no_until : (A B C D : Claim) → IsDecided A → IsDecided B → Same Q C (Negated A) → Same Q D (Negated B)
       → Same Q (IsReleased P C D) (Negated (IsUntil P A B))
@@ -186,31 +163,6 @@ module _ {P Q : Claim} (range : IsRange P Q) where
 
   pub Same-triggered : (A B C D : Claim) → Same Q A C → Same Q B D → Same Q (IsTriggered A B) (IsTriggered C D)
   Same-triggered A B C D f g = record { to = Triggered-maps range A B C D f.to g.to; back = Triggered-maps range C D A B f.back g.back }
-
-  pub Same-yesterday : (A C : Claim) → Same Q A C → Same Q (AtYesterday A) (AtYesterday C)
-  Same-yesterday A C f = record {
-    to = λ i q w. (w.0, w.1, f.to w.0 (range.closed w.0 i (omega arith) q) w.2);
-    back = λ i q w. (w.0, w.1, f.back w.0 (range.closed w.0 i (omega arith) q) w.2);
-  }
-
-  pub Same-weak_yesterday : (A C : Claim) → Same Q A C → Same Q (AtWeakYesterday A) (AtWeakYesterday C)
-  Same-weak_yesterday A C f = record {
-    to = λ i q h j e. f.to j (range.closed j i (omega arith) q) (h j e);
-    back = λ i q h j e. f.back j (range.closed j i (omega arith) q) (h j e);
-  }
-
-  pub Same-no_yesterday : (A C : Claim) → Same Q C (Negated A) → Same Q (AtWeakYesterday C) (Negated (AtYesterday A))
-  Same-no_yesterday A C f = record {
-    to = λ i q h w. f.to w.0 (range.closed w.0 i (omega arith) q) (h w.0 w.1) w.2;
-    back = λ i q h j e. f.back j (range.closed j i (omega arith) q) (λ x. h (j, e, x));
-  }
-
-  yesterday_of_not : (A C : Claim) → Same Q C (Negated A) → Gives Q (Negated (AtWeakYesterday A)) (AtYesterday C)
-  yesterday_of_not A C f zero q h = absurd (h (λ j e. absurd (omega arith)))
-  yesterday_of_not A C f (suc i) q h = (i, refl, f.back i (range.closed i (suc i) (omega arith) q) (λ x. h (λ j e. let d : i ≡ j = omega arith in subst A d x)))
-
-  pub Same-no_weak_yesterday : (A C : Claim) → Same Q C (Negated A) → Same Q (AtYesterday C) (Negated (AtWeakYesterday A))
-  Same-no_weak_yesterday A C f = record { to = λ i q w h. f.to w.0 (range.closed w.0 i (omega arith) q) w.2 (h w.0 w.1); back = yesterday_of_not A C f }
 
   module _ (A B C D : Claim) (da : IsDecided A) (db : IsDecided B) (f : Same Q C (Negated A)) (g : Same Q D (Negated B)) where
     -- the trigger of what is not is what is no since

@@ -1,9 +1,9 @@
 -- What is no until is a release of the negations, and so on. One direction of each duality holds as it stands, the other needs the claims decided.
 -- From them each operator on decided claims is decided.
-use Rattle.std.proofs.Common.{◌≡◌, ℕ, zero, suc, ◌<◌, ◌≤◌, inl, inr, subst, arith, refl}
+use Rattle.std.proofs.Common.{ℕ, suc, ◌<◌, ◌≤◌, inl, inr, arith}
 use native.Mathlib.Decide.{dec_le}
-use Rattle.ltl_word.specs.Claims.{Claim, AtNext, AtWeakNext, IsUntil, IsReleased, AtYesterday, AtWeakYesterday, IsSince, IsTriggered, Always', Never}
-use Rattle.ltl_word.proofs.Search.{IsDecided, ¬_decided, ×_decided, →_decided, mapped, first_or_none, between_decided, after_decided}
+use Rattle.ltl_word.specs.Claims.{Claim, IsUntil, IsReleased, IsSince, IsTriggered, Always', Never}
+use Rattle.ltl_word.proofs.Search.{IsDecided, ¬_decided, ×_decided, first_or_none, between_decided, after_decided}
 
 abbrev pub Negated : Claim → Claim
 Negated A i = A i → ⊥
@@ -110,20 +110,6 @@ Triggered_decided A B da db i =
       | yes u ↦ no (no_trigger-from_since A B i u)
       | no n ↦ yes (Triggered-from_no_since A B da db i n)
     ]
-
-pub Next_decided : (P A : Claim) → IsDecided P → IsDecided A → IsDecided (AtNext P A)
-Next_decided P A dp da i = ×_decided (dp (suc i)) (da (suc i))
-
-pub WeakNext_decided : (P A : Claim) → IsDecided P → IsDecided A → IsDecided (AtWeakNext P A)
-WeakNext_decided P A dp da i = →_decided (dp (suc i)) (da (suc i))
-
-pub Yesterday_decided : (A : Claim) → IsDecided A → IsDecided (AtYesterday A)
-Yesterday_decided A da zero = no (λ w. absurd (omega arith))
-Yesterday_decided A da (suc i) = mapped (λ a. (i, refl, a)) (λ w. let e : w.0 ≡ i = omega arith in subst A e w.2) (da i)
-
-pub WeakYesterday_decided : (A : Claim) → IsDecided A → IsDecided (AtWeakYesterday A)
-WeakYesterday_decided A da zero = yes (λ j e. absurd (omega arith))
-WeakYesterday_decided A da (suc i) = mapped (λ a j e. let d : i ≡ j = omega arith in subst A d a) (λ f. f i refl) (da i)
 
 pub Always_decided : IsDecided Always'
 Always_decided i = yes tt

@@ -4,7 +4,8 @@ pub mod Duality
 pub mod Agreement
 pub mod Expansion
 pub mod Repeats
-pub mod Bounded
+pub mod Reached
+pub mod Steps
 pub mod Periodicity
 pub mod Decided
 mod Propositional

@@ -3,19 +3,16 @@ use Rattle.std.proofs.Common.{◌≡◌, ℕ, zero, suc, ◌+◌, ◌-◌, ◌<�
 use Rattle.std.proofs.Common.{Contains, [], length, false}
 use Rattle.std.proofs.Math.Nat.{add-mod_right}
 use Rattle.std.proofs.lemmas.Bool.{cond-false}
+use Rattle.ltl_syntax.specs.Shape.{shape}
 use Rattle.ltl_syntax.specs.Formula.{Atom, Formula, Const, Letter, Unary, Binary}
-use Rattle.ltl_syntax.specs.declared.node.UnaryOp.TheVariants.{Always, AlwaysIn, Eventually, EventuallyIn, Historically, HistoricallyIn, Next, NextTimes, Not}
-use Rattle.ltl_syntax.specs.declared.node.UnaryOp.TheVariants.{Once, OnceIn, WeakNext, WeakYesterday, Yesterday, YesterdayTimes}
 use Rattle.ltl_syntax.specs.declared.node.BinaryOp.TheVariants.{And, Iff, Implies, Or, Release, Since, StrongRelease, Trigger, Until, WeakUntil}
 use Rattle.ltl_word.specs.declared.trace.Trace.TheVariants.{Infinite}
 use Rattle.ltl_word.specs.Trace.{IsPosition, Names, state_at}
 use Rattle.ltl_word.specs.Claims.{Claim}
 use Rattle.ltl_word.specs.Holds.{Holds, name_of}
-use Rattle.ltl_word.specs.Depth.{past_depth}
-use Rattle.ltl_word.proofs.Bounded.{EventuallyIn-repeats, AlwaysIn-repeats, NextTimes-repeats, OnceIn-repeats, HistoricallyIn-repeats, YesterdayTimes-repeats}
-use Rattle.ltl_word.proofs.Repeats.{Repeats, Always-repeats, Never-repeats, Not-repeats, And-repeats, Or-repeats, Implies-repeats, Until-repeats}
-use Rattle.ltl_word.proofs.Repeats.{Released-repeats, Since-repeats, Triggered-repeats, Yesterday-repeats, WeakYesterday-repeats, Next-repeats}
-use Rattle.ltl_word.proofs.Repeats.{WeakNext-repeats}
+use Rattle.ltl_word.specs.Depth.{steps_back, past_depth}
+use Rattle.ltl_word.proofs.Reached.{OfShape-repeats}
+use Rattle.ltl_word.proofs.Repeats.{Repeats, And-repeats, Or-repeats, Implies-repeats, Until-repeats, Released-repeats, Since-repeats, Triggered-repeats}
 
 module _ (stem loop_part : List Names) (some : 0 < length loop_part) where
   pub state-repeats : (i : ℕ) → length stem ≤ i → state_at (Infinite stem loop_part) (i + length loop_part) ≡ state_at (Infinite stem loop_part) i
@@ -55,21 +52,8 @@ module _ (stem loop_part : List Names) (some : 0 < length loop_part) where
       → past_depth f ≤ h → Repeats (Holds (Infinite stem loop_part) f) (length loop_part) (length stem + h * length loop_part)
   Holds-repeats (Const b) h le = record { later = λ i h a. a; earlier = λ i h a. a }
   Holds-repeats (Letter p) h le = Letter-repeats p (length stem + h * length loop_part) (omega arith)
-  Holds-repeats (Unary Not a) h le = Not-repeats (Holds-repeats a h le)
-  Holds-repeats (Unary Next a) h le = Next-repeats _ _ _ _ (Position-repeats _) (Holds-repeats a h le)
-  Holds-repeats (Unary WeakNext a) h le = WeakNext-repeats _ _ _ _ (Position-repeats _) (Holds-repeats a h le)
-  Holds-repeats (Unary Eventually a) h le = Until-repeats _ _ _ _ _ (Position-repeats _) (Always-repeats _ _) (Holds-repeats a h le)
-  Holds-repeats (Unary Always a) h le = Released-repeats _ _ _ _ _ (Position-repeats _) (Never-repeats _ _) (Holds-repeats a h le)
-  Holds-repeats (Unary Yesterday a) h le = in_past (past_depth a) (λ d k. Yesterday-repeats _ _ _ some (Holds-repeats a d k)) h le
-  Holds-repeats (Unary WeakYesterday a) h le = in_past (past_depth a) (λ d k. WeakYesterday-repeats _ _ _ some (Holds-repeats a d k)) h le
-  Holds-repeats (Unary Once a) h le = in_past (past_depth a) (λ d k. Since-repeats _ _ _ _ some (Always-repeats _ _) (Holds-repeats a d k)) h le
-  Holds-repeats (Unary Historically a) h le = in_past (past_depth a) (λ d k. Triggered-repeats _ _ _ _ some (Never-repeats _ _) (Holds-repeats a d k)) h le
-  Holds-repeats (Unary (NextTimes n) a) h le = NextTimes-repeats _ _ _ _ n (Position-repeats _) (Holds-repeats a h le)
-  Holds-repeats (Unary (YesterdayTimes n) a) h le = in_far_past n (past_depth a) (λ d k. YesterdayTimes-repeats _ _ _ n some (Holds-repeats a d k)) h le
-  Holds-repeats (Unary (EventuallyIn m n) a) h le = EventuallyIn-repeats _ _ _ _ m n (Position-repeats _) (Holds-repeats a h le)
-  Holds-repeats (Unary (AlwaysIn m n) a) h le = AlwaysIn-repeats _ _ _ _ m n (Position-repeats _) (Holds-repeats a h le)
-  Holds-repeats (Unary (OnceIn m n) a) h le = in_far_past n (past_depth a) (λ d k. OnceIn-repeats _ _ _ m n some (Holds-repeats a d k)) h le
-  Holds-repeats (Unary (HistoricallyIn m n) a) h le = in_far_past n (past_depth a) (λ d k. HistoricallyIn-repeats _ _ _ m n some (Holds-repeats a d k)) h le
+  Holds-repeats (Unary op a) h le = in_far_past (steps_back (shape op)) (past_depth a)
+      (λ d k. OfShape-repeats _ _ _ _ some (Position-repeats _) (Holds-repeats a d k) (shape op)) h le
   Holds-repeats (Binary And a b) h le = And-repeats (Holds-repeats a h (omega arith)) (Holds-repeats b h (omega arith))
   Holds-repeats (Binary Or a b) h le = Or-repeats (Holds-repeats a h (omega arith)) (Holds-repeats b h (omega arith))
   Holds-repeats (Binary Implies a b) h le = Implies-repeats (Holds-repeats a h (omega arith)) (Holds-repeats b h (omega arith))

@@ -1,8 +1,8 @@
 -- Claims that repeat with period p from n on: each operator of claims that repeat gives one. Those on the past do so p later.
-use Rattle.std.proofs.Common.{◌≡◌, ℕ, zero, suc, max, ◌⊎◌, ◌+◌, ◌-◌, ◌<◌, ◌≤◌, inl, inr, subst, arith, sym}
+use Rattle.std.proofs.Common.{◌≡◌, ℕ, zero, suc, max, ◌⊎◌, ◌+◌, ◌-◌, ◌<◌, ◌≤◌, inl, inr, subst, arith}
 use Rattle.std.proofs.lemmas.Bool.{cases_lt}
 use Rattle.ltl_word.proofs.Duality.{HasHorizon}
-use Rattle.ltl_word.specs.Claims.{Always', Never, Claim, IsUntil, IsReleased, IsSince, IsTriggered, AtNext, AtWeakNext, AtYesterday, AtWeakYesterday}
+use Rattle.ltl_word.specs.Claims.{Always', Never, Claim, IsUntil, IsReleased, IsSince, IsTriggered}
 
 -- from n on, a claim and the same claim p later are one
 pub record Repeats (A : Claim) (p n : ℕ) : Type 0 where
@@ -27,9 +27,6 @@ Always-repeats p n = record { later = λ i h a. a; earlier = λ i h a. a }
 
 pub Never-repeats : (p n : ℕ) → Repeats Never p n
 Never-repeats p n = record { later = λ i h a. a; earlier = λ i h a. a }
-
-pub Not-repeats : {A : Claim} {p n : ℕ} → Repeats A p n → Repeats (λ i. A i → ⊥) p n
-Not-repeats r = record { later = λ i h f a. f (r.earlier i h a); earlier = λ i h f a. f (r.later i h a) }
 
 pub And-repeats : {A B : Claim} {p n : ℕ} → Repeats A p n → Repeats B p n → Repeats (λ i. A i × B i) p n
 And-repeats r s = record {
@@ -158,44 +155,6 @@ module _ (A B : Claim) (p n : ℕ) (some : 0 < p) (ra : Repeats A p n) (rb : Rep
 
   pub Triggered-repeats : Repeats (IsTriggered A B) p (n + p)
   Triggered-repeats = record { later = Triggered-later; earlier = Triggered-earlier }
-
-module _ (A : Claim) (p n : ℕ) (some : 0 < p) (ra : Repeats A p n) where
-  pub Yesterday-repeats : Repeats (AtYesterday A) p (n + p)
-  Yesterday-repeats = record {
-    later = λ i h w. (w.0 + p, omega arith, ra.later w.0 (omega arith) w.2);
-    earlier = λ i h w. (w.0 - p, omega arith, moved_down A p n ra w.0 (omega arith) w.2);
-  }
-
-  pub WeakYesterday-repeats : Repeats (AtWeakYesterday A) p (n + p)
-  WeakYesterday-repeats = record {
-    later = λ i h f j e. moved_up A p n ra j (omega arith) (f (j - p) (omega arith));
-    earlier = λ i h f j e. ra.earlier j (omega arith) (f (j + p) (omega arith));
-  }
-
-module _ (P A : Claim) (p n : ℕ) (rp : Repeats P p n) (ra : Repeats A p n) where
-  pub Next-repeats : Repeats (AtNext P A) p n
-  Next-repeats = record {
-    later = λ i h w.
-        let le : n ≤ suc i = omega arith in
-        let e : suc i + p ≡ suc (i + p) = omega arith in
-        (subst P e (rp.later (suc i) le w.0), subst A e (ra.later (suc i) le w.1));
-    earlier = λ i h w.
-        let le : n ≤ suc i = omega arith in
-        let e : suc (i + p) ≡ suc i + p = omega arith in
-        (rp.earlier (suc i) le (subst P e w.0), ra.earlier (suc i) le (subst A e w.1));
-  }
-
-  pub WeakNext-repeats : Repeats (AtWeakNext P A) p n
-  WeakNext-repeats = record {
-    later = λ i h f at.
-        let le : n ≤ suc i = omega arith in
-        let e : suc i + p ≡ suc (i + p) = omega arith in
-        subst A e (ra.later (suc i) le (f (rp.earlier (suc i) le (subst P (sym e) at))));
-    earlier = λ i h f at.
-        let le : n ≤ suc i = omega arith in
-        let e : suc i + p ≡ suc (i + p) = omega arith in
-        ra.earlier (suc i) le (subst A (sym e) (f (subst P e (rp.later (suc i) le at))));
-  }
 
 -- what repeats has a horizon
 module _ (P A B : Claim) (p n : ℕ) (some : 0 < p) (rp : Repeats P p n) (rb : Repeats B p n) (i : ℕ) where

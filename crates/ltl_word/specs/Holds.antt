@@ -1,14 +1,12 @@
 -- The meaning of a formula at a position of a trace: the usual one of linear temporal logic with past.
 use Rattle.std.specs.Prelude.{ℕ, List, ◌∷◌, ◌++◌, [], ◌⊎◌, ◌↔◌, IsTrue, Contains}
 use Rattle.std.specs.Fmt.{decimal}
+use Rattle.ltl_syntax.specs.Shape.{shape}
 use Rattle.ltl_syntax.specs.Formula.{Atom, Name, Fresh, Formula, Const, Letter, Unary, Binary}
-use Rattle.ltl_syntax.specs.declared.node.UnaryOp.TheVariants.{Always, AlwaysIn, Eventually, EventuallyIn, Historically, HistoricallyIn, Next, NextTimes, Not}
-use Rattle.ltl_syntax.specs.declared.node.UnaryOp.TheVariants.{Once, OnceIn, WeakNext, WeakYesterday, Yesterday, YesterdayTimes}
 use Rattle.ltl_syntax.specs.declared.node.BinaryOp.TheVariants.{And, Iff, Implies, Or, Release, Since, StrongRelease, Trigger, Until, WeakUntil}
 use Rattle.ltl_word.specs.declared.trace.Trace.{Trace}
 use Rattle.ltl_word.specs.Trace.{IsPosition, state_at}
-use Rattle.ltl_word.specs.Claims.{Claim, Always', Never, AtNext, AtWeakNext, IsUntil, IsReleased, AtYesterday, AtWeakYesterday, IsSince, IsTriggered}
-use Rattle.ltl_word.specs.Claims.{AtNextTimes, AtYesterdayTimes, IsEventuallyIn, IsAlwaysIn, IsOnceIn, IsHistoricallyIn}
+use Rattle.ltl_word.specs.Claims.{Claim, OfShape, IsUntil, IsReleased, IsSince, IsTriggered}
 
 -- the name of a letter: a fresh letter n is {n}
 abbrev pub name_of : Atom → List ℕ
@@ -19,21 +17,7 @@ name_of (Fresh n) = 123 ∷ (decimal n ++ 125 ∷ [])
 abbrev pub Holds : Trace → Formula → Claim
 Holds t (Const b) i = IsTrue b
 Holds t (Letter p) i = Contains (state_at t i) (name_of p)
-Holds t (Unary Not a) i = Holds t a i → ⊥
-Holds t (Unary Next a) i = AtNext (IsPosition t) (Holds t a) i
-Holds t (Unary WeakNext a) i = AtWeakNext (IsPosition t) (Holds t a) i
-Holds t (Unary Eventually a) i = IsUntil (IsPosition t) Always' (Holds t a) i
-Holds t (Unary Always a) i = IsReleased (IsPosition t) Never (Holds t a) i
-Holds t (Unary Yesterday a) i = AtYesterday (Holds t a) i
-Holds t (Unary WeakYesterday a) i = AtWeakYesterday (Holds t a) i
-Holds t (Unary Once a) i = IsSince Always' (Holds t a) i
-Holds t (Unary Historically a) i = IsTriggered Never (Holds t a) i
-Holds t (Unary (NextTimes n) a) i = AtNextTimes (IsPosition t) n (Holds t a) i
-Holds t (Unary (YesterdayTimes n) a) i = AtYesterdayTimes n (Holds t a) i
-Holds t (Unary (EventuallyIn m n) a) i = IsEventuallyIn (IsPosition t) m n (Holds t a) i
-Holds t (Unary (AlwaysIn m n) a) i = IsAlwaysIn (IsPosition t) m n (Holds t a) i
-Holds t (Unary (OnceIn m n) a) i = IsOnceIn m n (Holds t a) i
-Holds t (Unary (HistoricallyIn m n) a) i = IsHistoricallyIn m n (Holds t a) i
+Holds t (Unary op a) i = OfShape (IsPosition t) (shape op) (Holds t a) i
 Holds t (Binary And a b) i = Holds t a i × Holds t b i
 Holds t (Binary Or a b) i = Holds t a i ⊎ Holds t b i
 Holds t (Binary Implies a b) i = Holds t a i → Holds t b i

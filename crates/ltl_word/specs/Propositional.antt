@@ -1,29 +1,19 @@
 -- Formulas without temporal operators, and the letters of a formula.
 use Rattle.std.specs.Prelude.{◌≡◌, ⊤, ◌⊎◌}
+use Rattle.ltl_syntax.specs.Shape.{Shape, Negation, Somewhere, Everywhere, shape}
 use Rattle.ltl_syntax.specs.Formula.{Atom, Formula, Const, Letter, Unary, Binary}
 use Rattle.ltl_syntax.specs.declared.node.UnaryOp.{UnaryOp}
 use Rattle.ltl_syntax.specs.declared.node.BinaryOp.{BinaryOp}
-use Rattle.ltl_syntax.specs.declared.node.UnaryOp.TheVariants.{Always, AlwaysIn, Eventually, EventuallyIn, Historically, HistoricallyIn, Next, NextTimes, Not}
-use Rattle.ltl_syntax.specs.declared.node.UnaryOp.TheVariants.{Once, OnceIn, WeakNext, WeakYesterday, Yesterday, YesterdayTimes}
 use Rattle.ltl_syntax.specs.declared.node.BinaryOp.TheVariants.{And, Iff, Implies, Or, Release, Since, StrongRelease, Trigger, Until, WeakUntil}
 
 -- the operators that speak of one position only
+abbrev pub IsHere : Shape → Type 0
+IsHere Negation = ⊤
+IsHere (Somewhere d r) = ⊥
+IsHere (Everywhere d r) = ⊥
+
 abbrev pub IsLocal₁ : UnaryOp → Type 0
-IsLocal₁ Not = ⊤
-IsLocal₁ Next = ⊥
-IsLocal₁ WeakNext = ⊥
-IsLocal₁ Eventually = ⊥
-IsLocal₁ Always = ⊥
-IsLocal₁ Yesterday = ⊥
-IsLocal₁ WeakYesterday = ⊥
-IsLocal₁ Once = ⊥
-IsLocal₁ Historically = ⊥
-IsLocal₁ (NextTimes n) = ⊥
-IsLocal₁ (YesterdayTimes n) = ⊥
-IsLocal₁ (EventuallyIn m n) = ⊥
-IsLocal₁ (AlwaysIn m n) = ⊥
-IsLocal₁ (OnceIn m n) = ⊥
-IsLocal₁ (HistoricallyIn m n) = ⊥
+IsLocal₁ op = IsHere (shape op)
 
 abbrev pub IsLocal₂ : BinaryOp → Type 0
 IsLocal₂ And = ⊤

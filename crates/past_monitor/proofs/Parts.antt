@@ -7,7 +7,6 @@ use Rattle.std.proofs.lemmas.List.{length-map, same_lists, get_or-set_other, get
 use Rattle.std.proofs.lemmas.List.{get_or-map as get_or-map-within}
 use Rattle.ltl_syntax.specs.declared.node.UnaryOp.{UnaryOp}
 use Rattle.ltl_syntax.specs.declared.node.BinaryOp.{BinaryOp}
-use Rattle.ltl_syntax.specs.declared.node.UnaryOp.TheVariants as one
 use Rattle.ltl_syntax.specs.declared.node.BinaryOp.TheVariants as two
 use Rattle.ltl_syntax.specs.declared.node.Node.{Node}
 use Rattle.ltl_syntax.specs.declared.node.Node.TheVariants as nodes
@@ -29,100 +28,25 @@ use Rattle.past_monitor.proofs.Trees.{made_at, length-formulas}
 use Rattle.past_monitor.proofs.Values.{one_right, two_right, joins_right, kept_next, past_watched}
 
 -- an operator's ring has room for as many values as are kept
-room₁ : (op : UnaryOp) (values : List Bool) → (ring₁ op values).room ≡ reach₁ op
-room₁ one.Not values = refl
-room₁ one.Next values = refl
-room₁ one.WeakNext values = refl
-room₁ one.Eventually values = refl
-room₁ one.Always values = refl
-room₁ one.Yesterday values = refl
-room₁ one.WeakYesterday values = refl
-room₁ one.Once values = refl
-room₁ one.Historically values = refl
-room₁ (one.NextTimes n) values = refl
-room₁ (one.YesterdayTimes n) values = refl
-room₁ (one.EventuallyIn m n) values = refl
-room₁ (one.AlwaysIn m n) values = refl
-room₁ (one.OnceIn m n) values = refl
-room₁ (one.HistoricallyIn m n) values = refl
-
 room₂ : (op : BinaryOp) (values : List Bool) → (ring₂ op values).room ≡ reach₂ op
 room₂ two.And values = refl
-room₂ two.Or values = refl
-room₂ two.Implies values = refl
-room₂ two.Iff values = refl
-room₂ two.Until values = refl
-room₂ two.Release values = refl
-room₂ two.WeakUntil values = refl
-room₂ two.StrongRelease values = refl
-room₂ two.Since values = refl
-room₂ two.Trigger values = refl
+room₂ op values = refl
 
 -- an operator's new ring has no values
-pub no_values₁ : (op : UnaryOp) → (ring₁ op []).values ≡ []
-no_values₁ one.Not = refl
-no_values₁ one.Next = refl
-no_values₁ one.WeakNext = refl
-no_values₁ one.Eventually = refl
-no_values₁ one.Always = refl
-no_values₁ one.Yesterday = refl
-no_values₁ one.WeakYesterday = refl
-no_values₁ one.Once = refl
-no_values₁ one.Historically = refl
-no_values₁ (one.NextTimes n) = refl
-no_values₁ (one.YesterdayTimes n) = refl
-no_values₁ (one.EventuallyIn m n) = refl
-no_values₁ (one.AlwaysIn m n) = refl
-no_values₁ (one.OnceIn m n) = refl
-no_values₁ (one.HistoricallyIn m n) = refl
-
 pub no_values₂ : (op : BinaryOp) → (ring₂ op []).values ≡ []
 no_values₂ two.And = refl
-no_values₂ two.Or = refl
-no_values₂ two.Implies = refl
-no_values₂ two.Iff = refl
-no_values₂ two.Until = refl
-no_values₂ two.Release = refl
-no_values₂ two.WeakUntil = refl
-no_values₂ two.StrongRelease = refl
-no_values₂ two.Since = refl
-no_values₂ two.Trigger = refl
+no_values₂ op = refl
 
 -- after a value more it is the ring of its node
-taken₁ : (op : UnaryOp) (values : List Bool) (x : Bool) → taken (ring₁ op values) x ≡ ring₁ op (taken (ring₁ op values) x).values
-taken₁ one.Not values x = refl
-taken₁ one.Next values x = refl
-taken₁ one.WeakNext values x = refl
-taken₁ one.Eventually values x = refl
-taken₁ one.Always values x = refl
-taken₁ one.Yesterday values x = refl
-taken₁ one.WeakYesterday values x = refl
-taken₁ one.Once values x = refl
-taken₁ one.Historically values x = refl
-taken₁ (one.NextTimes n) values x = refl
-taken₁ (one.YesterdayTimes n) values x = refl
-taken₁ (one.EventuallyIn m n) values x = refl
-taken₁ (one.AlwaysIn m n) values x = refl
-taken₁ (one.OnceIn m n) values x = refl
-taken₁ (one.HistoricallyIn m n) values x = refl
-
 taken₂ : (op : BinaryOp) (values : List Bool) (x : Bool) → taken (ring₂ op values) x ≡ ring₂ op (taken (ring₂ op values) x).values
 taken₂ two.And values x = refl
-taken₂ two.Or values x = refl
-taken₂ two.Implies values x = refl
-taken₂ two.Iff values x = refl
-taken₂ two.Until values x = refl
-taken₂ two.Release values x = refl
-taken₂ two.WeakUntil values x = refl
-taken₂ two.StrongRelease values x = refl
-taken₂ two.Since values x = refl
-taken₂ two.Trigger values x = refl
+taken₂ op values x = refl
 
 ring_taken : (node : Node) (values : List Bool) (x : Bool) → taken (ring_of node values) x ≡ ring_of node (taken (ring_of node values) x).values
 ring_taken (nodes.Const b) values x = refl
 ring_taken (nodes.Letter n) values x = refl
 ring_taken (nodes.Fresh n) values x = refl
-ring_taken (nodes.Unary op a) values x = taken₁ op values x
+ring_taken (nodes.Unary op a) values x = refl
 ring_taken (nodes.Binary op a b) values x = taken₂ op values x
 
 at_end : (t : List Names) (state : Names) → slice_index_or (t ++ state ∷ []) (length t) [] ≡ state
@@ -164,8 +88,7 @@ module _ (names : List (List ℕ)) (trees : List Formula) (t : List Names) (stat
       → IsTrue w ↔ U (Unary op f) (length t)
       → AreKept (t ++ state ∷ []) (Unary op f) (take (ring₁ op kept).room (joining₁ op v w ∷ kept))
   next_one op f kept v w past are r s =
-      subst (λ k. AreKept (t ++ state ∷ []) (Unary op f) (take k (joining₁ op v w ∷ kept))) (sym (room₁ op kept))
-      (kept_next t state (watched₁ op f) (past_watched op f past) (reach₁ op) kept are (joining₁ op v w) (joins_right t state op f v w r s))
+      kept_next t state (watched₁ op f) (past_watched op f past) (reach₁ op) kept are (joining₁ op v w) (joins_right t state op f v w r s)
 
   next_two : (op : BinaryOp) (f g : Formula) (kept : List Bool) (w : Bool) → IsPast (Binary op f g) → AreKept t (Binary op f g) kept
       → IsTrue w ↔ U (Binary op f g) (length t)

@@ -18,7 +18,7 @@ use Rattle.past_monitor.specs.Ring.{RingValue}
 use Rattle.past_monitor.specs.Monitor.{formula_at, AreUnder}
 use Rattle.past_monitor.specs.Part.{no_ring, ring_of, value_at, IsNamed, IsPart, IsPastNode, AreParts, AreFresh, AreMarked, formulas_of, part_at, moved}
 use Rattle.past_monitor.proofs.Marking.{or_left, or_right, under_marked}
-use Rattle.past_monitor.proofs.Parts.{no_values₁, no_values₂}
+use Rattle.past_monitor.proofs.Parts.{no_values₂}
 use Rattle.past_monitor.proofs.Trees.{formulas_of-push, length-formulas}
 
 abbrev pub place_at : List ℕ → ℕ → ℕ
@@ -87,7 +87,7 @@ new_values : (node : Node) → (ring_of node []).values ≡ []
 new_values (nodes.Const b) = refl
 new_values (nodes.Letter n) = refl
 new_values (nodes.Fresh n) = refl
-new_values (nodes.Unary op a) = no_values₁ op
+new_values (nodes.Unary op a) = refl
 new_values (nodes.Binary op a b) = no_values₂ op
 
 fresh_values : (node : Node) (r : RingValue) → r ≡ ring_of node [] → r.values ≡ []

@@ -5,19 +5,20 @@ use Rattle.std.proofs.lemmas.Bool.{cases_lt, ltb-true, lt-ltb}
 use Rattle.std.proofs.lemmas.List.{length-take, get_or-take}
 use Rattle.ltl_syntax.specs.declared.node.UnaryOp.{UnaryOp}
 use Rattle.ltl_syntax.specs.declared.node.BinaryOp.{BinaryOp}
-use Rattle.ltl_syntax.specs.declared.node.UnaryOp.TheVariants.{Always, AlwaysIn, Eventually, EventuallyIn, Historically, HistoricallyIn, Next, NextTimes, Not}
-use Rattle.ltl_syntax.specs.declared.node.UnaryOp.TheVariants.{Once, OnceIn, WeakNext, WeakYesterday, Yesterday, YesterdayTimes}
-use Rattle.ltl_syntax.specs.declared.node.BinaryOp.TheVariants.{And, Iff, Implies, Or, Release, Since, StrongRelease, Trigger, Until, WeakUntil}
+use Rattle.ltl_syntax.specs.declared.node.UnaryOp.TheVariants.{Historically, HistoricallyIn, Not}
+use Rattle.ltl_syntax.specs.declared.node.UnaryOp.TheVariants.{Once, OnceIn, WeakYesterday, Yesterday, YesterdayTimes}
+use Rattle.ltl_syntax.specs.declared.node.BinaryOp.TheVariants.{And, Iff, Implies, Or, Since, Trigger}
+use Rattle.ltl_syntax.specs.Shape.{Direction, Future, Past, Range, Step, Exactly, Between, Ever, Shape, Negation, Somewhere, Everywhere, shape}
 use Rattle.ltl_syntax.specs.Formula.{Formula, Unary, Binary}
 use Rattle.ltl_word.specs.declared.trace.Trace.TheVariants.{Finite}
-use Rattle.ltl_word.specs.Trace.{Names}
-use Rattle.ltl_word.specs.Claims.{Claim, Always', Never, AtYesterday, AtWeakYesterday, AtYesterdayTimes, IsOnceIn, IsHistoricallyIn}
+use Rattle.ltl_word.specs.Trace.{Names, IsPosition}
+use Rattle.ltl_word.specs.Claims.{Claim, Always', IsSomewhere, IsEverywhere}
 use Rattle.ltl_word.specs.Holds.{Holds}
-use Rattle.ltl_word.proofs.Duality.{Never_decided}
-use Rattle.ltl_word.proofs.Decided.{Holds_decided}
-use Rattle.ltl_word.proofs.Expansion.{since_in, since_out, trigger_in, trigger_out}
+use Rattle.ltl_word.proofs.Decided.{Holds_decided, position_below}
+use Rattle.ltl_word.proofs.Expansion.{IsClosed, since_in, since_out, trigger_in, trigger_out}
+use Rattle.ltl_word.proofs.Steps.{ever_peels, some_first, every_first}
 use Rattle.past_monitor.specs.Past.{IsPast}
-use Rattle.past_monitor.specs.Kept.{AreLast, reach₁, reach₂, watched₁}
+use Rattle.past_monitor.specs.Kept.{AreLast, reach₁, reach₂, kept_in, kept_by, watched₁}
 use Rattle.past_monitor.specs.Ring.{same, found_in}
 use Rattle.past_monitor.specs.Part.{ring₁, ring₂, value₁, value₂, joining₁}
 use Rattle.past_monitor.proofs.Prefix.{prefix}
@@ -66,6 +67,12 @@ module _ (t : List Names) (state : Names) where
 
   abbrev U : Formula → Claim
   U = Holds (Finite (t ++ state ∷ []))
+
+  abbrev P : Claim
+  P = IsPosition (Finite (t ++ state ∷ []))
+
+  closed : IsClosed P
+  closed = position_below (Finite (t ++ state ∷ []))
 
   long : length (t ++ state ∷ []) ≡ suc (length t)
   long = omega (arith, length-append t (state ∷ []))
@@ -121,7 +128,7 @@ module _ (t : List Names) (state : Names) where
     front = v ∷ values
 
     -- what they say of the steps back
-    times_back : (j : ℕ) → j ≤ k → IsTrue (slice_index_or front j false) ↔ AtYesterdayTimes j (U g) n
+    times_back : (j : ℕ) → j ≤ k → IsTrue (slice_index_or front j false) ↔ IsSomewhere Always' Past (Exactly j) (U g) n
     times_back j le = let b = back_false j le in (
       λ x. let w = b.0 x in (n - j, omega arith, w.1),
       λ w. b.1 (omega arith, let e : w.0 ≡ n - j = omega arith in subst (U g) e w.2),
@@ -134,26 +141,26 @@ module _ (t : List Names) (state : Names) where
     there : (j : ℕ) (d : Bool) → (slice_index_or front j d ≡ d → ⊥) → j ≤ k
     there j d other = elim (cases_lt j (suc k)) [ inl lt ↦ omega arith | inr ge ↦ absurd (other (no_value front j d (omega (arith, within)))) ]
 
-    once_back : (m : ℕ) → IsTrue (nat_lt 0 (found_in true m front)) ↔ IsOnceIn m k (U g) n
+    once_back : (m : ℕ) → IsTrue (nat_lt 0 (found_in true m front)) ↔ IsSomewhere Always' Past (Between m k) (U g) n
     once_back m = (
       λ x.
           let w = found_some (same true) false refl m front (ltb-true 0 (found_in true m front) x) in
           let low = there w.0 false (λ e. true≢false (sym w.2 ∙ e)) in
           let b = (back_false w.0 low).0 w.2 in
-          (n - w.0, omega (arith, w.1, b.0), omega arith, b.1),
+          (n - w.0, (omega (arith, w.1, b.0), omega arith), b.1),
       λ w.
-          let e : w.0 ≡ n - (n - w.0) = omega (arith, w.1, w.2) in
-          let b = (back_false (n - w.0) (omega (arith, w.1, w.2))).1 (omega arith, subst (U g) e w.3) in
-          lt-ltb 0 (found_in true m front) (some_found (same true) false refl m front (n - w.0) (omega (arith, w.1, w.2)) b),
+          let e : w.0 ≡ n - (n - w.0) = omega (arith, w.1) in
+          let b = (back_false (n - w.0) (omega (arith, w.1))).1 (omega arith, subst (U g) e w.2) in
+          lt-ltb 0 (found_in true m front) (some_found (same true) false refl m front (n - w.0) (omega (arith, w.1)) b),
     )
 
     turned : (b : Bool) → (not b ≡ true → ⊥) → IsTrue b
     turned true no' = refl
     turned false no' = absurd (no' refl)
 
-    historically_back : (m : ℕ) → IsTrue (not (nat_lt 0 (found_in false m front))) ↔ IsHistoricallyIn m k (U g) n
+    historically_back : (m : ℕ) → IsTrue (not (nat_lt 0 (found_in false m front))) ↔ IsEverywhere Always' Past (Between m k) (U g) n
     historically_back m = let s = not_is (nat_lt 0 (found_in false m front)) in (
-      λ x j low high.
+      λ x j far.
           let e : n - (n - j) ≡ j = omega arith in
           let seen = turned (slice_index_or front (n - j) true)
           (λ f. s.0 x (lt-ltb 0 (found_in false m front) (some_found (same false) true refl m front (n - j) (omega arith) f))) in
@@ -161,13 +168,13 @@ module _ (t : List Names) (state : Names) where
       λ f. s.1 (λ x.
           let w = found_some (same false) true refl m front (ltb-true 0 (found_in false m front) x) in
           let low = there w.0 true (λ e. true≢false (sym w.2 ∙ ap not e)) in
-          let b = (back_true w.0 low).1 (λ l. f (n - w.0) (omega (arith, w.1)) (omega arith)) in
+          let b = (back_true w.0 low).1 (λ l. f (n - w.0) (omega (arith, w.1), omega arith)) in
           true≢false (sym w.2 ∙ ap not b)),
     )
 
   -- the value at the last position, where one is kept
   module _ (g : Formula) (past : IsPast g) (values : List Bool) (kept : AreLast t g 1 values) where
-    last_false : IsTrue (slice_index_or values 0 false) ↔ AtYesterday (U g) n
+    last_false : IsTrue (slice_index_or values 0 false) ↔ IsSomewhere Always' Past Step (U g) n
     last_false =
         let c = kept.count in
         let s = prefix t (state ∷ []) g past in
@@ -179,7 +186,7 @@ module _ (t : List Names) (state : Names) where
           | inr ge ↦ let d = no_value values 0 false ge in (λ x. let y : IsTrue false = subst IsTrue d x in absurd (cc), λ w. absurd (omega arith))
         ]
 
-    last_true : IsTrue (slice_index_or values 0 true) ↔ AtWeakYesterday (U g) n
+    last_true : IsTrue (slice_index_or values 0 true) ↔ IsEverywhere Always' Past Step (U g) n
     last_true =
         let c = kept.count in
         let s = prefix t (state ∷ []) g past in
@@ -195,30 +202,26 @@ module _ (t : List Names) (state : Names) where
   pub one_right : (op : UnaryOp) (a : Formula) (values : List Bool) (v : Bool) → IsPast (Unary op a) → AreLast t (watched₁ op a) (reach₁ op) values
       → (IsTrue v ↔ U a n) → IsTrue (value₁ op (ring₁ op values) v) ↔ U (Unary op a) n
   one_right Not a values v p k r = let e = not_is v in (λ x h. e.0 x (r.1 h), λ h. e.1 (λ x. h (r.0 x)))
-  one_right Next a values v p k r = absurd p.0
-  one_right WeakNext a values v p k r = absurd p.0
-  one_right Eventually a values v p k r = absurd p.0
-  one_right Always a values v p k r = absurd p.0
   one_right Yesterday a values v p k r = last_false a p.1 values k
   one_right WeakYesterday a values v p k r = last_true a p.1 values k
   one_right Once a values v p k r =
       let o = or_is v (slice_index_or values 0 false) in
-      let l = last_false (Unary Once a) p values k in (
-        λ x. since_in Always' (U a) n (elim (o.0 x) [ inl y ↦ inl (r.0 y) | inr y ↦ inr (tt, l.0 y) ]),
-        λ h. o.1 (elim (since_out Always' (U a) n h) [ inl y ↦ inl (r.1 y) | inr w ↦ inr (l.1 w.1) ]),
+      let l = last_false (Unary Once a) p values k in
+      let first = some_first P (U a) closed Past ever_peels n (omega arith) in (
+        λ x. first.1 (elim (o.0 x) [ inl y ↦ inl (r.0 y) | inr y ↦ inr (l.0 y) ]),
+        λ h. o.1 (elim (first.0 h) [ inl y ↦ inl (r.1 y) | inr w ↦ inr (l.1 w) ]),
       )
   one_right Historically a values v p k r =
       let o = and_is v (slice_index_or values 0 true) in
-      let l = last_true (Unary Historically a) p values k in (
-        λ x. let w = o.0 x in trigger_in Never (U a) n (r.0 w.0, inr (l.0 w.1)),
-        λ h. let w = trigger_out Never (U a) n (Never_decided n) h in o.1 (r.1 w.0, l.1 (elim w.1 [ inl y ↦ absurd y | inr f ↦ f ])),
+      let l = last_true (Unary Historically a) p values k in
+      let first = every_first P (U a) closed Past ever_peels n (omega arith) in (
+        λ x. let w = o.0 x in first.1 (r.0 w.0, l.0 w.1),
+        λ h. let w = first.0 h in o.1 (r.1 w.0, l.1 w.1),
       )
-  one_right (NextTimes m) a values v p k r = absurd p.0
   one_right (YesterdayTimes m) a values v p k r = times_back a p.1 m values k v r m (omega arith)
-  one_right (EventuallyIn m j) a values v p k r = absurd p.0
-  one_right (AlwaysIn m j) a values v p k r = absurd p.0
   one_right (OnceIn m j) a values v p k r = once_back a p.1 j values k v r m
   one_right (HistoricallyIn m j) a values v p k r = historically_back a p.1 j values k v r m
+  one_right op a values v p k r = absurd p.0
 
   pub two_right : (op : BinaryOp) (a b : Formula) (values : List Bool) (v w : Bool) → IsPast (Binary op a b) → AreLast t (Binary op a b) (reach₂ op) values
       → (IsTrue v ↔ U a n) → (IsTrue w ↔ U b n) → IsTrue (value₂ op (ring₂ op values) v w) ↔ U (Binary op a b) n
@@ -227,10 +230,6 @@ module _ (t : List Names) (state : Names) where
       (λ x. elim (e.0 x) [ inl y ↦ inl (r.0 y) | inr y ↦ inr (s.0 y) ], λ h. e.1 (elim h [ inl y ↦ inl (r.1 y) | inr y ↦ inr (s.1 y) ]))
   two_right Implies a b values v w p k r s = implies_is v w (U a n) (U b n) r s
   two_right Iff a b values v w p k r s = iff_is v w (U a n) (U b n) r s
-  two_right Until a b values v w p k r s = absurd p.0
-  two_right Release a b values v w p k r s = absurd p.0
-  two_right WeakUntil a b values v w p k r s = absurd p.0
-  two_right StrongRelease a b values v w p k r s = absurd p.0
   two_right Since a b values v w p k r s =
       let o = or_is w (v && slice_index_or values 0 false) in
       let e = and_is v (slice_index_or values 0 false) in
@@ -246,43 +245,30 @@ module _ (t : List Names) (state : Names) where
         λ h. let y = trigger_out (U a) (U b) n (Holds_decided (Finite (t ++ state ∷ [])) some a n) h in
             o.1 (s.1 y.0, e.1 (elim y.1 [ inl z ↦ inl (r.1 z) | inr f ↦ inr (l.1 f) ])),
       )
+  two_right op a b values v w p k r s = absurd p.0
 
-  -- the value that joins the ring is that of the formula whose values are kept
-  pub joins_right : (op : UnaryOp) (a : Formula) (v w : Bool) → (IsTrue v ↔ U a n) → (IsTrue w ↔ U (Unary op a) n)
-      → IsTrue (joining₁ op v w) ↔ U (watched₁ op a) n
-  joins_right Not a v w r s = s
-  joins_right Next a v w r s = s
-  joins_right WeakNext a v w r s = s
-  joins_right Eventually a v w r s = s
-  joins_right Always a v w r s = s
-  joins_right Yesterday a v w r s = r
-  joins_right WeakYesterday a v w r s = r
-  joins_right Once a v w r s = s
-  joins_right Historically a v w r s = s
-  joins_right (NextTimes m) a v w r s = s
-  joins_right (YesterdayTimes m) a v w r s = r
-  joins_right (EventuallyIn m j) a v w r s = s
-  joins_right (AlwaysIn m j) a v w r s = s
-  joins_right (OnceIn m j) a v w r s = r
-  joins_right (HistoricallyIn m j) a v w r s = r
+-- what holds of the operand and of its own holds of what is kept
+in_kept : {A B : Type 0} (R : A → B → Type 0) (d : Direction) (r : Range) (a own : A) (b mine : B) → R a b → R own mine
+    → R (kept_in d r a own) (kept_in d r b mine)
+in_kept R Future r a own b mine x y = y
+in_kept R Past Step a own b mine x y = x
+in_kept R Past (Exactly n) a own b mine x y = x
+in_kept R Past (Between m n) a own b mine x y = x
+in_kept R Past Ever a own b mine x y = y
+
+by_kept : {A B : Type 0} (R : A → B → Type 0) (s : Shape) (a own : A) (b mine : B) → R a b → R own mine → R (kept_by s a own) (kept_by s b mine)
+by_kept R Negation a own b mine x y = y
+by_kept R (Somewhere d r) a own b mine x y = in_kept R d r a own b mine x y
+by_kept R (Everywhere d r) a own b mine x y = in_kept R d r a own b mine x y
+
+-- the value that joins the ring is that of the formula whose values are kept
+pub joins_right : (t : List Names) (state : Names) (op : UnaryOp) (a : Formula) (v w : Bool) → (IsTrue v ↔ U t state a (length t))
+    → (IsTrue w ↔ U t state (Unary op a) (length t)) → IsTrue (joining₁ op v w) ↔ U t state (watched₁ op a) (length t)
+joins_right t state op a v w r s = by_kept (λ f x. IsTrue x ↔ U t state f (length t)) (shape op) a (Unary op a) v w r s
 
 -- the formula whose values are kept does not look ahead either
 pub past_watched : (op : UnaryOp) (a : Formula) → IsPast (Unary op a) → IsPast (watched₁ op a)
-past_watched Not a p = p
-past_watched Next a p = p
-past_watched WeakNext a p = p
-past_watched Eventually a p = p
-past_watched Always a p = p
-past_watched Yesterday a p = p.1
-past_watched WeakYesterday a p = p.1
-past_watched Once a p = p
-past_watched Historically a p = p
-past_watched (NextTimes m) a p = p
-past_watched (YesterdayTimes m) a p = p.1
-past_watched (EventuallyIn m j) a p = p
-past_watched (AlwaysIn m j) a p = p
-past_watched (OnceIn m j) a p = p.1
-past_watched (HistoricallyIn m j) a p = p.1
+past_watched op a p = by_kept (λ f (x : Bool). IsPast f) (shape op) a (Unary op a) true true p.1 p
 
 -- nothing is kept of no states
 pub none_last : (f : Formula) (n : ℕ) → AreLast [] f n []

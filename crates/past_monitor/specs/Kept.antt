@@ -2,30 +2,17 @@
 use Rattle.std.specs.Prelude.{◌≡◌, ℕ, suc, ◌-◌, ◌<◌, min, Bool, false, List, length, slice_index_or, ◌↔◌, IsTrue}
 use Rattle.ltl_syntax.specs.declared.node.UnaryOp.{UnaryOp}
 use Rattle.ltl_syntax.specs.declared.node.BinaryOp.{BinaryOp}
-use Rattle.ltl_syntax.specs.declared.node.UnaryOp.TheVariants as one
 use Rattle.ltl_syntax.specs.declared.node.BinaryOp.TheVariants as two
+use Rattle.ltl_syntax.specs.Shape.{Direction, Future, Past, Range, Step, Exactly, Between, Ever, Shape, Negation, Somewhere, Everywhere, shape}
 use Rattle.ltl_syntax.specs.Formula.{Formula, Const, Letter, Unary, Binary}
 use Rattle.ltl_word.specs.declared.trace.Trace.TheVariants.{Finite}
 use Rattle.ltl_word.specs.Trace.{Names}
 use Rattle.ltl_word.specs.Holds.{Holds}
+use Rattle.ltl_word.specs.Depth.{steps_back}
 
 -- how many values are kept for an operator: as many as it looks back, and one for an operator that looks back without end
 abbrev pub reach₁ : UnaryOp → ℕ
-reach₁ one.Not = 0
-reach₁ one.Next = 0
-reach₁ one.WeakNext = 0
-reach₁ one.Eventually = 0
-reach₁ one.Always = 0
-reach₁ one.Yesterday = 1
-reach₁ one.WeakYesterday = 1
-reach₁ one.Once = 1
-reach₁ one.Historically = 1
-reach₁ (one.NextTimes n) = 0
-reach₁ (one.YesterdayTimes n) = n
-reach₁ (one.EventuallyIn m n) = 0
-reach₁ (one.AlwaysIn m n) = 0
-reach₁ (one.OnceIn m n) = n
-reach₁ (one.HistoricallyIn m n) = n
+reach₁ op = steps_back (shape op)
 
 abbrev pub reach₂ : BinaryOp → ℕ
 reach₂ two.And = 0
@@ -45,23 +32,22 @@ reach (Letter p) = 0
 reach (Unary op a) = reach₁ op
 reach (Binary op a b) = reach₂ op
 
--- of which formula they are: of the operand where an operator looks back a number of positions, else of the formula itself
+-- the operand where an operator looks back a number of positions, else the operator's own
+abbrev pub kept_in : {A : Type 0} → Direction → Range → A → A → A
+kept_in Future r a own = own
+kept_in Past Step a own = a
+kept_in Past (Exactly n) a own = a
+kept_in Past (Between m n) a own = a
+kept_in Past Ever a own = own
+
+abbrev pub kept_by : {A : Type 0} → Shape → A → A → A
+kept_by Negation a own = own
+kept_by (Somewhere d r) a own = kept_in d r a own
+kept_by (Everywhere d r) a own = kept_in d r a own
+
+-- of which formula they are
 abbrev pub watched₁ : UnaryOp → Formula → Formula
-watched₁ one.Not a = Unary one.Not a
-watched₁ one.Next a = Unary one.Next a
-watched₁ one.WeakNext a = Unary one.WeakNext a
-watched₁ one.Eventually a = Unary one.Eventually a
-watched₁ one.Always a = Unary one.Always a
-watched₁ one.Yesterday a = a
-watched₁ one.WeakYesterday a = a
-watched₁ one.Once a = Unary one.Once a
-watched₁ one.Historically a = Unary one.Historically a
-watched₁ (one.NextTimes n) a = Unary (one.NextTimes n) a
-watched₁ (one.YesterdayTimes n) a = a
-watched₁ (one.EventuallyIn m n) a = Unary (one.EventuallyIn m n) a
-watched₁ (one.AlwaysIn m n) a = Unary (one.AlwaysIn m n) a
-watched₁ (one.OnceIn m n) a = a
-watched₁ (one.HistoricallyIn m n) a = a
+watched₁ op a = kept_by (shape op) a (Unary op a)
 
 abbrev pub watched : Formula → Formula
 watched (Const b) = Const b

@@ -3,49 +3,53 @@ use Rattle.std.specs.Prelude.{◌≡◌, ℕ, ◌+◌, ◌-◌, ◌<◌, ◌≤�
 use Rattle.std.specs.Prelude.{IsTrue, Contains}
 use Rattle.ltl_syntax.specs.declared.node.UnaryOp.{UnaryOp}
 use Rattle.ltl_syntax.specs.declared.node.BinaryOp.{BinaryOp}
-use Rattle.ltl_syntax.specs.declared.node.UnaryOp.TheVariants as one
 use Rattle.ltl_syntax.specs.declared.node.BinaryOp.TheVariants as two
 use Rattle.ltl_syntax.specs.declared.node.Node.{Node}
 use Rattle.ltl_syntax.specs.declared.node.Node.TheVariants as nodes
+use Rattle.ltl_syntax.specs.Shape.{Direction, Future, Past, Range, Step, Exactly, Between, Ever, Shape, Negation, Somewhere, Everywhere, shape}
 use Rattle.ltl_syntax.specs.Formula.{Fresh, Formula}
 use Rattle.ltl_syntax.specs.Table.{Table, trees_after, has_child}
 use Rattle.ltl_syntax.specs.Roots.{HasChildrenBelow}
 use Rattle.ltl_word.specs.Trace.{Names}
 use Rattle.ltl_word.specs.Holds.{name_of}
+use Rattle.ltl_word.specs.Depth.{steps_back}
 use Rattle.past_monitor.specs.declared.part.Part.{Part}
 use Rattle.lasso_eval.specs.Under.{IsUnder}
 use Rattle.past_monitor.specs.Past.{IsPast, IsPast₁, IsPast₂}
+use Rattle.past_monitor.specs.Kept.{kept_by}
 use Rattle.past_monitor.specs.Monitor.{formula_at}
-use Rattle.past_monitor.specs.Ring.{RingValue, value_back, shows, taken}
+use Rattle.past_monitor.specs.Ring.{RingValue, same, value_back, shows, taken}
 
--- a ring that holds one value, one that holds none, and one that counts from a place on
+-- a ring that holds none, and one that holds one value
 abbrev pub no_ring : List Bool → RingValue
 no_ring values = record { room = 0; first = 0; sought = true; values = values }
 
 abbrev pub one_ring : Bool → List Bool → RingValue
 one_ring sought values = record { room = 1; first = 0; sought = sought; values = values }
 
-abbrev pub window_ring : Bool → ℕ → ℕ → List Bool → RingValue
-window_ring sought first room values = record { room = room; first = first; sought = sought; values = values }
+-- the place from which the ring of an operator counts
+abbrev pub first_in : Direction → Range → ℕ
+first_in Future r = 0
+first_in Past Step = 0
+first_in Past (Exactly n) = 0
+first_in Past (Between m n) = m
+first_in Past Ever = 0
 
--- the ring of an operator, with these values: before the first position a weak operator and one over all positions find no false value,
--- and the other ones no true value
+abbrev pub first_by : Shape → ℕ
+first_by Negation = 0
+first_by (Somewhere d r) = first_in d r
+first_by (Everywhere d r) = first_in d r
+
+-- before the first position an operator over every position finds no false value, and the other ones no true value
+abbrev pub sought_by : Shape → Bool
+sought_by Negation = true
+sought_by (Somewhere d r) = true
+sought_by (Everywhere Future r) = true
+sought_by (Everywhere Past r) = false
+
+-- the ring of an operator, with these values
 abbrev pub ring₁ : UnaryOp → List Bool → RingValue
-ring₁ one.Not values = no_ring values
-ring₁ one.Next values = no_ring values
-ring₁ one.WeakNext values = no_ring values
-ring₁ one.Eventually values = no_ring values
-ring₁ one.Always values = no_ring values
-ring₁ one.Yesterday values = one_ring true values
-ring₁ one.WeakYesterday values = one_ring false values
-ring₁ one.Once values = one_ring true values
-ring₁ one.Historically values = one_ring false values
-ring₁ (one.NextTimes n) values = no_ring values
-ring₁ (one.YesterdayTimes n) values = window_ring true 0 n values
-ring₁ (one.EventuallyIn m n) values = no_ring values
-ring₁ (one.AlwaysIn m n) values = no_ring values
-ring₁ (one.OnceIn m n) values = window_ring true m n values
-ring₁ (one.HistoricallyIn m n) values = window_ring false m n values
+ring₁ op values = record { room = steps_back (shape op); first = first_by (shape op); sought = sought_by (shape op); values = values }
 
 abbrev pub ring₂ : BinaryOp → List Bool → RingValue
 ring₂ two.And values = no_ring values
@@ -66,23 +70,22 @@ ring_of (nodes.Fresh n) values = no_ring values
 ring_of (nodes.Unary op a) values = ring₁ op values
 ring_of (nodes.Binary op a b) values = ring₂ op values
 
--- the value of an operator at a state, from those of its operands there and its ring
+-- the value at a state of an operator over some position, and with `false` over every one, from those of its operand there and its ring
+abbrev pub value_in : Bool → Direction → Range → RingValue → Bool → Bool
+value_in some Future r ring a = false
+value_in some Past Step ring a = value_back ring 1 a
+value_in some Past (Exactly n) ring a = value_back ring n a
+value_in some Past (Between m n) ring a = same some (shows ring a)
+value_in true Past Ever ring a = a || value_back ring 1 a
+value_in false Past Ever ring a = a && value_back ring 1 a
+
+abbrev pub value_by : Shape → RingValue → Bool → Bool
+value_by Negation ring a = not a
+value_by (Somewhere d r) ring a = value_in true d r ring a
+value_by (Everywhere d r) ring a = value_in false d r ring a
+
 abbrev pub value₁ : UnaryOp → RingValue → Bool → Bool
-value₁ one.Not r a = not a
-value₁ one.Next r a = false
-value₁ one.WeakNext r a = false
-value₁ one.Eventually r a = false
-value₁ one.Always r a = false
-value₁ one.Yesterday r a = value_back r 1 a
-value₁ one.WeakYesterday r a = value_back r 1 a
-value₁ one.Once r a = a || value_back r 1 a
-value₁ one.Historically r a = a && value_back r 1 a
-value₁ (one.NextTimes n) r a = false
-value₁ (one.YesterdayTimes n) r a = value_back r n a
-value₁ (one.EventuallyIn m n) r a = false
-value₁ (one.AlwaysIn m n) r a = false
-value₁ (one.OnceIn m n) r a = shows r a
-value₁ (one.HistoricallyIn m n) r a = not (shows r a)
+value₁ op r a = value_by (shape op) r a
 
 abbrev pub value₂ : BinaryOp → RingValue → Bool → Bool → Bool
 value₂ two.And r a b = a && b
@@ -96,23 +99,9 @@ value₂ two.StrongRelease r a b = false
 value₂ two.Since r a b = b || (a && value_back r 1 a)
 value₂ two.Trigger r a b = b && (a || value_back r 1 a)
 
--- which value joins the ring: the operand's where an operator looks back a number of positions, else its own
+-- which value joins the ring
 abbrev pub joining₁ : UnaryOp → Bool → Bool → Bool
-joining₁ one.Not a v = v
-joining₁ one.Next a v = v
-joining₁ one.WeakNext a v = v
-joining₁ one.Eventually a v = v
-joining₁ one.Always a v = v
-joining₁ one.Yesterday a v = a
-joining₁ one.WeakYesterday a v = a
-joining₁ one.Once a v = v
-joining₁ one.Historically a v = v
-joining₁ (one.NextTimes n) a v = v
-joining₁ (one.YesterdayTimes n) a v = a
-joining₁ (one.EventuallyIn m n) a v = v
-joining₁ (one.AlwaysIn m n) a v = v
-joining₁ (one.OnceIn m n) a v = a
-joining₁ (one.HistoricallyIn m n) a v = a
+joining₁ op a v = kept_by (shape op) a v
 
 -- one of a list of values
 abbrev pub value_at : List Bool → ℕ → Bool

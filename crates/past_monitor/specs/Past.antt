@@ -2,27 +2,22 @@
 use Rattle.std.specs.Prelude.{⊤}
 use Rattle.ltl_syntax.specs.declared.node.UnaryOp.{UnaryOp}
 use Rattle.ltl_syntax.specs.declared.node.BinaryOp.{BinaryOp}
-use Rattle.ltl_syntax.specs.declared.node.UnaryOp.TheVariants as one
 use Rattle.ltl_syntax.specs.declared.node.BinaryOp.TheVariants as two
+use Rattle.ltl_syntax.specs.Shape.{Direction, Future, Past, Shape, Negation, Somewhere, Everywhere, shape}
 use Rattle.ltl_syntax.specs.Formula.{Formula, Const, Letter, Unary, Binary}
+
+abbrev pub IsBackward : Direction → Type 0
+IsBackward Future = ⊥
+IsBackward Past = ⊤
+
+abbrev pub LooksBack : Shape → Type 0
+LooksBack Negation = ⊤
+LooksBack (Somewhere d r) = IsBackward d
+LooksBack (Everywhere d r) = IsBackward d
 
 -- an operator of one formula that does not look ahead
 abbrev pub IsPast₁ : UnaryOp → Type 0
-IsPast₁ one.Not = ⊤
-IsPast₁ one.Next = ⊥
-IsPast₁ one.WeakNext = ⊥
-IsPast₁ one.Eventually = ⊥
-IsPast₁ one.Always = ⊥
-IsPast₁ one.Yesterday = ⊤
-IsPast₁ one.WeakYesterday = ⊤
-IsPast₁ one.Once = ⊤
-IsPast₁ one.Historically = ⊤
-IsPast₁ (one.NextTimes n) = ⊥
-IsPast₁ (one.YesterdayTimes n) = ⊤
-IsPast₁ (one.EventuallyIn m n) = ⊥
-IsPast₁ (one.AlwaysIn m n) = ⊥
-IsPast₁ (one.OnceIn m n) = ⊤
-IsPast₁ (one.HistoricallyIn m n) = ⊤
+IsPast₁ op = LooksBack (shape op)
 
 -- an operator of two formulas that does not look ahead
 abbrev pub IsPast₂ : BinaryOp → Type 0

@@ -20,19 +20,20 @@ use Rattle.lasso_eval.specs.Under.{Here, Below}
 use Rattle.requirement_questions.specs.Failure.{FailsFirst, IsFirstFalse}
 
 -- what holds in the columns holds at each position
-all_positions : (t : Trace) (a : Formula) → IsTrace t → ((i : ℕ) → i < columns t (past_depth a) → Holds t a i) → (i : ℕ) → IsPosition t i → Holds t a i
-all_positions (Finite states) a some all i at = all i at
-all_positions (Infinite stem loop_part) a some all i at = up_to (suc i) i (omega arith)
+all_positions : (t : Trace) (a : Formula) (depth : ℕ) → past_depth a ≤ depth → IsTrace t → ((i : ℕ) → i < columns t depth → Holds t a i)
+    → (i : ℕ) → IsPosition t i → Holds t a i
+all_positions (Finite states) a depth deep some all i at = all i at
+all_positions (Infinite stem loop_part) a depth deep some all i at = up_to (suc i) i (omega arith)
   where
     up_to : (fuel i : ℕ) → i < fuel → Holds (Infinite stem loop_part) a i
     up_to zero i lt = absurd (omega arith)
-    up_to (suc fuel) i lt = elim (cases_lt i (columns (Infinite stem loop_part) (past_depth a))) [
+    up_to (suc fuel) i lt = elim (cases_lt i (columns (Infinite stem loop_part) depth)) [
       | inl low ↦ all i low
       | inr high ↦
           let back : (i - length loop_part) + length loop_part ≡ i = omega arith in
-          let later : length stem + past_depth a * length loop_part ≤ i - length loop_part = omega arith in
+          let later : length stem + depth * length loop_part ≤ i - length loop_part = omega arith in
           subst (Holds (Infinite stem loop_part) a) back
-          ((Holds-repeats stem loop_part some a (past_depth a) (omega arith)).later (i - length loop_part) later
+          ((Holds-repeats stem loop_part some a depth deep).later (i - length loop_part) later
           (up_to fuel (i - length loop_part) (omega arith)))
     ]
 
@@ -52,11 +53,12 @@ pub always_fails : (t : Trace) (a : Formula) (row : List Bool) (j : ℕ) → IsT
     → ¬ Satisfies t (Unary Always a) → FailsFirst t (Unary Always a) j
 always_fails t a row j good is first fails = elim (cases_lt j (length row)) [
   | inl lt ↦ (
-    is_position t (past_depth a) j (subst (λ n. j < n) is.count lt),
+    is_position t (past_depth (Unary Always a)) j (subst (λ n. j < n) is.count lt),
     λ h. let false_here = first.at lt in let true_here = (is.right j (subst (λ n. j < n) is.count lt)).1 h in cc,
     λ i low. (is.right i (omega (arith, is.count, lt, low))).0 (first.before i low),
   )
-  | inr le ↦ absurd (fails (λ i ge at. inl (all_positions t a good (λ k low. (is.right k low).0 (first.before k (omega (arith, is.count, le, low)))) i at)))
+  | inr le ↦ absurd (fails (λ i w. all_positions t a (past_depth (Unary Always a)) (omega arith) good
+      (λ k low. (is.right k low).0 (first.before k (omega (arith, is.count, le, low)))) i w.1))
 ]
 
 -- ---- the rows of a table

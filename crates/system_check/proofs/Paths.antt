@@ -1,5 +1,5 @@
 -- The traces of the system formula are the paths.
-use Rattle.std.proofs.Common.{ℕ, ◌↔◌, inl, inr, arith}
+use Rattle.std.proofs.Common.{ℕ, ◌↔◌, arith}
 use Rattle.ltl_syntax.specs.declared.node.Kind.TheVariants as Kinds
 use Rattle.ltl_syntax.specs.Formula.{Formula, Unary}
 use Rattle.ltl_syntax.specs.declared.node.UnaryOp.TheVariants.{Always}
@@ -12,10 +12,10 @@ use Rattle.system_check.proofs.Two.{is_position, start_is_one, step_is_two}
 module _ (t : Trace) (good : IsTrace t) (infinite : IsOfKind t Kinds.Infinite) where
   -- a formula holds always on an infinite trace where it holds at each number
   always_each : (f : Formula) → Holds t (Unary Always f) 0 → (i : ℕ) → Holds t f i
-  always_each f h i = elim (h i (omega arith) (is_position t i infinite)) [ inl x ↦ x | inr w ↦ absurd w.3 ]
+  always_each f h i = h i (omega arith, is_position t i infinite)
 
   each_always : (f : Formula) → ((i : ℕ) → Holds t f i) → Holds t (Unary Always f) 0
-  each_always f h = λ j le p. inl (h j)
+  each_always f h = λ j w. h j
 
   module _ (start step : Formula) (is : IsSystem start step) where
     pub system_paths : Satisfies t (system_of start step) ↔ IsPath start step t

@@ -9,6 +9,7 @@ use Rattle.ltl_word.specs.declared.trace.Trace.TheVariants.{Infinite, Finite}
 use Rattle.ltl_word.specs.Trace.{Names, IsOfKind, IsPosition, state_at}
 use Rattle.ltl_word.specs.Holds.{Holds, name_of}
 use Rattle.ltl_word.specs.Propositional.{IsPropositional}
+use Rattle.ltl_word.proofs.Steps.{next_is}
 use Rattle.system_check.specs.TwoStates.{IsStepForm, Two, AreSameSet}
 use Rattle.system_check.proofs.Iff.{same, not_same, and_same, or_same, implies_same, iff_same}
 
@@ -45,7 +46,8 @@ module _ (t : Trace) where
     step_is_two i (Unary Not a) w = not_same (step_is_two i a w)
     step_is_two i (Unary Next a) w =
         let r = start_is_one (suc i) (state_at t (suc i)) a w in
-        (λ h. r.0 h.1, λ h. (is_position t (suc i) infinite, r.1 h))
+        let e = next_is (IsPosition t) (Holds t a) i in
+        (λ h. r.0 (e.0 h).1, λ h. e.1 (is_position t (suc i) infinite, r.1 h))
     step_is_two i (Unary op a) w = absurd w
     step_is_two i (Binary And a b) w = and_same (step_is_two i a w.1) (step_is_two i b w.2)
     step_is_two i (Binary Or a b) w = or_same (step_is_two i a w.1) (step_is_two i b w.2)

@@ -2,7 +2,8 @@ use Rattle.std.proofs.Common.{◌≡◌, ◌≢◌, suc, ◌+◌, ◌-◌, lengt
 use Rattle.std.proofs.lemmas.Bool.{cases_lt}
 use Rattle.std.proofs.lemmas.List.{get_or-set_other, length-set}
 use Rattle.std.proofs.lemmas.Grind.{get_or-set_at}
-use Rattle.ltl_word.specs.Claims.{Claim, Always', IsEventuallyIn}
+use Rattle.ltl_syntax.specs.Shape.{Future, Between}
+use Rattle.ltl_word.specs.Claims.{Claim, Always', IsSomewhere}
 use Rattle.lasso_eval.specs.Rows.{cell}
 use Rattle.lasso_eval.specs.Windows.{same, shows, IsNearest}
 use Rattle.lasso_eval.proofs.Windowing.{nearest_step, nearest_tells, same_twice}
@@ -21,13 +22,13 @@ loop-i-preserved c =
     let near : IsNearest S place c.nearer-nearest.result =
     rw c.nearer-nearest.ensures
     (nearest_step S place c.shows_at.result c.loop-i.nearest tells (subst (λ k. IsNearest S k c.loop-i.nearest) e c.loop-i.invariant.near)) in
-    let found : IsTrue c.is_at_most.result ↔ IsEventuallyIn Always' c.args.first c.args.last S at =
+    let found : IsTrue c.is_at_most.result ↔ IsSomewhere Always' Future (Between c.args.first c.args.last) S at =
     let w = nearest_tells S c.args.first c.args.last at c.nearer-nearest.result near in
     (λ t. w.0 (c.is_at_most.ensures.0 t), λ u. c.is_at_most.ensures.1 (w.1 u)) in
     let value : same c.args.sought c.agree.result ≡ c.is_at_most.result =
     ap (λ v. same c.args.sought v) c.agree.ensures ∙ same_twice c.args.sought c.is_at_most.result in
-    let here : IsTrue (same c.args.sought c.agree.result) ↔ IsEventuallyIn Always' c.args.first c.args.last S at =
-    subst (λ v. IsTrue v ↔ IsEventuallyIn Always' c.args.first c.args.last S at) (sym value) found in
+    let here : IsTrue (same c.args.sought c.agree.result) ↔ IsSomewhere Always' Future (Between c.args.first c.args.last) S at =
+    subst (λ v. IsTrue v ↔ IsSomewhere Always' Future (Between c.args.first c.args.last) S at) (sym value) found in
     record {
       within = omega (arith, c.loop-i.invariant.within);
       count = length-set c.loop-i.cells.items at c.agree.result ∙ c.loop-i.invariant.count;
@@ -37,11 +38,11 @@ loop-i-preserved c =
             let same_place : at ≡ k = omega (arith, low, before) in
             let read : cell (set c.loop-i.cells.items at c.agree.result) k ≡ c.agree.result = get_or-set_at c.loop-i.cells.items at k c.agree.result false
             (sym same_place) (omega (arith, positive, c.loop-i.invariant.within, c.loop-i.invariant.count)) in
-            subst (λ v. IsTrue (same c.args.sought v) ↔ IsEventuallyIn Always' c.args.first c.args.last S k) (sym read)
-            (subst (λ m. IsTrue (same c.args.sought c.agree.result) ↔ IsEventuallyIn Always' c.args.first c.args.last S m) same_place here)
+            subst (λ v. IsTrue (same c.args.sought v) ↔ IsSomewhere Always' Future (Between c.args.first c.args.last) S k) (sym read)
+            (subst (λ m. IsTrue (same c.args.sought c.agree.result) ↔ IsSomewhere Always' Future (Between c.args.first c.args.last) S m) same_place here)
         | inr after ↦
             let other : k ≢ at = omega (arith, positive, after) in
-            subst (λ v. IsTrue (same c.args.sought v) ↔ IsEventuallyIn Always' c.args.first c.args.last S k)
+            subst (λ v. IsTrue (same c.args.sought v) ↔ IsSomewhere Always' Future (Between c.args.first c.args.last) S k)
             (sym (get_or-set_other c.loop-i.cells.items at k c.agree.result false other))
             (c.loop-i.invariant.each k after high)
       ];

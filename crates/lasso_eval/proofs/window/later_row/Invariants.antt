@@ -1,5 +1,6 @@
 use Rattle.std.proofs.Common.{◌≡◌, ℕ, ◌+◌, ◌<◌, ◌≤◌, ◌↔◌, length, IsTrue}
-use Rattle.ltl_word.specs.Claims.{Always', IsEventuallyIn}
+use Rattle.ltl_syntax.specs.Shape.{Future, Between}
+use Rattle.ltl_word.specs.Claims.{Always', IsSomewhere}
 use Rattle.lasso_eval.specs.Rows.{cell}
 use Rattle.lasso_eval.specs.Windows.{same, shows, IsNearest}
 use Rattle.lasso_eval.proofs.window.later_row.Given as goal
@@ -10,7 +11,7 @@ invariant-loop-i l = record {
   count : length l.cells.items ≡ length l.a;
   near : IsNearest (λ j. IsTrue (shows l.sought l.a l.loop_start j)) (l.i + l.first) l.nearest;
   each : (k : ℕ) → l.i ≤ k → k < length l.a
-      → IsTrue (same l.sought (cell l.cells.items k)) ↔ IsEventuallyIn Always' l.first l.last (λ j. IsTrue (shows l.sought l.a l.loop_start j)) k;
+      → IsTrue (same l.sought (cell l.cells.items k)) ↔ IsSomewhere Always' Future (Between l.first l.last) (λ j. IsTrue (shows l.sought l.a l.loop_start j)) k;
 }
 
 abbrev pub decreases-loop-i : goal.decreases-loop-i

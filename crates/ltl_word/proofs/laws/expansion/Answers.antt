@@ -1,11 +1,11 @@
-use Rattle.std.proofs.Common.{inl, inr}
+use Rattle.std.proofs.Common.{arith}
+use Rattle.ltl_syntax.specs.Shape.{Future, Past}
 use Rattle.ltl_syntax.specs.Formula.{Binary}
 use Rattle.ltl_syntax.specs.declared.node.BinaryOp.TheVariants.{And, Or}
 use Rattle.ltl_word.specs.Trace.{IsPosition}
-use Rattle.ltl_word.specs.Claims.{Always', Never}
 use Rattle.ltl_word.specs.Holds.{Holds}
-use Rattle.ltl_word.proofs.Duality.{Never_decided}
 use Rattle.ltl_word.proofs.Expansion.{until_in, until_out, release_in, release_out, since_in, since_out, trigger_in, trigger_out}
+use Rattle.ltl_word.proofs.Steps.{ever_peels, some_first, every_first}
 use Rattle.ltl_word.proofs.Decided.{Holds_decided, position_below}
 use Rattle.ltl_word.proofs.laws.expansion.Goals as goal
 
@@ -32,16 +32,10 @@ returns-clause-strong_release c a b t i good at = (
 )
 
 pub returns-clause-eventually : goal.returns-clause-eventually
-returns-clause-eventually c a t i good at = (
-  λ h. elim (until_out (IsPosition t) Always' (Holds t a) (position_below t) i h) [ inl x ↦ inl x | inr w ↦ inr w.1 ],
-  λ h. until_in (IsPosition t) Always' (Holds t a) (position_below t) i at (elim h [ inl x ↦ inl x | inr w ↦ inr (tt, w) ]),
-)
+returns-clause-eventually c a t i good at = some_first (IsPosition t) (Holds t a) (position_below t) Future ever_peels i (omega arith, at)
 
 pub returns-clause-always : goal.returns-clause-always
-returns-clause-always c a t i good at = (
-  λ h. let w = release_out (IsPosition t) Never (Holds t a) (position_below t) i at (Never_decided i) h in (w.0, elim w.1 [ inl x ↦ absurd x | inr n ↦ n ]),
-  λ w. release_in (IsPosition t) Never (Holds t a) (position_below t) i (w.0, inr w.1),
-)
+returns-clause-always c a t i good at = every_first (IsPosition t) (Holds t a) (position_below t) Future ever_peels i (omega arith, at)
 
 pub returns-clause-since : goal.returns-clause-since
 returns-clause-since c a b t i good = (since_out (Holds t a) (Holds t b) i, since_in (Holds t a) (Holds t b) i)
@@ -50,13 +44,7 @@ pub returns-clause-trigger : goal.returns-clause-trigger
 returns-clause-trigger c a b t i good = (trigger_out (Holds t a) (Holds t b) i (Holds_decided t good a i), trigger_in (Holds t a) (Holds t b) i)
 
 pub returns-clause-once : goal.returns-clause-once
-returns-clause-once c a t i good = (
-  λ h. elim (since_out Always' (Holds t a) i h) [ inl x ↦ inl x | inr w ↦ inr w.1 ],
-  λ h. since_in Always' (Holds t a) i (elim h [ inl x ↦ inl x | inr w ↦ inr (tt, w) ]),
-)
+returns-clause-once c a t i good = some_first (IsPosition t) (Holds t a) (position_below t) Past ever_peels i (omega arith)
 
 pub returns-clause-historically : goal.returns-clause-historically
-returns-clause-historically c a t i good = (
-  λ h. let w = trigger_out Never (Holds t a) i (Never_decided i) h in (w.0, elim w.1 [ inl x ↦ absurd x | inr n ↦ n ]),
-  λ w. trigger_in Never (Holds t a) i (w.0, inr w.1),
-)
+returns-clause-historically c a t i good = every_first (IsPosition t) (Holds t a) (position_below t) Past ever_peels i (omega arith)

@@ -1,29 +1,30 @@
+use Rattle.ltl_syntax.specs.Shape.{Future, Step, Ever}
 use Rattle.ltl_syntax.specs.Formula.{Formula, Unary, Binary}
 use Rattle.ltl_syntax.specs.declared.node.UnaryOp.TheVariants.{Not}
 use Rattle.ltl_syntax.specs.declared.node.BinaryOp.TheVariants.{And, Or}
 use Rattle.ltl_word.specs.declared.trace.Trace.{Trace}
 use Rattle.ltl_word.specs.Trace.{IsPosition}
-use Rattle.ltl_word.specs.Claims.{Claim, Always', Never}
+use Rattle.ltl_word.specs.Claims.{Claim}
 use Rattle.ltl_word.specs.Holds.{Holds}
-use Rattle.ltl_word.proofs.Duality.{Always_decided, Never_decided}
-use Rattle.ltl_word.proofs.Agreement.{all_numbers, Same-self, both_back, Same-never, Same-always, Same-no_and, Same-no_or, Same-no_weak_next, Same-no_until}
+use Rattle.ltl_word.proofs.Agreement.{all_numbers, Same-self, both_back, Same-no_and, Same-no_or, Same-no_until}
 use Rattle.ltl_word.proofs.Agreement.{Same-no_release}
-use Rattle.ltl_word.proofs.Decided.{Holds_decided, Position_decided, horizon}
+use Rattle.ltl_word.proofs.Decided.{Holds_decided, Position_decided, horizon, no_somewhere, no_everywhere}
 use Rattle.ltl_word.proofs.laws.future_duality.Goals as goal
 
 abbrev not_of : Trace → Formula → Claim
 not_of t a = Holds t (Unary Not a)
 
+pub returns-clause-next : goal.returns-clause-next
+returns-clause-next c a t i good = no_somewhere t a Future Step i
+
 pub returns-clause-weak_next : goal.returns-clause-weak_next
-returns-clause-weak_next c a t i good = both_back (Same-no_weak_next (all_numbers (IsPosition t)) (Holds t a) _ (Position_decided t) (Same-self (not_of t a))) i
+returns-clause-weak_next c a t i good = no_everywhere t a Future Step i good
 
 pub returns-clause-eventually : goal.returns-clause-eventually
-returns-clause-eventually c a t i good = both_back
-    (Same-no_until (all_numbers (IsPosition t)) Always' (Holds t a) Never _ Always_decided (Holds_decided t good a) Same-never (Same-self (not_of t a))) i
+returns-clause-eventually c a t i good = no_somewhere t a Future Ever i
 
 pub returns-clause-always : goal.returns-clause-always
-returns-clause-always c a t i good = both_back (Same-no_release (all_numbers (IsPosition t)) Never (Holds t a) Always' _ (Position_decided t) Never_decided
-    (Holds_decided t good a) (horizon t good _ (Unary Not a)) Same-always (Same-self (not_of t a))) i
+returns-clause-always c a t i good = no_everywhere t a Future Ever i good
 
 pub returns-clause-until : goal.returns-clause-until
 returns-clause-until c a b t i good = both_back (Same-no_until (all_numbers (IsPosition t)) (Holds t a) (Holds t b) _ _ (Holds_decided t good a)

@@ -2,8 +2,8 @@ use Rattle.std.proofs.Common.{◌≡◌, Bool, true, false, [], ◌∷◌, refl,
 use mathlib.Core.Bool.{beq}
 use Rattle.ltl_syntax.specs.Formula.{Formula, Name, Fresh, Const}
 use Rattle.ltl_syntax.specs.Table.{tree_at}
-use Rattle.ltl_closure.specs.Norm.{NConst}
-use Rattle.ltl_closure.specs.Plan.{signed, unary_plan}
+use Rattle.ltl_closure.specs.Norm.{NConst, norm}
+use Rattle.ltl_closure.specs.Plan.{unary_plan}
 use Rattle.ltl_closure.specs.declared.key.Key.TheVariants as keys
 use Rattle.ltl_closure.specs.declared.plan.Work.TheVariants as works
 use Rattle.ltl_closure.proofs.Counted.{walking_few}
@@ -21,16 +21,16 @@ returns-then-known-ne0-clause-at c =
 pub returns-then-known-ne0-clause-less : goal.returns-then-known-ne0-clause-less
 returns-then-known-ne0-clause-less c = omega (arith, cost_positive (tree_at c.args.table.now c.args.node))
 
-signed_const : (s b : Bool) (f : Formula) → f ≡ Const b → signed s f ≡ NConst (beq b s)
-signed_const true true f e = rw e refl
-signed_const true false f e = rw e refl
-signed_const false true f e = rw e refl
-signed_const false false f e = rw e refl
+norm_const : (s b : Bool) (f : Formula) → f ≡ Const b → norm s f ≡ NConst (beq b s)
+norm_const true true f e = rw e refl
+norm_const true false f e = rw e refl
+norm_const false true f e = rw e refl
+norm_const false false f e = rw e refl
 
 pub returns-in-Const-clause-at : goal.returns-in-Const-clause-at
 returns-in-Const-clause-at c =
     on_ok c.put.result c.put.ensures (λ p. visit_const_put c.args.table.now _ c.put.new.self c.args.node c.args.positive _ p
-    (signed_const c.args.positive c.in-Const.value (tree_at c.args.table.now c.args.node) c.in-Const.ensures.tree) c.requires)
+    (norm_const c.args.positive c.in-Const.value (tree_at c.args.table.now c.args.node) c.in-Const.ensures.tree) c.requires)
 
 pub returns-in-Letter-clause-at : goal.returns-in-Letter-clause-at
 returns-in-Letter-clause-at c =
