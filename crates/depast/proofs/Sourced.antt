@@ -10,7 +10,7 @@ use Rattle.ltl_syntax.specs.Formula.{Formula, Const}
 use Rattle.ltl_syntax.specs.Table.{Table, tree_at, trees_of, made}
 use Rattle.ltl_word.specs.Claims.{Claim}
 use Rattle.ltl_word.specs.Holds.{Holds}
-use Rattle.lasso_eval.specs.Under.{IsUnder, Here, Below}
+use Rattle.ltl_syntax.specs.Under.{IsUnder, Here, Below}
 use Rattle.depast.specs.declared.sources.Source.{Source}
 use Rattle.depast.specs.Lifting.{counted, meanings, meanings₁, meanings₂}
 use Rattle.depast.specs.Postorder.{Ends, IsNode, operands}

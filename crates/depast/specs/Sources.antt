@@ -10,7 +10,7 @@ use Rattle.ltl_word.specs.declared.trace.Trace.{Trace}
 use Rattle.ltl_word.specs.Trace.{Names, state_at}
 use Rattle.ltl_word.specs.Holds.{Holds}
 use Rattle.lasso_eval.specs.Rows.{cell, row_at}
-use Rattle.lasso_eval.specs.Under.{IsUnder}
+use Rattle.ltl_syntax.specs.Under.{IsUnder}
 use Rattle.depast.specs.declared.sources.Source.{Source}
 use Rattle.depast.specs.declared.lifting.Meanings.{Meanings}
 use Rattle.depast.specs.Lifting.{meanings, meanings₁, meanings₂}

@@ -2,7 +2,7 @@
 ghost use Rattle.std.specs.Prelude.{◌≡◌, ℕ, ◌<◌, [], ◌∷◌, ◌++◌, List, length, IfOk, OnOk};
 ghost use Rattle.ltl_syntax.specs.Formula.{Formula, Unary};
 ghost use Rattle.ltl_syntax.specs.Table.{Table, tree_at};
-ghost use Rattle.lasso_eval.specs.Under.{IsUnder};
+ghost use Rattle.ltl_syntax.specs.Under.{IsUnder};
 ghost use Rattle.depast.specs.Lifting.{counted, meanings, meanings₁};
 ghost use Rattle.depast.specs.Postorder.{IsNode};
 ghost use Rattle.depast.specs.Sources.{AreSources, behind, own_meanings};

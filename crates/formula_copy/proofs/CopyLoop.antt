@@ -9,13 +9,16 @@ use Rattle.std.proofs.Math.Seq.{get_or-append_seam}
 use Rattle.ltl_syntax.specs.declared.node.Node.{Node}
 use Rattle.ltl_syntax.specs.declared.node.Node.TheVariants as nodes
 use Rattle.ltl_syntax.specs.Size.{sizes, node_size, formula_size, HasOrder}
-use Rattle.ltl_syntax.specs.Table.{Table, tree_at, IsRoot, MayFollow, Pushes}
-use Rattle.formula_copy.specs.Under.{Marks, sum_below, size_at, marked_size, AreUnder}
-use Rattle.formula_copy.specs.Copy.{Numbers, numbers_in, done, moved, IsMoved, IsCopyOfNode, StandsOnRoots, IsCopied, IsCopyOf, IsNode, IsNext, IsSingle}
+use Rattle.ltl_syntax.specs.Table.{Table, tree_at, IsTable, IsRoot, MayFollow, Pushes}
+use Rattle.ltl_syntax.specs.Under.{IsUnder, Here, Below, size_at}
+use Rattle.ltl_syntax.proofs.Distinct.{child_before}
+use Rattle.ltl_syntax.proofs.Under.{under_low}
+use Rattle.formula_copy.specs.Part.{Marks, sum_below, marked_size}
+use Rattle.formula_copy.specs.Copy.{Numbers, numbers_in, done, moved, IsMoved, IsCopyOfNode, StandsOnRoots, IsCopied, IsCopyOf, IsNode, IsNext}
 use Rattle.formula_copy.specs.Copy.{HasGrown}
 use Rattle.formula_copy.proofs.Pushed.{pushed_size, pushed_length}
-use Rattle.formula_copy.proofs.Sums.{equal_or_not, sum_grows}
-use Rattle.formula_copy.proofs.CopySteps.{child_below, stands, may_follow, names_stay, goes_on, ends}
+use Rattle.formula_copy.proofs.Sums.{equal_or_not, sum_grows, size_under}
+use Rattle.formula_copy.proofs.CopySteps.{stands, may_follow, names_stay, goes_on, ends}
 
 below_true : (n k : ℕ) → n < k → ltb n k ≡ true
 below_true n k h = grind (arith, nat_tests)
@@ -79,7 +82,8 @@ module _ (list : List ℕ) (k number : ℕ) (count : length list ≡ k) where
 
 -- ---- one node
 
-module _ (s old t : Table) (root k : ℕ) (M : Marks) (list : List ℕ) (under : AreUnder s root M) (w : IsCopied s (done M k) (numbers_in list) old t) where
+module _ (s old t : Table) (root k : ℕ) (M : Marks) (list : List ℕ)
+    (under : (n : ℕ) → IsTrue (M n) ↔ IsUnder s root n) (w : IsCopied s (done M k) (numbers_in list) old t) where
   pub skipped : (number : ℕ) (next : List ℕ) → M k ≡ false → length list ≡ k → next ≡ list ++ number ∷ [] → IsCopied s (done M (k + 1)) (numbers_in next) old t
   skipped number next none count e =
       subst (λ l. IsCopied s (done M (k + 1)) (numbers_in l) old t) (sym e)
@@ -95,15 +99,15 @@ module _ (s old t : Table) (root k : ℕ) (M : Marks) (list : List ℕ) (under :
         λ h. let d = done_is M k n h in is_done M (suc k) n (omega (arith, d.0)) d.1,
       )
 
-  module _ (node : Node) (single : IsSingle s) (is : IsNode s k node) (at : M k ≡ true) where
+  module _ (node : Node) (table : IsTable s.nodes s.names) (is : IsNode s k node) (at : M k ≡ true) where
     next_node : IsNext (done M k) k node
     next_node = record {
-      children = λ a child. is_done M k a (child_below (length s.names) k a node is.fine child) (under.closed k a node (omega arith) at is.is child);
+      children = λ a child. is_done M k a (child_before s table k node is.is a child) ((under a).1 (Below k a node ((under k).0 at) is.is child));
       new = not_done M k;
     }
 
     pub stands_on : StandsOnRoots t (numbers_in list) node
-    stands_on = stands s old t (done M k) (numbers_in list) w k k node single is next_node
+    stands_on = stands s old t (done M k) (numbers_in list) w k k node table is next_node
 
     pub copied_on : (t' : Table) (number : ℕ) (next : List ℕ) → IsCopyOfNode s (numbers_in list) node t t' number
         → length list ≡ k → next ≡ list ++ number ∷ [] → IsCopied s (done M (k + 1)) (numbers_in next) old t'
@@ -112,18 +116,19 @@ module _ (s old t : Table) (root k : ℕ) (M : Marks) (list : List ℕ) (under :
         let long : length copy.middle.nodes ≡ length t.nodes = ap length copy.keeps.nodes in
         subst (λ l. IsCopied s (done M (k + 1)) (numbers_in l) old t') (sym e)
         (rw (add-one k) (goes_on s old copy.middle (done M k) (numbers_in list) kept k copy.letter t' (done M (suc k)) (numbers_in (list ++ number ∷ []))
-        node single is next_node copy.named copy.pushed record {
+        node table is next_node copy.named copy.pushed record {
           done = λ n. done_more M k n at;
           here = new_number list k number count ∙ (copy.number_is ∙ sym long);
           others = λ n d. old_number list k number count n (done_is M k n d).0;
         }))
 
 -- the copied root
-pub copied : (s old t : Table) (root k number : ℕ) (M : Marks) (list : List ℕ) → AreUnder s root M
-    → suc root ≤ k → length list ≡ k → number ≡ get_or list root number → IsCopied s (done M k) (numbers_in list) old t → IsCopyOf s root old t number
-copied s old t root k number M list under high count read w =
-    let d = is_done M k root (omega arith) under.root_in in
-    let e = ends s old t (done M k) (numbers_in list) root w d (λ n h. under.top n (done_is M k n h).1) in
+pub copied : (s old t : Table) (root k number : ℕ) (M : Marks) (list : List ℕ) → IsTable s.nodes s.names → root < length s.nodes
+    → ((n : ℕ) → IsTrue (M n) ↔ IsUnder s root n) → suc root ≤ k → length list ≡ k → number ≡ get_or list root number
+    → IsCopied s (done M k) (numbers_in list) old t → IsCopyOf s root old t number
+copied s old t root k number M list table there under high count read w =
+    let d = is_done M k root (omega arith) ((under root).1 (Here root refl)) in
+    let e = ends s old t (done M k) (numbers_in list) root w d (λ n h. under_low s table root there n ((under n).0 (done_is M k n h).1)) in
     let same : numbers_in list root ≡ number = sym (get_or_read list root number (omega (arith, count)) read 0) in
     record {
       behind = let h = w.behind root d in omega (arith, h, same);
@@ -177,9 +182,15 @@ module _ (s : Table) (root k : ℕ) (M : Marks) where
       rw (add-one k)
       (let r : HasGrown old t (sum_below (marked_size s M) (suc k)) = record { sizes = omega (arith, before.sizes, zero_size); names = before.names } in r)
 
-  pub room_for : (old t : Table) (node : Node) (size : ℕ) → AreUnder s root M → k < suc root → slice_get s.nodes k ≡ Some node
+  pub room_for : (old t : Table) (node : Node) (size : ℕ) → IsTable s.nodes s.names → root < length s.nodes
+      → ((n : ℕ) → IsTrue (M n) ↔ IsUnder s root n) → k < suc root → slice_get s.nodes k ≡ Some node
       → M k ≡ true → size ≡ formula_size (tree_at s root) → sizes old.nodes + size ≤ 16384
       → HasGrown old t (sum_below (marked_size s M) k) → sizes t.nodes + node_size node ≤ 16384
-  room_for old t node size under low is at e room before =
+  room_for old t node size table there under low is at e room before =
       let part = sum_grows (marked_size s M) (suc k) (suc root) low in
-      omega (arith, before.sizes, here_size node is at, under.size, part, e, room)
+      omega (arith, before.sizes, here_size node is at, size_under s table root there M under, part, e, room)
+
+  pub grown_all : (old t : Table) (size : ℕ) → IsTable s.nodes s.names → root < length s.nodes → ((n : ℕ) → IsTrue (M n) ↔ IsUnder s root n) → k ≡ suc root
+      → size ≡ formula_size (tree_at s root) → HasGrown old t (sum_below (marked_size s M) k) → HasGrown old t size
+  grown_all old t size table there under end e is =
+      subst (HasGrown old t) (ap (sum_below (marked_size s M)) end ∙ (size_under s table root there M under ∙ sym e)) is

@@ -1,42 +1,17 @@
 -- The steps of the loop that copies marked nodes: what was copied stays so with each node more, and the copy of the root is a root.
-use Rattle.std.proofs.Common.{◌≡◌, ℕ, suc, ◌+◌, ◌-◌, ◌<◌, ◌≤◌, ◌⊎◌, inl, inr, ◌||◌, eqb, Bool, true, false, IsTrue, IsFalse, cond, List, [], ◌∷◌, length}
-use Rattle.std.proofs.Common.{get_or, slice_get, Some, drop, length-drop, refl, sym, ap, ap₂, subst, ◌∙◌, arith, length-append}
-use Rattle.std.specs.List.{count_by, list_any}
-use Rattle.std.proofs.lemmas.Bool.{cases_lt, eqb-true, eqb-false}
-use Rattle.std.proofs.lemmas.Option.{get_or_from_slice_get, slice_get_within}
-use Rattle.std.proofs.lemmas.List.{get_or-drop}
-use Rattle.std.proofs.lemmas.List.Sums.{count_by_more_yes, sum_by-take-drop}
+use Rattle.std.proofs.Common.{◌≡◌, ℕ, suc, ◌<◌, ◌≤◌, ◌⊎◌, inl, inr, ◌||◌, eqb, Bool, true, false, IsTrue, IsFalse, List, [], ◌∷◌, length}
+use Rattle.std.proofs.Common.{slice_get, Some, refl, sym, ap, ap₂, subst, ◌∙◌, arith, length-append}
+use Rattle.std.specs.List.{list_any}
+use Rattle.std.proofs.lemmas.Bool.{eqb-false}
 use Rattle.ltl_syntax.specs.declared.node.Node.{Node}
 use Rattle.ltl_syntax.specs.declared.node.Node.TheVariants as nodes
 use Rattle.ltl_syntax.specs.Size.{HasOrder}
 use Rattle.ltl_syntax.specs.Formula.{Name, Letter, Unary, Binary}
-use Rattle.ltl_syntax.specs.Table.{Table, tree_at, tree_among, trees_of, made, has_child, IsRoot, MayFollow, IsFine, Pushes}
-use Rattle.formula_copy.specs.Copy.{Numbers, moved, done, IsNamed, KeepsTrees, StandsOnRoots, IsUnused, IsCopied, IsNode, IsNext, IsMore, IsSingle}
-use Rattle.formula_copy.specs.Under.{Marks}
+use Rattle.ltl_syntax.specs.Table.{Table, tree_at, tree_among, trees_of, made, has_child, IsRoot, MayFollow, IsTable, Pushes}
+use Rattle.formula_copy.specs.Copy.{Numbers, moved, done, IsNamed, KeepsTrees, StandsOnRoots, IsUnused, IsCopied, IsNode, IsNext, IsMore}
+use Rattle.formula_copy.specs.Part.{Marks}
+use Rattle.ltl_syntax.proofs.Distinct.{one_parent, child_before}
 use Rattle.formula_copy.proofs.Pushed.{unequal}
-
--- ---- two places where a test holds count twice
-
-one_counted : {X : Type 0} (p : X → Bool) (xs : List X) (i : ℕ) (d : X) → i < length xs → p (get_or xs i d) ≡ true → 1 ≤ count_by p xs
-one_counted p xs i d low has =
-    let first = count_by_more_yes p xs i d low has in
-    let whole = sum_by-take-drop (λ x. cond (p x) 1 0) xs (i + 1) in
-    omega (arith, first, whole)
-
-two_at : {X : Type 0} (p : X → Bool) (xs : List X) (i j : ℕ) (d : X) → i < j → j < length xs
-    → p (get_or xs i d) ≡ true → p (get_or xs j d) ≡ true → 2 ≤ count_by p xs
-two_at p xs i j d low within hi hj =
-    let first = count_by_more_yes p xs i d (omega arith) hi in
-    let whole = sum_by-take-drop (λ x. cond (p x) 1 0) xs (i + 1) in
-    let e : (i + 1) + (j - (i + 1)) ≡ j = omega arith in
-    let there : get_or (drop (i + 1) xs) (j - (i + 1)) d ≡ get_or xs j d = get_or-drop (i + 1) xs (j - (i + 1)) d ∙ ap (λ m. get_or xs m d) e in
-    let second = one_counted p (drop (i + 1) xs) (j - (i + 1)) d (omega (arith, length-drop (i + 1) xs)) (ap p there ∙ hj) in
-    omega (arith, first, whole, second)
-
-pub two_counted : {X : Type 0} (p : X → Bool) (xs : List X) (i j : ℕ) (x y : X) → i < j → slice_get xs i ≡ Some x → slice_get xs j ≡ Some y
-    → p x ≡ true → p y ≡ true → 2 ≤ count_by p xs
-two_counted p xs i j x y low gx gy px py =
-    two_at p xs i j x low (slice_get_within xs j y gy) (ap p (get_or_from_slice_get xs i x x gx) ∙ px) (ap p (get_or_from_slice_get xs j y x gy) ∙ py)
 
 -- ---- tests
 
@@ -66,21 +41,6 @@ neither false b e = (refl, e)
 pub both_false : (a b : Bool) → a ≡ false → b ≡ false → (a || b) ≡ false
 both_false true b e d = absurd (cc)
 both_false false b e d = d
-
-pub either : (a b : Bool) → (a || b) ≡ true → (a ≡ true) ⊎ (b ≡ true)
-either true b e = inl refl
-either false b e = inr e
-
--- a child of a fine node is below it
-pub child_below : (names k a : ℕ) (node : Node) → IsFine names k node → has_child a node ≡ true → a < k
-child_below names k a (nodes.Const b) fine h = absurd (cc)
-child_below names k a (nodes.Letter n) fine h = absurd (cc)
-child_below names k a (nodes.Fresh n) fine h = absurd (cc)
-child_below names k a (nodes.Unary op x) fine h = let e : x ≡ a = eqb-true x a h in omega arith
-child_below names k a (nodes.Binary op x y) fine h = elim (either (eqb x a) (eqb y a) h) [
-  | inl l ↦ let e : x ≡ a = eqb-true x a l in omega (arith, fine.0)
-  | inr r ↦ let e : y ≡ a = eqb-true y a r in omega (arith, fine.1)
-]
 
 -- a root stays one where the nodes stay
 root_kept : (t t' : Table) (n : ℕ) → KeepsTrees t t' → IsRoot t n → IsRoot t' n
@@ -122,30 +82,27 @@ module _ (s old t : Table) (D : Marks) (new : Numbers) (w : IsCopied s D new old
         both_false (eqb (new a) n) (eqb (new b) n) (unequal (new a) n (λ e. omega arith)) (unequal (new b) n (λ e. omega arith))
 
     -- a child of the next node is no child of a copied one
-    child_unused : (node : Node) (a : ℕ) → IsSingle s → slice_get s.nodes k ≡ Some node → IsFalse (D k) → has_child a node ≡ true → IsUnused s D a
-    child_unused node a single is new_one child i other di at = elim (true_or_false (has_child a other)) [
+    child_unused : (node : Node) (a : ℕ) → IsTable s.nodes s.names → slice_get s.nodes k ≡ Some node → IsFalse (D k) → has_child a node ≡ true
+        → IsUnused s D a
+    child_unused node a table is new_one child i other di at = elim (true_or_false (has_child a other)) [
       | inr no' ↦ no'
-      | inl yes' ↦ elim (cases_lt i k) [
-        | inl lt ↦ let two = two_counted (has_child a) s.nodes i k other node lt at is yes' child in let one = single a in absurd (omega arith)
-        | inr le ↦ elim (cases_lt k i) [
-          | inl gt ↦ let two = two_counted (has_child a) s.nodes k i node other gt is at child yes' in let one = single a in absurd (omega arith)
-          | inr ge ↦ let same : i ≡ k = omega arith in let d : IsTrue (D k) = subst (λ n. IsTrue (D n)) same di in absurd (cc)
-        ]
-      ]
+      | inl yes' ↦
+          let same = one_parent s table a i k other node at is yes' child in
+          let d : IsTrue (D k) = subst (λ n. IsTrue (D n)) same di in absurd (cc)
     ]
 
-    pub stands : (node : Node) → IsSingle s → IsNode s k node → IsNext D k node → StandsOnRoots t new node
-    stands (nodes.Const b) single is next = tt
-    stands (nodes.Letter n) single is next = tt
-    stands (nodes.Fresh n) single is next = tt
-    stands (nodes.Unary op a) single is next =
+    pub stands : (node : Node) → IsTable s.nodes s.names → IsNode s k node → IsNext D k node → StandsOnRoots t new node
+    stands (nodes.Const b) table is next = tt
+    stands (nodes.Letter n) table is next = tt
+    stands (nodes.Fresh n) table is next = tt
+    stands (nodes.Unary op a) table is next =
         let child = eqb-same a in
-        w.root a (next.children a child) (child_unused (nodes.Unary op a) a single is.is next.new child)
-    stands (nodes.Binary op a b) single is next =
+        w.root a (next.children a child) (child_unused (nodes.Unary op a) a table is.is next.new child)
+    stands (nodes.Binary op a b) table is next =
         let left = or_left_true (eqb a a) (eqb b a) (eqb-same a) in
         let right = or_right_true (eqb a b) (eqb b b) (eqb-same b) in (
-          w.root a (next.children a left) (child_unused (nodes.Binary op a b) a single is.is next.new left),
-          w.root b (next.children b right) (child_unused (nodes.Binary op a b) b single is.is next.new right),
+          w.root a (next.children a left) (child_unused (nodes.Binary op a b) a table is.is next.new left),
+          w.root b (next.children b right) (child_unused (nodes.Binary op a b) b table is.is next.new right),
           w.apart a b (next.children a left) (next.children b right) is.fine.2,
         )
 
@@ -159,7 +116,7 @@ module _ (s old t : Table) (D : Marks) (new : Numbers) (w : IsCopied s D new old
         ap₂ (Binary op) (w.tree a (next.children a (or_left_true (eqb a a) (eqb b a) (eqb-same a))))
         (w.tree b (next.children b (or_right_true (eqb a b) (eqb b b) (eqb-same b))))
 
-    module _ (t' : Table) (D' : Marks) (new' : Numbers) (node : Node) (single : IsSingle s) (is : IsNode s k node) (next : IsNext D k node)
+    module _ (t' : Table) (D' : Marks) (new' : Numbers) (node : Node) (table : IsTable s.nodes s.names) (is : IsNode s k node) (next : IsNext D k node)
         (named : IsNamed s t letter node) (p : Pushes t (moved new letter node) t')
         (more : IsMore D new k (length t.nodes) D' new') where
       grown : length t'.nodes ≡ suc (length t.nodes)
@@ -202,7 +159,7 @@ module _ (s old t : Table) (D : Marks) (new : Numbers) (w : IsCopied s D new old
           | inl before ↦ w.below a i other before at child
           | inr same ↦
               let one : node ≡ other = let e = ap (slice_get s.nodes) same in let f = is.is in cc in
-              subst (λ m. a < m) (sym same) (child_below (length s.names) k a node is.fine (subst (λ n. has_child a n ≡ true) (sym one) child))
+              subst (λ m. a < m) (sym same) (child_before s table k node is.is a (subst (λ n. has_child a n ≡ true) (sym one) child))
         ];
         others = λ n lt. p.others n (omega (arith, w.size)) ∙ w.others n lt;
         roots = λ n r. p.roots n (w.roots n r) (old_unused node n next r.0);

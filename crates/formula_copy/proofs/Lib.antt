@@ -1,5 +1,4 @@
 pub mod Pushed
 mod Sums
-mod MarkSteps
 mod CopySteps
 mod CopyLoop

@@ -1,12 +1,11 @@
 -- The marked nodes of a table, copied behind those of another: each under a new number, on top of roots.
 use Rattle.std.specs.Prelude.{◌≡◌, ◌≢◌, ℕ, ◌+◌, ◌<◌, ◌≤◌, ◌⊎◌, ◌↔◌, ◌&&◌, true, false, List, [], length, slice_get, slice_index_or, nat_lt, Option, Some, None}
 use Rattle.std.specs.Prelude.{IsTrue, IsFalse}
-use Rattle.std.specs.List.{count_by}
 use Rattle.ltl_syntax.specs.declared.node.Node.{Node}
 use Rattle.ltl_syntax.specs.declared.node.Node.TheVariants as nodes
 use Rattle.ltl_syntax.specs.Size.{HasOrder, sizes, node_size, formula_size}
 use Rattle.ltl_syntax.specs.Table.{Table, tree_at, trees_of, made, has_child, IsRoot, IsFine, Pushes}
-use Rattle.formula_copy.specs.Under.{Marks}
+use Rattle.formula_copy.specs.Part.{Marks}
 
 -- the new number of each
 abbrev pub Numbers : Type 0
@@ -99,9 +98,6 @@ pub record IsMore (D : Marks) (new : Numbers) (k number : ℕ) (D' : Marks) (new
   pub done : (n : ℕ) → IsTrue (D' n) ↔ (IsTrue (D n) ⊎ (n ≡ k))
   pub here : new' k ≡ number
   pub others : (n : ℕ) → IsTrue (D n) → new' n ≡ new n
-
-abbrev pub IsSingle : Table → Type 0
-IsSingle s = (number : ℕ) → count_by (has_child number) s.nodes ≤ 1
 
 -- the tree under the root stands in t under the number, which is a root behind the nodes of old. Trees and roots of old stay
 pub record IsCopyOf (s : Table) (root : ℕ) (old t : Table) (number : ℕ) : Type 0 where

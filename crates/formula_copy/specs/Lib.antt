@@ -1,2 +1,2 @@
-pub mod Under
+pub mod Part
 pub mod Copy

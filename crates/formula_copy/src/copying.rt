@@ -2,7 +2,7 @@
 ghost use Rattle.std.specs.Prelude.{◌≡◌, ◌+◌, ◌<◌, ◌≤◌, length, IfOk, OnOk};
 ghost use Rattle.ltl_syntax.specs.Table.{MayFollow, IsFine, Pushes};
 ghost use Rattle.ltl_syntax.specs.Size.{sizes, node_size, HasOrder};
-ghost use Rattle.formula_copy.specs.Under.{IsPart};
+ghost use Rattle.formula_copy.specs.Part.{IsPart};
 ghost use Rattle.formula_copy.specs.Copy.{numbers_in, IsMoved, IsCopyOfNode, StandsOnRoots, IsCopyOf, HasGrown};
 
 use crate::parts::TablePart;
@@ -79,7 +79,7 @@ pub fn copy(
     ensures copied { IfOk result (IsCopyOf part.now.table.now part.now.root target.old target.new) }
     ensures grown { OnOk result (HasGrown target.old target.new part.now.size) }
 {
-    let _count = part.table.len();
+    part.table.invariant();
     let mut numbers = Vec::new(alloc);
     'nodes: for number in 0..part.root + 1 {
         let copied = if part.marks[number as usize] {

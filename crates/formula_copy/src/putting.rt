@@ -6,7 +6,7 @@ ghost use Rattle.formula_copy.specs.Copy.{IsPut, IsPutOn};
 
 use crate::copying::copy;
 use crate::parts::TablePart;
-use ltl_syntax::{FormulaTable, Node, PushRefused};
+use ltl_syntax::{FormulaTable, Node, PushRefused, mark_under};
 use std::alloc::{AllocError, Global};
 
 const MAX_SIZE: u32 = 16_384;
@@ -17,7 +17,7 @@ pub fn tree_size(alloc: Global, table: &FormulaTable, root: u32) -> Result<u32, 
     ensures size { IfOk result (λ size. size ≡ formula_size (tree_at table.now root)) }
     ensures few { IfOk result (λ size. size ≤ 4177920) }
 {
-    Ok(TablePart::of(alloc, table, root)?.size)
+    Ok(mark_under(alloc, table, root)?.size)
 }
 
 /// Puts the tree under a node of one table behind the nodes of another, and answers the number of its root

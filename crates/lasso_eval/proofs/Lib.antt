@@ -9,6 +9,5 @@ mod Ranging
 mod Results
 mod Nodes
 mod Depths
-mod Marking
-mod Walk
+mod Shallow
 mod Counting

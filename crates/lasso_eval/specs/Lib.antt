@@ -1,5 +1,4 @@
 pub mod Cells
-pub mod Under
 pub mod Rows
 pub mod Spans
 pub mod Truth

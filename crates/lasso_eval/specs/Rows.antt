@@ -6,7 +6,7 @@ use Rattle.ltl_word.specs.declared.trace.Trace.{Trace}
 use Rattle.ltl_word.specs.Holds.{Holds}
 use Rattle.ltl_word.specs.Claims.{Claim}
 use Rattle.lasso_eval.specs.Cells.{columns, positions}
-use Rattle.lasso_eval.specs.Under.{IsUnder}
+use Rattle.ltl_syntax.specs.Under.{IsUnder}
 
 -- the truth value in a column
 abbrev pub cell : List Bool → ℕ → Bool

@@ -1,12 +1,12 @@
 // The evaluation of a formula on a trace, row by row.
-ghost use Rattle.std.specs.Prelude.{◌≡◌, ◌+◌, ◌<◌, ◌≤◌, ◌↔◌, ℕ, [], length, IfOk, OnOk, IsTrue, Err, slice_index_or, false};
+ghost use Rattle.std.specs.Prelude.{◌≡◌, ◌+◌, ◌<◌, ◌≤◌, ◌↔◌, ℕ, [], length, IfOk, OnOk, IsTrue, Err};
 ghost use Rattle.ltl_syntax.specs.Table.{tree_at};
+ghost use Rattle.ltl_syntax.specs.Under.{IsUnder, AreMarksUnder};
 ghost use Rattle.ltl_word.specs.Trace.{IsTrace};
 ghost use Rattle.ltl_word.specs.Holds.{Satisfies};
 ghost use Rattle.ltl_word.specs.Depth.{past_depth};
 ghost use Rattle.lasso_eval.specs.Cells.{cells, max_cells, AreTooMany};
 ghost use Rattle.lasso_eval.specs.Rows.{AreValues, Tells, row_at};
-ghost use Rattle.lasso_eval.specs.Under.{IsUnder};
 ghost use Rattle.lasso_eval.specs.Extent.{IsExtent};
 
 use crate::EvalRefused;
@@ -14,8 +14,7 @@ use crate::depth::{columns_of, depth_under, loop_start_of};
 use crate::extent::Extent;
 use crate::node_row::node_row;
 use crate::row::{Row, Values};
-use crate::under::nodes_under;
-use ltl_syntax::FormulaTable;
+use ltl_syntax::{FormulaTable, mark_under};
 use ltl_word::Trace;
 use std::alloc::{AllocError, Global};
 
@@ -39,8 +38,8 @@ pub fn values(
     ensures many { (a : ℕ) → result ≡ Err (EvalRefused.Cells a)
         → AreTooMany trace.now (tree_at table.now root) a }
 {
-    let _nodes = table.len();
-    let under = nodes_under(alloc, table, root)?;
+    table.invariant();
+    let under = mark_under(alloc, table, root)?;
     let depth = depth_under(alloc, table, root)?;
     let columns = columns_of(trace, depth);
     let cells = under.count as u128 * columns;
@@ -68,10 +67,7 @@ fn filled(
 ) -> Result<Vec<Row>, AllocError>
     requires root { root < length table.now.nodes }
     requires length { length marks.now ≡ root + 1 }
-    requires marks { (number : ℕ) → IsTrue (slice_index_or marks.now number false)
-        ↔ IsUnder table.now root number }
-    requires shallow { (number : ℕ) → IsTrue (slice_index_or marks.now number false)
-        → past_depth (tree_at table.now number) ≤ past_depth (tree_at table.now root) }
+    requires marks { AreMarksUnder table.now root marks.now }
     requires extent { IsExtent trace.now extent }
     requires depth { extent.depth ≡ past_depth (tree_at table.now root) }
     ensures length { IfOk result (λ rows. length rows.items ≡ root + 1) }
@@ -80,7 +76,7 @@ fn filled(
     ensures others { IfOk result (λ rows. (number : ℕ) → ¬ IsUnder table.now root number
         → row_at rows.items number ≡ []) }
 {
-    let _nodes = table.len();
+    table.invariant();
     let mut rows = Vec::with_capacity(alloc, root as usize + 1)?;
     for number in 0..root + 1 {
         if marks[number as usize] {

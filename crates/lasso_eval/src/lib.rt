@@ -17,7 +17,6 @@ mod node_row;
 mod refused;
 mod row;
 mod span;
-mod under;
 mod window;
 
 pub use evaluate::{holds, values};

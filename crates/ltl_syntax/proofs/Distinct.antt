@@ -8,14 +8,14 @@ use Rattle.std.proofs.lemmas.Bool.{cases_lt, ltb-true, eqb-true, and_parts, and_
 use Rattle.std.proofs.lemmas.Option.{get_or_from_slice_get, slice_get_within}
 use Rattle.std.proofs.lemmas.List.{length-append, get_or-drop}
 use Rattle.std.proofs.lemmas.List.Sums.{count_by_more_yes, sum_by-take-drop}
-use Rattle.std.proofs.lemmas.List.Elements.{Contains-get_or, Contains-append_left, Contains-append_right, Contains-append_cases}
+use Rattle.std.proofs.lemmas.List.Elements.{Contains-get_or, Contains-append_cases}
 use Rattle.ltl_syntax.specs.declared.node.Node.{Node}
 use Rattle.ltl_syntax.specs.declared.node.Node.TheVariants as nodes
 use Rattle.ltl_syntax.specs.Table.{Table, has_child, IsFine, IsTable}
 use Rattle.ltl_syntax.proofs.Members.{Contains-here, Contains-there, Contains-cons_cases, Contains-nil}
 use Rattle.ltl_syntax.specs.Flat.{ordered, orders_of, order_at, node_at, places_of}
 use Rattle.ltl_syntax.specs.Replacement.{Places, AreSame}
-use Rattle.ltl_syntax.proofs.Orders.{node_order, by_children}
+use Rattle.ltl_syntax.proofs.Orders.{first_in, child_in, in_cases, node_order, by_children}
 use Rattle.ltl_syntax.proofs.Trees.{node_fine}
 
 -- ---- two places where a predicate holds count twice
@@ -42,73 +42,41 @@ two_counted p xs i j x y low gx gy px py =
     two_at p xs i j x low (slice_get_within xs j y gy) (ap p (get_or_from_slice_get xs i x x gx) ∙ px) (ap p (get_or_from_slice_get xs j y x gy) ∙ py)
 
 module _ (t : Table) (is : IsTable t.nodes t.names) where
+  pub child_before : (c : ℕ) (m : Node) → slice_get t.nodes c ≡ Some m → (x : ℕ) → IsTrue (has_child x m) → x < c
+  child_before c m g x h = by m (node_fine t is c m g) h where
+    by : (m : Node) → IsFine (length t.names) c m → IsTrue (has_child x m) → x < c
+    by (nodes.Const b) f h = absurd (cc)
+    by (nodes.Letter n) f h = absurd (cc)
+    by (nodes.Fresh n) f h = absurd (cc)
+    by (nodes.Unary op a) f h = let e = eqb-true a x h in omega arith
+    by (nodes.Binary op a b) f h = elim (or_cases (a == x) (b == x) h) [
+      | inl l ↦ let e = eqb-true a x l in let lt = f.0 in omega arith
+      | inr r ↦ let e = eqb-true b x r in let lt = f.1 in omega arith
+    ]
+
   -- ---- what is under a number is no greater, and has its parent there
 
-  abbrev IsLow : ℕ → Type 0
-  IsLow k = (x : ℕ) → Contains (order_at t k) x → x ≤ k
-
-  low_step : (k : ℕ) (node : Node) → IsFine (length t.names) k node → ((j : ℕ) → j < k → IsLow j) → (x : ℕ) → Contains (ordered (orders_of t) k node) x → x ≤ k
-  low_step k (nodes.Const b) fine all x c = elim (Contains-cons_cases k [] x c) [ inl e ↦ omega arith | inr d ↦ absurd (Contains-nil x d) ]
-  low_step k (nodes.Letter n) fine all x c = elim (Contains-cons_cases k [] x c) [ inl e ↦ omega arith | inr d ↦ absurd (Contains-nil x d) ]
-  low_step k (nodes.Fresh n) fine all x c = elim (Contains-cons_cases k [] x c) [ inl e ↦ omega arith | inr d ↦ absurd (Contains-nil x d) ]
-  low_step k (nodes.Unary op a) fine all x c =
-      elim (Contains-cons_cases k (order_at t a) x c) [ inl e ↦ omega arith | inr d ↦ let i = all a fine x d in omega arith ]
-  low_step k (nodes.Binary op a b) fine all x c = elim (Contains-cons_cases k (order_at t a ++ order_at t b) x c) [
-    | inl e ↦ omega arith
-    | inr d ↦ elim (Contains-append_cases (order_at t a) (order_at t b) x d) [
-      | inl l ↦ let lt = fine.0 in let i = all a lt x l in omega arith
-      | inr r ↦ let lt = fine.1 in let i = all b lt x r in omega arith
-    ]
-  ]
-
   pub order_low : (k : ℕ) → k < length t.nodes → (x : ℕ) → Contains (order_at t k) x → x ≤ k
-  order_low = by_children t is IsLow (λ k node e fine all x c. low_step k node fine all x (subst (λ xs. Contains xs x) (node_order t is k node e) c))
+  order_low = by_children t is (λ k. (x : ℕ) → Contains (order_at t k) x → x ≤ k) (λ k node e fine all x c.
+      elim (in_cases (orders_of t) k node x (subst (λ xs. Contains xs x) (node_order t is k node e) c)) [
+        | inl same ↦ omega arith
+        | inr w ↦ let before = child_before k node e w.0 w.1 in let low = all w.0 before x w.2 in omega arith
+      ])
 
   -- the number has a parent in the list
   abbrev HasParent : List ℕ → ℕ → Type 0
   HasParent xs x = (c : ℕ) × (node : Node) × Contains xs c × (slice_get t.nodes c ≡ Some node) × IsTrue (has_child x node)
 
-  parent_later : (xs ys : List ℕ) (x : ℕ) → ((c : ℕ) → Contains xs c → Contains ys c) → HasParent xs x → HasParent ys x
-  parent_later xs ys x more w = (w.0, w.1, more w.0 w.2, w.3, w.4)
-
-  abbrev IsParented : ℕ → Type 0
-  IsParented k = (x : ℕ) → Contains (order_at t k) x → (x ≡ k) ⊎ HasParent (order_at t k) x
-
-  parent_leaf : (k x : ℕ) → Contains (k ∷ []) x → (x ≡ k) ⊎ HasParent (k ∷ []) x
-  parent_leaf k x c = elim (Contains-cons_cases k [] x c) [ inl e ↦ inl (sym e) | inr d ↦ absurd (Contains-nil x d) ]
-
-  parent_step : (k : ℕ) (node : Node) → slice_get t.nodes k ≡ Some node → IsFine (length t.names) k node → ((j : ℕ) → j < k → IsParented j) → (x : ℕ)
-      → Contains (ordered (orders_of t) k node) x → (x ≡ k) ⊎ HasParent (ordered (orders_of t) k node) x
-  parent_step k (nodes.Const b) e fine all x c = parent_leaf k x c
-  parent_step k (nodes.Letter n) e fine all x c = parent_leaf k x c
-  parent_step k (nodes.Fresh n) e fine all x c = parent_leaf k x c
-  parent_step k (nodes.Unary op a) e fine all x c = elim (Contains-cons_cases k (order_at t a) x c) [
-    | inl same ↦ inl (sym same)
-    | inr d ↦ elim (all a fine x d) [
-      | inl is ↦ inr (k, nodes.Unary op a, Contains-here k (order_at t a), e, eq-eqb a x (sym is))
-      | inr w ↦ inr (parent_later (order_at t a) (k ∷ order_at t a) x (λ y. Contains-there k (order_at t a) y) w)
-    ]
-  ]
-  parent_step k (nodes.Binary op a b) e fine all x c = elim (Contains-cons_cases k (order_at t a ++ order_at t b) x c) [
-    | inl same ↦ inl (sym same)
-    | inr d ↦ elim (Contains-append_cases (order_at t a) (order_at t b) x d) [
-      | inl l ↦ elim (all a fine.0 x l) [
-        | inl is ↦ inr (k, nodes.Binary op a b, Contains-here k (order_at t a ++ order_at t b), e, or_left (a == x) (b == x) (eq-eqb a x (sym is)))
-        | inr w ↦ inr (parent_later (order_at t a) (k ∷ (order_at t a ++ order_at t b)) x
-            (λ y z. Contains-there k (order_at t a ++ order_at t b) y (Contains-append_left (order_at t a) (order_at t b) y z)) w)
-      ]
-      | inr r ↦ elim (all b fine.1 x r) [
-        | inl is ↦ inr (k, nodes.Binary op a b, Contains-here k (order_at t a ++ order_at t b), e, or_right (a == x) (b == x) (eq-eqb b x (sym is)))
-        | inr w ↦ inr (parent_later (order_at t b) (k ∷ (order_at t a ++ order_at t b)) x
-            (λ y z. Contains-there k (order_at t a ++ order_at t b) y (Contains-append_right (order_at t a) (order_at t b) y z)) w)
-      ]
-    ]
-  ]
-
   order_parented : (k : ℕ) → k < length t.nodes → (x : ℕ) → Contains (order_at t k) x → (x ≡ k) ⊎ HasParent (order_at t k) x
-  order_parented = by_children t is IsParented (λ k node e fine all x c.
+  order_parented = by_children t is (λ k. (x : ℕ) → Contains (order_at t k) x → (x ≡ k) ⊎ HasParent (order_at t k) x) (λ k node e fine all x c.
       subst (λ xs. (x ≡ k) ⊎ HasParent xs x) (sym (node_order t is k node e))
-      (parent_step k node e fine all x (subst (λ xs. Contains xs x) (node_order t is k node e) c)))
+      (elim (in_cases (orders_of t) k node x (subst (λ xs. Contains xs x) (node_order t is k node e) c)) [
+        | inl same ↦ inl (sym same)
+        | inr w ↦ elim (all w.0 (child_before k node e w.0 w.1) x w.2) [
+          | inl child ↦ inr (k, node, first_in (orders_of t) k node, e, subst (λ n. IsTrue (has_child n node)) (sym child) w.1)
+          | inr v ↦ inr (v.0, v.1, child_in (orders_of t) k node w.0 v.0 w.1 v.2, v.3, v.4)
+        ]
+      ]))
 
   -- ---- where no node is the child of two, no node stands at two places
 
@@ -121,18 +89,6 @@ module _ (t : Table) (is : IsTable t.nodes t.names) where
       | inr le ↦ omega arith
     ]
   ]
-
-  child_before : (c : ℕ) (m : Node) → slice_get t.nodes c ≡ Some m → (x : ℕ) → IsTrue (has_child x m) → x < c
-  child_before c m g x h = by m (node_fine t is c m g) h where
-    by : (m : Node) → IsFine (length t.names) c m → IsTrue (has_child x m) → x < c
-    by (nodes.Const b) f h = absurd (cc)
-    by (nodes.Letter n) f h = absurd (cc)
-    by (nodes.Fresh n) f h = absurd (cc)
-    by (nodes.Unary op a) f h = let e = eqb-true a x h in omega arith
-    by (nodes.Binary op a b) f h = elim (or_cases (a == x) (b == x) h) [
-      | inl l ↦ let e = eqb-true a x l in let lt = f.0 in omega arith
-      | inr r ↦ let e = eqb-true b x r in let lt = f.1 in omega arith
-    ]
 
   -- two children of one node have nothing in common
   module _ (k : ℕ) (node : Node) (e : slice_get t.nodes k ≡ Some node) (a b : ℕ) (ha : IsTrue (has_child a node)) (hb : IsTrue (has_child b node))
@@ -224,21 +180,21 @@ module _ (t : Table) (is : IsTable t.nodes t.names) where
 
   -- ---- the nodes at the places of a set stand at these places
 
-  among_from : (x : ℕ) (xs : List ℕ) → Contains xs x → IsTrue (list_any (λ m. m == x) xs)
+  pub among_from : (x : ℕ) (xs : List ℕ) → Contains xs x → IsTrue (list_any (λ m. m == x) xs)
   among_from x [] c = absurd (Contains-nil x c)
   among_from x (y ∷ xs) c = elim (Contains-cons_cases y xs x c) [
     | inl same ↦ or_left (y == x) (list_any (λ m. m == x) xs) (eq-eqb y x same)
     | inr rest ↦ or_right (y == x) (list_any (λ m. m == x) xs) (among_from x xs rest)
   ]
 
-  among_to : (x : ℕ) (xs : List ℕ) → IsTrue (list_any (λ m. m == x) xs) → Contains xs x
+  pub among_to : (x : ℕ) (xs : List ℕ) → IsTrue (list_any (λ m. m == x) xs) → Contains xs x
   among_to x [] e = cc
   among_to x (y ∷ xs) e = elim (or_cases (y == x) (list_any (λ m. m == x) xs) e) [
     | inl here ↦ subst (λ z. Contains (z ∷ xs) x) (sym (eqb-true y x here)) (Contains-here x xs)
     | inr rest ↦ Contains-there y xs x (among_to x xs rest)
   ]
 
-  one_test : (a b : Bool) → (a ≡ true → b ≡ true) → (b ≡ true → a ≡ true) → a ≡ b
+  pub one_test : (a b : Bool) → (a ≡ true → b ≡ true) → (b ≡ true → a ≡ true) → a ≡ b
   one_test true b h k = sym (h refl)
   one_test false true h k = k refl
   one_test false false h k = refl

@@ -1,5 +1,5 @@
 -- The nodes under a root are no more than those of the table, so a tree of a table has no more nodes than the table.
-use Rattle.std.proofs.Common.{◌≡◌, ℕ, zero, suc, ◌<◌, ◌≤◌, inl, inr, subst, arith, sym, true, false, List, [], ◌∷◌, length, get_or, eqb, Contains}
+use Rattle.std.proofs.Common.{◌≡◌, ℕ, zero, suc, ◌+◌, ◌<◌, ◌≤◌, inl, inr, subst, ap, arith, refl, sym, true, false, List, [], ◌∷◌, length, get_or, eqb, Contains}
 use Rattle.std.specs.List.{IsDistinct, AllByRecursion, list_any}
 use Rattle.std.proofs.lemmas.Bool.{cases_Bool, eqb-true, or_cases}
 use Rattle.std.proofs.lemmas.Map.Steps.{length-le_from_distinct_below}
@@ -34,14 +34,19 @@ any_member (x ∷ xs) q e = elim (or_cases (eqb q x) (list_any (eqb q) xs) e) [
   | inr rest ↦ Contains-there x xs q (any_member xs q rest)
 ]
 
-pub order_few : (t : Table) → IsTable t.nodes t.names → (root : ℕ) → root < length t.nodes → length (order_at t root) ≤ length t.nodes
-order_few t is root lt =
-    length-le_from_distinct_below (order_at t root) (length t.nodes) (distinct_keys (order_at t root) (order_distinct t is root lt))
+-- nor more than the numbers up to the root
+pub order_up_to : (t : Table) → IsTable t.nodes t.names → (root : ℕ) → root < length t.nodes → length (order_at t root) ≤ root + 1
+order_up_to t is root lt =
+    length-le_from_distinct_below (order_at t root) (root + 1) (distinct_keys (order_at t root) (order_distinct t is root lt))
     (λ q e. let low = order_low t is root lt q (any_member (order_at t root) q e) in omega arith)
 
+pub order_few : (t : Table) → IsTable t.nodes t.names → (root : ℕ) → root < length t.nodes → length (order_at t root) ≤ length t.nodes
+order_few t is root lt = omega (arith, lt, order_up_to t is root lt)
+
 -- a tree of a table has at most 16,384 nodes
+pub order_small : (t : Table) → IsTable t.nodes t.names → (root : ℕ) → root < length t.nodes → (order : List ℕ) → order ≡ order_at t root
+    → length order ≤ 16384
+order_small t is root lt order same = omega (arith, ap length same, order_few t is root lt, is.few)
+
 pub tree_few : (t : Table) → IsTable t.nodes t.names → (root : ℕ) → root < length t.nodes → nodes_in (tree_at t root) ≤ 16384
-tree_few t is root lt =
-    let long = order_long t is root lt in
-    let few = order_few t is root lt in
-    let all = is.few in omega arith
+tree_few t is root lt = omega (arith, order_long t is root lt, order_small t is root lt (order_at t root) refl)

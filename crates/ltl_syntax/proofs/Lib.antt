@@ -4,7 +4,7 @@ mod Tables
 mod NameSearch
 mod Works
 pub mod Roots
-mod Members
+pub mod Members
 pub mod Places
 pub mod Orders
 pub mod Distinct
@@ -14,3 +14,4 @@ mod Cutting
 mod Marking
 pub mod Few
 mod NoFresh
+pub mod Under

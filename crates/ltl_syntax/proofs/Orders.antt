@@ -1,16 +1,18 @@
 -- The nodes of a table in the order of their places: as many as the tree has nodes, each standing for the formula at its place.
 use Rattle.std.proofs.Common.{◌≡◌, ℕ, zero, suc, ◌+◌, ◌-◌, ◌<◌, ◌≤◌, inl, inr, subst, ap, ap₂, arith, sym, refl, ◌∙◌, List, [], ◌∷◌, ◌++◌, length, get_or}
-use Rattle.std.proofs.Common.{slice_get, Some, lt-ltb, le-ltb}
+use Rattle.std.proofs.Common.{slice_get, Some, lt-ltb, le-ltb, ◌⊎◌, ◌==◌, IsTrue, Contains, eq-eqb}
 use Rattle.std.proofs.Math.ListN.{get_or-append}
 use Rattle.std.proofs.Math.Seq.{get_or-append_seam, get_or-append_right}
-use Rattle.std.proofs.lemmas.Bool.{cases_lt, cond-true, cond-false}
+use Rattle.std.proofs.lemmas.Bool.{cases_lt, cond-true, cond-false, eqb-true, or_cases, or_left, or_right}
 use Rattle.std.proofs.lemmas.Option.{slice_get_within}
 use Rattle.std.proofs.lemmas.List.{length-append}
+use Rattle.std.proofs.lemmas.List.Elements.{Contains-append_left, Contains-append_right, Contains-append_cases}
 use Rattle.ltl_syntax.specs.declared.node.Node.{Node}
 use Rattle.ltl_syntax.specs.declared.node.Node.TheVariants as nodes
 use Rattle.ltl_syntax.specs.Formula.{Fresh, Formula, Const, Letter, Unary, Binary, nodes_in}
-use Rattle.ltl_syntax.specs.Table.{Table, made, trees_of, tree_at, IsFine, AreFine, IsTable}
+use Rattle.ltl_syntax.specs.Table.{Table, made, trees_of, tree_at, has_child, IsFine, AreFine, IsTable}
 use Rattle.ltl_syntax.specs.Replacement.{part_at}
+use Rattle.ltl_syntax.proofs.Members.{Contains-here, Contains-there, Contains-cons_cases, Contains-nil}
 use Rattle.ltl_syntax.proofs.Trees.{node_tree, node_fine}
 use Rattle.ltl_syntax.specs.Flat.{order_among, ordered, orders_after, orders_of, order_at, node_at}
 
@@ -50,6 +52,50 @@ node_there : (ns : List Node) (k : ℕ) → k < length ns → (node : Node) × (
 node_there [] k lt = absurd (omega arith)
 node_there (n ∷ ns) zero lt = (n, refl)
 node_there (n ∷ ns) (suc k) lt = node_there ns k (omega arith)
+
+-- ---- what is in the order of a node: the node, and what is in the orders of its children
+
+module _ (orders : List (List ℕ)) (k : ℕ) where
+  pub first_in : (node : Node) → Contains (ordered orders k node) k
+  first_in (nodes.Const b) = Contains-here k []
+  first_in (nodes.Letter n) = Contains-here k []
+  first_in (nodes.Fresh n) = Contains-here k []
+  first_in (nodes.Unary op a) = Contains-here k (order_among orders a)
+  first_in (nodes.Binary op a b) = Contains-here k (order_among orders a ++ order_among orders b)
+
+  pub child_in : (node : Node) (child x : ℕ) → IsTrue (has_child child node) → Contains (order_among orders child) x → Contains (ordered orders k node) x
+  child_in (nodes.Const b) child x h c = absurd (cc)
+  child_in (nodes.Letter n) child x h c = absurd (cc)
+  child_in (nodes.Fresh n) child x h c = absurd (cc)
+  child_in (nodes.Unary op a) child x h c =
+      Contains-there k (order_among orders a) x (subst (λ j. Contains (order_among orders j) x) (sym (eqb-true a child h)) c)
+  child_in (nodes.Binary op a b) child x h c =
+      Contains-there k (order_among orders a ++ order_among orders b) x (elim (or_cases (a == child) (b == child) h) [
+        | inl l ↦ Contains-append_left (order_among orders a) (order_among orders b) x
+            (subst (λ j. Contains (order_among orders j) x) (sym (eqb-true a child l)) c)
+        | inr r ↦ Contains-append_right (order_among orders a) (order_among orders b) x
+            (subst (λ j. Contains (order_among orders j) x) (sym (eqb-true b child r)) c)
+      ])
+
+  -- it is in the order of a child
+  abbrev pub IsInChild : Node → ℕ → Type 0
+  IsInChild node x = (child : ℕ) × IsTrue (has_child child node) × Contains (order_among orders child) x
+
+  alone : (node : Node) (x : ℕ) → Contains (k ∷ []) x → (k ≡ x) ⊎ IsInChild node x
+  alone node x c = elim (Contains-cons_cases k [] x c) [ inl e ↦ inl e | inr d ↦ absurd (Contains-nil x d) ]
+
+  pub in_cases : (node : Node) (x : ℕ) → Contains (ordered orders k node) x → (k ≡ x) ⊎ IsInChild node x
+  in_cases (nodes.Const b) x c = alone (nodes.Const b) x c
+  in_cases (nodes.Letter n) x c = alone (nodes.Letter n) x c
+  in_cases (nodes.Fresh n) x c = alone (nodes.Fresh n) x c
+  in_cases (nodes.Unary op a) x c = elim (Contains-cons_cases k (order_among orders a) x c) [ inl e ↦ inl e | inr d ↦ inr (a, eq-eqb a a refl, d) ]
+  in_cases (nodes.Binary op a b) x c = elim (Contains-cons_cases k (order_among orders a ++ order_among orders b) x c) [
+    | inl e ↦ inl e
+    | inr d ↦ elim (Contains-append_cases (order_among orders a) (order_among orders b) x d) [
+      | inl l ↦ inr (a, or_left (a == a) (b == a) (eq-eqb a a refl), l)
+      | inr r ↦ inr (b, or_right (a == b) (b == b) (eq-eqb b b refl), r)
+    ]
+  ]
 
 -- ---- a table
 

@@ -11,3 +11,4 @@ pub mod Replacement
 pub mod Flat
 pub mod Pending
 pub mod Cutting
+pub mod Under

@@ -3,6 +3,7 @@
 
 mod fresh;
 pub mod laws;
+mod marks;
 mod node;
 mod preorder;
 mod printing;
@@ -11,6 +12,7 @@ mod shared;
 mod table;
 
 pub use fresh::has_no_fresh;
+pub use marks::{MarkedNodes, mark_under};
 pub use node::{BinaryOp, Kind, Node, UnaryOp};
 pub use preorder::nodes_under;
 pub use printing::print;

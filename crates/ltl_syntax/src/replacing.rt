@@ -8,8 +8,9 @@ ghost use Rattle.ltl_syntax.specs.Table.{IsTable, MayFollow, tree_at};
 ghost use Rattle.ltl_syntax.specs.Size.{sizes, node_size};
 ghost use Rattle.ltl_syntax.specs.Replacement.{AreApart, rep};
 ghost use Rattle.ltl_syntax.specs.Flat.{places_of};
-ghost use Rattle.ltl_syntax.specs.Cutting.{AreMarked, AreDistinct, AreFreshOrSame, AreCut, marked_places};
+ghost use Rattle.ltl_syntax.specs.Cutting.{AreDistinct, AreFreshOrSame, AreCut, marked_places};
 
+use crate::marks::marked;
 use crate::preorder::nodes_under;
 use crate::{FormulaTable, Node};
 use std::alloc::{AllocError, Global};
@@ -45,19 +46,6 @@ pub fn replace(
     cut(&order, &marks, &mut nodes);
     let copy = assembled(alloc, table, &nodes)?;
     Ok((copy, root))
-}
-
-/// A mark for each of these numbers, all of them below a count.
-fn marked(alloc: Global, count: u32, numbers: &[u32]) -> Result<Vec<bool>, AllocError>
-    requires { All (λ number. number < count) numbers.now }
-    ensures long { IfOk result (λ marks. length marks.items ≡ count) }
-    ensures marked { IfOk result (λ marks. AreMarked numbers.now marks.items) }
-{
-    let mut marks = vec![in alloc; false; count as usize]?;
-    'numbers: for index in 0..numbers.len() {
-        marks[numbers[index] as usize] = true;
-    }
-    Ok(marks)
 }
 
 /// The nodes of a table.

@@ -4,7 +4,6 @@ mod Prefix
 mod Values
 mod Trees
 mod Parts
-mod Marking
 mod Placing
 mod Runs
 mod Forms

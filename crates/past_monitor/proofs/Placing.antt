@@ -1,23 +1,25 @@
 -- The walk that makes a part of each marked node.
-use Rattle.std.proofs.Common.{◌≡◌, ℕ, zero, suc, ◌+◌, ◌-◌, ◌<◌, ◌≤◌, Bool, true, false, ◌==◌, List, [], ◌∷◌, ◌++◌, length, length-append, take, cond, slice_get}
-use Rattle.std.proofs.Common.{slice_index_or, Some, refl, sym, ◌∙◌, ap, ap₂, subst, arith, eq-eqb, true≢false, inl, inr}
+use Rattle.std.proofs.Common.{◌≡◌, ℕ, zero, suc, ◌+◌, ◌-◌, ◌<◌, ◌≤◌, Bool, true, false, ◌==◌, List, [], ◌∷◌, ◌++◌, length, length-append, take, cond}
+use Rattle.std.proofs.Common.{slice_index_or, refl, sym, ◌∙◌, ap, ap₂, subst, arith, eq-eqb, true≢false, inl, inr}
 use Rattle.std.proofs.Math.ListN.{get_or-append}
 use Rattle.std.proofs.Math.Seq.{get_or-append_seam}
 use Rattle.std.specs.List.{count_by}
-use Rattle.std.proofs.lemmas.Bool.{cases_lt}
+use Rattle.std.proofs.lemmas.Bool.{cases_lt, or_left, or_right}
 use Rattle.std.proofs.lemmas.List.{take_all}
 use Rattle.std.proofs.lemmas.List.Sums.{sum_by-cons}
 use Rattle.ltl_syntax.specs.declared.node.Node.{Node}
 use Rattle.ltl_syntax.specs.declared.node.Node.TheVariants as nodes
 use Rattle.ltl_syntax.specs.Formula.{Formula, Const, Unary, Binary}
-use Rattle.ltl_syntax.specs.Table.{Table, tree_at, trees_of, made, has_child, IsFine}
+use Rattle.ltl_syntax.specs.Table.{Table, tree_at, trees_of, made, has_child, IsFine, IsTable}
+use Rattle.ltl_syntax.specs.Under.{IsUnder, Here, Below, AreMarksUnder}
+use Rattle.ltl_syntax.proofs.Trees.{node_tree, node_fine}
+use Rattle.ltl_syntax.proofs.Under.{under_has}
 use Rattle.ltl_syntax.specs.Roots.{HasChildrenBelow}
 use Rattle.past_monitor.specs.declared.part.Part.{Part}
 use Rattle.past_monitor.specs.Past.{IsPast}
 use Rattle.past_monitor.specs.Ring.{RingValue}
 use Rattle.past_monitor.specs.Monitor.{formula_at, AreUnder}
-use Rattle.past_monitor.specs.Part.{no_ring, ring_of, value_at, IsNamed, IsPart, IsPastNode, AreParts, AreFresh, AreMarked, formulas_of, part_at, moved}
-use Rattle.past_monitor.proofs.Marking.{or_left, or_right, under_marked}
+use Rattle.past_monitor.specs.Part.{no_ring, ring_of, value_at, IsPart, IsPartOf, IsPastNode, LooksAhead, AreParts, AreFresh, formulas_of, part_at, moved}
 use Rattle.past_monitor.proofs.Parts.{no_values₂}
 use Rattle.past_monitor.proofs.Trees.{formulas_of-push, length-formulas}
 
@@ -127,16 +129,16 @@ module _ (t : Table) (marks : List Bool) (number : ℕ) (places places' : List �
   }
 
   -- a marked node, and its part
-  pub added : (root : ℕ) (node : Node) (p : Part) (parts' : List Part) → AreMarked t root marks
-      → value_at marks number ≡ true → slice_get t.nodes number ≡ Some node
-      → IsFine (length t.names) number node → tree_at t number ≡ made t.names (trees_of t) node
-      → p.node ≡ moved places' node → IsNamed t.names (moved places' node) p.name → p.kept ≡ ring_of (moved places' node) [] → parts' ≡ parts ++ p ∷ []
-      → ArePlaced t marks (suc number) places' parts'
-  added root node p parts' are mark at fine tree is_node named ring e =
+  pub added : (root : ℕ) (p : Part) (parts' : List Part) → IsTable t.nodes t.names → AreMarksUnder t root marks → value_at marks number ≡ true
+      → IsPartOf t places' number p → parts' ≡ parts ++ p ∷ [] → ArePlaced t marks (suc number) places' parts'
+  added root p parts' table under mark of e =
+      let node = of.node in
+      let is_node = of.over in
       let formulas = formulas_of t.names parts in
       let count = length-formulas t.names parts in
-      let right = moved_right t formulas places' number (λ place lt. is.are.past place (omega (arith, count))) node fine (are.past number node mark at)
-      (λ child lt has. placed_still child lt (are.closed number node child mark at has)) in
+      let right = moved_right t formulas places' number (λ place lt. is.are.past place (omega (arith, count))) node
+      (node_fine t table number node of.at) of.past
+      (λ child lt has. placed_still child lt ((under child).1 (Below number child node ((under number).0 mark) of.at has))) in
       let pushed : formulas_of t.names parts' ≡ formulas ++ made t.names formulas (moved places' node) ∷ [] =
       ap (formulas_of t.names) e ∙ (formulas_of-push t.names parts p ∙ ap (λ n. formulas ++ made t.names formulas n ∷ []) is_node) in
       let long' : length parts' ≡ suc (length parts) = ap length e ∙ (length-append parts (p ∷ []) ∙ omega arith) in
@@ -153,8 +155,8 @@ module _ (t : Table) (marks : List Bool) (number : ℕ) (places places' : List �
       let below : HasChildrenBelow (length parts) (moved places' node) = subst (λ k. HasChildrenBelow k (moved places' node)) count right.0 in
       let part_fine : IsPart t.names (length parts) p = record {
         below = subst (HasChildrenBelow (length parts)) (sym is_node) below;
-        named = subst (λ n. IsNamed t.names n p.name) (sym is_node) named;
-        ring = subst (λ n. p.kept ≡ ring_of n p.kept.values) (sym is_node) (fresh_ring (moved places' node) p.kept ring);
+        named = subst (λ n. IsNamed t.names n p.name) (sym is_node) of.named;
+        ring = subst (λ n. p.kept ≡ ring_of n p.kept.values) (sym is_node) (fresh_ring (moved places' node) p.kept of.ring);
       } in
       record {
         long = longer;
@@ -176,7 +178,7 @@ module _ (t : Table) (marks : List Bool) (number : ℕ) (places places' : List �
           | inl less ↦ ap (λ (q : Part). q.kept.values) (old_part i less) ∙ is.fresh i less
           | inr ge ↦
               let f : length parts ≡ i = omega (arith, long') in
-              subst (λ k. (part_at parts' k).kept.values ≡ []) f (ap (λ (q : Part). q.kept.values) new_part ∙ fresh_values (moved places' node) p.kept ring)
+              subst (λ k. (part_at parts' k).kept.values ≡ []) f (ap (λ (q : Part). q.kept.values) new_part ∙ fresh_values (moved places' node) p.kept of.ring)
         ];
         placed = λ i lt m. elim (cases_lt i number) [
           | inl less ↦
@@ -187,23 +189,41 @@ module _ (t : Table) (marks : List Bool) (number : ℕ) (places places' : List �
               let f : number ≡ i = omega arith in
               subst (λ k. IsAt t (formulas_of t.names parts') (place_at places' k) k) f (
                 omega (arith, new_place, length-formulas t.names parts', long'),
-                ap (formula_at (formulas_of t.names parts')) new_place ∙ (new_formula ∙ (right.1 ∙ sym tree)),
+                ap (formula_at (formulas_of t.names parts')) new_place ∙ (new_formula ∙ (right.1 ∙ sym (node_tree t table number node of.at))),
               )
         ];
         last = λ i f m. let g : i ≡ number = omega arith in let h : place_at places' i ≡ length parts = ap (place_at places') g ∙ new_place in
             omega (arith, h, long');
       }
 
--- the parts of all nodes up to the root, which is the last
-module _ (t : Table) (root : ℕ) (marks : List Bool) (places : List ℕ) (parts : List Part) (number : ℕ) (end : number ≡ root + 1) (are : AreMarked t root marks)
-    (is : ArePlaced t marks number places parts) where
+-- ---- a marked node that looks ahead is one under the root, which then looks ahead
+
+past_node : (names : List (List ℕ)) (trees : List Formula) (node : Node) → IsPast (made names trees node) → IsPastNode node
+past_node names trees (nodes.Const b) p = tt
+past_node names trees (nodes.Letter n) p = tt
+past_node names trees (nodes.Fresh n) p = tt
+past_node names trees (nodes.Unary op a) p = p.0
+past_node names trees (nodes.Binary op a b) p = p.0
+
+pub refused : (t : Table) → IsTable t.nodes t.names → (root number : ℕ) → IsUnder t root number → LooksAhead t number → IsPast (tree_at t root) → ⊥
+refused t table root number under (node, at, ahead) past =
+    ahead (past_node t.names (trees_of t) node
+    (subst IsPast (node_tree t table number node at) (under_has t table IsPast (λ op f p. p.1) (λ op f g p. p.1) root number past under)))
+
+-- ---- the parts of all nodes up to the root, which is the last
+
+module _ (t : Table) (root : ℕ) (marks : List Bool) (places : List ℕ) (parts : List Part) (number : ℕ) (end : number ≡ root + 1)
+    (long : length marks ≡ root + 1) (under : AreMarksUnder t root marks) (is : ArePlaced t marks number places parts) where
+  top : value_at marks root ≡ true
+  top = (under root).1 (Here root refl)
+
   pub some_parts : 0 < length parts
-  some_parts = let l = is.last root (omega (arith, end)) are.top in omega arith
+  some_parts = let l = is.last root (omega (arith, end)) top in omega arith
 
   pub root_last : formula_at (formulas_of t.names parts) (length parts - 1) ≡ tree_at t root
   root_last =
-      let l = is.last root (omega (arith, end)) are.top in
-      let w = is.placed root (omega (arith, end)) are.top in
+      let l = is.last root (omega (arith, end)) top in
+      let w = is.placed root (omega (arith, end)) top in
       let e : place_at places root ≡ length parts - 1 = omega arith in
       ap (formula_at (formulas_of t.names parts)) (sym e) ∙ w.1
 
@@ -211,6 +231,6 @@ module _ (t : Table) (root : ℕ) (marks : List Bool) (places : List ℕ) (parts
   pub all_under : AreUnder t root (length parts)
   all_under = record {
     marks = marks;
-    each = λ i. (are.under i, under_marked t root marks are i);
-    count = is.count ∙ ap marked_in (take_all number marks (omega (arith, end, are.long)));
+    each = under;
+    count = is.count ∙ ap marked_in (take_all number marks (omega (arith, end, long)));
   }

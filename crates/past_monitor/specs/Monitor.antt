@@ -7,7 +7,7 @@ use Rattle.ltl_syntax.specs.Table.{Table}
 use Rattle.ltl_word.specs.declared.trace.Trace.TheVariants.{Finite}
 use Rattle.ltl_word.specs.Trace.{Names}
 use Rattle.ltl_word.specs.Holds.{Holds}
-use Rattle.lasso_eval.specs.Under.{IsUnder}
+use Rattle.ltl_syntax.specs.Under.{IsUnder}
 use Rattle.past_monitor.specs.Kept.{AreKept}
 
 -- the formulas under a root, each behind those that it is made of, the values that are kept for each, and the rooms: for how many

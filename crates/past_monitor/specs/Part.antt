@@ -1,5 +1,5 @@
 -- The formulas of a monitor, each made of earlier ones, and the value of each at a state.
-use Rattle.std.specs.Prelude.{◌≡◌, ℕ, ◌+◌, ◌-◌, ◌<◌, ◌≤◌, ⊤, Bool, true, false, not, ◌&&◌, ◌||◌, List, [], map, length, slice_index_or, slice_get, Some, ◌↔◌}
+use Rattle.std.specs.Prelude.{◌≡◌, ℕ, ◌-◌, ◌<◌, ◌≤◌, ⊤, Bool, true, false, not, ◌&&◌, ◌||◌, List, [], map, length, slice_index_or, slice_get, Some, ◌↔◌}
 use Rattle.std.specs.Prelude.{IsTrue, Contains}
 use Rattle.ltl_syntax.specs.declared.node.UnaryOp.{UnaryOp}
 use Rattle.ltl_syntax.specs.declared.node.BinaryOp.{BinaryOp}
@@ -8,13 +8,12 @@ use Rattle.ltl_syntax.specs.declared.node.Node.{Node}
 use Rattle.ltl_syntax.specs.declared.node.Node.TheVariants as nodes
 use Rattle.ltl_syntax.specs.Shape.{Direction, Future, Past, Range, Step, Exactly, Between, Ever, Shape, Negation, Somewhere, Everywhere, shape}
 use Rattle.ltl_syntax.specs.Formula.{Fresh, Formula}
-use Rattle.ltl_syntax.specs.Table.{Table, trees_after, has_child}
+use Rattle.ltl_syntax.specs.Table.{Table, trees_after}
 use Rattle.ltl_syntax.specs.Roots.{HasChildrenBelow}
 use Rattle.ltl_word.specs.Trace.{Names}
 use Rattle.ltl_word.specs.Holds.{name_of}
 use Rattle.ltl_word.specs.Depth.{steps_back}
 use Rattle.past_monitor.specs.declared.part.Part.{Part}
-use Rattle.lasso_eval.specs.Under.{IsUnder}
 use Rattle.past_monitor.specs.Past.{IsPast, IsPast₁, IsPast₂}
 use Rattle.past_monitor.specs.Kept.{kept_by}
 use Rattle.past_monitor.specs.Monitor.{formula_at}
@@ -211,15 +210,6 @@ AreStepped state old new values = AreSteppedTo (length old) state old new values
 
 -- ---- the nodes under a root
 
--- the root is marked, each child of a marked node is, and no others, and no marked node looks ahead
-pub record AreMarked (t : Table) (root : ℕ) (marks : List Bool) : Type 0 where
-  pub long : length marks ≡ root + 1
-  pub top : value_at marks root ≡ true
-  pub under : (i : ℕ) → value_at marks i ≡ true → IsUnder t root i
-  pub past : (i : ℕ) (node : Node) → value_at marks i ≡ true → slice_get t.nodes i ≡ Some node → IsPastNode node
-  pub closed : (i : ℕ) (node : Node) (child : ℕ) → value_at marks i ≡ true → slice_get t.nodes i ≡ Some node
-      → has_child child node ≡ true → value_at marks child ≡ true
-
 -- the node over the places of its children
 abbrev pub moved : List ℕ → Node → Node
 moved places (nodes.Const b) = nodes.Const b
@@ -227,3 +217,16 @@ moved places (nodes.Letter n) = nodes.Letter n
 moved places (nodes.Fresh n) = nodes.Fresh n
 moved places (nodes.Unary op a) = nodes.Unary op (slice_index_or places a 0)
 moved places (nodes.Binary op a b) = nodes.Binary op (slice_index_or places a 0) (slice_index_or places b 0)
+
+-- the part is new, and stands for the node with this number, over these places: a node that does not look ahead
+pub record IsPartOf (t : Table) (places : List ℕ) (number : ℕ) (p : Part) : Type 0 where
+  pub node : Node
+  pub at : slice_get t.nodes number ≡ Some node
+  pub past : IsPastNode node
+  pub over : p.node ≡ moved places node
+  pub named : IsNamed t.names (moved places node) p.name
+  pub ring : p.kept ≡ ring_of (moved places node) []
+
+-- the node with this number looks ahead
+abbrev pub LooksAhead : Table → ℕ → Type 0
+LooksAhead t number = (node : Node) × (slice_get t.nodes number ≡ Some node) × (IsPastNode node → ⊥)

@@ -1,20 +1,20 @@
 // The parts of a monitor: the nodes under the root, children before parents.
 //
-// Children stand before their parents, so one walk from the root backwards marks each node after its parent,
-// with no stack, and one walk forwards makes a part of each marked node, with the places of its children
-// among the parts.
-ghost use Rattle.std.specs.Prelude.{◌≡◌, ◌+◌, ◌-◌, ◌<◌, ◌||◌, ℕ, true, false, length, IfOk, Ok, Err};
-ghost use Rattle.ltl_syntax.specs.Table.{tree_at, has_child};
+// Children stand before their parents in the table, so one walk over the marked nodes makes a part of each,
+// with the places of its children among the parts.
+ghost use Rattle.std.specs.Prelude.{◌≡◌, ◌+◌, ◌-◌, ◌<◌, length, IfOk, Err};
+ghost use Rattle.ltl_syntax.specs.Table.{tree_at};
+ghost use Rattle.ltl_syntax.specs.Under.{AreMarksUnder};
 ghost use Rattle.ltl_syntax.specs.Roots.{HasChildrenBelow};
 ghost use Rattle.past_monitor.specs.declared.refused.MonitorRefused.TheVariants.{Future};
 ghost use Rattle.past_monitor.specs.Past.{IsPast};
 ghost use Rattle.past_monitor.specs.Monitor.{AreUnder};
-ghost use Rattle.past_monitor.specs.Part.{AreParts, AreMarked, AreFresh, last_of, value_at, moved};
+ghost use Rattle.past_monitor.specs.Part.{AreParts, AreFresh, IsPartOf, LooksAhead, last_of, moved};
 
 use crate::MonitorRefused;
 use crate::part::{Part, is_past};
-use ltl_syntax::{FormulaTable, Node};
-use std::alloc::{AllocError, Global};
+use ltl_syntax::{FormulaTable, Node, mark_under};
+use std::alloc::Global;
 
 /// The parts of the formula under the root, which is the last one.
 pub fn parts_under(
@@ -30,46 +30,8 @@ pub fn parts_under(
     ensures formula { IfOk result (λ parts. last_of table.now.names parts.items ≡ tree_at table.now root) }
     ensures future { result ≡ Err Future → IsPast (tree_at table.now root) → ⊥ }
 {
-    let marks = marks_under(alloc, table, root)?;
-    Ok(parts_of(alloc, table, root, &marks)?)
-}
-
-// A mark for each node up to the root: whether it is under the root.
-fn marks_under(alloc: Global, table: &FormulaTable, root: u32) -> Result<Vec<bool>, MonitorRefused>
-    requires { root < length table.now.nodes }
-    ensures marks { IfOk result (λ marks. AreMarked table.now root marks.items) }
-    ensures future { result ≡ Err Future → IsPast (tree_at table.now root) → ⊥ }
-{
-    let _nodes = table.len();
-    let mut marks = vec![in alloc; false; root as usize + 1]?;
-    marks[root as usize] = true;
-    let mut number = root + 1;
-    while number > 0 {
-        number -= 1;
-        if marks[number as usize] {
-            let node = table.node(number);
-            if !is_past(node) {
-                return Err(MonitorRefused::Future);
-            }
-            mark_children(&mut marks, node);
-        }
-    }
-    Ok(marks)
-}
-
-fn mark_children(marks: &mut Vec<bool>, node: Node)
-    requires { HasChildrenBelow (length marks.old.items) node }
-    ensures length { length marks.new.items ≡ length marks.old.items }
-    ensures each { (i : ℕ) → value_at marks.new.items i ≡ (value_at marks.old.items i || has_child i node) }
-{
-    match node {
-        Node::Const(_) | Node::Letter(_) | Node::Fresh(_) => {}
-        Node::Unary(_, a) => marks[a as usize] = true,
-        Node::Binary(_, a, b) => {
-            marks[a as usize] = true;
-            marks[b as usize] = true;
-        }
-    }
+    let under = mark_under(alloc, table, root)?;
+    parts_of(alloc, table, root, &under.marks)
 }
 
 // A part for each marked node.
@@ -78,26 +40,46 @@ fn parts_of(
     table: &FormulaTable,
     root: u32,
     marks: &[bool],
-) -> Result<Vec<Part>, AllocError>
+) -> Result<Vec<Part>, MonitorRefused>
     requires root { root < length table.now.nodes }
-    requires marks { AreMarked table.now root marks.now }
+    requires length { length marks.now ≡ root + 1 }
+    requires marks { AreMarksUnder table.now root marks.now }
     ensures parts { IfOk result (λ parts. AreParts table.now.names parts.items) }
     ensures fresh { IfOk result (λ parts. AreFresh parts.items) }
     ensures some { IfOk result (λ parts. 0 < length parts.items) }
     ensures nodes { IfOk result (λ parts. AreUnder table.now root (length parts.items)) }
     ensures formula { IfOk result (λ parts. last_of table.now.names parts.items ≡ tree_at table.now root) }
+    ensures future { result ≡ Err Future → IsPast (tree_at table.now root) → ⊥ }
 {
-    let _nodes = table.len();
+    table.invariant();
     let mut places = Vec::with_capacity(alloc, root as usize + 1)?;
     let mut parts = Vec::new(alloc);
     for number in 0..root + 1 {
         places.push(parts.len() as u32)?;
         if marks[number as usize] {
-            let node = over_places(table.node(number), &places);
-            parts.push(Part::new(alloc, table, node)?)?;
+            parts.push(part_of(alloc, table, number, &places)?)?;
         }
     }
     Ok(parts)
+}
+
+// The part of a node that does not look ahead, over the places of its children.
+fn part_of(
+    alloc: Global,
+    table: &FormulaTable,
+    number: u32,
+    places: &[u32],
+) -> Result<Part, MonitorRefused>
+    requires there { number < length table.now.nodes }
+    requires places { number < length places.now }
+    ensures part { IfOk result (IsPartOf table.now places.now number) }
+    ensures future { result ≡ Err Future → LooksAhead table.now number }
+{
+    let node = table.node(number);
+    if !is_past(node) {
+        return Err(MonitorRefused::Future);
+    }
+    Ok(Part::new(alloc, table, over_places(node, places))?)
 }
 
 // The node over the places of its children.

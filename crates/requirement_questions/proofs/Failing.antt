@@ -16,7 +16,7 @@ use Rattle.ltl_word.proofs.Periodicity.{Holds-repeats}
 use Rattle.ltl_syntax.proofs.Places.{nodes_some}
 use Rattle.lasso_eval.specs.Cells.{columns, positions, cells, max_cells}
 use Rattle.lasso_eval.specs.Rows.{cell, row_at, IsRow, AreValues}
-use Rattle.lasso_eval.specs.Under.{Here, Below}
+use Rattle.ltl_syntax.specs.Under.{Here, Below}
 use Rattle.requirement_questions.specs.Failure.{FailsFirst, IsFirstFalse}
 
 -- what holds in the columns holds at each position

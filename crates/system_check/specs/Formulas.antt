@@ -5,7 +5,7 @@ use Rattle.ltl_syntax.specs.Table.{Table, tree_at, IsRoot}
 use Rattle.formula_copy.specs.declared.parts.TablePart.{TablePart}
 use Rattle.system_check.specs.declared.joining.Copies.{Copies}
 use Rattle.system_check.specs.System.{system_of, whole_of}
-use Rattle.formula_copy.specs.Under.{IsPart}
+use Rattle.formula_copy.specs.Part.{IsPart}
 
 -- the part is that of its own table and root
 abbrev pub IsPartOf : TablePart → Type 0

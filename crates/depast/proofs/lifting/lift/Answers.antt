@@ -5,7 +5,7 @@ use Rattle.ltl_word.specs.Trace.{IsTrace}
 use Rattle.ltl_word.specs.Depth.{past_depth}
 use Rattle.lasso_eval.specs.Cells.{positions}
 use Rattle.lasso_eval.specs.Rows.{AreValues}
-use Rattle.lasso_eval.specs.Under.{Here}
+use Rattle.ltl_syntax.specs.Under.{Here}
 use Rattle.depast.specs.Lifting.{IsLifted}
 use Rattle.depast.specs.Sources.{AreLiftedStates}
 use Rattle.depast.proofs.LiftedStates.{readable, finite_read, infinite_read, positions_few}

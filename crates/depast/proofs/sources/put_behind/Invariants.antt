@@ -1,7 +1,7 @@
 use Rattle.std.proofs.Common.{ℕ, List, ◌++◌}
 use Rattle.ltl_syntax.specs.Formula.{Formula}
 use Rattle.ltl_syntax.specs.Table.{Table, tree_at}
-use Rattle.lasso_eval.specs.Under.{IsUnder}
+use Rattle.ltl_syntax.specs.Under.{IsUnder}
 use Rattle.depast.specs.Lifting.{counted}
 use Rattle.depast.specs.Sources.{AreSources, behind}
 use Rattle.depast.proofs.sources.put_behind.Given as goal

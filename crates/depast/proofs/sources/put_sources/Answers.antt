@@ -3,7 +3,7 @@ use Rattle.std.proofs.lemmas.Result.{on_ok_weaker}
 use Rattle.ltl_syntax.specs.declared.node.Node.{Node}
 use Rattle.ltl_syntax.specs.Formula.{Formula}
 use Rattle.ltl_syntax.specs.Table.{Table}
-use Rattle.lasso_eval.specs.Under.{IsUnder}
+use Rattle.ltl_syntax.specs.Under.{IsUnder}
 use Rattle.depast.specs.Postorder.{IsNode}
 use Rattle.depast.specs.Sources.{AreSources, own_meanings}
 use Rattle.depast.proofs.Sourced.{under_one}

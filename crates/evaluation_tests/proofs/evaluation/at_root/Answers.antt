@@ -1,5 +1,5 @@
 use Rattle.std.proofs.Common.{refl, arith}
-use Rattle.lasso_eval.specs.Under.{Here}
+use Rattle.ltl_syntax.specs.Under.{Here}
 use Rattle.evaluation_tests.proofs.evaluation.at_root.Goals as goal
 
 pub at-requires : goal.at-requires

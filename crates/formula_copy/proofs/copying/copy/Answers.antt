@@ -1,8 +1,8 @@
 use Rattle.std.proofs.Common.{arith, ap, sym, ◌∙◌, subst, false, ◌≡◌, length, length-append, ◌<◌, ◌+◌, ◌++◌, [], ◌∷◌}
 use Rattle.std.proofs.lemmas.List.{get_or_read}
-use Rattle.formula_copy.specs.Under.{marked, marked_size, sum_below}
+use Rattle.formula_copy.specs.Part.{marked, marked_size, sum_below}
 use Rattle.formula_copy.specs.Copy.{numbers_in, done, IsCopied, HasGrown}
-use Rattle.formula_copy.proofs.CopyLoop.{stands_on, room_for, copied_on, skipped, grown_on, grown_skip}
+use Rattle.formula_copy.proofs.CopyLoop.{stands_on, room_for, copied_on, skipped, copied, grown_on, grown_skip, grown_all}
 use Rattle.formula_copy.proofs.copying.copy.Goals as goal
 use Rattle.formula_copy.proofs.copying.copy.Goals.{then-index+in_ok-copied, else-index}
 
@@ -12,7 +12,7 @@ copy_node-requires-clause-roots c =
     let lt : c.nodes.number < length c.args.part.now.marks.items = omega (arith, p.count, c.nodes-test.true, c.nodes.auto.number-end) in
     stands_on c.args.part.now.table.now c.args.target.now c.nodes.target c.args.part.now.root c.nodes.number (marked c.args.part.now.marks.items)
     c.nodes.numbers.items p.under c.nodes.invariant.copied c.node.result
-    c.len-count.ensures.single (record { is = c.node.ensures.node; tree = c.node.ensures.tree; fine = c.node.ensures.below; ordered = c.node.ensures.ordered })
+    c.invariant.ensures (record { is = c.node.ensures.node; tree = c.node.ensures.tree; fine = c.node.ensures.below; ordered = c.node.ensures.ordered })
     (sym (get_or_read c.args.part.now.marks.items c.nodes.number c.index.result.now lt c.index.ensures false) ∙ c.if-index.true)
 
 pub copy_node-requires-clause-room : goal.copy_node-requires-clause-room
@@ -20,7 +20,7 @@ copy_node-requires-clause-room c =
     let p = c.requires.part in
     let lt : c.nodes.number < length c.args.part.now.marks.items = omega (arith, p.count, c.nodes-test.true, c.nodes.auto.number-end) in
     room_for c.args.part.now.table.now c.args.part.now.root c.nodes.number (marked c.args.part.now.marks.items)
-    c.args.target.now c.nodes.target c.node.result c.args.part.now.size p.under (omega (arith, p.count, lt)) c.node.ensures.node
+    c.args.target.now c.nodes.target c.node.result c.args.part.now.size c.invariant.ensures p.there p.under (omega (arith, p.count, lt)) c.node.ensures.node
     (sym (get_or_read c.args.part.now.marks.items c.nodes.number c.index.result.now lt c.index.ensures false) ∙ c.if-index.true)
     p.size c.requires.room c.nodes.invariant.grown
 
@@ -37,7 +37,7 @@ nodes-preserved c =
             c.args.target.now) (sym w.target-is)
             (copied_on c.args.part.now.table.now c.args.target.now c.nodes.target c.args.part.now.root c.nodes.number (marked c.args.part.now.marks.items)
             c.nodes.numbers.items p.under c.nodes.invariant.copied w.node.result
-            c.len-count.ensures.single (record {
+            c.invariant.ensures (record {
               is = w.node.ensures.node;
               tree = w.node.ensures.tree;
               fine = w.node.ensures.below;
@@ -65,3 +65,16 @@ nodes-preserved c =
         count = longer;
       }
     ]
+
+pub returns-clause-copied : goal.returns-clause-copied
+returns-clause-copied c =
+    let p = c.requires.part in
+    copied c.args.part.now.table.now c.args.target.now c.nodes.target c.args.part.now.root c.nodes.number c.index-2.result.now
+    (marked c.args.part.now.marks.items) c.nodes.numbers.items c.invariant.ensures p.there p.under (omega (arith, c.nodes-test.false, c.nodes.auto.number-end))
+    c.nodes.invariant.count c.index-2.ensures c.nodes.invariant.copied
+
+pub returns-clause-grown : goal.returns-clause-grown
+returns-clause-grown c =
+    let p = c.requires.part in
+    grown_all c.args.part.now.table.now c.args.part.now.root c.nodes.number (marked c.args.part.now.marks.items) c.args.target.now c.nodes.target
+    c.args.part.now.size c.invariant.ensures p.there p.under (omega (arith, c.nodes-test.false, c.nodes.auto.number-end)) p.size c.nodes.invariant.grown

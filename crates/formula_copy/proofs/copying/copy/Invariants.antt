@@ -1,5 +1,5 @@
 use Rattle.std.proofs.Common.{◌≡◌, length}
-use Rattle.formula_copy.specs.Under.{marked, marked_size, sum_below}
+use Rattle.formula_copy.specs.Part.{marked, marked_size, sum_below}
 use Rattle.formula_copy.specs.Copy.{numbers_in, done, IsCopied, HasGrown}
 use Rattle.formula_copy.proofs.copying.copy.Given as goal
 

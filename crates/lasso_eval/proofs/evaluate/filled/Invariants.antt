@@ -1,7 +1,7 @@
 use Rattle.std.proofs.Common.{◌≡◌, ℕ, ◌<◌, [], length}
 use Rattle.ltl_syntax.specs.Table.{tree_at}
 use Rattle.lasso_eval.specs.Rows.{Tells, row_at}
-use Rattle.lasso_eval.specs.Under.{IsUnder}
+use Rattle.ltl_syntax.specs.Under.{IsUnder}
 use Rattle.lasso_eval.proofs.evaluate.filled.Given as goal
 
 abbrev pub invariant-loop-number : goal.invariant-loop-number

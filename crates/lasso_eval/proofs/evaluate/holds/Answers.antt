@@ -3,7 +3,7 @@ use Rattle.ltl_syntax.specs.Table.{tree_at}
 use Rattle.ltl_word.specs.Depth.{past_depth}
 use Rattle.ltl_word.specs.Holds.{Satisfies}
 use Rattle.lasso_eval.specs.Cells.{positions}
-use Rattle.lasso_eval.specs.Under.{Here}
+use Rattle.ltl_syntax.specs.Under.{Here}
 use Rattle.lasso_eval.proofs.Counting.{some_columns}
 use Rattle.lasso_eval.proofs.evaluate.holds.Goals as goal
 

@@ -1,5 +1,4 @@
-use Rattle.std.proofs.Common.{ap, arith, length}
-use Rattle.ltl_syntax.proofs.Few.{order_few}
+use Rattle.ltl_syntax.proofs.Few.{order_small}
 use Rattle.ltl_syntax.proofs.Cutting.{order_within, order_apart, replaced_tree}
 use Rattle.ltl_syntax.proofs.replacing.replace.Goals as goal
 
@@ -12,9 +11,7 @@ cut-requires-clause-distinct c = order_apart c.args.table.now c.args.root c.in_o
 
 pub cut-requires-clause-few : goal.cut-requires-clause-few
 cut-requires-clause-few c =
-    let e = ap length c.in_ok-order.ensures in
-    let few = order_few c.args.table.now c.invariant.ensures c.args.root c.requires.root in
-    let all = c.invariant.ensures.few in omega arith
+    order_small c.args.table.now c.invariant.ensures c.args.root c.requires.root c.in_ok-order.order.items c.in_ok-order.ensures
 
 pub returns-clause-tree : goal.returns-clause-tree
 returns-clause-tree c =

@@ -1,8 +1,8 @@
 use Rattle.std.proofs.Common.{◌≡◌, suc, ◌+◌, ◌++◌, ◌∷◌, [], length, Vec, Global, sym, ◌∙◌, ap, subst, arith}
 use Rattle.past_monitor.specs.declared.part.Part.{Part}
-use Rattle.past_monitor.specs.Part.{moved, IsNamed, ring_of}
+use Rattle.past_monitor.specs.Part.{IsPartOf}
 use Rattle.past_monitor.proofs.Placing.{ArePlaced, passed, added, all_under}
-use Rattle.past_monitor.proofs.under.parts_of.Goals.{then-marks-number+in_ok-new+in_ok-push-2, else-marks-number}
+use Rattle.past_monitor.proofs.under.parts_of.Goals.{then-marks-number+in_ok-part_of+in_ok-push-2, else-marks-number}
 use Rattle.past_monitor.proofs.under.parts_of.Goals as goal
 
 pub loop-number-preserved : goal.loop-number-preserved
@@ -18,16 +18,13 @@ loop-number-preserved c =
     let count : c.len.result ≡ length parts = omega (arith, c.len.ensures, c.loop-number.parts.ok.0) in
     let more : places' ≡ places ++ length parts ∷ [] = c.in_ok-push.ensures.items ∙ ap (λ n. places ++ n ∷ []) count in
     elim c.if-marks-number.branch [
-      | then-marks-number+in_ok-new+in_ok-push-2 w ↦
-          let node = w.node.result in
-          let p = w.in_ok-new.field-0 in
-          let over : w.over_places-node.result ≡ moved places' node = w.over_places-node.ensures ∙ ap (λ ps. moved ps node) w.deref.ensures.value in
+      | then-marks-number+in_ok-part_of+in_ok-push-2 w ↦
+          let p = w.in_ok-part_of.field-0 in
+          let of = subst (λ ps. IsPartOf t ps number p) w.deref.ensures.value w.in_ok-part_of.ensures.part in
           subst (λ (ps : Vec Part Global). ArePlaced t marks (number + 1) places' ps.items) (sym w.parts-is)
           (subst (λ k. ArePlaced t marks k places' w.push-then-marks-number.new.self.items) one
-          (added t marks number places places' parts is more c.args.root node p w.push-then-marks-number.new.self.items c.requires.marks w.if-marks-number.true
-          w.node.ensures.node w.node.ensures.below w.node.ensures.tree
-          (w.in_ok-new.ensures.node ∙ over) (subst (λ n. IsNamed t.names n p.name) over w.in_ok-new.ensures.named)
-          (w.in_ok-new.ensures.ring ∙ ap (λ n. ring_of n []) over) w.in_ok-push-2.ensures.items))
+          (added t marks number places places' parts is more c.args.root p w.push-then-marks-number.new.self.items c.invariant.ensures c.requires.marks
+          w.if-marks-number.true of w.in_ok-push-2.ensures.items))
       | else-marks-number w ↦
           subst (λ (ps : Vec Part Global). ArePlaced t marks (number + 1) places' ps.items) (sym w.parts-is)
           (subst (λ k. ArePlaced t marks k places' parts) one (passed t marks number places places' parts is more w.if-marks-number.false))
@@ -36,5 +33,5 @@ loop-number-preserved c =
 pub returns-clause-nodes : goal.returns-clause-nodes
 returns-clause-nodes c =
     let end : c.loop-number.number ≡ c.args.root + 1 = omega (arith, c.loop-number-test.false, c.loop-number.auto.number-end) in
-    all_under c.args.table.now c.args.root c.args.marks.now c.loop-number.places.items c.loop-number.parts.items c.loop-number.number end c.requires.marks
-    c.loop-number.invariant
+    all_under c.args.table.now c.args.root c.args.marks.now c.loop-number.places.items c.loop-number.parts.items c.loop-number.number end c.requires.length
+    c.requires.marks c.loop-number.invariant

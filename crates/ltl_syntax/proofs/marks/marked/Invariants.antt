@@ -1,6 +1,6 @@
 use Rattle.std.proofs.Common.{◌≡◌, length, take}
 use Rattle.ltl_syntax.specs.Cutting.{AreMarked}
-use Rattle.ltl_syntax.proofs.replacing.marked.Given as goal
+use Rattle.ltl_syntax.proofs.marks.marked.Given as goal
 
 abbrev pub invariant-numbers : goal.invariant-numbers
 invariant-numbers l = record {
