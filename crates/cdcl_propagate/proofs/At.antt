@@ -48,34 +48,6 @@ faced_turned w v c l known watch differ clauses_is lists_is names_are =
       same = inr (clauses_is, lists_is, names_are);
     }
 
--- facing a clause leaves the lists as they are
-pub faced_lists : (w v : WatchValue) (c : ℕ) (l : Literal) → IsFaced w v c l → v.lists ≡ w.lists
-faced_lists w v c l faced = elim faced.same [
-  | inl same ↦ ap (λ (u : WatchValue). u.lists) same
-  | inr turned ↦ turned.1
-]
-
--- the clause that is faced by its place in a list
-module _ (w v : WatchValue) (c : ℕ) (l : Literal) (i : ℕ) (c_is : c ≡ get_or (list_of w.lists l) i 0)
-    (faced : IsFaced w v (get_or (list_of w.lists l) i 0) l) where
-  pub faced_at : IsFaced w v c l
-  faced_at = subst (λ n. IsFaced w v n l) (sym c_is) faced
-
-  pub faced_number : get_or (list_of v.lists l) i 0 ≡ c
-  faced_number = ap (λ ls. get_or (list_of ls l) i 0) (faced_lists w v (get_or (list_of w.lists l) i 0) l faced) ∙ sym c_is
-
-  pub faced_clause : clause_of v.clauses (get_or (list_of v.lists l) i 0) ≡ clause_of v.clauses c
-  faced_clause = ap (clause_of v.clauses) faced_number
-
--- and so their lengths
-pub list_length_same : (t : List Entry) (k : ℕ) (w v : WatchValue) → v.lists ≡ w.lists → list_length t v k ≡ list_length t w k
-list_length_same t k w v is = ap (λ ls. length (list_of ls (false_at t k))) is
-
-pub list_length_grown : (a t : List Entry) (e : Entry) (k : ℕ) (w : WatchValue) → k < length a → t ≡ a ++ e ∷ [] → list_length t w k ≡ list_length a w k
-list_length_grown a t e k w low trail_is =
-    ap (λ l. length (list_of w.lists l))
-    (ap (λ t. false_at t k) trail_is ∙ ap (λ (f : Entry). opposite f.literal) (get_or_append_left a (e ∷ []) blank_entry k low))
-
 -- the list was visited up to i, and the clause at i has the false literal second
 pub record IsAt (inputs lines : List (List Literal)) (k i : ℕ) (a : AssignedValue) (w : WatchValue) (c : ℕ) : Type 0 where
   pub visiting : IsVisiting inputs lines k i a w
@@ -87,16 +59,16 @@ pub record IsAt (inputs lines : List (List Literal)) (k i : ℕ) (a : AssignedVa
   pub second : false_at a.trail k ≡ get_or (clause_of w.clauses c) 1 blank
 
 -- nothing is said of a list that is not begun
-pub visit_all : (inputs lines : List (List Literal)) (k i : ℕ) (a : AssignedValue) (w : WatchValue) → IsVisiting inputs lines k i a w
-    → IsVisiting inputs lines k 0 a w
-visit_all inputs lines k i a w v = record {
-  is_trail = v.is_trail;
-  stored = v.stored;
-  guarded = v.guarded;
-  within = v.within;
-  sized = v.sized;
+pub visit_all : {inputs lines : List (List Literal)} {k i : ℕ} {a : AssignedValue} {v w : WatchValue} → v ≡ w → IsVisiting inputs lines k i a w
+    → IsVisiting inputs lines k 0 a v
+visit_all {inputs} {lines} {k} {i} {a} same visiting = subst (IsVisiting inputs lines k 0 a) (sym same) (record {
+  is_trail = visiting.is_trail;
+  stored = visiting.stored;
+  guarded = visiting.guarded;
+  within = visiting.within;
+  sized = visiting.sized;
   done = λ j from below. absurd (omega (arith, from));
-}
+})
 
 pub at_faced : (inputs lines : List (List Literal)) (k i : ℕ) (a : AssignedValue) (w v : WatchValue) (c : ℕ) (l : Literal) → l ≡ false_at a.trail k
     → IsWatching v.clauses v.lists
@@ -130,12 +102,12 @@ at_faced inputs lines k i a w v c l l_is new_watching low at known faced visitin
           }
     ]
 
-module _ (inputs lines : List (List Literal)) (k i : ℕ) (a : AssignedValue) (w : WatchValue) (c : ℕ) (at : IsAt inputs lines k i a w c) where
-  pub at_true : Contains (literals_of a.trail) (get_or (clause_of w.clauses c) 0 blank) → IsVisiting inputs lines k (i + 1) a w
-  at_true there =
+module _ {inputs lines : List (List Literal)} {k i : ℕ} {a : AssignedValue} {w : WatchValue} {c : ℕ} (at : IsAt inputs lines k i a w c) where
+  pub at_true : {l : Literal} → l ≡ get_or (clause_of w.clauses c) 0 blank → Contains (literals_of a.trail) l → IsVisiting inputs lines k (i + 1) a w
+  at_true l_is there =
       let r = clause_of w.clauses c in
       visit_kept inputs lines k i a w (subst (λ n. HasTrue (literals_of a.trail) (clause_of w.clauses n)) (sym at.at)
-      (get_or r 0 blank, Contains-get_or r 0 blank (omega (arith, at.long)), there)) at.visiting
+      (get_or r 0 blank, Contains-get_or r 0 blank (omega (arith, at.long)), subst (Contains (literals_of a.trail)) l_is there)) at.visiting
 
   pub at_second_false : Contains (literals_of a.trail) (opposite (false_at a.trail k))
   at_second_false =
@@ -170,20 +142,19 @@ module _ (inputs lines : List (List Literal)) (k i : ℕ) (a : AssignedValue) (w
         others = λ p d below. at_others rest (get_or stored.0 p d) (stored.2.there p d below);
       }
 
-  pub at_conflict : AreFalseFrom a.trail (clause_of w.clauses c) 2 (length (clause_of w.clauses c))
-      → Contains (literals_of a.trail) (opposite (get_or (clause_of w.clauses c) 0 blank))
-      → IsConflict inputs lines (literals_of a.trail) (get_or (names_of w) c blank_hint)
-  at_conflict rest first_false =
-      let r = clause_of w.clauses c in
+  pub at_conflict : {l : Literal} {hint : Hint} → AreFalseFrom a.trail (clause_of w.clauses c) 2 (length (clause_of w.clauses c))
+      → l ≡ get_or (clause_of w.clauses c) 0 blank → hint ≡ get_or (names_of w) c blank_hint → Contains (literals_of a.trail) (opposite l)
+      → IsConflict inputs lines (literals_of a.trail) hint
+  at_conflict rest l_is hint_is first_false =
       let stored = at.visiting.stored.from_log c at.known in
-      record {
+      subst (IsConflict inputs lines (literals_of a.trail)) (sym hint_is) (record {
         clause = stored.0;
         is = stored.1;
         all_false = λ p d below. elim (at_others rest (get_or stored.0 p d) (stored.2.there p d below)) [
-          | inl e ↦ subst (λ m. Contains (literals_of a.trail) (opposite m)) (sym e) first_false
+          | inl e ↦ subst (λ m. Contains (literals_of a.trail) (opposite m)) (l_is ∙ sym e) first_false
           | inr h ↦ h
         ];
-      }
+      })
 
   pub at_moved : (v : WatchValue) (j : ℕ) → IsReplacement a.trail (clause_of w.clauses c) j → (m : Literal) → m ≡ get_or (clause_of w.clauses c) j blank
       → (f : Literal) → f ≡ false_at a.trail k
@@ -238,30 +209,10 @@ last_level inputs lines trail is_trail some u hint reason =
         (λ h. IsReason inputs lines (literals_of before) e.literal h × (e.level ≤ length before) × ((e.level ≡ 0) ⊎ HasLevel before e.level))) is here.reason in
         omega (arith, told.1, length-take-le (length trail - 1) trail (omega arith))
 
-module _ (inputs lines : List (List Literal)) (k i : ℕ) (a : AssignedValue) (w : WatchValue) (e : Entry) (l : Literal) (x : ℕ) where
-  pub false_is : e ≡ get_or a.trail k e → l ≡ opposite e.literal → k < length a.trail → l ≡ false_at a.trail k
-  false_is e_is l_is within = l_is ∙ ap (λ (f : Entry). opposite f.literal) (e_is ∙ get_or_default a.trail k e blank_entry within)
-
-  pub watch_from : e ≡ get_or a.trail k e → l ≡ opposite e.literal → x ≡ get_or (list_of w.lists l) i 0 → IsWatching w.clauses w.lists
-      → i < length (list_of w.lists (false_at a.trail k)) → k < length a.trail
-      → (x < length w.clauses) × IsWatch (clause_of w.clauses x) l
-  watch_from e_is l_is x_is watching low within =
-      let f_is = false_is e_is l_is within in
-      let low_l : i < length (list_of w.lists l) = subst (λ m. i < length (list_of w.lists m)) (sym f_is) low in
-      watching.only x l (subst (Contains (list_of w.lists l)) (sym x_is) (Contains-get_or (list_of w.lists l) i 0 low_l))
-
-  pub at_from : (v : WatchValue) → e ≡ get_or a.trail k e → l ≡ opposite e.literal → x ≡ get_or (list_of w.lists l) i 0 → IsWatching w.clauses w.lists
-      → IsWatching v.clauses v.lists
-      → i < length (list_of w.lists (false_at a.trail k)) → IsVisiting inputs lines k i a w → IsFaced w v x l → IsAt inputs lines k i a v x
-  at_from v e_is l_is x_is watching new_watching low visiting faced =
-      let f_is = false_is e_is l_is visiting.within in
-      at_faced inputs lines k i a w v x l f_is new_watching low (sym (x_is ∙ ap (λ m. get_or (list_of w.lists m) i 0) f_is))
-      (watch_from e_is l_is x_is watching low visiting.within).0 faced visiting
-
-pub visit_same : (inputs lines : List (List Literal)) (k i : ℕ) (a n : AssignedValue) (w : WatchValue) → n.trail ≡ a.trail → length n.values ≡ length a.values
+pub visit_same : {inputs lines : List (List Literal)} {k i : ℕ} {a : AssignedValue} {w : WatchValue} (n : AssignedValue) → n.trail ≡ a.trail
+    → length n.values ≡ length a.values
     → IsVisiting inputs lines k i a w → IsVisiting inputs lines k i n w
-visit_same inputs lines k i a n w trail_is values_is v =
-    let P : List Entry → ℕ → Type 0 = λ t m. IsVisiting inputs lines k i (record { values = n.values; trail = t }) w in
+visit_same {inputs} {lines} {k} {i} {a} {w} n trail_is values_is v =
     let here : IsVisiting inputs lines k i (record { values = n.values; trail = a.trail }) w = record {
       is_trail = v.is_trail;
       stored = v.stored;
@@ -284,21 +235,30 @@ pub named_at : (names : List ℕ) (clauses : List (List Literal)) (n name : ℕ)
 named_at names clauses n name hint paired low is name_is =
     is ∙ ap hint_of name_is ∙ sym (get_or-map hint_of names n 0 blank_hint (omega (arith, paired, low, length-map names hint_of)))
 
--- the first literal was put on the trail
-pub at_assigned : (inputs lines : List (List Literal)) (k i : ℕ) (a : AssignedValue) (w : WatchValue) (c : ℕ) → IsAt inputs lines k i a w c
-    → (e : Entry) (n : AssignedValue) → StandsAt inputs lines a.trail e
-    → e.literal ≡ get_or (clause_of w.clauses c) 0 blank → n.trail ≡ a.trail ++ e ∷ [] → length n.values ≡ length a.values
-    → IsVisiting inputs lines k (i + 1) n w
-at_assigned inputs lines k i a w c at e n stands e_is trail_is values_is =
-    let after = visit_grown inputs lines k i a w e n stands trail_is values_is at.visiting in
-    let b = get_or (clause_of w.clauses c) 0 blank in
-    let same : false_at n.trail k ≡ false_at a.trail k =
-    ap (λ t. false_at t k) trail_is ∙ ap (λ (f : Entry). opposite f.literal) (get_or_append_left a.trail (e ∷ []) blank_entry k at.visiting.within) in
-    let pushed : literals_of n.trail ≡ literals_of a.trail ++ e.literal ∷ [] = ap literals_of trail_is ∙ map-append (λ f. f.literal) a.trail (e ∷ []) in
-    let b_true : Contains (literals_of n.trail) b =
-    subst (λ t. Contains t b) (sym pushed) (subst (Contains (literals_of a.trail ++ e.literal ∷ [])) e_is (Contains-push (literals_of a.trail) e.literal)) in
-    let told : HasTrue (literals_of n.trail) (clause_of w.clauses c) = (b, Contains-get_or (clause_of w.clauses c) 0 blank (omega (arith, at.long)), b_true) in
-    visit_kept inputs lines k i n w
-    (subst (λ f. HasTrue (literals_of n.trail) (watcher_at w f i)) (sym same)
-    (subst (λ m. HasTrue (literals_of n.trail) (clause_of w.clauses m)) (sym at.at) told))
-    after
+module _ {inputs lines : List (List Literal)} {k i : ℕ} {a : AssignedValue} {w : WatchValue} {c : ℕ} (at : IsAt inputs lines k i a w c) where
+  -- the first literal may be put on the trail
+  pub at_forced : {l : Literal} {level : ℕ} {hint : Hint} → AreFalseFrom a.trail (clause_of w.clauses c) 2 (length (clause_of w.clauses c))
+      → l ≡ get_or (clause_of w.clauses c) 0 blank → level ≡ (get_or a.trail (length a.trail - 1) blank_entry).level → hint ≡ get_or (names_of w) c blank_hint
+      → StandsAt inputs lines a.trail (record { literal = l; level = level; reason = Some hint })
+  at_forced rest l_is level_is hint_is =
+      rw (l_is, level_is, hint_is)
+      (last_level inputs lines a.trail at.visiting.is_trail (omega (arith, at.visiting.within)) (get_or (clause_of w.clauses c) 0 blank)
+      (get_or (names_of w) c blank_hint) (at_reason at rest))
+
+  -- and was put there
+  pub at_assigned : (e : Entry) (n : AssignedValue) → StandsAt inputs lines a.trail e → e.literal ≡ get_or (clause_of w.clauses c) 0 blank
+      → n.trail ≡ a.trail ++ e ∷ [] → length n.values ≡ length a.values → IsVisiting inputs lines k (i + 1) n w
+  at_assigned e n stands e_is trail_is values_is =
+      let after = visit_grown inputs lines k i a w e n stands trail_is values_is at.visiting in
+      let b = get_or (clause_of w.clauses c) 0 blank in
+      let same : false_at n.trail k ≡ false_at a.trail k =
+      ap (λ t. false_at t k) trail_is ∙ ap (λ (f : Entry). opposite f.literal) (get_or_append_left a.trail (e ∷ []) blank_entry k at.visiting.within) in
+      let pushed : literals_of n.trail ≡ literals_of a.trail ++ e.literal ∷ [] = ap literals_of trail_is ∙ map-append (λ f. f.literal) a.trail (e ∷ []) in
+      let b_true : Contains (literals_of n.trail) b =
+      subst (λ t. Contains t b) (sym pushed) (subst (Contains (literals_of a.trail ++ e.literal ∷ [])) e_is (Contains-push (literals_of a.trail) e.literal)) in
+      let told : HasTrue (literals_of n.trail) (clause_of w.clauses c) =
+      (b, Contains-get_or (clause_of w.clauses c) 0 blank (omega (arith, at.long)), b_true) in
+      visit_kept inputs lines k i n w
+      (subst (λ f. HasTrue (literals_of n.trail) (watcher_at w f i)) (sym same)
+      (subst (λ m. HasTrue (literals_of n.trail) (clause_of w.clauses m)) (sym at.at) told))
+      after

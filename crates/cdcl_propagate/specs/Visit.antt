@@ -1,5 +1,5 @@
 -- What holds while the clauses that watch a false literal are visited.
-use Rattle.std.specs.Prelude.{◌≡◌, ◌≢◌, ℕ, ◌+◌, ◌*◌, ◌<◌, ◌≤◌, ◌⊎◌, ◌++◌, List, [], Some, None, length, map, All, Contains, slice_index_or, slice_set}
+use Rattle.std.specs.Prelude.{◌≡◌, ◌≢◌, ℕ, ◌+◌, ◌*◌, ◌<◌, ◌≤◌, ◌⊎◌, ◌++◌, List, Some, None, length, map, All, Contains, slice_index_or, slice_set}
 use Rattle.std.specs.List.{swap}
 use Rattle.cnf_base.specs.declared.literal.Literal.{Literal}
 use Rattle.cnf_base.specs.declared.literal.Hint.{Hint}
@@ -9,10 +9,9 @@ use Rattle.cnf_base.specs.Step.{named}
 use Rattle.cdcl_trail.specs.Trail.{literals_of, IsTrail, literal_at}
 use Rattle.cdcl_trail.specs.Entries.{hint_of}
 use Rattle.cdcl_trail.specs.declared.assigned.Entry.{Entry}
-use Rattle.cdcl_watches.specs.declared.watcher.Watcher.{Watcher}
 use Rattle.cdcl_watches.specs.Watching.{IsWatch, clause_of, list_of, WatchValue, blank}
 use Rattle.cdcl_watches.specs.Heads.{ArenaValue}
-use Rattle.cdcl_watches.specs.Watchers.{walked}
+use Rattle.cdcl_watches.specs.Watchers.{ListWalk, walked, row_of}
 use Rattle.cdcl_trail.specs.Assigned.{AssignedValue}
 
 -- the two clauses have the same literals
@@ -68,12 +67,11 @@ list_length trail w k = length (list_of w.lists (false_at trail k))
 abbrev pub watched_by : ArenaValue → List (List ℕ) → WatchValue
 watched_by arena lists = record { clauses = arena.clauses; lists = lists; names = arena.names }
 
--- the walk went on by one watcher of the list, whose length is still count, and all those that it kept are done
-pub record IsPassed (inputs lines : List (List Literal)) (k before count : ℕ) (a : AssignedValue) (arena : ArenaValue) (lists : List (List Watcher))
-    (list kept next : ℕ) : Type 0 where
-  pub visiting : IsVisiting inputs lines k kept a (walked arena lists list kept next)
-  pub on : next ≡ before + 1
-  pub same : length (slice_index_or lists list []) ≡ count
+-- the walk went on by one watcher of the list, whose length is the same, and all those that it kept are done
+pub record IsPassed (inputs lines : List (List Literal)) (k : ℕ) (a : AssignedValue) (old new : ListWalk) : Type 0 where
+  pub visiting : IsVisiting inputs lines k new.at.kept a (walked new)
+  pub on : new.at.next ≡ old.at.next + 1
+  pub same : length (row_of new) ≡ length (row_of old)
 
 -- entries that have reasons were put behind the trail
 pub record IsGrown (old new : List Entry) : Type 0 where

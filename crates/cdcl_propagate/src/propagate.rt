@@ -7,7 +7,7 @@ ghost use Rattle.std.specs.Prelude.{◌≡◌, ℕ, ◌+◌, ◌-◌, ◌*◌, �
 ghost use Rattle.cdcl_trail.specs.Trail.{literals_of, IsConflict};
 ghost use Rattle.cdcl_propagate.specs.Lasting.{IsLasting};
 ghost use Rattle.cdcl_watches.specs.Watching.{code};
-ghost use Rattle.cdcl_watches.specs.Watchers.{IsWalked, walked};
+ghost use Rattle.cdcl_watches.specs.Watchers.{IsWalked, walk_in, walked};
 ghost use Rattle.cdcl_propagate.specs.Visit.{IsGrown, IsReady, IsVisiting, false_at};
 
 use crate::visit::visit;
@@ -29,20 +29,20 @@ fn along(
     walk: &mut Walk,
 ) -> Result<Option<Hint>, AllocError>
     requires falsified { falsified ≡ false_at assigned.old.trail place }
-    requires walked { IsWalked arena.old lists.old (code falsified) walk.old.kept walk.old.next }
+    requires walked { IsWalked (walk_in arena.old lists.old falsified walk.old) }
     requires visiting { IsVisiting log.now.inputs log.now.lines place walk.old.kept assigned.old
-        (walked arena.old lists.old (code falsified) walk.old.kept walk.old.next) }
+        (walked (walk_in arena.old lists.old falsified walk.old)) }
     ensures grown { IsGrown assigned.old.trail assigned.new.trail }
     ensures letters { length assigned.new.values ≡ length assigned.old.values }
-    ensures walked { IsWalked arena.new lists.new (code falsified) walk.new.kept walk.new.next }
+    ensures walked { IsWalked (walk_in arena.new lists.new falsified walk.new) }
     ensures kept { IsReady log.now.inputs log.now.lines place assigned.new
-        (walked arena.new lists.new (code falsified) walk.new.kept walk.new.next) }
+        (walked (walk_in arena.new lists.new falsified walk.new)) }
     ensures names { arena.new.names ≡ arena.old.names }
     ensures lasting { (n : ℕ) → n ≤ place → IsLasting arena.old.clauses assigned.old.trail n
         → IsLasting arena.new.clauses assigned.new.trail n }
     ensures found { IfOk result (λ found. MatchOption found
         (IsReady log.now.inputs log.now.lines (place + 1) assigned.new
-        (walked arena.new lists.new (code falsified) walk.new.kept walk.new.next))
+        (walked (walk_in arena.new lists.new falsified walk.new)))
         (IsConflict log.now.inputs log.now.lines (literals_of assigned.new.trail))) }
 {
     let list = number(falsified);

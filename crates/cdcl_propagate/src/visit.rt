@@ -5,7 +5,7 @@
 ghost use Rattle.std.specs.Prelude.{◌≡◌, ℕ, ◌<◌, ◌≤◌, List, [], All, Contains, length, Option, Some, None, MatchOption, IfOk, slice_index_or};
 ghost use Rattle.cdcl_trail.specs.Trail.{literals_of, IsConflict};
 ghost use Rattle.cdcl_watches.specs.Watching.{code, clause_of, IsWatch};
-ghost use Rattle.cdcl_watches.specs.Watchers.{nobody, IsWalked, walked};
+ghost use Rattle.cdcl_watches.specs.Watchers.{nobody, IsWalked, walk_in, walked};
 ghost use Rattle.cdcl_watches.specs.Heads.{number_of};
 ghost use Rattle.cdcl_propagate.specs.Lasting.{IsLasting};
 ghost use Rattle.cdcl_propagate.specs.Visit.{IsVisiting, IsPassed, IsGrown, IsFaced, IsReplacement, AreFalseFrom, false_at, watched_by};
@@ -63,24 +63,23 @@ pub fn visit(
     head: u32,
 ) -> Result<Option<Hint>, AllocError>
     requires falsified { falsified ≡ false_at assigned.old.trail place }
-    requires walked { IsWalked arena.old lists.old (code falsified) walk.old.kept walk.old.next }
+    requires walked { IsWalked (walk_in arena.old lists.old falsified walk.old) }
     requires there { walk.old.next < length (slice_index_or lists.old (code falsified) []) }
     requires head { head ≡ (slice_index_or (slice_index_or lists.old (code falsified) []) walk.old.next
         nobody).head }
     requires visiting { IsVisiting log.now.inputs log.now.lines place walk.old.kept assigned.old
-        (walked arena.old lists.old (code falsified) walk.old.kept walk.old.next) }
+        (walked (walk_in arena.old lists.old falsified walk.old)) }
     ensures grown { IsGrown assigned.old.trail assigned.new.trail }
     ensures letters { length assigned.new.values ≡ length assigned.old.values }
-    ensures walked { IsWalked arena.new lists.new (code falsified) walk.new.kept walk.new.next }
+    ensures walked { IsWalked (walk_in arena.new lists.new falsified walk.new) }
     ensures kept { IsVisiting log.now.inputs log.now.lines place 0 assigned.new
-        (walked arena.new lists.new (code falsified) walk.new.kept walk.new.next) }
+        (walked (walk_in arena.new lists.new falsified walk.new)) }
     ensures names { arena.new.names ≡ arena.old.names }
     ensures lasting { (n : ℕ) → n ≤ place → IsLasting arena.old.clauses assigned.old.trail n
         → IsLasting arena.new.clauses assigned.new.trail n }
     ensures found { IfOk result (λ found. MatchOption found
-        (IsPassed log.now.inputs log.now.lines place walk.old.next
-        (length (slice_index_or lists.old (code falsified) [])) assigned.new arena.new lists.new
-        (code falsified) walk.new.kept walk.new.next)
+        (IsPassed log.now.inputs log.now.lines place assigned.new
+        (walk_in arena.old lists.old falsified walk.old) (walk_in arena.new lists.new falsified walk.new))
         (IsConflict log.now.inputs log.now.lines (literals_of assigned.new.trail))) }
 {
     face(arena, head, falsified);

@@ -1,5 +1,5 @@
 -- A clause more in the log, and among those that are watched or short.
-use Rattle.std.proofs.Common.{◌≡◌, ℕ, zero, suc, ◌<◌, ◌≤◌, ◌+◌, ◌*◌, ◌⊎◌, inl, inr, Bool, List, [], ◌∷◌, ◌++◌, Option, Some, None, IfSome, take, All, length}
+use Rattle.std.proofs.Common.{◌≡◌, ℕ, zero, suc, ◌<◌, ◌≤◌, ◌+◌, ◌*◌, ◌⊎◌, inl, inr, List, [], ◌∷◌, ◌++◌, Option, Some, None, IfSome, take, All, length}
 use Rattle.std.proofs.Common.{get_or, refl, sym, ap, ◌∙◌, subst, arith, length-set}
 use Rattle.std.proofs.lemmas.Bool.{cases_lt}
 use Rattle.std.proofs.lemmas.List.{map-append, get_or_append_left, get_or_at, length_push}
@@ -17,7 +17,7 @@ use Rattle.cdcl_watches.specs.Watching.{IsWatch, AreApart, WatchValue, clause_of
 use Rattle.cdcl_trail.specs.Assigned.{AssignedValue}
 use Rattle.cdcl_trail.specs.Entries.{hint_of}
 use Rattle.cdcl_propagate.specs.Visit.{HasTrue, IsStored, IsGuarded, HaveSame, blank_hint, names_of}
-use Rattle.cdcl_state.specs.State.{IsUnwatched, IsRewound, IsNamed, IsState, IsListed, AreAll, AreLong}
+use Rattle.cdcl_state.specs.State.{IsUnwatched, IsRewound, IsNamed, Parts, IsState, IsListed, AreAll, AreLong}
 use Rattle.cdcl_propagate.specs.Lasting.{IsLasting, IsTrueBy}
 use Rattle.cdcl_propagate.specs.Units.{IsOne, AreShort, AreFirm}
 use Rattle.cdcl_trail.specs.declared.assigned.Entry.{Entry}
@@ -193,38 +193,37 @@ lists_added w r name =
     let n = length w.clauses in
     length-set (with_watch w.lists a n) (code b) (list_of (with_watch w.lists a n) b ++ n ∷ []) ∙ length-set w.lists (code a) (list_of w.lists a ++ n ∷ [])
 
-module _ (letters : ℕ) (a : AssignedValue) (w : WatchValue) (units : List Hint) (log next : LogValue) (propagated lasting units_done units_trail marked : ℕ)
-    (all_lines : Bool) (hint : Hint) (clause : List Literal)
-    (state : IsState letters a w units log propagated lasting units_done units_trail marked all_lines) (more : IsMore log next hint clause)
-    (known_inputs : AreKnown letters next.inputs) (known_lines : AreKnown letters next.lines) where
+module _ {s : Parts} {next : LogValue} {hint : Hint} {clause : List Literal} (state : IsState s) (more : IsMore s.log next hint clause)
+    (known_inputs : AreKnown s.letters next.inputs) (known_lines : AreKnown s.letters next.lines) where
   -- a clause of at least two literals more
-  pub state_long : (v : WatchValue) (r : List Literal) (h s : ℕ) → IsNamed w v r hint → HaveSame clause r → 2 ≤ length r → AreApart r
-      → IsRewound a.trail r propagated lasting h s → IsState letters a v units next h s units_done units_trail marked all_lines
-  state_long v r h s is_named same long apart rewound =
-      let u = with_clause w r is_named.name in
-      let names_are : names_of u ≡ names_of w ++ hint ∷ [] = map-append hint_of w.names (is_named.name ∷ []) ∙ ap (λ x. names_of w ++ x ∷ []) is_named.says in
-      subst (λ x. IsState letters a x units next h s units_done units_trail marked all_lines) (sym is_named.is) (record {
+  pub state_long : {v : WatchValue} {r : List Literal} {h l : ℕ} → IsNamed s.watches v r hint → HaveSame clause r → 2 ≤ length r → AreApart r
+      → IsRewound s.assigned.trail r s.propagated s.lasting h l → IsState (record s { watches = v; log = next; propagated = h; lasting = l })
+  state_long {v} {r} {h} {l} is_named same long apart rewound =
+      let u = with_clause s.watches r is_named.name in
+      let names_are : names_of u ≡ names_of s.watches ++ hint ∷ [] =
+      map-append hint_of s.watches.names (is_named.name ∷ []) ∙ ap (λ x. names_of s.watches ++ x ∷ []) is_named.says in
+      subst (λ x. IsState (record s { watches = x; log = next; propagated = h; lasting = l })) (sym is_named.is) (record {
         ready = record {
-          is_trail = trail_more log next hint clause more a.trail state.ready.is_trail;
+          is_trail = trail_more s.log next hint clause more s.assigned.trail state.ready.is_trail;
           stored = subst (IsStored next.inputs next.lines u.clauses) (sym names_are)
-              (stored_more log next hint clause more w.clauses (names_of w) r same state.ready.stored);
-          guarded = guarded_added w.clauses r a.trail h
+              (stored_more s.log next hint clause more s.watches.clauses (names_of s.watches) r same state.ready.stored);
+          guarded = guarded_added s.watches.clauses r s.assigned.trail h
               (λ c k x known watch below is. state.ready.guarded c k x known watch (omega (arith, below, rewound.propagated_falls)) is)
-              (λ k x watch below is. absurd (not_false_first a.trail r h k x rewound.free below watch is));
+              (λ k x watch below is. absurd (not_false_first s.assigned.trail r h k x rewound.free below watch is));
           within = omega (arith, rewound.propagated_falls, state.ready.within);
-          sized = lists_added w r is_named.name ∙ state.ready.sized;
+          sized = lists_added s.watches r is_named.name ∙ state.ready.sized;
         };
         low = rewound.low;
-        is_lasting = lasting_added w.clauses r a.trail s
+        is_lasting = lasting_added s.watches.clauses r s.assigned.trail l
             (λ c k x known watch below is. state.is_lasting c k x known watch (omega (arith, below, rewound.lasting_falls)) is)
-            (λ k x watch below is. absurd (not_false_first a.trail r h k x rewound.free (omega (arith, below, rewound.low)) watch is));
-        all = subst (λ ns. AreAll all_lines next.inputs next.lines ns units) (sym names_are) (λ x c heeded is. elim (more.only x c is) [
-          | inl old ↦ elim (state.all x c heeded old) [ inl at ↦ inl (listed_more (names_of w) hint x at) | inr at ↦ inr at ]
-          | inr e ↦ inl (listed_last (names_of w) hint x e)
+            (λ k x watch below is. absurd (not_false_first s.assigned.trail r h k x rewound.free (omega (arith, below, rewound.low)) watch is));
+        all = subst (λ ns. AreAll s.all_lines next.inputs next.lines ns s.units) (sym names_are) (λ x c heeded is. elim (more.only x c is) [
+          | inl old ↦ elim (state.all x c heeded old) [ inl at ↦ inl (listed_more (names_of s.watches) hint x at) | inr at ↦ inr at ]
+          | inr e ↦ inl (listed_last (names_of s.watches) hint x e)
         ]);
         long = subst (AreLong next.inputs next.lines) (sym names_are)
-            (long_more log next hint clause more w.clauses (names_of w) r same long apart state.ready.stored state.long);
-        short = short_more log next hint clause more units state.short;
+            (long_more s.log next hint clause more s.watches.clauses (names_of s.watches) r same long apart state.ready.stored state.long);
+        short = short_more s.log next hint clause more s.units state.short;
         ones = λ x c is one. elim (more.only x c is) [
           | inl old ↦ state.ones x c old one
           | inr e ↦
@@ -233,7 +232,7 @@ module _ (letters : ℕ) (a : AssignedValue) (w : WatchValue) (units : List Hint
         ];
         units_done_in = state.units_done_in;
         units_trail_in = state.units_trail_in;
-        are_firm = firm_kept log next hint clause more units units_done _ state.units_done_in state.short state.are_firm;
+        are_firm = firm_kept s.log next hint clause more s.units s.units_done _ state.units_done_in state.short state.are_firm;
         known_inputs = known_inputs;
         known_lines = known_lines;
         decided = state.decided;
@@ -243,13 +242,15 @@ module _ (letters : ℕ) (a : AssignedValue) (w : WatchValue) (units : List Hint
       })
 
   -- a short clause more
-  pub state_short : IsOne clause → IsState letters a w (units ++ hint ∷ []) next propagated lasting units_done units_trail marked all_lines
+  pub state_short : IsOne clause → IsState (record s { units = s.units ++ hint ∷ []; log = next })
   state_short one = record {
     ready = record {
-      is_trail = trail_more log next hint clause more a.trail state.ready.is_trail;
+      is_trail = trail_more s.log next hint clause more s.assigned.trail state.ready.is_trail;
       stored = record {
         paired = state.ready.stored.paired;
-        from_log = λ c known. let from = state.ready.stored.from_log c known in (from.0, more.kept (get_or (names_of w) c blank_hint) from.0 from.1, from.2);
+        from_log = λ c known.
+            let from = state.ready.stored.from_log c known in
+            (from.0, more.kept (get_or (names_of s.watches) c blank_hint) from.0 from.1, from.2);
       };
       guarded = state.ready.guarded;
       within = state.ready.within;
@@ -258,33 +259,33 @@ module _ (letters : ℕ) (a : AssignedValue) (w : WatchValue) (units : List Hint
     low = state.low;
     is_lasting = state.is_lasting;
     all = λ x c heeded is. elim (more.only x c is) [
-      | inl old ↦ elim (state.all x c heeded old) [ inl at ↦ inl at | inr at ↦ inr (listed_more units hint x at) ]
-      | inr e ↦ inr (listed_last units hint x e)
+      | inl old ↦ elim (state.all x c heeded old) [ inl at ↦ inl at | inr at ↦ inr (listed_more s.units hint x at) ]
+      | inr e ↦ inr (listed_last s.units hint x e)
     ];
     long = λ c other known is.
         let from = state.ready.stored.from_log c (omega (arith, known, state.ready.stored.paired)) in
-        let same : from.0 ≡ other = some_same (more.kept (get_or (names_of w) c blank_hint) from.0 from.1) is in
+        let same : from.0 ≡ other = some_same (more.kept (get_or (names_of s.watches) c blank_hint) from.0 from.1) is in
         λ is_one. state.long c from.0 known from.1 (subst IsOne (sym same) is_one);
-    short = λ u low. elim (cases_lt u (length units)) [
+    short = λ u low. elim (cases_lt u (length s.units)) [
       | inl old ↦
           let told = state.short u old in (
             told.0,
-            ap (named next.inputs next.lines) (get_or_append_left units (hint ∷ []) blank_hint u old) ∙ more.kept (get_or units u blank_hint) told.0 told.1,
+            ap (named next.inputs next.lines) (get_or_append_left s.units (hint ∷ []) blank_hint u old) ∙ more.kept (get_or s.units u blank_hint) told.0 told.1,
             told.2,
           )
       | inr high ↦
-          let last : length units ≡ u = omega (arith, low, length_push units hint) in
-          (clause, ap (named next.inputs next.lines) (get_or_at units hint [] blank_hint u last) ∙ more.here, one)
+          let last : length s.units ≡ u = omega (arith, low, length_push s.units hint) in
+          (clause, ap (named next.inputs next.lines) (get_or_at s.units hint [] blank_hint u last) ∙ more.here, one)
     ];
     ones = λ x c is is_one. elim (more.only x c is) [
-      | inl old ↦ listed_more units hint x (state.ones x c old is_one)
-      | inr e ↦ listed_last units hint x e
+      | inl old ↦ listed_more s.units hint x (state.ones x c old is_one)
+      | inr e ↦ listed_last s.units hint x e
     ];
-    units_done_in = omega (arith, state.units_done_in, length_push units hint);
+    units_done_in = omega (arith, state.units_done_in, length_push s.units hint);
     units_trail_in = state.units_trail_in;
     are_firm = λ u other below is.
-        firm_kept log next hint clause more units units_done _ state.units_done_in state.short state.are_firm u other below
-        (ap (named next.inputs next.lines) (sym (get_or_append_left units (hint ∷ []) blank_hint u (omega (arith, below, state.units_done_in)))) ∙ is);
+        firm_kept s.log next hint clause more s.units s.units_done _ state.units_done_in state.short state.are_firm u other below
+        (ap (named next.inputs next.lines) (sym (get_or_append_left s.units (hint ∷ []) blank_hint u (omega (arith, below, state.units_done_in)))) ∙ is);
     known_inputs = known_inputs;
     known_lines = known_lines;
     decided = state.decided;

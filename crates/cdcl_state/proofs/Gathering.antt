@@ -13,12 +13,11 @@ use Rattle.cnf_base.specs.Step.{named, numbered, clause_at}
 use Rattle.cnf_base.specs.Known.{AreKnown}
 use Rattle.clause_log.specs.LogValue.{LogValue}
 use Rattle.cdcl_watches.specs.Watching.{WatchValue, AreApart, with_clause}
-use Rattle.cdcl_trail.specs.Assigned.{AssignedValue}
 use Rattle.cdcl_trail.specs.Entries.{hint_of}
 use Rattle.cdcl_propagate.specs.Visit.{HaveSame, IsStored, names_of}
 use Rattle.cdcl_propagate.specs.Units.{IsOne}
 use Rattle.cdcl_propagate.proofs.Ready.{code_known}
-use Rattle.cdcl_state.specs.State.{IsState, IsNamed, AreAll, AreLong, IsListed}
+use Rattle.cdcl_state.specs.State.{Parts, IsState, IsNamed, AreAll, AreLong, IsListed}
 use Rattle.cdcl_state.specs.StateValue.{IsHeeded}
 use Rattle.cdcl_state.specs.Gathered.{HasRoom, IsPut, AreThere, IsMet, IsCarried, IsGathered}
 use Rattle.cdcl_state.proofs.Attach.{IsMore, listed_more, listed_last, stored_more, long_more, lists_added}
@@ -208,12 +207,10 @@ carried_heeded all_lines every log names units (Clause n) clause all heeded is =
 carried_heeded all_lines every log names units (Line n) clause all heeded is = inl heeded
 
 -- the state that watches what was gathered, with all lists to visit
-pub state_gathered : (letters : ℕ) (a : AssignedValue)
-    (w v : WatchValue) (units : List Hint) (log : LogValue) (propagated lasting units_done units_trail marked : ℕ) (all_lines : Bool) (size : ℕ) (every : Bool)
-    → IsState letters a w units log propagated lasting units_done units_trail marked all_lines
-    → IsGathered (IsCarried every (names_of w)) log v → length v.lists ≡ 2 * length a.values
-    → size ≡ marked → IsState letters a v units log 0 0 units_done units_trail size every
-state_gathered letters a w v units log propagated lasting units_done units_trail marked all_lines size every state gathered lists same = record {
+pub state_gathered : {s : Parts} (v : WatchValue) (size : ℕ) (every : Bool) → IsState s → IsGathered (IsCarried every (names_of s.watches)) s.log v
+    → length v.lists ≡ 2 * length s.assigned.values → size ≡ s.marked
+    → IsState (record s { watches = v; propagated = 0; lasting = 0; marked = size; all_lines = every })
+state_gathered {s} v size every state gathered lists same = record {
   ready = record {
     is_trail = state.ready.is_trail;
     stored = gathered.stored;
@@ -223,7 +220,7 @@ state_gathered letters a w v units log propagated lasting units_done units_trail
   };
   low = omega arith;
   is_lasting = λ c k x known watch below is. absurd (omega (arith, below));
-  all = λ h c heeded is. elim (carried_heeded all_lines every log (names_of w) units h c state.all heeded is) [
+  all = λ h c heeded is. elim (carried_heeded s.all_lines every s.log (names_of s.watches) s.units h c state.all heeded is) [
     | inl carried ↦ elim (gathered.held h c carried is) [ inl at ↦ inl at | inr one ↦ inr (state.ones h c is one) ]
     | inr at ↦ inr at
   ];

@@ -5,17 +5,14 @@ use Rattle.std.proofs.lemmas.Bool.{cases_lt, cases_eq}
 use Rattle.std.proofs.lemmas.List.{get_or_append_left, get_or_at, length_push, get_or-map, length-map}
 use Rattle.std.proofs.lemmas.List.Elements.{Contains-get_or}
 use Rattle.cnf_base.specs.declared.literal.Literal.{Literal}
-use Rattle.cnf_base.specs.declared.literal.Hint.{Hint}
 use Rattle.cnf_base.specs.Literal.{opposite}
 use Rattle.cnf_base.proofs.SameLiteral.{opposite_opposite}
-use Rattle.clause_log.specs.LogValue.{LogValue}
 use Rattle.cdcl_state.specs.StateValue.{StateValue, IsBack}
 use Rattle.cdcl_trail.specs.Trail.{AreValues, IsTrail, blank_entry, literal_at, IsInside, IsDecision}
 use Rattle.cdcl_state.specs.Turns.{IsTarget, IsAsserting}
-use Rattle.cdcl_watches.specs.Watching.{WatchValue, blank}
-use Rattle.cdcl_trail.specs.Assigned.{AssignedValue}
+use Rattle.cdcl_watches.specs.Watching.{blank}
 use Rattle.cdcl_propagate.specs.Lasting.{IsLasting}
-use Rattle.cdcl_state.specs.State.{IsState}
+use Rattle.cdcl_state.specs.State.{Parts, IsState}
 use Rattle.cdcl_trail.specs.declared.assigned.Entry.{Entry}
 use Rattle.cdcl_watches.proofs.Moves.{first_two}
 use Rattle.cdcl_trail.proofs.Standing.{places_apart}
@@ -48,14 +45,13 @@ decisions_asserting inputs lines trail places is_trail decisions falling some = 
 }
 
 -- the same parts with `propagated` and `lasting` put elsewhere
-pub state_raise : (letters : ℕ) (a : AssignedValue) (w : WatchValue) (units : List Hint) (log : LogValue) (propagated lasting units_done units_trail marked : ℕ)
-    (all_lines : Bool) (m : ℕ) → IsState letters a w units log propagated lasting units_done units_trail marked all_lines
-    → m ≤ length a.trail → IsLasting w.clauses a.trail m → IsState letters a w units log m m units_done units_trail marked all_lines
-state_raise letters a w units log propagated lasting units_done units_trail marked all_lines m state fits is_lasting = record {
+pub state_raise : {s : Parts} (m : ℕ) → IsState s → m ≤ length s.assigned.trail → IsLasting s.watches.clauses s.assigned.trail m
+    → IsState (record s { propagated = m; lasting = m })
+state_raise {s} m state fits is_lasting = record {
   ready = record {
     is_trail = state.ready.is_trail;
     stored = state.ready.stored;
-    guarded = guarded_lasting w.clauses a.trail m is_lasting;
+    guarded = guarded_lasting s.watches.clauses s.assigned.trail m is_lasting;
     within = fits;
     sized = state.ready.sized;
   };

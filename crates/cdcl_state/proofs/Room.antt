@@ -6,23 +6,18 @@ use Rattle.std.proofs.lemmas.Bool.{cases_lt}
 use Rattle.std.proofs.lemmas.List.{get_or_past, get_or-replicate, length-replicate, take_more, map-append}
 use Rattle.std.proofs.lemmas.List.Elements.{Contains-append_left, Contains-push, Contains-push_cases}
 use Rattle.cnf_base.specs.declared.literal.Literal.{Literal}
-use Rattle.cnf_base.specs.declared.literal.Hint.{Hint}
 use Rattle.cnf_base.specs.Known.{IsKnown, AreKnown}
-use Rattle.clause_log.specs.LogValue.{LogValue}
 use Rattle.cdcl_trail.specs.Trail.{literals_of, literal_at, blank_entry}
 use Rattle.cdcl_state.specs.StateValue.{positive}
 use Rattle.cdcl_watches.specs.Watching.{WatchValue}
 use Rattle.cdcl_trail.specs.Assigned.{AssignedValue}
-use Rattle.cdcl_state.specs.State.{IsState}
+use Rattle.cdcl_state.specs.State.{Parts, IsState}
 use Rattle.cdcl_trail.specs.declared.assigned.Entry.{Entry}
 
-pub state_widened : (letters : ℕ) (a b : AssignedValue)
-    (w v : WatchValue) (units : List Hint) (log : LogValue) (propagated lasting units_done units_trail marked : ℕ) (all_lines : Bool) (wide : ℕ)
-    → IsState letters a w units log propagated lasting units_done units_trail marked all_lines
-    → b.trail ≡ a.trail → v.clauses ≡ w.clauses → v.names ≡ w.names → length v.lists ≡ 2 * length b.values → length a.values ≤ length b.values
-    → length b.values ≤ 2 ^ 32 → length b.values ≤ wide
-    → IsState letters b v units log propagated lasting units_done units_trail wide all_lines
-state_widened letters a b w v units log propagated lasting units_done units_trail marked all_lines wide state trail clauses names sized more few marks =
+pub state_widened : {s : Parts} (b : AssignedValue) (v : WatchValue) (wide : ℕ) → IsState s → b.trail ≡ s.assigned.trail → v.clauses ≡ s.watches.clauses
+    → v.names ≡ s.watches.names → length v.lists ≡ 2 * length b.values → length s.assigned.values ≤ length b.values
+    → length b.values ≤ 2 ^ 32 → length b.values ≤ wide → IsState (record s { assigned = b; watches = v; marked = wide })
+state_widened b v wide state trail clauses names sized more few marks =
     rw (trail, clauses, names) (record {
       ready = record {
         is_trail = state.ready.is_trail;
@@ -55,11 +50,8 @@ clauses_wider : (letters count : ℕ) → letters ≤ count → (clauses : List 
 clauses_wider letters count more clauses known i d below j e low = known_wider letters count more (get_or (get_or clauses i d) j e) (known i d below j e low)
 
 -- more letters are known
-pub state_lettered : (letters count : ℕ) (a : AssignedValue) (w : WatchValue) (units : List Hint) (log : LogValue)
-    (propagated lasting units_done units_trail marked : ℕ) (all_lines : Bool)
-    → IsState letters a w units log propagated lasting units_done units_trail marked all_lines → letters ≤ count → count < length a.values
-    → IsState count a w units log propagated lasting units_done units_trail marked all_lines
-state_lettered letters count a w units log propagated lasting units_done units_trail marked all_lines state more room = record {
+pub state_lettered : {s : Parts} (count : ℕ) → IsState s → s.letters ≤ count → count < length s.assigned.values → IsState (record s { letters = count })
+state_lettered {s} count state more room = record {
   ready = state.ready;
   low = state.low;
   is_lasting = state.is_lasting;
@@ -70,9 +62,9 @@ state_lettered letters count a w units log propagated lasting units_done units_t
   units_done_in = state.units_done_in;
   units_trail_in = state.units_trail_in;
   are_firm = state.are_firm;
-  known_inputs = clauses_wider letters count more log.inputs state.known_inputs;
-  known_lines = clauses_wider letters count more log.lines state.known_lines;
-  decided = λ k d below free. known_wider letters count more (get_or a.trail k d).literal (state.decided k d below free);
+  known_inputs = clauses_wider s.letters count more s.log.inputs state.known_inputs;
+  known_lines = clauses_wider s.letters count more s.log.lines state.known_lines;
+  decided = λ k d below free. known_wider s.letters count more (get_or s.assigned.trail k d).literal (state.decided k d below free);
   room = λ x from_one within. omega (arith, room, within);
   few = state.few;
   size = state.size;

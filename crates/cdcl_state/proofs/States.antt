@@ -13,7 +13,7 @@ use Rattle.cnf_base.specs.Step.{named, numbered}
 use Rattle.cnf_base.specs.Known.{IsKnown, AreKnown}
 use Rattle.clause_log.specs.LogValue.{LogValue}
 use Rattle.cdcl_trail.specs.Trail.{literals_of, AreValues, IsTrail, IsConflict, IsReason, IsUnset, StandsAt, blank_entry, literal_at}
-use Rattle.cdcl_state.specs.StateValue.{IsBack, IsSettled, Propagated, state_of}
+use Rattle.cdcl_state.specs.StateValue.{StateValue, IsBack, IsSettled, Propagated, state_of}
 use Rattle.cdcl_trail.specs.Values.{AreBelow}
 use Rattle.cdcl_watches.specs.Watching.{WatchValue, IsWatching, clause_of}
 use Rattle.cdcl_watches.specs.Heads.{ArenaValue}
@@ -22,7 +22,7 @@ use Rattle.cdcl_trail.specs.Entries.{hint_of}
 use Rattle.cdcl_propagate.specs.Visit.{HasTrue, IsReady, IsStored, IsGrown, IsGuarded, HaveSame, blank_hint, names_of}
 use Rattle.cdcl_propagate.specs.Lasting.{IsLasting}
 use Rattle.cdcl_analyze.specs.Reason.{IsAnalyzable}
-use Rattle.cdcl_state.specs.State.{IsState, AreAll, AreLong, AreKnownDecisions}
+use Rattle.cdcl_state.specs.State.{Parts, IsState, AreAll, AreLong, AreKnownDecisions}
 use Rattle.cdcl_propagate.specs.Units.{IsOne, AreFirm}
 use Rattle.cdcl_trail.specs.declared.assigned.Entry.{Entry}
 use Rattle.cdcl_trail.proofs.Standing.{not_both}
@@ -31,6 +31,10 @@ use Rattle.cdcl_state.proofs.Back.{lasting_back}
 use Rattle.cdcl_propagate.proofs.Lasting.{guarded_lasting}
 use Rattle.cdcl_trail.proofs.Levels.{level_at, levels_rise, level_bound}
 use Rattle.cdcl_trail.proofs.Assign.{trail_take, trail_push}
+
+-- what a caller sees of the parts
+abbrev pub seen : Parts → StateValue
+seen s = state_of s.letters s.assigned.trail s.log s.all_lines
 
 some_same : {X : Type 0} {x y : X} {o : Option X} → o ≡ Some x → o ≡ Some y → x ≡ y
 some_same a b = cc
@@ -43,16 +47,15 @@ below_values letters a clauses room known i d below j e low =
     (k.from_one, room (get_or (get_or clauses i d) j e).letter.0 k.from_one k.within)
 
 -- what holds of a state is what an analysis asks for
-pub analyzable : {letters : ℕ} {a : AssignedValue} {w : WatchValue} {units : List Hint} {log : LogValue} {propagated lasting units_done units_trail marked : ℕ}
-    {all_lines : Bool} → IsState letters a w units log propagated lasting units_done units_trail marked all_lines
-    → (arena : ArenaValue) → arena.clauses ≡ w.clauses → arena.names ≡ w.names → IsAnalyzable log a arena
-analyzable {letters} {a} {w} {units} {log} state arena clauses names = record {
+pub analyzable : {s : Parts} → IsState s → (arena : ArenaValue) → arena.clauses ≡ s.watches.clauses → arena.names ≡ s.watches.names
+    → IsAnalyzable s.log s.assigned arena
+analyzable {s} state arena clauses names = record {
   is_trail = state.ready.is_trail;
-  known_inputs = below_values letters a log.inputs state.room state.known_inputs;
-  known_lines = below_values letters a log.lines state.room state.known_lines;
+  known_inputs = below_values s.letters s.assigned s.log.inputs state.room state.known_inputs;
+  known_lines = below_values s.letters s.assigned s.log.lines state.room state.known_lines;
   few = state.few;
-  stored = subst (λ cs. IsStored log.inputs log.lines cs (map hint_of arena.names)) (sym clauses)
-      (subst (λ ns. IsStored log.inputs log.lines w.clauses (map hint_of ns)) (sym names) state.ready.stored);
+  stored = subst (λ cs. IsStored s.log.inputs s.log.lines cs (map hint_of arena.names)) (sym clauses)
+      (subst (λ ns. IsStored s.log.inputs s.log.lines s.watches.clauses (map hint_of ns)) (sym names) state.ready.stored);
 }
 
 -- a watched clause has two literals
@@ -71,48 +74,46 @@ long_clause inputs lines clauses names stored long c known = elim (cases_lt (len
 ]
 
 -- where all lists were visited and all short clauses are true, the state is settled
-pub settled : (letters : ℕ) (a : AssignedValue) (w : WatchValue) (units : List Hint) (log : LogValue) (propagated lasting units_done units_trail marked : ℕ)
-    (all_lines : Bool) → IsState letters a w units log propagated lasting units_done units_trail marked all_lines
-    → AreValues a.values a.trail → IsWatching w.clauses w.lists → propagated ≡ length a.trail → units_done ≡ length units
-    → IsSettled (state_of letters a.trail log all_lines)
-settled letters a w units log propagated lasting units_done units_trail marked all_lines state are watching all finished hint heeded = (
+pub settled : {s : Parts} → IsState s → AreValues s.assigned.values s.assigned.trail → IsWatching s.watches.clauses s.watches.lists
+    → s.propagated ≡ length s.assigned.trail → s.units_done ≡ length s.units → IsSettled (seen s)
+settled {s} state are watching all finished hint heeded = (
   (λ conflict. elim (state.all hint conflict.clause heeded conflict.is) [
     | inl at ↦ (watched at).0 conflict
     | inr at ↦
         let told = unit at conflict.clause conflict.is in
-        not_both a.values a.trail are told.0 told.2
-        (All-contains (λ l. Contains (literals_of a.trail) (opposite l)) conflict.clause told.0 conflict.all_false told.1)
+        not_both s.assigned.values s.assigned.trail are told.0 told.2
+        (All-contains (λ l. Contains (literals_of s.assigned.trail) (opposite l)) conflict.clause told.0 conflict.all_false told.1)
   ]),
   (λ u reason unset. elim (state.all hint reason.clause heeded reason.is) [
     | inl at ↦ (watched at).1 u reason unset
     | inr at ↦
         let told = unit at reason.clause reason.is in
         let of_short = state.short at.0 at.1 in
-        let same : of_short.0 ≡ reason.clause = some_same of_short.1 (ap (named log.inputs log.lines) at.2 ∙ reason.is) in
+        let same : of_short.0 ≡ reason.clause = some_same of_short.1 (ap (named s.log.inputs s.log.lines) at.2 ∙ reason.is) in
         let one : IsOne reason.clause = subst IsOne same of_short.2 in
-        unset.not_true (subst (Contains (literals_of a.trail)) (one told.0 u told.1 reason.there) told.2)
+        unset.not_true (subst (Contains (literals_of s.assigned.trail)) (one told.0 u told.1 reason.there) told.2)
   ]),
 )
   where
-    guarded : IsGuarded w.clauses a.trail (length a.trail)
-    guarded = subst (λ n. IsGuarded w.clauses a.trail n) all state.ready.guarded
+    guarded : IsGuarded s.watches.clauses s.assigned.trail (length s.assigned.trail)
+    guarded = subst (λ n. IsGuarded s.watches.clauses s.assigned.trail n) all state.ready.guarded
 
-    watched : ((c : ℕ) × (c < length (names_of w)) × (get_or (names_of w) c blank_hint ≡ hint))
-        → (¬ IsConflict log.inputs log.lines (literals_of a.trail) hint)
-        × ((u : Literal) → IsReason log.inputs log.lines (literals_of a.trail) u hint → ¬ IsUnset (literals_of a.trail) u)
+    watched : ((c : ℕ) × (c < length (names_of s.watches)) × (get_or (names_of s.watches) c blank_hint ≡ hint))
+        → (¬ IsConflict s.log.inputs s.log.lines (literals_of s.assigned.trail) hint)
+        × ((u : Literal) → IsReason s.log.inputs s.log.lines (literals_of s.assigned.trail) u hint → ¬ IsUnset (literals_of s.assigned.trail) u)
     watched at =
-        settled_watched a.values a.trail are w.clauses guarded log hint watching.apart
-        (long_clause log.inputs log.lines w.clauses (names_of w) state.ready.stored state.long)
+        settled_watched s.assigned.values s.assigned.trail are s.watches.clauses guarded s.log hint watching.apart
+        (long_clause s.log.inputs s.log.lines s.watches.clauses (names_of s.watches) state.ready.stored state.long)
         (λ clause is.
-        let known : at.0 < length w.clauses = omega (arith, at.1, state.ready.stored.paired) in
+        let known : at.0 < length s.watches.clauses = omega (arith, at.1, state.ready.stored.paired) in
         let from = state.ready.stored.from_log at.0 known in
-        (at.0, known, subst (λ x. HaveSame x (clause_of w.clauses at.0)) (some_same from.1 (ap (named log.inputs log.lines) at.2 ∙ is)) from.2))
+        (at.0, known, subst (λ x. HaveSame x (clause_of s.watches.clauses at.0)) (some_same from.1 (ap (named s.log.inputs s.log.lines) at.2 ∙ is)) from.2))
 
-    unit : ((u : ℕ) × (u < length units) × (get_or units u blank_hint ≡ hint)) → (clause : List Literal) → named log.inputs log.lines hint ≡ Some clause
-        → HasTrue (literals_of a.trail) clause
+    unit : ((u : ℕ) × (u < length s.units) × (get_or s.units u blank_hint ≡ hint)) → (clause : List Literal) → named s.log.inputs s.log.lines hint ≡ Some clause
+        → HasTrue (literals_of s.assigned.trail) clause
     unit at clause is =
-        let told = state.are_firm at.0 clause (omega (arith, at.1, finished)) (ap (named log.inputs log.lines) at.2 ∙ is) in
-        (told.0, told.1, front_true a.trail units_trail told.0 state.units_trail_in told.2)
+        let told = state.are_firm at.0 clause (omega (arith, at.1, finished)) (ap (named s.log.inputs s.log.lines) at.2 ∙ is) in
+        (told.0, told.1, front_true s.assigned.trail s.units_trail told.0 state.units_trail_in told.2)
       where
         front_true : (trail : List Entry) (n : ℕ) (l : Literal) → n ≤ length trail → Contains (literals_of (take n trail)) l → Contains (literals_of trail) l
         front_true trail n l fits (k, low, is_l) =
@@ -126,30 +127,28 @@ settled letters a w units log propagated lasting units_done units_trail marked a
             )
 
 -- forced entries more on the trail
-pub state_grown : (letters : ℕ) (a b : AssignedValue)
-    (w v : WatchValue) (units : List Hint) (log : LogValue) (propagated lasting units_done units_trail next later marked : ℕ) (all_lines : Bool)
-    → IsState letters a w units log propagated lasting units_done units_trail marked all_lines
-    → IsGrown a.trail b.trail → length b.values ≡ length a.values → v.names ≡ w.names → later ≤ next → IsLasting v.clauses b.trail later
-    → IsReady log.inputs log.lines next b v → IsState letters b v units log next later units_done units_trail marked all_lines
-state_grown letters a b w v units log propagated lasting units_done units_trail next later marked all_lines state grown same names_are low is_lasting ready =
+pub state_grown : {s : Parts} {b : AssignedValue} {v : WatchValue} {next : ℕ} (later : ℕ) → IsState s → IsReady s.log.inputs s.log.lines next b v
+    → IsGrown s.assigned.trail b.trail → length b.values ≡ length s.assigned.values → v.names ≡ s.watches.names → later ≤ next
+    → IsLasting v.clauses b.trail later → IsState (record s { assigned = b; watches = v; propagated = next; lasting = later })
+state_grown {s} {b} {v} {next} later state ready grown same names_are low is_lasting =
     record {
       ready = ready;
       low = low;
       is_lasting = is_lasting;
-      all = subst (λ ns. AreAll all_lines log.inputs log.lines (map hint_of ns) units) (sym names_are) state.all;
-      long = subst (λ ns. AreLong log.inputs log.lines (map hint_of ns)) (sym names_are) state.long;
+      all = subst (λ ns. AreAll s.all_lines s.log.inputs s.log.lines (map hint_of ns) s.units) (sym names_are) state.all;
+      long = subst (λ ns. AreLong s.log.inputs s.log.lines (map hint_of ns)) (sym names_are) state.long;
       short = state.short;
       ones = state.ones;
       units_done_in = state.units_done_in;
-      units_trail_in = omega (arith, state.units_trail_in, ap length grown.trail, length-append a.trail grown.more);
+      units_trail_in = omega (arith, state.units_trail_in, ap length grown.trail, length-append s.assigned.trail grown.more);
       are_firm = λ u clause below is.
-          let front : take units_trail b.trail ≡ take units_trail a.trail =
-          ap (take units_trail) grown.trail ∙ take-append-le units_trail a.trail grown.more state.units_trail_in in
+          let front : take s.units_trail b.trail ≡ take s.units_trail s.assigned.trail =
+          ap (take s.units_trail) grown.trail ∙ take-append-le s.units_trail s.assigned.trail grown.more state.units_trail_in in
           subst (λ t. HasTrue (literals_of t) clause) (sym front) (state.are_firm u clause below is);
       known_inputs = state.known_inputs;
       known_lines = state.known_lines;
-      decided = subst (AreKnownDecisions letters) (sym grown.trail)
-          (All-append (λ e. e.reason ≡ None → IsKnown letters e.literal) a.trail grown.more state.decided
+      decided = subst (AreKnownDecisions s.letters) (sym grown.trail)
+          (All-append (λ e. e.reason ≡ None → IsKnown s.letters e.literal) s.assigned.trail grown.more state.decided
           (λ k d below free. absurd (grown.forced k d below free)));
       room = λ x from_one within. omega (arith, state.room x from_one within, same);
       few = omega (arith, same, state.few);
@@ -157,23 +156,20 @@ state_grown letters a b w v units log propagated lasting units_done units_trail 
     }
 
 -- a front of the trail
-pub state_back : (letters : ℕ) (a b : AssignedValue)
-    (w : WatchValue) (units : List Hint) (log : LogValue) (propagated lasting units_done units_trail marked : ℕ) (all_lines : Bool) (m n level still solid : ℕ)
-    → IsState letters a w units log propagated lasting units_done units_trail marked all_lines
-    → b.trail ≡ take n a.trail → length b.values ≡ length a.values → n ≤ length a.trail
-    → IsBack (state_of letters a.trail log all_lines) (state_of letters b.trail log all_lines) level → m ≤ lasting → m ≤ n
-    → ((units_trail ≤ n) × (still ≡ units_done) × (solid ≡ units_trail)) ⊎ ((still ≡ 0) × (solid ≡ 0))
-    → IsState letters b w units log m m still solid marked all_lines
-state_back letters a b w units log propagated lasting units_done units_trail marked all_lines m n level still solid state trail_is values_is fits back
-    m_lasting m_n units_are =
-    let len : length b.trail ≡ n = ap length trail_is ∙ length-take-le n a.trail fits in
-    let new_lasting = lasting_back w.clauses (state_of letters a.trail log all_lines) (state_of letters b.trail log all_lines)
-    level lasting m state.ready.is_trail back state.is_lasting m_lasting (omega (arith, len)) in
+pub state_back : {s : Parts} (b : AssignedValue) (m n level still solid : ℕ) → IsState s → b.trail ≡ take n s.assigned.trail
+    → length b.values ≡ length s.assigned.values → n ≤ length s.assigned.trail → IsBack (seen s) (seen (record s { assigned = b })) level
+    → m ≤ s.lasting → m ≤ n
+    → ((s.units_trail ≤ n) × (still ≡ s.units_done) × (solid ≡ s.units_trail)) ⊎ ((still ≡ 0) × (solid ≡ 0))
+    → IsState (record s { assigned = b; propagated = m; lasting = m; units_done = still; units_trail = solid })
+state_back {s} b m n level still solid state trail_is values_is fits back m_lasting m_n units_are =
+    let len : length b.trail ≡ n = ap length trail_is ∙ length-take-le n s.assigned.trail fits in
+    let new_lasting = lasting_back s.watches.clauses (seen s) (seen (record s { assigned = b })) level s.lasting m state.ready.is_trail back
+    state.is_lasting m_lasting (omega (arith, len)) in
     record {
       ready = record {
-        is_trail = subst (IsTrail log.inputs log.lines) (sym trail_is) (trail_take log.inputs log.lines a.trail n fits state.ready.is_trail);
+        is_trail = subst (IsTrail s.log.inputs s.log.lines) (sym trail_is) (trail_take s.log.inputs s.log.lines s.assigned.trail n fits state.ready.is_trail);
         stored = state.ready.stored;
-        guarded = guarded_lasting w.clauses b.trail m new_lasting;
+        guarded = guarded_lasting s.watches.clauses b.trail m new_lasting;
         within = omega (arith, len);
         sized = state.ready.sized ∙ ap (λ x. 2 * x) (sym values_is);
       };
@@ -187,15 +183,16 @@ state_back letters a b w units log propagated lasting units_done units_trail mar
       units_trail_in = elim units_are [ inl kept ↦ omega (arith, kept.0, kept.2, len) | inr none ↦ omega (arith, none.1) ];
       are_firm = λ u clause below is. elim units_are [
         | inl kept ↦
-            let front : take solid b.trail ≡ take units_trail a.trail = ap₂ (λ k t. take k t) kept.2 trail_is ∙ take-take units_trail n a.trail kept.0 in
+            let front : take solid b.trail ≡ take s.units_trail s.assigned.trail =
+            ap₂ (λ k t. take k t) kept.2 trail_is ∙ take-take s.units_trail n s.assigned.trail kept.0 in
             subst (λ t. HasTrue (literals_of t) clause) (sym front) (state.are_firm u clause (omega (arith, below, kept.1)) is)
         | inr none ↦ absurd (omega (arith, below, none.0))
       ];
       known_inputs = state.known_inputs;
       known_lines = state.known_lines;
-      decided = subst (AreKnownDecisions letters) (sym trail_is) (λ k d below.
-          let k_low : k < n = omega (arith, below, length-take-le n a.trail fits) in
-          subst (λ e. e.reason ≡ None → IsKnown letters e.literal) (sym (get_or-take n a.trail k d k_low)) (state.decided k d (omega arith)));
+      decided = subst (AreKnownDecisions s.letters) (sym trail_is) (λ k d below.
+          let k_low : k < n = omega (arith, below, length-take-le n s.assigned.trail fits) in
+          subst (λ e. e.reason ≡ None → IsKnown s.letters e.literal) (sym (get_or-take n s.assigned.trail k d k_low)) (state.decided k d (omega arith)));
       room = λ x from_one within. omega (arith, state.room x from_one within, values_is);
       few = omega (arith, values_is, state.few);
       size = omega (arith, values_is, state.size);
@@ -268,69 +265,69 @@ decision_stands inputs lines trail l level is_trail is = record {
 }
 
 -- an entry more behind the trail
-module _ (letters : ℕ) (a b : AssignedValue) (w : WatchValue) (units : List Hint) (log : LogValue) (propagated lasting units_done units_trail marked : ℕ)
-    (all_lines : Bool) (e : Entry) (state : IsState letters a w units log propagated lasting units_done units_trail marked all_lines)
-    (values_is : length b.values ≡ length a.values) (stands : StandsAt log.inputs log.lines a.trail e)
-    (known : e.reason ≡ None → IsKnown letters e.literal) where
-  pub state_pushed : b.trail ≡ a.trail ++ e ∷ [] → IsState letters b w units log propagated lasting units_done units_trail marked all_lines
+module _ {s : Parts} (b : AssignedValue) (e : Entry) (state : IsState s) (values_is : length b.values ≡ length s.assigned.values)
+    (stands : StandsAt s.log.inputs s.log.lines s.assigned.trail e) (known : e.reason ≡ None → IsKnown s.letters e.literal) where
+  pub state_pushed : b.trail ≡ s.assigned.trail ++ e ∷ [] → IsState (record s { assigned = b })
   state_pushed is = record {
     ready = record {
-      is_trail = subst (IsTrail log.inputs log.lines) (sym is) (trail_push log.inputs log.lines a.trail e state.ready.is_trail stands);
+      is_trail = subst (IsTrail s.log.inputs s.log.lines) (sym is) (trail_push s.log.inputs s.log.lines s.assigned.trail e state.ready.is_trail stands);
       stored = state.ready.stored;
       guarded =
-          subst (λ t. IsGuarded w.clauses t propagated) (sym is) (guarded_push w.clauses a.trail (e ∷ []) propagated state.ready.within state.ready.guarded);
-      within = omega (arith, state.ready.within, ap length is, length_push a.trail e);
+          subst (λ t. IsGuarded s.watches.clauses t s.propagated) (sym is)
+          (guarded_push s.watches.clauses s.assigned.trail (e ∷ []) s.propagated state.ready.within state.ready.guarded);
+      within = omega (arith, state.ready.within, ap length is, length_push s.assigned.trail e);
       sized = state.ready.sized ∙ ap (λ x. 2 * x) (sym values_is);
     };
     low = state.low;
-    is_lasting = subst (λ t. IsLasting w.clauses t lasting) (sym is)
-        (lasting_push w.clauses a.trail (e ∷ []) lasting (omega (arith, state.low, state.ready.within)) state.is_lasting);
+    is_lasting = subst (λ t. IsLasting s.watches.clauses t s.lasting) (sym is)
+        (lasting_push s.watches.clauses s.assigned.trail (e ∷ []) s.lasting (omega (arith, state.low, state.ready.within)) state.is_lasting);
     all = state.all;
     long = state.long;
     short = state.short;
     ones = state.ones;
     units_done_in = state.units_done_in;
-    units_trail_in = omega (arith, state.units_trail_in, ap length is, length_push a.trail e);
+    units_trail_in = omega (arith, state.units_trail_in, ap length is, length_push s.assigned.trail e);
     are_firm = λ u clause below named_is.
-        let front : take units_trail b.trail ≡ take units_trail a.trail =
-        ap (take units_trail) is ∙ take-append-le units_trail a.trail (e ∷ []) state.units_trail_in in
+        let front : take s.units_trail b.trail ≡ take s.units_trail s.assigned.trail =
+        ap (take s.units_trail) is ∙ take-append-le s.units_trail s.assigned.trail (e ∷ []) state.units_trail_in in
         subst (λ t. HasTrue (literals_of t) clause) (sym front) (state.are_firm u clause below named_is);
     known_inputs = state.known_inputs;
     known_lines = state.known_lines;
-    decided = subst (AreKnownDecisions letters) (sym is) (All-push (λ f. f.reason ≡ None → IsKnown letters f.literal) a.trail e state.decided known);
+    decided = subst (AreKnownDecisions s.letters) (sym is)
+        (All-push (λ f. f.reason ≡ None → IsKnown s.letters f.literal) s.assigned.trail e state.decided known);
     room = λ x from_one within. omega (arith, state.room x from_one within, values_is);
     few = omega (arith, values_is, state.few);
     size = omega (arith, values_is, state.size);
   }
 
-  pub state_same : b.trail ≡ a.trail → IsState letters b w units log propagated lasting units_done units_trail marked all_lines
+  pub state_same : b.trail ≡ s.assigned.trail → IsState (record s { assigned = b })
   state_same is = record {
     ready = record {
-      is_trail = subst (IsTrail log.inputs log.lines) (sym is) state.ready.is_trail;
+      is_trail = subst (IsTrail s.log.inputs s.log.lines) (sym is) state.ready.is_trail;
       stored = state.ready.stored;
-      guarded = subst (λ t. IsGuarded w.clauses t propagated) (sym is) state.ready.guarded;
+      guarded = subst (λ t. IsGuarded s.watches.clauses t s.propagated) (sym is) state.ready.guarded;
       within = omega (arith, state.ready.within, ap length is);
       sized = state.ready.sized ∙ ap (λ x. 2 * x) (sym values_is);
     };
     low = state.low;
-    is_lasting = subst (λ t. IsLasting w.clauses t lasting) (sym is) state.is_lasting;
+    is_lasting = subst (λ t. IsLasting s.watches.clauses t s.lasting) (sym is) state.is_lasting;
     all = state.all;
     long = state.long;
     short = state.short;
     ones = state.ones;
     units_done_in = state.units_done_in;
     units_trail_in = omega (arith, state.units_trail_in, ap length is);
-    are_firm = λ u clause below named_is. subst (λ t. HasTrue (literals_of (take units_trail t)) clause) (sym is) (state.are_firm u clause below named_is);
+    are_firm = λ u clause below named_is. subst (λ t. HasTrue (literals_of (take s.units_trail t)) clause) (sym is) (state.are_firm u clause below named_is);
     known_inputs = state.known_inputs;
     known_lines = state.known_lines;
-    decided = subst (AreKnownDecisions letters) (sym is) state.decided;
+    decided = subst (AreKnownDecisions s.letters) (sym is) state.decided;
     room = λ x from_one within. omega (arith, state.room x from_one within, values_is);
     few = omega (arith, values_is, state.few);
     size = omega (arith, values_is, state.size);
   }
 
-  pub state_assigned : (ok : Bool) → b.trail ≡ (if ok then a.trail ++ e ∷ [] else a.trail)
-      → IsState letters b w units log propagated lasting units_done units_trail marked all_lines
+  pub state_assigned : (ok : Bool) → b.trail ≡ (if ok then s.assigned.trail ++ e ∷ [] else s.assigned.trail)
+      → IsState (record s { assigned = b })
   state_assigned true is = state_pushed is
   state_assigned false is = state_same is
 
@@ -363,13 +360,10 @@ firm_now inputs lines units units_done units_trail trail fits are u clause below
     )
 
 -- all short clauses are true
-pub state_firm : (letters : ℕ) (a : AssignedValue)
-    (w : WatchValue) (units : List Hint) (log : LogValue) (propagated lasting units_done units_trail still solid marked : ℕ) (all_lines : Bool)
-    → IsState letters a w units log propagated lasting units_done units_trail marked all_lines
-    → AreFirm log.inputs log.lines units (length units) (literals_of a.trail)
-    → ((length units ≤ units_done) × (still ≡ units_done) × (solid ≡ units_trail)) ⊎ ((still ≡ length units) × (solid ≡ length a.trail))
-    → IsState letters a w units log propagated lasting still solid marked all_lines
-state_firm letters a w units log propagated lasting units_done units_trail still solid marked all_lines state are cases = record {
+pub state_firm : {s : Parts} (still solid : ℕ) → IsState s → AreFirm s.log.inputs s.log.lines s.units (length s.units) (literals_of s.assigned.trail)
+    → ((length s.units ≤ s.units_done) × (still ≡ s.units_done) × (solid ≡ s.units_trail)) ⊎ ((still ≡ length s.units) × (solid ≡ length s.assigned.trail))
+    → IsState (record s { units_done = still; units_trail = solid })
+state_firm {s} still solid state are cases = record {
   ready = state.ready;
   low = state.low;
   is_lasting = state.is_lasting;
@@ -380,9 +374,10 @@ state_firm letters a w units log propagated lasting units_done units_trail still
   units_done_in = elim cases [ inl kept ↦ omega (arith, kept.1, state.units_done_in) | inr now ↦ omega (arith, now.0) ];
   units_trail_in = elim cases [ inl kept ↦ omega (arith, kept.2, state.units_trail_in) | inr now ↦ omega (arith, now.1) ];
   are_firm = λ u clause below is. elim cases [
-    | inl kept ↦ subst (λ n. HasTrue (literals_of (take n a.trail)) clause) (sym kept.2) (state.are_firm u clause (omega (arith, below, kept.1)) is)
+    | inl kept ↦ subst (λ n. HasTrue (literals_of (take n s.assigned.trail)) clause) (sym kept.2) (state.are_firm u clause (omega (arith, below, kept.1)) is)
     | inr now ↦
-        subst (λ t. HasTrue (literals_of t) clause) (sym (take_all solid a.trail (omega (arith, now.1)))) (are u clause (omega (arith, below, now.0)) is)
+        subst (λ t. HasTrue (literals_of t) clause) (sym (take_all solid s.assigned.trail (omega (arith, now.1))))
+        (are u clause (omega (arith, below, now.0)) is)
   ];
   known_inputs = state.known_inputs;
   known_lines = state.known_lines;
@@ -403,20 +398,29 @@ is_propagated letters log all_lines old new grown =
     record { letters = refl; log = refl; all_lines = refl; more = grown.more; trail = grown.trail; forced = grown.forced }
 
 -- the short clauses were visited
-pub state_visited : (letters : ℕ) (a b : AssignedValue)
-    (w : WatchValue) (units : List Hint) (log : LogValue) (propagated lasting units_done units_trail marked : ℕ) (all_lines : Bool)
-    → IsState letters a w units log propagated lasting units_done units_trail marked all_lines
-    → IsGrown a.trail b.trail → IsTrail log.inputs log.lines b.trail → length b.values ≡ length a.values
-    → IsState letters b w units log propagated lasting units_done units_trail marked all_lines
-state_visited letters a b w units log propagated lasting units_done units_trail marked all_lines state grown is_trail same =
-    state_grown letters a b w w units log propagated lasting units_done units_trail propagated lasting marked all_lines state grown same refl state.low
-    (lasting_grown w.clauses a.trail b.trail lasting (omega (arith, state.low, state.ready.within)) grown state.is_lasting)
-    (ready_grown log.inputs log.lines propagated a b w state.ready grown is_trail same)
+pub state_visited : {s : Parts} (b : AssignedValue) → IsState s → IsGrown s.assigned.trail b.trail → IsTrail s.log.inputs s.log.lines b.trail
+    → length b.values ≡ length s.assigned.values → IsState (record s { assigned = b })
+state_visited {s} b state grown is_trail same =
+    state_grown s.lasting state (ready_grown s.log.inputs s.log.lines s.propagated s.assigned b s.watches state.ready grown is_trail same) grown same refl
+    state.low
+    (lasting_grown s.watches.clauses s.assigned.trail b.trail s.lasting (omega (arith, state.low, state.ready.within)) grown state.is_lasting)
 
 -- the state that knows nothing
 pub state_new : (a : AssignedValue) (w : WatchValue) (units : List Hint) (log : LogValue) (marked : ℕ) → a ≡ record { values = []; trail = [] }
     → w ≡ record { clauses = []; lists = []; names = [] } → units ≡ [] → log ≡ record { inputs = []; lines = []; hints = [] }
-    → IsState 0 a w units log 0 0 0 0 marked true
+    → IsState (record {
+      letters = 0;
+      assigned = a;
+      watches = w;
+      units = units;
+      log = log;
+      propagated = 0;
+      lasting = 0;
+      units_done = 0;
+      units_trail = 0;
+      marked = marked;
+      all_lines = true;
+    })
 state_new a w units log marked a_is w_is units_is log_is = rw (a_is, w_is, units_is, log_is) (record {
   ready = record {
     is_trail = λ k d below. absurd (omega (arith, below));

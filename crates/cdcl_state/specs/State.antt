@@ -15,6 +15,7 @@ use Rattle.cdcl_trail.specs.declared.assigned.Entry.{Entry}
 use Rattle.cnf_base.specs.Literal.{opposite}
 use Rattle.cdcl_propagate.specs.Units.{IsOne, AreShort, AreFirm}
 use Rattle.cdcl_state.specs.StateValue.{IsHeeded}
+use Rattle.cdcl_state.specs.declared.state.State.TheInside.{Inside}
 
 -- no letter stands in the clause twice
 abbrev pub HasLettersOnce : List Literal → Type 0
@@ -66,21 +67,51 @@ pub record IsRewound (trail : List Entry) (clause : List Literal) (old_propagate
   pub low : lasting ≤ propagated
   pub free : IsUnwatched trail clause propagated
 
-pub record IsState (letters : ℕ) (a : AssignedValue) (w : WatchValue) (units : List Hint) (log : LogValue)
-    (propagated lasting units_done units_trail marked : ℕ) (all_lines : Bool) : Type 0 where
-  pub ready : IsReady log.inputs log.lines propagated a w
-  pub low : lasting ≤ propagated
-  pub is_lasting : IsLasting w.clauses a.trail lasting
-  pub all : AreAll all_lines log.inputs log.lines (names_of w) units
-  pub long : AreLong log.inputs log.lines (names_of w)
-  pub short : AreShort log.inputs log.lines units
-  pub ones : AreOnes log.inputs log.lines units
-  pub units_done_in : units_done ≤ length units
-  pub units_trail_in : units_trail ≤ length a.trail
-  pub are_firm : AreFirm log.inputs log.lines units units_done (literals_of (take units_trail a.trail))
-  pub known_inputs : AreKnown letters log.inputs
-  pub known_lines : AreKnown letters log.lines
-  pub decided : AreKnownDecisions letters a.trail
-  pub room : (x : ℕ) → 1 ≤ x → x ≤ letters → x < length a.values
-  pub few : length a.values ≤ 2 ^ 32
-  pub size : length a.values ≤ marked
+-- the parts of a state that bear on what it has learnt and assigned, each as its field is seen
+pub record Parts : Type 0 where
+  pub letters : ℕ
+  pub assigned : AssignedValue
+  pub watches : WatchValue
+  pub units : List Hint
+  pub log : LogValue
+  pub propagated : ℕ
+  pub lasting : ℕ
+  pub units_done : ℕ
+  pub units_trail : ℕ
+  -- the number of letters that have marks
+  pub marked : ℕ
+  pub all_lines : Bool
+
+abbrev pub parts : Inside → Parts
+parts s = record {
+  letters = s.letters;
+  assigned = s.assigned;
+  watches = s.watches;
+  units = s.units.items;
+  log = s.log;
+  propagated = s.propagated;
+  lasting = s.lasting;
+  units_done = s.units_done;
+  units_trail = s.units_trail;
+  marked = length s.marks.stamps;
+  all_lines = s.all_lines;
+}
+
+-- the watch rule holds of the trail, the log's clauses are watched or short, and each letter has room
+pub record IsState (s : Parts) : Type 0 where
+  pub ready : IsReady s.log.inputs s.log.lines s.propagated s.assigned s.watches
+  pub low : s.lasting ≤ s.propagated
+  pub is_lasting : IsLasting s.watches.clauses s.assigned.trail s.lasting
+  pub all : AreAll s.all_lines s.log.inputs s.log.lines (names_of s.watches) s.units
+  pub long : AreLong s.log.inputs s.log.lines (names_of s.watches)
+  pub short : AreShort s.log.inputs s.log.lines s.units
+  pub ones : AreOnes s.log.inputs s.log.lines s.units
+  pub units_done_in : s.units_done ≤ length s.units
+  pub units_trail_in : s.units_trail ≤ length s.assigned.trail
+  pub are_firm : AreFirm s.log.inputs s.log.lines s.units s.units_done (literals_of (take s.units_trail s.assigned.trail))
+  pub known_inputs : AreKnown s.letters s.log.inputs
+  pub known_lines : AreKnown s.letters s.log.lines
+  pub decided : AreKnownDecisions s.letters s.assigned.trail
+  pub room : (x : ℕ) → 1 ≤ x → x ≤ s.letters → x < length s.assigned.values
+  pub few : length s.assigned.values ≤ 2 ^ 32
+  pub size : length s.assigned.values ≤ s.marked

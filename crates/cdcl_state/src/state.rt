@@ -62,11 +62,11 @@ pub struct State {
 }
 
 impl Model for State {
-    ghost use Rattle.std.specs.Prelude.{length};
     ghost use Rattle.cdcl_state.specs.StateValue.{StateValue};
-    ghost use Rattle.cdcl_state.specs.State.{IsState};
 
     ghost Value = { StateValue };
+
+    ghost use Rattle.cdcl_state.specs.State.{IsState, parts};
 
     ghost view = { λ a. record {
       letters = a.letters;
@@ -75,8 +75,7 @@ impl Model for State {
       all_lines = a.all_lines;
     } };
 
-    ghost invariant = { λ a. IsState a.letters a.assigned a.watches a.units.items a.log a.propagated a.lasting
-        a.units_done a.units_trail (length a.marks.stamps) a.all_lines };
+    ghost invariant = { λ a. IsState (parts a) };
 }
 
 impl State {

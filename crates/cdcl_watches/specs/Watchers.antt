@@ -2,6 +2,7 @@
 use Rattle.std.specs.Prelude.{◌≡◌, ℕ, ◌<◌, ◌≤◌, List, [], ◌∷◌, ◌++◌, length, map, All, Contains, slice_index_or, slice_set}
 use Rattle.std.specs.List.{remove_range}
 use Rattle.cnf_base.specs.declared.literal.Literal.{Literal}
+use Rattle.cdcl_watches.specs.declared.walk.Walk.{Walk}
 use Rattle.cdcl_watches.specs.declared.watcher.Watcher.{Watcher}
 use Rattle.cdcl_watches.specs.Watching.{code, literal_of, clause_of, IsWatching, WatchValue}
 use Rattle.cdcl_watches.specs.Heads.{number_of, ArenaValue}
@@ -53,13 +54,35 @@ pub record IsLinked (before now : List (List Watcher)) (head : ℕ) (a b : Liter
 abbrev pub without : List (List Watcher) → ℕ → ℕ → ℕ → List (List Watcher)
 without lists k kept next = slice_set lists k (remove_range (slice_index_or lists k []) kept next)
 
--- a walk stands in a list: the watchers before kept stay there, those from next on are still to come, and what is between counts for nothing
-pub record IsWalked (arena : ArenaValue) (lists : List (List Watcher)) (k kept next : ℕ) : Type 0 where
-  pub known : k < length lists
-  pub order : kept ≤ next
-  pub inside : next ≤ length (slice_index_or lists k [])
-  pub watchers : AreWatchers arena.heads arena.clauses (without lists k kept next)
+-- a walk along the list of a literal: the clauses, the lists, the literal, and where the walk stands
+pub record ListWalk : Type 0 where
+  pub arena : ArenaValue
+  pub lists : List (List Watcher)
+  pub literal : Literal
+  pub at : Walk
+
+abbrev pub walk_in : ArenaValue → List (List Watcher) → Literal → Walk → ListWalk
+walk_in arena lists literal walk = record { arena = arena; lists = lists; literal = literal; at = walk }
+
+-- the list that it goes along
+abbrev pub row_of : ListWalk → List Watcher
+row_of w = slice_index_or w.lists (code w.literal) []
+
+-- the next watcher there
+abbrev pub next_of : ListWalk → Watcher
+next_of w = slice_index_or (row_of w) w.at.next nobody
+
+-- the lists, its own without the places that count for nothing
+abbrev pub closed : ListWalk → List (List Watcher)
+closed w = without w.lists (code w.literal) w.at.kept w.at.next
+
+-- it stands in its list: the watchers before kept stay there, those from next on are still to come, and what is between counts for nothing
+pub record IsWalked (w : ListWalk) : Type 0 where
+  pub known : code w.literal < length w.lists
+  pub order : w.at.kept ≤ w.at.next
+  pub inside : w.at.next ≤ length (row_of w)
+  pub watchers : AreWatchers w.arena.heads w.arena.clauses (closed w)
 
 -- the clauses, the lists and the names as they are where the walk stands
-abbrev pub walked : ArenaValue → List (List Watcher) → ℕ → ℕ → ℕ → WatchValue
-walked arena lists k kept next = record { clauses = arena.clauses; lists = numbers arena.heads (without lists k kept next); names = arena.names }
+abbrev pub walked : ListWalk → WatchValue
+walked w = record { clauses = w.arena.clauses; lists = numbers w.arena.heads (closed w); names = w.arena.names }

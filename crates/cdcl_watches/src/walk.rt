@@ -4,7 +4,7 @@
 ghost use Rattle.std.specs.Prelude.{◌≡◌, ◌+◌, ◌<◌, ◌≤◌, [], ◌∷◌, ◌++◌, length, if◌then◌else◌, is_ok, slice_index_or, slice_set};
 ghost use Rattle.std.specs.List.{remove, swap};
 ghost use Rattle.cdcl_watches.specs.Watching.{code, list_of, clause_of};
-ghost use Rattle.cdcl_watches.specs.Watchers.{nobody, IsWalked, walked};
+ghost use Rattle.cdcl_watches.specs.Watchers.{nobody, IsWalked, walk_in, walked};
 ghost use Rattle.cdcl_watches.specs.Heads.{number_of};
 
 use crate::arena::Arena;
@@ -48,7 +48,7 @@ pub fn keep(
     head: u32,
     first: Literal,
 )
-    requires walked { IsWalked arena.now lists.old (code literal) walk.old.kept walk.old.next }
+    requires walked { IsWalked (walk_in arena.now lists.old literal walk.old) }
     requires there { walk.old.next < length (slice_index_or lists.old (code literal) []) }
     requires head { head ≡ (slice_index_or (slice_index_or lists.old (code literal) []) walk.old.next
         nobody).head }
@@ -56,11 +56,11 @@ pub fn keep(
         (number_of arena.now.heads head)) 0 first }
     ensures kept { walk.new.kept ≡ walk.old.kept + 1 }
     ensures next { walk.new.next ≡ walk.old.next + 1 }
-    ensures walked { IsWalked arena.now lists.new (code literal) walk.new.kept walk.new.next }
+    ensures walked { IsWalked (walk_in arena.now lists.new literal walk.new) }
     ensures length { length (slice_index_or lists.new (code literal) [])
         ≡ length (slice_index_or lists.old (code literal) []) }
-    ensures same { walked arena.now lists.new (code literal) walk.new.kept walk.new.next
-        ≡ walked arena.now lists.old (code literal) walk.old.kept walk.old.next }
+    ensures same { walked (walk_in arena.now lists.new literal walk.new)
+        ≡ walked (walk_in arena.now lists.old literal walk.old) }
 {
     arena.invariant();
     lists.invariant();
@@ -77,7 +77,7 @@ pub fn rewatch(
     other: Literal,
     j: usize,
 ) -> Result<(), AllocError>
-    requires walked { IsWalked arena.old lists.old (code second) walk.old.kept walk.old.next }
+    requires walked { IsWalked (walk_in arena.old lists.old second walk.old) }
     requires there { walk.old.next < length (slice_index_or lists.old (code second) []) }
     requires head { head ≡ (slice_index_or (slice_index_or lists.old (code second) []) walk.old.next
         nobody).head }
@@ -89,7 +89,7 @@ pub fn rewatch(
         (number_of arena.old.heads head)) j other }
     ensures kept { walk.new.kept ≡ walk.old.kept }
     ensures next { walk.new.next ≡ (if is_ok result then walk.old.next + 1 else walk.old.next) }
-    ensures walked { IsWalked arena.new lists.new (code second) walk.new.kept walk.new.next }
+    ensures walked { IsWalked (walk_in arena.new lists.new second walk.new) }
     ensures length { length (slice_index_or lists.new (code second) [])
         ≡ length (slice_index_or lists.old (code second) []) }
     ensures clauses { arena.new.clauses ≡ (if is_ok result then slice_set arena.old.clauses
@@ -97,14 +97,11 @@ pub fn rewatch(
         (swap (clause_of arena.old.clauses (number_of arena.old.heads head)) 1 j)
         else arena.old.clauses) }
     ensures names { arena.new.names ≡ arena.old.names }
-    ensures lists { (walked arena.new lists.new (code second) walk.new.kept walk.new.next).lists
-        ≡ (if is_ok result then slice_set (slice_set
-        (walked arena.old lists.old (code second) walk.old.kept walk.old.next).lists (code other)
-        (list_of (walked arena.old lists.old (code second) walk.old.kept walk.old.next).lists other
+    ensures lists { let before = (walked (walk_in arena.old lists.old second walk.old)).lists in
+        (walked (walk_in arena.new lists.new second walk.new)).lists ≡ (if is_ok result then
+        slice_set (slice_set before (code other) (list_of before other
         ++ number_of arena.old.heads head ∷ [])) (code second)
-        (remove (list_of (walked arena.old lists.old (code second) walk.old.kept walk.old.next).lists
-        second) walk.old.kept)
-        else (walked arena.old lists.old (code second) walk.old.kept walk.old.next).lists) }
+        (remove (list_of before second) walk.old.kept) else before) }
 {
     lists.invariant();
     let _count = lists.len(number(second));

@@ -261,7 +261,7 @@ module _ (task : Task) (is : IsTask task) where
 
 -- ---- the next kept occurrences, marked or not
 
-module _ (task : Task) (is : IsTask task) (marks : List Bool) (am : AreMarks task marks) (at stop : ℕ) (places : List ℕ)
+module _ {task : Task} {marks : List Bool} {at stop : ℕ} {places : List ℕ} (is : IsTask task) (am : AreMarks task marks)
     (next : AreNext (formula_of task) (marked marks) at stop places)
     (clear : IsClear (formula_of task) (marked marks) stop) (on : at ≤ stop) (low : stop < length task.order.items) where
   -- behind a marked place the next ones are behind what is under it
@@ -311,9 +311,8 @@ taken_on task P Q at next step =
     let a = step.1 in
     let e = step.4 in omega arith
 
-module _ (task : Task) (is : IsTask task) (marks : List Bool) (at stop : ℕ) (places : List ℕ) (found : List Outcome)
-    (next : AreNext (formula_of task) (marked marks) at stop places)
-    (tested : AreTested task marks places found) where
+module _ {task : Task} {marks : List Bool} {at stop : ℕ} {places : List ℕ} {found : List Outcome} (is : IsTask task)
+    (tested : AreTested task marks places found) (next : AreNext (formula_of task) (marked marks) at stop places) where
   pub step_left : at < stop → stop ≤ length task.order.items → IsClear (formula_of task) (marked marks) stop → IsFirstClosed found None
       → IsStep task (marked marks) at (advances.Left stop) (marked marks)
   step_left on within clear first = (

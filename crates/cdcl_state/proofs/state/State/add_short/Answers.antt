@@ -1,8 +1,7 @@
 use Rattle.std.proofs.Common.{◌≡◌, ◌+◌, All, length, sym, ap, ◌∙◌, subst}
 use Rattle.std.proofs.lemmas.List.{length_push}
-use Rattle.cnf_base.specs.declared.literal.Hint.TheVariants.{Clause}
 use Rattle.cnf_base.specs.Known.{IsKnown}
-use Rattle.clause_log.specs.LogValue.{LogValue, with_input}
+use Rattle.clause_log.specs.LogValue.{LogValue}
 use Rattle.cdcl_state.specs.StateValue.{StateValue, state_of}
 use Rattle.cdcl_state.proofs.Attach.{input_more, state_short, known_more}
 use Rattle.cdcl_state.proofs.Distinct.{one_short}
@@ -18,9 +17,7 @@ invariant_of-self-in-Ok c =
     let count : number ≡ length log.inputs + 1 =
     c.in_ok-number.ensures.added.1 ∙ ap (λ (l : LogValue). length l.inputs) c.in_ok-number.ensures.added.0 ∙ length_push log.inputs clause in
     rw (c.in-Ok.ensures.items, c.in_ok-number.ensures.added.0)
-    (state_short letters c.self.inside.assigned c.self.inside.watches c.self.inside.units.items log (with_input log clause) c.self.inside.propagated
-    c.self.inside.lasting c.self.inside.units_done c.self.inside.units_trail (length c.self.inside.marks.stamps) c.self.inside.all_lines
-    (Clause number) clause c.self.invariant (input_more log clause number count) (known_more letters log.inputs clause c.self.invariant.known_inputs known)
+    (state_short c.self.invariant (input_more log clause number count) (known_more letters log.inputs clause c.self.invariant.known_inputs known)
     c.self.invariant.known_lines (one_short clause c.args.stored.now c.requires.same c.requires.short))
 
 pub invariant_of-self-in-Err : goal.invariant_of-self-in-Err

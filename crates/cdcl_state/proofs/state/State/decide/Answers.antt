@@ -1,4 +1,4 @@
-use Rattle.std.proofs.Common.{◌+◌, is_ok, None, length, sym, ap, subst, arith}
+use Rattle.std.proofs.Common.{◌+◌, is_ok, None, sym, ap, subst, arith}
 use Rattle.cnf_base.specs.Known.{IsKnown}
 use Rattle.cdcl_state.specs.StateValue.{StateValue}
 use Rattle.cdcl_trail.specs.declared.assigned.Entry.{Entry}
@@ -19,8 +19,6 @@ invariant_of-self c =
     let e : Entry = record { literal = c.args.literal; level = level; reason = None } in
     let known : IsKnown c.self.inside.letters c.args.literal =
     subst (λ (s : StateValue). IsKnown s.letters c.args.literal) (sym c.self.view_is) c.requires.known in
-    state_assigned c.self.inside.letters a c.assign.new.self c.self.inside.watches c.self.inside.units.items log c.self.inside.propagated c.self.inside.lasting
-    c.self.inside.units_done c.self.inside.units_trail (length c.self.inside.marks.stamps) c.self.inside.all_lines e
-    c.self.invariant c.assign.ensures.letters
+    state_assigned c.assign.new.self e c.self.invariant c.assign.ensures.letters
     (decision_stands log.inputs log.lines a.trail c.args.literal level c.self.invariant.ready.is_trail (ap (λ n. n + 1) c.len-level.ensures)) (λ _. known)
     (is_ok c.assign.result) c.assign.ensures.trail

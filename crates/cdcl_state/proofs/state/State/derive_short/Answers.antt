@@ -1,8 +1,7 @@
 use Rattle.std.proofs.Common.{◌≡◌, ◌+◌, All, length, sym, ap, ◌∙◌, subst}
 use Rattle.std.proofs.lemmas.List.{length_push}
-use Rattle.cnf_base.specs.declared.literal.Hint.TheVariants.{Line}
 use Rattle.cnf_base.specs.Known.{IsKnown}
-use Rattle.clause_log.specs.LogValue.{LogValue, with_line}
+use Rattle.clause_log.specs.LogValue.{LogValue}
 use Rattle.cdcl_state.specs.StateValue.{StateValue, state_of}
 use Rattle.cdcl_state.proofs.Attach.{line_more, state_short, known_more}
 use Rattle.cdcl_state.proofs.Distinct.{one_short}
@@ -18,10 +17,7 @@ invariant_of-self-in-Ok c =
     let count : number ≡ length log.lines + 1 =
     c.in_ok-number.ensures.added.1 ∙ ap (λ (l : LogValue). length l.lines) c.in_ok-number.ensures.added.0 ∙ length_push log.lines clause in
     rw (c.in-Ok.ensures.items, c.in_ok-number.ensures.added.0)
-    (state_short letters c.self.inside.assigned c.self.inside.watches c.self.inside.units.items log (with_line log clause c.args.hints.now)
-    c.self.inside.propagated c.self.inside.lasting c.self.inside.units_done c.self.inside.units_trail (length c.self.inside.marks.stamps)
-    c.self.inside.all_lines
-    (Line number) clause c.self.invariant (line_more log clause c.args.hints.now number count) c.self.invariant.known_inputs
+    (state_short c.self.invariant (line_more log clause c.args.hints.now number count) c.self.invariant.known_inputs
     (known_more letters log.lines clause c.self.invariant.known_lines known) (one_short clause c.args.stored.now c.requires.same c.requires.short))
 
 pub invariant_of-self-in-Err : goal.invariant_of-self-in-Err

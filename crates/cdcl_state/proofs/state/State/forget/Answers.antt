@@ -1,4 +1,5 @@
-use Rattle.std.proofs.Common.{◌∙◌, length, refl, false}
+use Rattle.std.proofs.Common.{◌∙◌, refl, false}
+use Rattle.cdcl_state.specs.State.{parts}
 use Rattle.cdcl_state.proofs.Gathering.{state_gathered}
 use Rattle.cdcl_state.proofs.Copying.{all_long, gathered_copied}
 use Rattle.cdcl_state.proofs.state.State.forget.Goals as goal
@@ -8,9 +9,8 @@ gather-requires c = all_long c.self.inside.log c.self.inside.watches c.self.inva
 
 pub invariant_of-self : goal.invariant_of-self
 invariant_of-self c =
-    let s = c.self.inside in
+    let s = parts c.self.inside in
     let v = c.in_ok-watches.watches in
-    state_gathered s.letters s.assigned s.watches v s.units.items s.log s.propagated s.lasting s.units_done s.units_trail (length s.marks.stamps) s.all_lines
-    (length s.marks.stamps) false c.self.invariant
+    state_gathered v s.marked false c.self.invariant
     (gathered_copied s.log s.watches v c.self.invariant.ready.stored c.self.invariant.long c.in_ok-watches.ensures.copied)
     (c.in_ok-watches.ensures.lists ∙ c.self.invariant.ready.sized) refl

@@ -23,8 +23,7 @@ invariant_of-self c =
     let v = c.complete.new.watches in
     let gathered = subst (λ (l : LogValue). IsGathered (IsCarried false (names_of s.watches)) l v) c.view.ensures.same c.complete.ensures.kept in
     rw c.if-self.false
-    (state_gathered s.letters s.assigned s.watches v s.units.items s.log s.propagated s.lasting s.units_done s.units_trail (length s.marks.stamps) s.all_lines
-    (length c.complete.new.marks.stamps) false c.self.invariant gathered
+    (state_gathered v (length c.complete.new.marks.stamps) false c.self.invariant gathered
     (c.complete.ensures.lists ∙ c.self.invariant.ready.sized) c.complete.ensures.size)
 
 pub invariant_of-self-2 : goal.invariant_of-self-2
@@ -32,6 +31,5 @@ invariant_of-self-2 c =
     let s = c.self.inside in
     let v = c.complete.new.watches in
     let gathered = subst (λ (l : LogValue). IsGathered (IsCarried true (names_of s.watches)) l v) c.view.ensures.same c.in_ok-complete.ensures.all_lines in
-    state_gathered s.letters s.assigned s.watches v s.units.items s.log s.propagated s.lasting s.units_done s.units_trail (length s.marks.stamps) s.all_lines
-    (length c.complete.new.marks.stamps) true c.self.invariant gathered
+    state_gathered v (length c.complete.new.marks.stamps) true c.self.invariant gathered
     (c.complete.ensures.lists ∙ c.self.invariant.ready.sized) c.complete.ensures.size
