@@ -28,13 +28,11 @@ pub mod NewNames
 pub mod Depasted
 pub mod OneAnswer
 pub mod Listed
-pub mod Ordered
 pub mod ReadAgain
 pub mod RunTraces
 pub mod SomeSolved
 pub mod SomeSystem
 pub mod SomeMonitored
-pub mod FewEntries
 pub mod SomeBatched
 pub mod SomeChecked
 pub mod SomeAnswer

@@ -20,7 +20,7 @@ use Rattle.ltl_word.specs.State.{IsAscending}
 use Rattle.ltl_word.specs.Trace.{Names, IsTrace}
 use Rattle.ltl_word.specs.Json.{state_data, states_data, trace_data, trace_text, AreSetsOf, IsTraceOf}
 use Rattle.report.specs.Texts.{ReadsBack}
-use Rattle.black_top.proofs.Ordered.{here, later}
+use Rattle.ltl_word.proofs.Sets.{here, later}
 
 -- ---- it is read
 

@@ -22,7 +22,7 @@ use Rattle.ltl_run.proofs.Closed.{shown_gives}
 use Rattle.unravel.specs.Decision.{IsTraceOfRun}
 use Rattle.report.specs.Texts.{ReadsBack}
 use Rattle.black_top.proofs.Listed.{listed}
-use Rattle.black_top.proofs.Ordered.{none_ascends, set_of}
+use Rattle.ltl_word.proofs.Sets.{none_ascends, set_of}
 use Rattle.black_top.proofs.ReadAgain.{AreTexts, AreGood, IsGood, reads_back}
 
 -- what is known of words and of runs

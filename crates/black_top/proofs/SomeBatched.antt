@@ -23,7 +23,7 @@ use Rattle.black_top.specs.Answer.{Answer, refused, batched}
 use Rattle.black_top.specs.Batch.{max_batch, IsBatched, too_many, answered}
 use Rattle.program_input.specs.Reading.{RefusesPart, too_long, lexical, grammar, many_nodes}
 use Rattle.black_top.specs.Solve.{number_of}
-use Rattle.black_top.proofs.FewEntries.{small_closure}
+use Rattle.core_extract.proofs.Tabled.{small_closure}
 use Rattle.program_input.proofs.SomeParts.{EachHasOutcome, accepted_or_refused}
 
 -- ---- lines

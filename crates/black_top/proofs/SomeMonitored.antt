@@ -24,7 +24,7 @@ use Rattle.report.specs.declared.fault.Fault.TheVariants as faults
 use Rattle.black_top.specs.Answer.{refused, watched}
 use Rattle.black_top.specs.Monitor.{IsMonitored, looks_ahead, no_state, answered}
 use Rattle.black_top.proofs.Listed.{listed}
-use Rattle.black_top.proofs.Ordered.{set_of}
+use Rattle.ltl_word.proofs.Sets.{set_of}
 use Rattle.black_top.proofs.Parted.{HasSome}
 use Rattle.black_top.proofs.SomeSystem.{both, all_three}
 

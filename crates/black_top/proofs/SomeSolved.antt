@@ -23,7 +23,7 @@ use Rattle.black_top.specs.Conflict.{ShowsCore}
 use Rattle.black_top.specs.Solve.{IsReached, number_of, IsDecided, satisfiable, unsatisfiable, undecided_yet, IsSettled, too_deep, decided, IsSolved}
 use Rattle.black_top.specs.Solve.{unreadable, settled}
 use Rattle.black_top.specs.Trace.{IsJudged, not_json, not_trace, empty_loop, empty_states, many_cells, satisfied, violated}
-use Rattle.black_top.proofs.Ordered.{sets_length}
+use Rattle.ltl_word.proofs.Sets.{sets_length}
 use Rattle.black_top.proofs.RunTraces.{RunLaws, run_trace}
 use Rattle.program_input.proofs.SomeParts.{EachHasOutcome, accepted_or_refused}
 use Rattle.black_top.proofs.Parted.{HasSome}

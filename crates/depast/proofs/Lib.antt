@@ -1,5 +1,4 @@
 -- Lemmas on axioms, residues, lifted and lowered traces.
-mod Lists
 mod Waiting
 mod Rows
 mod AxiomRows

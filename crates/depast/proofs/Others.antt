@@ -15,7 +15,7 @@ use Rattle.depast.specs.Names.{most_leading, new_name}
 use Rattle.depast.specs.Lifting.{IsOld, IsLowered, HasLiftedShape}
 use Rattle.depast.specs.Removal.{AreNewNames}
 use Rattle.depast.specs.States.{AreOthers, AreLowered}
-use Rattle.depast.proofs.Lists.{Contains-nil, Contains-cons_cases}
+use Rattle.ltl_syntax.proofs.Members.{Contains-nil, Contains-cons_cases}
 
 -- ---- one name more
 

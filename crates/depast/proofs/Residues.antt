@@ -24,7 +24,7 @@ use Rattle.depast.specs.Depast.{taken, taken₁, conjoined, step_back, joined_ba
 use Rattle.depast.specs.Depast.{back_axioms, axioms, axioms₁, axioms₂}
 use Rattle.depast.specs.Lifting.{counted, meanings, meanings₁, meanings₂}
 use Rattle.depast.specs.Laws.{IsPart}
-use Rattle.depast.proofs.Lists.{Contains-nil, Contains-cons_cases}
+use Rattle.ltl_syntax.proofs.Members.{Contains-nil, Contains-cons_cases}
 use Rattle.depast.specs.Future.{IsFuture₂}
 use Rattle.depast.proofs.Ranges.{SomeStep, EachStep, Back, WeakBack, some_steps, every_steps, no_step, one_step, step_one, last_step}
 use Rattle.depast.proofs.Ranges.{step_last, each_one, one_each, each_last, last_each}

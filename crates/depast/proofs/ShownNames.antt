@@ -10,7 +10,7 @@ use Rattle.ltl_word.specs.Trace.{Names, state_at}
 use Rattle.depast.specs.declared.lifting.Meanings.{Meanings}
 use Rattle.depast.specs.Sources.{shown, IsShown, IsLiftedState, blank_source}
 use Rattle.depast.specs.States.{AreOthers}
-use Rattle.depast.proofs.Lists.{Contains-nil, Contains-cons_cases, Contains-here}
+use Rattle.ltl_syntax.proofs.Members.{Contains-nil, Contains-cons_cases, Contains-here}
 
 module _ (m : Meanings) (names old : Names) (i : ℕ) where
   -- the names of a state without new ones, with those of the first n sources that are true

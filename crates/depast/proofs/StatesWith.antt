@@ -7,7 +7,7 @@ use Rattle.ltl_word.specs.Trace.{Names}
 use Rattle.depast.specs.Names.{most_leading, new_name}
 use Rattle.depast.specs.Depast.{taken}
 use Rattle.depast.specs.Lifting.{IsOld}
-use Rattle.depast.proofs.Lists.{Contains-nil, Contains-cons_cases, Contains-here, Contains-there}
+use Rattle.ltl_syntax.proofs.Members.{Contains-nil, Contains-cons_cases, Contains-here, Contains-there}
 use Rattle.depast.proofs.Telling.{one_number, old_decided}
 
 module _ (f : Formula) where

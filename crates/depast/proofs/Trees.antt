@@ -12,6 +12,7 @@ use Rattle.ltl_syntax.specs.declared.node.Node.{Node}
 use Rattle.ltl_syntax.specs.declared.node.Node.TheVariants as nodes
 use Rattle.ltl_syntax.specs.Size.{node_size, sizes, formula_size}
 use Rattle.ltl_syntax.specs.Table.{Table, IsFine, tree_at, trees_of, made, has_child}
+use Rattle.ltl_syntax.proofs.Distinct.{two_at}
 
 -- a node as it is read
 pub record IsSeen (t : Table) (number : ℕ) : Type 0 where
@@ -23,24 +24,6 @@ pub record IsSeen (t : Table) (number : ℕ) : Type 0 where
 -- and each below a number
 abbrev pub Seen : Table → ℕ → Type 0
 Seen t k = (j : ℕ) → j < k → IsSeen t j
-
--- ---- two places where a predicate holds count twice
-
-one_counted : {X : Type 0} (p : X → Bool) (xs : List X) (i : ℕ) (d : X) → i < length xs → p (get_or xs i d) ≡ true → 1 ≤ count_by p xs
-one_counted p xs i d low has =
-    let first = count_by_more_yes p xs i d low has in
-    let whole = sum_by-take-drop (λ x. cond (p x) 1 0) xs (i + 1) in
-    omega (arith, first, whole)
-
-two_at : {X : Type 0} (p : X → Bool) (xs : List X) (i j : ℕ) (d : X) → i < j → j < length xs
-    → p (get_or xs i d) ≡ true → p (get_or xs j d) ≡ true → 2 ≤ count_by p xs
-two_at p xs i j d low within hi hj =
-    let first = count_by_more_yes p xs i d (omega arith) hi in
-    let whole = sum_by-take-drop (λ x. cond (p x) 1 0) xs (i + 1) in
-    let e : (i + 1) + (j - (i + 1)) ≡ j = omega arith in
-    let there : get_or (drop (i + 1) xs) (j - (i + 1)) d ≡ get_or xs j d = get_or-drop (i + 1) xs (j - (i + 1)) d ∙ ap (λ m. get_or xs m d) e in
-    let second = one_counted p (drop (i + 1) xs) (j - (i + 1)) d (omega (arith, length-drop (i + 1) xs)) (ap p there ∙ hj) in
-    omega (arith, first, whole, second)
 
 -- ---- sums of weights
 

@@ -10,12 +10,10 @@ use crate::build::build;
 use crate::counts::counts_under;
 use crate::names::NewNames;
 use crate::writer::written;
-use ltl_syntax::FormulaTable;
+use ltl_syntax::{FormulaTable, MAX_SIZE};
 use ltl_word::Name;
 use std::alloc::{AllocError, AllocFailed, Global};
 use std::marker::Model;
-
-const MAX_SIZE: u32 = 16_384;
 
 /// Why past operators were not taken out.
 #[derive(Clone, Copy, Debug, PartialEq, Eq)]

@@ -6,10 +6,8 @@ ghost use Rattle.formula_copy.specs.Copy.{IsPut, IsPutOn};
 
 use crate::copying::copy;
 use crate::parts::TablePart;
-use ltl_syntax::{FormulaTable, Node, PushRefused, mark_under};
+use ltl_syntax::{FormulaTable, MAX_SIZE, Node, PushRefused, mark_under};
 use std::alloc::{AllocError, Global};
-
-const MAX_SIZE: u32 = 16_384;
 
 /// The size of the formula under a node.
 pub fn tree_size(alloc: Global, table: &FormulaTable, root: u32) -> Result<u32, AllocError>

@@ -11,10 +11,8 @@ ghost use Rattle.ltl_parser.specs.Text.{symbols, grammar_fault, names_of, IsAcce
 use crate::build::build;
 use crate::walking::walk;
 use ltl_lexer::Token;
-use ltl_syntax::FormulaTable;
+use ltl_syntax::{FormulaTable, MAX_SIZE};
 use std::alloc::Global;
-
-const MAX_SIZE: u32 = 16_384;
 
 /// Why tokens give no table, in the order in which the causes are tried.
 #[derive(Clone, Copy, Debug, PartialEq, Eq)]

@@ -26,7 +26,7 @@ one_counted p xs i d low has =
     let whole = sum_by-take-drop (λ x. cond (p x) 1 0) xs (i + 1) in
     omega (arith, first, whole)
 
-two_at : {X : Type 0} (p : X → Bool) (xs : List X) (i j : ℕ) (d : X) → i < j → j < length xs
+pub two_at : {X : Type 0} (p : X → Bool) (xs : List X) (i j : ℕ) (d : X) → i < j → j < length xs
     → p (get_or xs i d) ≡ true → p (get_or xs j d) ≡ true → 2 ≤ count_by p xs
 two_at p xs i j d low within hi hj =
     let first = count_by_more_yes p xs i d (omega arith) hi in

@@ -17,4 +17,4 @@ pub use node::{BinaryOp, Kind, Node, UnaryOp};
 pub use preorder::nodes_under;
 pub use printing::print;
 pub use replacing::replace;
-pub use table::{FormulaTable, PushRefused};
+pub use table::{FormulaTable, MAX_SIZE, PushRefused};

@@ -15,7 +15,8 @@ use indexmap::IndexSet;
 use std::alloc::{AllocError, AllocFailed, Global};
 use std::marker::Model;
 
-const MAX_SIZE: u32 = 16_384;
+/// The most that the sizes of a table's nodes add up to, and the largest size of a formula.
+pub const MAX_SIZE: u32 = 16_384;
 
 /// Why a node was not added: the sizes of the nodes would add up to more than 16,384, or memory ran out.
 #[derive(Clone, Copy, Debug, PartialEq, Eq)]

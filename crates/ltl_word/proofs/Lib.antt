@@ -11,8 +11,9 @@ pub mod Decided
 mod Propositional
 mod Written
 mod Prefixes
-mod Forms
-mod Parts
+pub mod Forms
+pub mod Sets
+pub mod Parts
 mod OneReading
 mod SomeReading
 mod Lookup

@@ -6,7 +6,6 @@ mod Trees
 mod Parts
 mod Placing
 mod Runs
-mod Forms
 mod Lines
 mod Watching
 mod OneState

@@ -15,6 +15,7 @@ use Rattle.ltl_word.specs.declared.trace.Trace.TheVariants.{Infinite, Finite}
 use Rattle.ltl_word.specs.State.{IsAscending}
 use Rattle.ltl_word.specs.Trace.{Names}
 use Rattle.ltl_word.specs.Json.{AreSetsOf, IsTraceOf}
+use Rattle.ltl_word.proofs.Sets.{map_apart, one_trace}
 use Rattle.requirement_document.specs.declared.document.Role.{Role}
 use Rattle.requirement_document.specs.declared.document.Role.TheVariants as roles
 use Rattle.requirement_document.specs.declared.fault.Section.TheVariants as sections
@@ -27,105 +28,13 @@ use Rattle.requirement_document.proofs.Stating.{same_items}
 use Rattle.requirement_document.proofs.Good.{IsOneOutcome}
 use Rattle.requirement_document.proofs.Excluding.{same_definitions, same_list}
 
--- ---- a set of names has one list
-
-below : List ℕ → List ℕ → Type 0
-below x y = slice_cmp nat_cmp x y ≡ Less
-
-not_below_itself : (x : List ℕ) → below x x → ⊥
-unfolding below
-not_below_itself x h = let e : slice_cmp nat_cmp x x ≡ Equal = tied_itself nat_list_cmp_total x in cc
-
-not_both_below : (x y : List ℕ) → below x y → below y x → ⊥
-unfolding below
-not_both_below x y h k = let e : slice_cmp nat_cmp x y ≡ Greater = nat_list_cmp_total.antisymm x y ∙ ap ordering_reverse k in cc
-
-first_below : (x : List ℕ) (xs : Names) (y : List ℕ) → IsAscending (x ∷ xs) → Contains xs y → below x y
-unfolding below
-first_below x xs y h c = All-contains (λ z. slice_cmp nat_cmp x z ≡ Less) xs y (All-after_first (slice_cmp nat_cmp) x xs h) c
-
-first_or_later : (x : List ℕ) (xs : Names) (y : List ℕ) → Contains (x ∷ xs) y → (x ≡ y) ⊎ Contains xs y
-first_or_later x xs y (zero, lt, e) = inl e
-first_or_later x xs y (suc k, lt, e) = inr (k, omega arith, e)
-
-here : (x : List ℕ) (xs : Names) → Contains (x ∷ xs) x
-here x xs = (zero, omega arith, refl)
-
-later : (x : List ℕ) (xs : Names) (y : List ℕ) → Contains xs y → Contains (x ∷ xs) y
-later x xs y (k, lt, e) = (suc k, omega arith, e)
-
-no_member : (x : List ℕ) → Contains [] x → ⊥
-no_member x (k, lt, e) = omega arith
-
-AreWithin : Names → Names → Type 0
-AreWithin xs ys = (n : List ℕ) → Contains xs n → Contains ys n
-
-same_first : (x y : List ℕ) (xs ys : Names) → IsAscending (x ∷ xs) → IsAscending (y ∷ ys) → AreWithin (x ∷ xs) (y ∷ ys) → AreWithin (y ∷ ys) (x ∷ xs) → x ≡ y
-unfolding AreWithin
-same_first x y xs ys h k up down = elim (first_or_later y ys x (up x (here x xs))) [
-  | inl e ↦ sym e
-  | inr c ↦ elim (first_or_later x xs y (down y (here y ys))) [
-    | inl e ↦ e
-    | inr d ↦ absurd (not_both_below x y (first_below x xs y h d) (first_below y ys x k c))
-  ]
-]
-
-rest_within : (x : List ℕ) (xs ys : Names) → IsAscending (x ∷ xs) → AreWithin (x ∷ xs) (x ∷ ys) → AreWithin xs ys
-unfolding AreWithin
-rest_within x xs ys h up n c = elim (first_or_later x ys n (up n (later x xs n c))) [
-  | inl e ↦ absurd (not_below_itself x (subst (below x) (sym e) (first_below x xs n h c)))
-  | inr d ↦ d
-]
-
-one_list : (xs ys : Names) → IsAscending xs → IsAscending ys → AreWithin xs ys → AreWithin ys xs → xs ≡ ys
-unfolding AreWithin
-one_list [] [] h k up down = refl
-one_list [] (y ∷ ys) h k up down = absurd (no_member y (down y (here y ys)))
-one_list (x ∷ xs) [] h k up down = absurd (no_member x (up x (here x xs)))
-one_list (x ∷ xs) (y ∷ ys) h k up down =
-    let e : x ≡ y = same_first x y xs ys h k up down in
-    let k' : IsAscending (x ∷ ys) = subst (λ z. IsAscending (z ∷ ys)) (sym e) k in
-    let up' : AreWithin (x ∷ xs) (x ∷ ys) = subst (λ z. AreWithin (x ∷ xs) (z ∷ ys)) (sym e) up in
-    let down' : AreWithin (x ∷ ys) (x ∷ xs) = subst (λ z. AreWithin (z ∷ ys) (x ∷ xs)) (sym e) down in
-    let rest = one_list xs ys (sorted_tail (slice_cmp nat_cmp) x xs h) (sorted_tail (slice_cmp nat_cmp) x ys k') (rest_within x xs ys h up')
-    (rest_within x ys xs k' down') in
-    ap₂ ◌∷◌ e rest
-
-same_sets : (all s t : List Names) → AreSetsOf all s → AreSetsOf all t → s ≡ t
-unfolding AreWithin
-same_sets [] [] [] h k = refl
-same_sets [] [] (y ∷ t) h k = absurd k
-same_sets [] (x ∷ s) t h k = absurd h
-same_sets (n ∷ all) [] t h k = absurd h
-same_sets (n ∷ all) (x ∷ s) [] h k = absurd k
-same_sets (n ∷ all) (x ∷ s) (y ∷ t) h k =
-    let first : x ≡ y = one_list x y h.0.0 k.0.0 (λ m c. (k.0.1 m).1 ((h.0.1 m).0 c)) (λ m c. (h.0.1 m).1 ((k.0.1 m).0 c)) in
-    ap₂ ◌∷◌ first (same_sets all s t h.1 k.1)
-
-same_trace : (w s t : Trace) → IsTraceOf w s → IsTraceOf w t → s ≡ t
-same_trace (Infinite a b) (Infinite c d) (Infinite c' d') h k = ap₂ Infinite (same_sets a c c' h.0 k.0) (same_sets b d d' h.1 k.1)
-same_trace (Infinite a b) (Infinite c d) (Finite c') h k = absurd k
-same_trace (Infinite a b) (Finite c) t h k = absurd h
-same_trace (Finite a) (Infinite c d) t h k = absurd h
-same_trace (Finite a) (Finite c) (Infinite c' d') h k = absurd k
-same_trace (Finite a) (Finite c) (Finite c') h k = ap Finite (same_sets a c c' h k)
-
 -- ---- what is written in an entry
 
-one_preimage : {B : Type 0} (f : B → Data) → ((a b : B) → f a ≡ f b → a ≡ b) → (xs ys : List B) → map f xs ≡ map f ys → xs ≡ ys
-one_preimage f one [] [] e = refl
-one_preimage f one [] (y ∷ ys) e = cc
-one_preimage f one (x ∷ xs) [] e = cc
-one_preimage f one (x ∷ xs) (y ∷ ys) e =
-    let first : f x ≡ f y = cc in
-    let rest : map f xs ≡ map f ys = cc in
-    ap₂ ◌∷◌ (one x y first) (one_preimage f one xs ys rest)
-
 same_state : (a b : Names) → state_data a ≡ state_data b → a ≡ b
-same_state a b e = one_preimage string (λ x y h. cc) a b (same_items (map string a) (map string b) e)
+same_state a b e = map_apart string (λ x y h. cc) a b (same_items (map string a) (map string b) e)
 
 same_states : (a b : List Names) → states_data a ≡ states_data b → a ≡ b
-same_states a b e = one_preimage state_data same_state a b (same_items (map state_data a) (map state_data b) e)
+same_states a b e = map_apart state_data same_state a b (same_items (map state_data a) (map state_data b) e)
 
 same_value : (o : Option Data) (v w : Data) → o ≡ Some v → o ≡ Some w → v ≡ w
 same_value o v w a b = let both : Some v ≡ Some w = sym a ∙ b in cc
@@ -187,7 +96,7 @@ same_behaviour : (taken : List (List ℕ)) (d : Data) (a b : BehaviourValue) →
 unfolding a_behaviour
 same_behaviour taken d a b h k =
     let written : h.written ≡ k.written = same_written d h.written k.written h.states k.states in
-    let trace : a.trace ≡ b.trace = same_trace k.written a.trace b.trace (subst (λ w. IsTraceOf w a.trace) written h.sets) k.sets in
+    let trace : a.trace ≡ b.trace = one_trace k.written a.trace b.trace (subst (λ w. IsTraceOf w a.trace) written h.sets) k.sets in
     ap (λ n. a_behaviour n a.sentence a.trace) (same_string (get (codes "name") d) a.name b.name h.name.text k.name.text)
     ∙ ap (λ s. a_behaviour b.name s a.trace) (same_sentence d a.sentence b.sentence h.sentence k.sentence)
     ∙ ap (λ t. a_behaviour b.name b.sentence t) trace

@@ -47,26 +47,6 @@ map_more f g done more x ys i d so_far is lt one =
     ap (map f) is ∙ (map-append f done (x ∷ [])
     ∙ (ap₂ (λ us u. us ++ u ∷ []) so_far one ∙ (sym (map-append g (take i ys) (get_or ys i d ∷ [])) ∙ ap (map g) (sym (take_more ys i d lt)))))
 
-sets_push : (all states : List Names) (names state : Names) → AreSetsOf all states → IsSetOf names state → AreSetsOf (all ++ names ∷ []) (states ++ state ∷ [])
-sets_push [] [] names state h s = (s, tt)
-sets_push [] (x ∷ states) names state h s = absurd h
-sets_push (n ∷ all) [] names state h s = absurd h
-sets_push (n ∷ all) (x ∷ states) names state h s = (h.0, sets_push all states names state h.1 s)
-
-pub sets_more : (all states more : List Names) (names state : Names) → AreSetsOf all states → IsSetOf names state
-    → more ≡ states ++ state ∷ [] → AreSetsOf (all ++ names ∷ []) more
-sets_more all states more names state h s is = subst (AreSetsOf (all ++ names ∷ [])) (sym is) (sets_push all states names state h s)
-
-pub sets_of_none : (all states : List Names) → AreSetsOf all states → states ≡ [] → all ≡ []
-sets_of_none [] states h e = refl
-sets_of_none (n ∷ all) [] h e = absurd h
-sets_of_none (n ∷ all) (x ∷ states) h e = cc
-
-pub sets_of_some : (all states : List Names) → AreSetsOf all states → (states ≡ [] → ⊥) → 0 < length all
-sets_of_some [] [] h some = absurd (some refl)
-sets_of_some [] (x ∷ states) h some = absurd h
-sets_of_some (n ∷ all) states h some = omega arith
-
 -- what an item is, by what was read of it
 abbrev IsStateRead : Data → Option Names → Type 0
 IsStateRead d found = MatchOption found ((names : Names) → d ≡ state_data names → ⊥) (λ state. (names : Names) × (d ≡ state_data names) × IsSetOf names state)

@@ -19,11 +19,9 @@ use crate::values::{TextAt, text_at};
 use crate::{Cause, Key};
 use formula_reading::{FormulaFault, Reading, read_formula};
 use indexmap::IndexMap;
-use ltl_syntax::{FormulaTable, Node};
+use ltl_syntax::{FormulaTable, MAX_SIZE, Node};
 use std::alloc::{AllocError, Global};
 use toml::Value;
-
-const MAX_SIZE: u64 = 16_384;
 
 /// The text of the formula of an entry.
 pub fn formula_text<'v>(entry: &'v Value) -> Result<&'v str, Refusal>
@@ -75,7 +73,7 @@ pub fn formula_of(
 {
     let own = written(alloc, text.as_bytes())?;
     let size = size_of(alloc, &own.table, own.root, definitions)?;
-    if size > MAX_SIZE {
+    if size > MAX_SIZE as u64 {
         return Err(Refusal::Cause(Cause::Size(size)));
     }
     let mut table = FormulaTable::new(alloc);

@@ -16,7 +16,8 @@ use Rattle.trace_view.specs.Letters.{all_names}
 use Rattle.trace_view.specs.Text as view
 use Rattle.requirement_report.specs.Lines.{inner, indented}
 use Rattle.requirement_report.specs.Pictures.{states_of, has, letters_in, row_of, grid_of, picture_with}
-use Rattle.requirement_report.proofs.Ascending.{here, later, first_or_later, is_ascending}
+use Rattle.ltl_word.proofs.Sets.{here, later, first_or_later}
+use Rattle.requirement_report.proofs.Ascending.{is_ascending}
 
 -- ---- the states that are shown
 

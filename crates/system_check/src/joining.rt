@@ -9,10 +9,8 @@ ghost use Rattle.system_check.specs.Formulas.{HasFormulas, AreCopies, IsPartOf};
 
 use crate::forms::forms_of;
 use formula_copy::{TablePart, copy, put};
-use ltl_syntax::{BinaryOp, FormulaTable, Node, UnaryOp};
+use ltl_syntax::{BinaryOp, FormulaTable, MAX_SIZE, Node, UnaryOp};
 use std::alloc::{AllocError, Global};
-
-const MAX_SIZE: u32 = 16_384;
 
 /// Why a start, a step and a goal were not joined.
 #[derive(Clone, Copy, Debug, PartialEq, Eq)]

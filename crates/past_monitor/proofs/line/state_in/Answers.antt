@@ -1,6 +1,6 @@
 use Rattle.serde_json.specs.Data.{string}
 use Rattle.serde_json.specs.View.{view}
-use Rattle.past_monitor.proofs.Forms.{no_string, no_array_of}
+use Rattle.ltl_word.proofs.Forms.{no_string, no_array_of}
 use Rattle.past_monitor.proofs.line.state_in.Goals as goal
 
 pub returns-in_default-as_str : goal.returns-in_default-as_str

@@ -5,7 +5,7 @@ use Rattle.requirement_document.specs.declared.fault.Section.TheVariants as sect
 use Rattle.requirement_document.specs.Entry.{states_data}
 use Rattle.requirement_document.specs.Inner.{IsRefusedAt}
 use Rattle.requirement_document.proofs.Refusing.{handed_on}
-use Rattle.requirement_document.proofs.Stating.{sets_of_none, sets_of_some}
+use Rattle.ltl_word.proofs.Parts.{sets_of_none, sets_of_some}
 use Rattle.requirement_document.proofs.behaviours.infinite.Goals as goal
 
 pub returns-in_err-stem-clause-err : goal.returns-in_err-stem-clause-err

@@ -1,7 +1,8 @@
 use Rattle.std.proofs.Common.{◌∷◌, ◌++◌, [], refl, sym, ap, ◌∙◌}
 use Rattle.toml.specs.View.{view}
 use Rattle.requirement_document.specs.Entry.{state_data}
-use Rattle.requirement_document.proofs.Stating.{no_array_of, map_more, sets_more, no_state, some_state}
+use Rattle.ltl_word.proofs.Parts.{sets_more}
+use Rattle.requirement_document.proofs.Stating.{no_array_of, map_more, no_state, some_state}
 use Rattle.requirement_document.proofs.states.states_of.Goals as goal
 
 pub returns-in_default-2 : goal.returns-in_default-2
