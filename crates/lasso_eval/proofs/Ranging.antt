@@ -1,5 +1,5 @@
 -- The row of each bounded operator says where its formula holds.
-use Rattle.std.proofs.Common.{◌≡◌, ℕ, zero, suc, ◌+◌, ◌-◌, ◌*◌, ◌/◌, ◌%◌, ◌<◌, Bool, true, false, not, List, length, IsTrue, ◌⊎◌, inl, inr, ◌↔◌, refl, sym, ◌∙◌}
+use Rattle.std.proofs.Common.{◌≡◌, ℕ, zero, suc, ◌+◌, ◌-◌, ◌*◌, ◌/◌, ◌%◌, ◌<◌, ◌≤◌, Bool, true, false, not, List, length, IsTrue, ◌⊎◌, inl, inr, ◌↔◌, refl, sym, ◌∙◌}
 use Rattle.std.proofs.Common.{subst, arith}
 use Rattle.std.proofs.Common.{le-ltb}
 use Rattle.std.proofs.lemmas.Bool.{cases_lt, cond-true, cond-false, lt-ltb}
@@ -145,7 +145,7 @@ module _ (A : Claim) (a : List Bool) (n : ℕ) (told : IsRow n A a) where
     either true tells s = inl (tells.0 refl)
     either false tells s = inr s
 
-  pub ahead : (t : Trace) (start : ℕ) → Turns t n start A → (r : Range) (i : ℕ)
+  ahead : (t : Trace) (start : ℕ) → Turns t n start A → (r : Range) (i : ℕ)
       → IsWindow (IsPosition t) Future r A (λ j. IsTrue (shows true a start j)) (λ j. IsTrue (shows false a start j)) i
   ahead t start w r i = record {
     from_seen = λ j at s. let x = found t start w j s in ((at.0, x.0), x.1);
@@ -154,7 +154,7 @@ module _ (A : Claim) (a : List Bool) (n : ℕ) (told : IsRow n A a) where
     either = λ j at. elim (hit_or_missed t start w j at.1) [ inl x ↦ inl x | inr s ↦ inr ((at.0, tt), s) ];
   }
 
-  pub behind : (P : Claim) (r : Range) (i : ℕ) → i < n → IsWindow P Past r A (λ j. IsTrue (cell a j)) (λ j. IsTrue (not (cell a j))) i
+  behind : (P : Claim) (r : Range) (i : ℕ) → i < n → IsWindow P Past r A (λ j. IsTrue (cell a j)) (λ j. IsTrue (not (cell a j))) i
   behind P r i low = record {
     from_seen = λ j at s. (at, (here j at).0 s);
     to_seen = λ j at x. (at, (here j at).1 x);

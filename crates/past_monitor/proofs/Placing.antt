@@ -19,7 +19,8 @@ use Rattle.past_monitor.specs.declared.part.Part.{Part}
 use Rattle.past_monitor.specs.Past.{IsPast}
 use Rattle.past_monitor.specs.Ring.{RingValue}
 use Rattle.past_monitor.specs.Monitor.{formula_at, AreUnder}
-use Rattle.past_monitor.specs.Part.{no_ring, ring_of, value_at, IsPart, IsPartOf, IsPastNode, LooksAhead, AreParts, AreFresh, formulas_of, part_at, moved}
+use Rattle.past_monitor.specs.Part.{no_ring, ring_of, value_at, IsNamed, IsPart, IsPartOf, IsPastNode, LooksAhead, AreParts, AreFresh, formulas_of}
+use Rattle.past_monitor.specs.Part.{part_at, moved}
 use Rattle.past_monitor.proofs.Parts.{no_values₂}
 use Rattle.past_monitor.proofs.Trees.{formulas_of-push, length-formulas}
 
@@ -208,7 +209,7 @@ past_node names trees (nodes.Binary op a b) p = p.0
 pub refused : (t : Table) → IsTable t.nodes t.names → (root number : ℕ) → IsUnder t root number → LooksAhead t number → IsPast (tree_at t root) → ⊥
 refused t table root number under (node, at, ahead) past =
     ahead (past_node t.names (trees_of t) node
-    (subst IsPast (node_tree t table number node at) (under_has t table IsPast (λ op f p. p.1) (λ op f g p. p.1) root number past under)))
+    (subst IsPast (node_tree t table number node at) (under_has t table IsPast (λ op f p. p.1) (λ op f g p. (p.1, p.2)) root number past under)))
 
 -- ---- the parts of all nodes up to the root, which is the last
 

@@ -1,7 +1,7 @@
 use Rattle.std.proofs.Common.{◌≡◌, suc, ◌+◌, ◌++◌, ◌∷◌, [], length, Vec, Global, sym, ◌∙◌, ap, subst, arith}
 use Rattle.past_monitor.specs.declared.part.Part.{Part}
 use Rattle.past_monitor.specs.Part.{IsPartOf}
-use Rattle.past_monitor.proofs.Placing.{ArePlaced, passed, added, all_under}
+use Rattle.past_monitor.proofs.Placing.{ArePlaced, passed, added, some_parts, root_last, all_under}
 use Rattle.past_monitor.proofs.under.parts_of.Goals.{then-marks-number+in_ok-part_of+in_ok-push-2, else-marks-number}
 use Rattle.past_monitor.proofs.under.parts_of.Goals as goal
 
@@ -34,4 +34,16 @@ pub returns-clause-nodes : goal.returns-clause-nodes
 returns-clause-nodes c =
     let end : c.loop-number.number ≡ c.args.root + 1 = omega (arith, c.loop-number-test.false, c.loop-number.auto.number-end) in
     all_under c.args.table.now c.args.root c.args.marks.now c.loop-number.places.items c.loop-number.parts.items c.loop-number.number end c.requires.length
+    c.requires.marks c.loop-number.invariant
+
+pub returns-clause-some : goal.returns-clause-some
+returns-clause-some c =
+    let end : c.loop-number.number ≡ c.args.root + 1 = omega (arith, c.loop-number-test.false, c.loop-number.auto.number-end) in
+    some_parts c.args.table.now c.args.root c.args.marks.now c.loop-number.places.items c.loop-number.parts.items c.loop-number.number end c.requires.length
+    c.requires.marks c.loop-number.invariant
+
+pub returns-clause-formula : goal.returns-clause-formula
+returns-clause-formula c =
+    let end : c.loop-number.number ≡ c.args.root + 1 = omega (arith, c.loop-number-test.false, c.loop-number.auto.number-end) in
+    root_last c.args.table.now c.args.root c.args.marks.now c.loop-number.places.items c.loop-number.parts.items c.loop-number.number end c.requires.length
     c.requires.marks c.loop-number.invariant
