@@ -20,9 +20,7 @@ use Rattle.batch_run.specs.Grouping.{ShowsVerdict}
 pub outcome_of_fault : (kind : Kind) (asked : ℕ) (line : List ℕ) (fault : FormulaFault) → HasFormulaFault line fault
     → IsOutcome kind asked line (refusal_of fault)
 outcome_of_fault kind asked line wrong.Long h = h
-outcome_of_fault kind asked line (wrong.Lexical byte) h = h
-outcome_of_fault kind asked line (wrong.Grammar byte) h = h
-outcome_of_fault kind asked line (wrong.Nodes count) h = h
+outcome_of_fault kind asked line other h = h
 
 -- the verdict on the formula of a line is what is said of the line
 pub outcome_of_verdict : (line : List ℕ) (f : Formula) (kind : Kind) (asked : ℕ) (o : Outcome) → IsAccepted line f → ShowsVerdict f kind asked o
@@ -30,10 +28,7 @@ pub outcome_of_verdict : (line : List ℕ) (f : Formula) (kind : Kind) (asked : 
 outcome_of_verdict line f kind asked (outcomes.Sat k) read h = (f, read, h)
 outcome_of_verdict line f kind asked (outcomes.Unsat k) read h = (f, read, h)
 outcome_of_verdict line f kind asked (outcomes.Undecided k) read h = (f, read, h)
-outcome_of_verdict line f kind asked outcomes.Text read h = absurd h
-outcome_of_verdict line f kind asked (outcomes.Lexical byte) read h = absurd h
-outcome_of_verdict line f kind asked (outcomes.Grammar byte) read h = absurd h
-outcome_of_verdict line f kind asked (outcomes.Nodes count) read h = absurd h
+outcome_of_verdict line f kind asked other read h = absurd h
 
 pub shown_outcome : {E : Type 0} (line : List ℕ) (f : Formula) (kind : Kind) (asked : ℕ) (r : Result Outcome E) → IsAccepted line f
     → IfOk r (ShowsVerdict f kind asked) → IfOk r (IsOutcome kind asked line)

@@ -20,22 +20,7 @@ use Rattle.black_requirements.specs.Run.{IsGiven}
 
 cause_answers : (c : Cause) → is_answer (cause_status c) ≡ true
 cause_answers causes.TooLong = refl
-cause_answers (causes.NotText byte) = refl
-cause_answers (causes.NotToml line column message) = refl
-cause_answers (causes.UnknownKey key) = refl
-cause_answers (causes.Unfit key) = refl
-cause_answers (causes.TooMany section) = refl
-cause_answers causes.NotTable = refl
-cause_answers (causes.Missing key) = refl
-cause_answers causes.EmptyName = refl
-cause_answers causes.NameTwice = refl
-cause_answers causes.NoLetter = refl
-cause_answers (causes.Lexical byte) = refl
-cause_answers (causes.Grammar byte) = refl
-cause_answers (causes.Size count) = refl
-cause_answers causes.Form = refl
-cause_answers causes.NoState = refl
-cause_answers causes.EmptyLoop = refl
+cause_answers other = refl
 
 verdict_answers : (v : Verdict) → is_answer (verdict_status v) ≡ true
 verdict_answers verdicts.AsWished = refl

@@ -24,22 +24,7 @@ use Rattle.black_requirements.specs.Wished.{AskAboutAll, WasAsWished}
 -- a refusal does not end well
 pub fault_status : (c : Cause) → cause_status c ≡ statuses.Good → ⊥
 fault_status causes.TooLong e = cc
-fault_status (causes.NotText byte) e = cc
-fault_status (causes.NotToml line column message) e = cc
-fault_status (causes.UnknownKey key) e = cc
-fault_status (causes.Unfit key) e = cc
-fault_status (causes.TooMany section) e = cc
-fault_status causes.NotTable e = cc
-fault_status (causes.Missing key) e = cc
-fault_status causes.EmptyName e = cc
-fault_status causes.NameTwice e = cc
-fault_status causes.NoLetter e = cc
-fault_status (causes.Lexical byte) e = cc
-fault_status (causes.Grammar byte) e = cc
-fault_status (causes.Size count) e = cc
-fault_status causes.Form e = cc
-fault_status causes.NoState e = cc
-fault_status causes.EmptyLoop e = cc
+fault_status other e = cc
 
 good_verdict : (v : Verdict) → verdict_status v ≡ statuses.Good → v ≡ verdicts.AsWished
 good_verdict verdicts.AsWished e = refl

@@ -41,11 +41,7 @@ found_verified : (kind : Kind) (f : Formula) (text : List ℕ) (before after : O
     → IsAnswer f kind text found → statuses.Good ≡ status_of (shown_of found)
     → Grows (text_of (shown_of found)) before after → PrintsVerified kind f text before after
 found_verified kind f text before after no_trace Verified is e g = record { lawful = is; none = λ t trace of. no_trace f kind text t is trace of; printed = g }
-found_verified kind f text before after no_trace (FormFault byte) is e g = absurd (cc)
-found_verified kind f text before after no_trace OtherKind is e g = absurd (cc)
-found_verified kind f text before after no_trace (TooManyLetters depth) is e g = absurd (cc)
-found_verified kind f text before after no_trace (BadLine number) is e g = absurd (cc)
-found_verified kind f text before after no_trace (BadTarget number) is e g = absurd (cc)
+found_verified kind f text before after no_trace other is e g = absurd (cc)
 
 -- what is found is one, so what is rejected is not lawful
 other_kind : OtherKind ≡ Verified → ⊥

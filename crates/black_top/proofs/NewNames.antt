@@ -6,9 +6,9 @@ use Rattle.std.specs.List.{list_all}
 use Rattle.std.proofs.lemmas.Bool.Decides.{nat_tests}
 use Rattle.ltl_syntax.specs.declared.node.UnaryOp.{UnaryOp}
 use Rattle.ltl_syntax.specs.declared.node.BinaryOp.{BinaryOp}
-use Rattle.ltl_syntax.specs.declared.node.UnaryOp.TheVariants.{Always, AlwaysIn, Eventually, EventuallyIn, Historically, HistoricallyIn, Next, NextTimes, Not}
-use Rattle.ltl_syntax.specs.declared.node.UnaryOp.TheVariants.{Once, OnceIn, WeakNext, WeakYesterday, Yesterday, YesterdayTimes}
-use Rattle.ltl_syntax.specs.declared.node.BinaryOp.TheVariants.{And, Iff, Implies, Or, Release, Since, StrongRelease, Trigger, Until, WeakUntil}
+use Rattle.ltl_syntax.specs.declared.node.UnaryOp.TheVariants.{Historically, HistoricallyIn}
+use Rattle.ltl_syntax.specs.declared.node.UnaryOp.TheVariants.{Once, OnceIn, WeakYesterday, Yesterday, YesterdayTimes}
+use Rattle.ltl_syntax.specs.declared.node.BinaryOp.TheVariants.{And, Or, Since, Trigger}
 use Rattle.ltl_syntax.specs.Formula.{Formula, Const, Name, Fresh, Letter, Unary, Binary}
 use Rattle.ltl_lexer.specs.Tokens.{IsWord}
 use Rattle.ltl_lexer.proofs.Words.{is_word_byte, ascii_others}
@@ -83,33 +83,19 @@ module _ (z : ℕ → Formula) (plain : (k : ℕ) → IsPrintable (z k)) where
   joined_printable op b w h m (suc (suc n)) = (joined_printable op b w h m (suc n), h (m + suc n))
 
   residue₁_printable : (op : UnaryOp) (k : ℕ) (c : Formula) → IsWithin op → IsPrintable c → IsPrintable (residue₁ z k op c)
-  residue₁_printable Not k c w h = (w, h)
-  residue₁_printable Next k c w h = (w, h)
-  residue₁_printable WeakNext k c w h = (w, h)
-  residue₁_printable Eventually k c w h = (w, h)
-  residue₁_printable Always k c w h = (w, h)
   residue₁_printable Yesterday k c w h = plain k
   residue₁_printable WeakYesterday k c w h = plain k
   residue₁_printable Once k c w h = plain k
   residue₁_printable Historically k c w h = plain k
-  residue₁_printable (NextTimes n) k c w h = (w, h)
   residue₁_printable (YesterdayTimes n) k c w h = step_printable k c h n
-  residue₁_printable (EventuallyIn m n) k c w h = (w, h)
-  residue₁_printable (AlwaysIn m n) k c w h = (w, h)
   residue₁_printable (OnceIn m n) k c w h = joined_printable Or false (step_back z k c) (step_printable k c h) m (suc n - m)
   residue₁_printable (HistoricallyIn m n) k c w h = joined_printable And true (step_back z k c) (step_printable k c h) m (suc n - m)
+  residue₁_printable other k c w h = (w, h)
 
   residue₂_printable : (op : BinaryOp) (k : ℕ) (c d : Formula) → IsPrintable c → IsPrintable d → IsPrintable (residue₂ z k op c d)
-  residue₂_printable And k c d h i = (h, i)
-  residue₂_printable Or k c d h i = (h, i)
-  residue₂_printable Implies k c d h i = (h, i)
-  residue₂_printable Iff k c d h i = (h, i)
-  residue₂_printable Until k c d h i = (h, i)
-  residue₂_printable Release k c d h i = (h, i)
-  residue₂_printable WeakUntil k c d h i = (h, i)
-  residue₂_printable StrongRelease k c d h i = (h, i)
   residue₂_printable Since k c d h i = plain k
   residue₂_printable Trigger k c d h i = plain k
+  residue₂_printable other k c d h i = (h, i)
 
   residue_printable : (f : Formula) (n : ℕ) → IsPrintable f → IsPrintable (residue z n f)
   residue_printable (Const b) n h = tt
@@ -139,33 +125,19 @@ module _ (z : ℕ → Formula) (plain : (k : ℕ) → IsPrintable (z k)) where
       (s (step_back z k c n) (k + n) (step_printable k c h n), tt)
 
   axioms₁_printable : (op : UnaryOp) (k : ℕ) (c : Formula) → IsPrintable c → ArePrintable (axioms₁ z k op c)
-  axioms₁_printable Not k c h = tt
-  axioms₁_printable Next k c h = tt
-  axioms₁_printable WeakNext k c h = tt
-  axioms₁_printable Eventually k c h = tt
-  axioms₁_printable Always k c h = tt
   axioms₁_printable Yesterday k c h = (yesterday_printable c k h, tt)
   axioms₁_printable WeakYesterday k c h = (weak_yesterday_printable c k h, tt)
   axioms₁_printable Once k c h = (since_printable (Const true) c k tt h, tt)
   axioms₁_printable Historically k c h = (trigger_printable (Const false) c k tt h, tt)
-  axioms₁_printable (NextTimes n) k c h = tt
   axioms₁_printable (YesterdayTimes n) k c h = back_printable yesterday_axiom yesterday_printable k c h n
-  axioms₁_printable (EventuallyIn m n) k c h = tt
-  axioms₁_printable (AlwaysIn m n) k c h = tt
   axioms₁_printable (OnceIn m n) k c h = back_printable yesterday_axiom yesterday_printable k c h n
   axioms₁_printable (HistoricallyIn m n) k c h = back_printable weak_yesterday_axiom weak_yesterday_printable k c h n
+  axioms₁_printable other k c h = tt
 
   axioms₂_printable : (op : BinaryOp) (k : ℕ) (c d : Formula) → IsPrintable c → IsPrintable d → ArePrintable (axioms₂ z k op c d)
-  axioms₂_printable And k c d h i = tt
-  axioms₂_printable Or k c d h i = tt
-  axioms₂_printable Implies k c d h i = tt
-  axioms₂_printable Iff k c d h i = tt
-  axioms₂_printable Until k c d h i = tt
-  axioms₂_printable Release k c d h i = tt
-  axioms₂_printable WeakUntil k c d h i = tt
-  axioms₂_printable StrongRelease k c d h i = tt
   axioms₂_printable Since k c d h i = (since_printable c d k h i, tt)
   axioms₂_printable Trigger k c d h i = (trigger_printable c d k h i, tt)
+  axioms₂_printable other k c d h i = tt
 
   axioms_printable : (f : Formula) (n : ℕ) → IsPrintable f → ArePrintable (axioms z n f)
   axioms_printable (Const b) n h = tt

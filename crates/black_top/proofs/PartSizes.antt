@@ -23,34 +23,17 @@ use Rattle.black_top.specs.SystemInner.{HasSmallByte, IsPartRead, refused_part}
 -- ---- sizes
 
 word_small : (word : UnaryWord) (bytes : List ℕ) → HasNumbers word → weight (symbol (kinds.Unary word) bytes) ≤ 255
-word_small words.X bytes h = omega arith
-word_small words.WX bytes h = omega arith
-word_small words.F bytes h = omega arith
-word_small words.G bytes h = omega arith
-word_small words.Y bytes h = omega arith
-word_small words.Z bytes h = omega arith
-word_small words.O bytes h = omega arith
-word_small words.H bytes h = omega arith
 word_small (words.XTimes n) bytes h = omega (arith, h)
 word_small (words.YTimes n) bytes h = omega (arith, h)
 word_small (words.FIn a b) bytes h = omega (arith, h.1)
 word_small (words.GIn a b) bytes h = omega (arith, h.1)
 word_small (words.OIn a b) bytes h = omega (arith, h.1)
 word_small (words.HIn a b) bytes h = omega (arith, h.1)
+word_small other bytes h = omega arith
 
 kind_small : (kind : TokenKind) (bytes : List ℕ) → Spells bytes kind → weight (symbol kind bytes) ≤ 255
-kind_small kinds.True bytes s = omega arith
-kind_small kinds.False bytes s = omega arith
-kind_small kinds.Not bytes s = omega arith
-kind_small kinds.And bytes s = omega arith
-kind_small kinds.Or bytes s = omega arith
-kind_small kinds.Implies bytes s = omega arith
-kind_small kinds.Iff bytes s = omega arith
-kind_small kinds.OpenParen bytes s = omega arith
-kind_small kinds.CloseParen bytes s = omega arith
 kind_small (kinds.Unary word) bytes s = word_small word bytes (numbers_fit bytes (kinds.Unary word) word s refl)
-kind_small (kinds.Binary word) bytes s = omega arith
-kind_small kinds.Identifier bytes s = omega arith
+kind_small other bytes s = omega arith
 
 tokens_small : (text : List ℕ) (ts : List Token) → ((i : ℕ) (d : Token) → i < length ts → IsPartOf text (get_or ts i d))
     → node_count (symbols text ts) ≤ 255 * length ts

@@ -31,33 +31,21 @@ use Rattle.black_top.proofs.SomeSystem.{both, all_three}
 -- ---- formulas that do not look ahead
 
 past_one : (op : UnaryOp) → IsPast₁ op ⊎ ¬ IsPast₁ op
-past_one one.Not = inl tt
 past_one one.Next = inr (λ h. h)
 past_one one.WeakNext = inr (λ h. h)
 past_one one.Eventually = inr (λ h. h)
 past_one one.Always = inr (λ h. h)
-past_one one.Yesterday = inl tt
-past_one one.WeakYesterday = inl tt
-past_one one.Once = inl tt
-past_one one.Historically = inl tt
 past_one (one.NextTimes n) = inr (λ h. h)
-past_one (one.YesterdayTimes n) = inl tt
 past_one (one.EventuallyIn m n) = inr (λ h. h)
 past_one (one.AlwaysIn m n) = inr (λ h. h)
-past_one (one.OnceIn m n) = inl tt
-past_one (one.HistoricallyIn m n) = inl tt
+past_one other = inl tt
 
 past_two : (op : BinaryOp) → IsPast₂ op ⊎ ¬ IsPast₂ op
-past_two two.And = inl tt
-past_two two.Or = inl tt
-past_two two.Implies = inl tt
-past_two two.Iff = inl tt
 past_two two.Until = inr (λ h. h)
 past_two two.Release = inr (λ h. h)
 past_two two.WeakUntil = inr (λ h. h)
 past_two two.StrongRelease = inr (λ h. h)
-past_two two.Since = inl tt
-past_two two.Trigger = inl tt
+past_two other = inl tt
 
 past_or_not : (f : Formula) → IsPast f ⊎ ¬ IsPast f
 past_or_not (Const b) = inl tt

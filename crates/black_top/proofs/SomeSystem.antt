@@ -30,32 +30,14 @@ use Rattle.black_top.proofs.SomeSolved.{SearchLaws, run_of, reached_or_below}
 
 local_one : (op : UnaryOp) → IsLocal₁ op ⊎ ¬ IsLocal₁ op
 local_one one.Not = inl tt
-local_one one.Next = inr (λ h. h)
-local_one one.WeakNext = inr (λ h. h)
-local_one one.Eventually = inr (λ h. h)
-local_one one.Always = inr (λ h. h)
-local_one one.Yesterday = inr (λ h. h)
-local_one one.WeakYesterday = inr (λ h. h)
-local_one one.Once = inr (λ h. h)
-local_one one.Historically = inr (λ h. h)
-local_one (one.NextTimes n) = inr (λ h. h)
-local_one (one.YesterdayTimes n) = inr (λ h. h)
-local_one (one.EventuallyIn m n) = inr (λ h. h)
-local_one (one.AlwaysIn m n) = inr (λ h. h)
-local_one (one.OnceIn m n) = inr (λ h. h)
-local_one (one.HistoricallyIn m n) = inr (λ h. h)
+local_one other = inr (λ h. h)
 
 local_two : (op : BinaryOp) → IsLocal₂ op ⊎ ¬ IsLocal₂ op
 local_two two.And = inl tt
 local_two two.Or = inl tt
 local_two two.Implies = inl tt
 local_two two.Iff = inl tt
-local_two two.Until = inr (λ h. h)
-local_two two.Release = inr (λ h. h)
-local_two two.WeakUntil = inr (λ h. h)
-local_two two.StrongRelease = inr (λ h. h)
-local_two two.Since = inr (λ h. h)
-local_two two.Trigger = inr (λ h. h)
+local_two other = inr (λ h. h)
 
 pub both : {A B : Type 0} → A ⊎ ¬ A → B ⊎ ¬ B → (A × B) ⊎ ¬ (A × B)
 both (inl a) (inl b) = inl (a, b)

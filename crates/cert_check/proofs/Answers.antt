@@ -74,11 +74,7 @@ module _ (f : Formula) (kind : Kind) (c : Certificate) where
 spoken : (f : Formula) (kind : Kind) (bytes : List ℕ) (a : Answer) → IsAnswer f kind bytes a
     → ((c : Certificate) × IsTextOf bytes c) ⊎ ((b : ℕ) × (a ≡ FormFault b))
 spoken f kind bytes (FormFault b) is = inr (b, refl)
-spoken f kind bytes OtherKind is = inl (is.0, is.1)
-spoken f kind bytes (TooManyLetters d) is = inl (is.0, is.1)
-spoken f kind bytes (BadLine n) is = inl (is.0, is.1)
-spoken f kind bytes (BadTarget n) is = inl (is.0, is.1)
-spoken f kind bytes Verified is = inl (is.0, is.1)
+spoken f kind bytes other is = inl (is.0, is.1)
 
 pub answers_are_one : AnswersAreOne
 answers_are_one f kind bytes a b one two = elim (spoken f kind bytes a one) [

@@ -51,21 +51,12 @@ place_low (AtHint c literals hints) rest = lines_low c _
 place_low (AtEnd c) rest = lines_low c _
 
 few : (role : scan.Role) → IsRole role → IsFew (role_of role)
-few (OfDepth version kind) is = tt
-few (OfLiteral c literals negated) is = tt
-few (OfHint c literals hints negated) is = tt
 few (OfTarget c) is = (is.0.depth, omega (arith, is.1, is.0.depth))
-few (OfDelete c lines) is = tt
+few other is = tt
 
 in_range : (p : scan.Place) → IsPlace p → IsInRange (place_of p)
-in_range AtVersion is = tt
-in_range (AtKind version) is = tt
-in_range (AtNumber role) is = tt
 in_range (InNumber role n) is = (omega (arith, is.2, same_greatest role), few role is.0)
-in_range (AtPart c) is = tt
-in_range (AtLiteral c literals) is = tt
-in_range (AtHint c literals hints) is = tt
-in_range (AtEnd c) is = tt
+in_range other is = tt
 
 -- the bytes lead to a scan of this shape
 pub record IsAt (bytes left : List ℕ) (place : Place) : Type 0 where

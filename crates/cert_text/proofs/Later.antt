@@ -88,10 +88,7 @@ number_later k (roles.Delete h) b behind = first_later k (roles.Delete h) b tt
 
 same_greatest : (k : ℕ) (role : Role) → greatest_in role ≡ greatest_in (later_role k role)
 same_greatest k (roles.Depth version kind) = refl
-same_greatest k (roles.Literal h) = refl
-same_greatest k (roles.Hint h) = refl
-same_greatest k (roles.Target h) = refl
-same_greatest k (roles.Delete h) = refl
+same_greatest k other = refl
 
 digit_later : (k : ℕ) (role : Role) (m : ℕ) → IsBehindRole role
     → IsLater k (cond (ltb (greatest_in role) m) None (Some ([], places.More role m)))

@@ -87,10 +87,7 @@ digit_text n b rest one low high fits =
 -- each number that a role allows is below 2 ^ 64
 pub greatest_fits : (role : Role) → greatest role ≤ greatest_u64
 greatest_fits (OfDepth version kind) = omega arith
-greatest_fits (OfLiteral c literals negated) = omega arith
-greatest_fits (OfHint c literals hints negated) = omega arith
-greatest_fits (OfTarget c) = omega arith
-greatest_fits (OfDelete c lines) = omega arith
+greatest_fits other = omega arith
 
 -- the header with the bytes behind it
 pub header_is : (c : Certificate) (rest : List ℕ) → header_before c rest ≡ header_text c ++ rest

@@ -26,10 +26,7 @@ both false x y u v e f = f
 
 pub same_greatest : (role : Role) → greatest role ≡ greatest_in (role_of role)
 same_greatest (OfDepth version kind) = refl
-same_greatest (OfLiteral c literals negated) = refl
-same_greatest (OfHint c literals hints negated) = refl
-same_greatest (OfTarget c) = refl
-same_greatest (OfDelete c lines) = refl
+same_greatest other = refl
 
 -- the counts behind a part and behind a target
 head_line : (c : Certificate) (ls : List Literal) (hs : List Hint) → head_of (with_part c (Line ls hs)) ≡ with_line (head_of c)

@@ -39,11 +39,7 @@ stage (StepTarget n) = 5
 
 last_stage : (fault : Fault) → stage fault < 6
 last_stage Eventuality = omega arith
-last_stage (Claim n) = omega arith
-last_stage (BaseLine n) = omega arith
-last_stage (BaseTarget n) = omega arith
-last_stage (StepLine n) = omega arith
-last_stage (StepTarget n) = omega arith
+last_stage other = omega arith
 
 module _ (f : Formula) (kind : Kind) (clauses lines : List (List Signed)) (layer : Layer) where
   foreign : (n : ℕ) → IsFirst (IsOfEntries f layer) (length layer.claims) n → ¬ AreKnown (width f) layer.claims

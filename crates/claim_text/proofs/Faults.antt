@@ -62,13 +62,8 @@ not_ended bytes s e other = fault_end machine bytes s e (λ c end. let at = at_e
 
 -- a number that is being read fits
 in_range : (p : Place) (d : Draft) → IsPlace p d → IsInRange p
-in_range places.Kind d is = tt
-in_range places.Item d is = tt
-in_range (places.Literal claim) d is = tt
-in_range places.Hint d is = tt
-in_range (places.First role) d is = tt
 in_range (places.More role n) d is = (is.1, is.2)
-in_range places.End d is = tt
+in_range other d is = tt
 
 pub run_range : (bytes : List ℕ) (s : Scan) → run start bytes ≡ Some s → IsInRange s.1
 run_range bytes s e = in_range s.1 s.2 (reads bytes s e).place

@@ -210,9 +210,7 @@ same_may false d c s l ls may = subst (λ x. HasClaims x c.layer) s (subst (HasC
 -- each number that a role allows is below 2 ^ 64
 pub greatest_fits : (role : Role) → greatest_in role ≤ greatest_u64
 greatest_fits roles.Eventuality = omega arith
-greatest_fits (roles.Literal claim negated) = omega arith
-greatest_fits (roles.Hint negated) = omega arith
-greatest_fits roles.Target = omega arith
+greatest_fits other = omega arith
 
 -- the byte behind a number
 end_leads : (role : Role) (n : ℕ) (d : Draft) (b : ℕ) → IsRole role d → 1 ≤ n → n ≤ greatest_in role

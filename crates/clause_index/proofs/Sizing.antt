@@ -37,19 +37,7 @@ length-flat s g xs d h = ap length (flat_map_below g xs d) ∙ length-even s (le
 -- gates
 gate_long : (v w : Norm → Meaning) (e : Norm) → length (gate v e) ≡ length (gate w e)
 gate_long v w (NConst true) = refl
-gate_long v w (NConst false) = refl
-gate_long v w (NLetter p) = refl
-gate_long v w (NNotLetter p) = refl
-gate_long v w (NAnd a b) = refl
-gate_long v w (NOr a b) = refl
-gate_long v w (NNext a) = refl
-gate_long v w (NWeakNext a) = refl
-gate_long v w (NYesterday a) = refl
-gate_long v w (NWeakYesterday a) = refl
-gate_long v w (NUntil a b) = refl
-gate_long v w (NRelease a b) = refl
-gate_long v w (NSince a b) = refl
-gate_long v w (NTrigger a b) = refl
+gate_long v w other = refl
 
 gates_long : (v w : Norm → Meaning) (es : List Norm) → length (flat_map (gate v) es) ≡ length (flat_map (gate w) es)
 gates_long v w [] = refl

@@ -20,13 +20,7 @@ command_at word = find (λ c. bytes_eq (command_row c).word word) all_commands
 
 pub command_at_word : (c : CommandName) → command_at (command_row c).word ≡ Some c
 command_at_word commands.Solve = refl
-command_at_word commands.Check = refl
-command_at_word commands.Trace = refl
-command_at_word commands.Demo = refl
-command_at_word commands.Batch = refl
-command_at_word commands.System = refl
-command_at_word commands.Monitor = refl
-command_at_word commands.Depast = refl
+command_at_word other = refl
 
 -- commands of one word are one
 command_word_one : (a b : CommandName) → (command_row a).word ≡ (command_row b).word → a ≡ b

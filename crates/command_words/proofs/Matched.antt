@@ -28,13 +28,7 @@ use Rattle.command_words.proofs.Walking.{AreNew, words_taken, row_at, row_or, ab
 
 word_is : (o : OptionName) → option_word o ≡ codes "--" ++ option_id o
 word_is names.Finite = refl
-word_is names.Depth = refl
-word_is names.Cert = refl
-word_is names.Core = refl
-word_is names.Workers = refl
-word_is names.Check = refl
-word_is names.Steps = refl
-word_is names.Progress = refl
+word_is other = refl
 
 same_id : (a b : OptionName) → bytes_eq (option_id a) (option_id b) ≡ same_option a b
 same_id a b = ap (λ w. bytes_eq w (codes "--" ++ option_id b)) (sym (word_is a)) ∙ ap (bytes_eq (option_word a)) (sym (word_is b))

@@ -27,13 +27,7 @@ option_at word = find (λ o. bytes_eq (option_word o) word) all_options
 
 pub option_at_word : (o : OptionName) → option_at (option_word o) ≡ Some o
 option_at_word names.Finite = refl
-option_at_word names.Depth = refl
-option_at_word names.Cert = refl
-option_at_word names.Core = refl
-option_at_word names.Workers = refl
-option_at_word names.Check = refl
-option_at_word names.Steps = refl
-option_at_word names.Progress = refl
+option_at_word other = refl
 
 -- options of one word are one
 pub word_one : (a b : OptionName) → option_word a ≡ option_word b → a ≡ b
@@ -44,13 +38,7 @@ has_equals word = list_any (λ x. x == 61) word
 
 pub no_equals : (o : OptionName) → has_equals (option_word o) ≡ false
 no_equals names.Finite = refl
-no_equals names.Depth = refl
-no_equals names.Cert = refl
-no_equals names.Core = refl
-no_equals names.Workers = refl
-no_equals names.Check = refl
-no_equals names.Steps = refl
-no_equals names.Progress = refl
+no_equals other = refl
 
 -- what stands in a word before the first =
 abbrev pub before_equals : List ℕ → List ℕ

@@ -83,13 +83,7 @@ stands_more o (d ∷ ds) c = by (same_option d.option o) refl (same_option c.opt
 
 seen_more : (seen : Seen) (o p : OptionName) → is_seen (with_seen seen o) p ≡ (same_option o p || is_seen seen p)
 seen_more seen o names.Finite = refl
-seen_more seen o names.Depth = refl
-seen_more seen o names.Cert = refl
-seen_more seen o names.Core = refl
-seen_more seen o names.Workers = refl
-seen_more seen o names.Check = refl
-seen_more seen o names.Steps = refl
-seen_more seen o names.Progress = refl
+seen_more seen o other = refl
 
 -- ---- reading on
 
@@ -105,13 +99,7 @@ pub record IsSaidBefore (offers : List OptionName) (words rest : List (List ℕ)
 none_seen : (o : OptionName)
     → is_seen (record { finite = false; depth = false; cert = false; core = false; workers = false; check = false; steps = false; progress = false }) o ≡ false
 none_seen names.Finite = refl
-none_seen names.Depth = refl
-none_seen names.Cert = refl
-none_seen names.Core = refl
-none_seen names.Workers = refl
-none_seen names.Check = refl
-none_seen names.Steps = refl
-none_seen names.Progress = refl
+none_seen other = refl
 
 pub said_at_first : (offers : List OptionName) (words : List (List ℕ)) → IsSaidBefore offers words words
     (record { finite = false; depth = false; cert = false; core = false; workers = false; check = false; steps = false; progress = false })

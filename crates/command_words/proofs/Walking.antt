@@ -151,116 +151,78 @@ plain_short x xs n = rw n refl
 flag_walked : (o : OptionName) (rows : List Row) (pending : Option (Text × List Text)) → is_flag (option_row o).number ≡ true
     → walked rules [] (walk_from (held rows pending)) (option_word o) ≡ walk_from (held (used (built_rule o) [] (settled_rows rules pending rows)) None)
 unfolding clap_on_literals
-flag_walked names.Finite rows pending is = refl
 flag_walked names.Depth rows pending is = absurd (cc)
-flag_walked names.Cert rows pending is = refl
-flag_walked names.Core rows pending is = refl
 flag_walked names.Workers rows pending is = absurd (cc)
-flag_walked names.Check rows pending is = refl
 flag_walked names.Steps rows pending is = absurd (cc)
-flag_walked names.Progress rows pending is = refl
+flag_walked other rows pending is = refl
 
 one_walked : (o : OptionName) (digits : Text) (rows : List Row) (pending : Option (Text × List Text)) → is_flag (option_row o).number ≡ false
     → walked rules [] (walk_from (held rows pending))
     (option_word o ++ codes "=" ++ digits) ≡ walk_from (held (used (built_rule o) (digits ∷ []) (settled_rows rules pending rows)) None)
 unfolding clap_on_literals
-one_walked names.Finite digits rows pending is = absurd (cc)
 one_walked names.Depth digits rows pending is = refl
-one_walked names.Cert digits rows pending is = absurd (cc)
-one_walked names.Core digits rows pending is = absurd (cc)
 one_walked names.Workers digits rows pending is = refl
-one_walked names.Check digits rows pending is = absurd (cc)
 one_walked names.Steps digits rows pending is = refl
-one_walked names.Progress digits rows pending is = absurd (cc)
+one_walked other digits rows pending is = absurd (cc)
 
 two_walked : (o : OptionName) (x : ℕ) (xs : Text) (rows : List Row) (pending : Option (Text × List Text))
     → is_flag (option_row o).number ≡ false → (x == 45) ≡ false
     → walked rules [] (walked rules [] (walk_from (held rows pending)) (option_word o)) (x ∷ xs)
     ≡ walk_from (held (settled_rows rules pending rows) (Some (option_id o, (x ∷ xs) ∷ [])))
 unfolding clap_on_literals
-two_walked names.Finite x xs rows pending is n = absurd (cc)
 two_walked names.Depth x xs rows pending is n = rw (plain_bytes x xs n, plain_long x xs n, plain_short x xs n) refl
-two_walked names.Cert x xs rows pending is n = absurd (cc)
-two_walked names.Core x xs rows pending is n = absurd (cc)
 two_walked names.Workers x xs rows pending is n = rw (plain_bytes x xs n, plain_long x xs n, plain_short x xs n) refl
-two_walked names.Check x xs rows pending is n = absurd (cc)
 two_walked names.Steps x xs rows pending is n = rw (plain_bytes x xs n, plain_long x xs n, plain_short x xs n) refl
-two_walked names.Progress x xs rows pending is n = absurd (cc)
+two_walked other x xs rows pending is n = absurd (cc)
 
 flag_passes : (o : OptionName) (rows : List Row) (pending : Option (Text × List Text))
     → is_flag (option_row o).number ≡ true → settle_passes rules false (held rows pending) ≡ true
     → has_row (option_id o) (settled_rows rules pending rows) ≡ false → turn_passes top [] (walk_from (held rows pending)) (option_word o) ≡ true
 unfolding clap_on_literals
-flag_passes names.Finite rows pending is settles new = rw (settles, new) refl
 flag_passes names.Depth rows pending is settles new = absurd (cc)
-flag_passes names.Cert rows pending is settles new = rw (settles, new) refl
-flag_passes names.Core rows pending is settles new = rw (settles, new) refl
 flag_passes names.Workers rows pending is settles new = absurd (cc)
-flag_passes names.Check rows pending is settles new = rw (settles, new) refl
 flag_passes names.Steps rows pending is settles new = absurd (cc)
-flag_passes names.Progress rows pending is settles new = rw (settles, new) refl
+flag_passes other rows pending is settles new = rw (settles, new) refl
 
 one_passes : (o : OptionName) (digits : Text) (rows : List Row) (pending : Option (Text × List Text))
     → is_flag (option_row o).number ≡ false → settle_passes rules false (held rows pending) ≡ true
     → has_row (option_id o) (settled_rows rules pending rows) ≡ false → turn_passes top [] (walk_from (held rows pending))
     (option_word o ++ codes "=" ++ digits) ≡ true
 unfolding clap_on_literals
-one_passes names.Finite digits rows pending is settles new = absurd (cc)
 one_passes names.Depth digits rows pending is settles new = rw (settles, new) refl
-one_passes names.Cert digits rows pending is settles new = absurd (cc)
-one_passes names.Core digits rows pending is settles new = absurd (cc)
 one_passes names.Workers digits rows pending is settles new = rw (settles, new) refl
-one_passes names.Check digits rows pending is settles new = absurd (cc)
 one_passes names.Steps digits rows pending is settles new = rw (settles, new) refl
-one_passes names.Progress digits rows pending is settles new = absurd (cc)
+one_passes other digits rows pending is settles new = absurd (cc)
 
 value_passes : (o : OptionName) (rows : List Row) (pending : Option (Text × List Text))
     → is_flag (option_row o).number ≡ false → settle_passes rules false (held rows pending) ≡ true
     → turn_passes top [] (walk_from (held rows pending)) (option_word o) ≡ true
 unfolding clap_on_literals
-value_passes names.Finite rows pending is settles = absurd (cc)
 value_passes names.Depth rows pending is settles = rw settles refl
-value_passes names.Cert rows pending is settles = absurd (cc)
-value_passes names.Core rows pending is settles = absurd (cc)
 value_passes names.Workers rows pending is settles = rw settles refl
-value_passes names.Check rows pending is settles = absurd (cc)
 value_passes names.Steps rows pending is settles = rw settles refl
-value_passes names.Progress rows pending is settles = absurd (cc)
+value_passes other rows pending is settles = absurd (cc)
 
 digits_pass : (o : OptionName) (x : ℕ) (xs : Text) (rows : List Row) (pending : Option (Text × List Text))
     → is_flag (option_row o).number ≡ false → (x == 45) ≡ false
     → turn_passes top [] (walked rules [] (walk_from (held rows pending)) (option_word o)) (x ∷ xs) ≡ true
 unfolding clap_on_literals
-digits_pass names.Finite x xs rows pending is n = absurd (cc)
 digits_pass names.Depth x xs rows pending is n = rw (plain_bytes x xs n, plain_long x xs n, plain_short x xs n) refl
-digits_pass names.Cert x xs rows pending is n = absurd (cc)
-digits_pass names.Core x xs rows pending is n = absurd (cc)
 digits_pass names.Workers x xs rows pending is n = rw (plain_bytes x xs n, plain_long x xs n, plain_short x xs n) refl
-digits_pass names.Check x xs rows pending is n = absurd (cc)
 digits_pass names.Steps x xs rows pending is n = rw (plain_bytes x xs n, plain_long x xs n, plain_short x xs n) refl
-digits_pass names.Progress x xs rows pending is n = absurd (cc)
+digits_pass other x xs rows pending is n = absurd (cc)
 
 pending_settles : (o : OptionName) (digits : Text) (rows : List Row) → is_flag (option_row o).number ≡ false → has_row (option_id o) rows ≡ false
     → settle_passes rules false (held rows (Some (option_id o, digits ∷ []))) ≡ true
-pending_settles names.Finite digits rows is none = absurd (cc)
 pending_settles names.Depth digits rows is none = rw none refl
-pending_settles names.Cert digits rows is none = absurd (cc)
-pending_settles names.Core digits rows is none = absurd (cc)
 pending_settles names.Workers digits rows is none = rw none refl
-pending_settles names.Check digits rows is none = absurd (cc)
 pending_settles names.Steps digits rows is none = rw none refl
-pending_settles names.Progress digits rows is none = absurd (cc)
+pending_settles other digits rows is none = absurd (cc)
 
 pending_used : (o : OptionName) (digits : Text) (rows : List Row)
     → settled_rows rules (Some (option_id o, digits ∷ [])) rows ≡ used (built_rule o) (digits ∷ []) rows
 pending_used names.Finite digits rows = refl
-pending_used names.Depth digits rows = refl
-pending_used names.Cert digits rows = refl
-pending_used names.Core digits rows = refl
-pending_used names.Workers digits rows = refl
-pending_used names.Check digits rows = refl
-pending_used names.Steps digits rows = refl
-pending_used names.Progress digits rows = refl
+pending_used other digits rows = refl
 
 -- ---- the walk over all the words
 

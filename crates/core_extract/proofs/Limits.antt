@@ -41,10 +41,8 @@ limit_there f kind asked small = greatest f kind (first_fits (layout f kind) (co
 -- ---- the size of a formula with occurrences replaced
 
 some_size : (f : Formula) → 1 ≤ formula_size f
-some_size (Const b) = omega arith
-some_size (Letter p) = omega arith
 some_size (Unary op a) = omega (arith, some_size a)
-some_size (Binary op a b) = omega arith
+some_size other = omega arith
 
 one_or : (b : Bool) (next : ℕ) (g : Formula) (n : ℕ) → 1 ≤ n → formula_size g ≤ n → formula_size (cond b (Letter (Fresh next)) g) ≤ n
 one_or true next g n one le = one

@@ -18,19 +18,13 @@ plain_letters t = record { many = length t.names; old = λ n. Letter (Name (slic
 
 pub trees_joined : (t : Table) (node : Node) (rest : List ℕ) → trees_at t (operands node ++ rest) ≡ trees_at t (operands node) ++ trees_at t rest
 trees_joined t (nodes.Const b) rest = refl
-trees_joined t (nodes.Letter n) rest = refl
-trees_joined t (nodes.Fresh n) rest = refl
-trees_joined t (nodes.Unary op a) rest = refl
-trees_joined t (nodes.Binary op a b) rest = refl
+trees_joined t other rest = refl
 
 -- what a node adds to the names
 taken_more : (t : Table) (node : Node) (rest : List ℕ)
     → taken_by (trees_at t (operands node ++ rest)) ≤ taken_by (trees_at t rest) + taken (made t.names (trees_of t) node)
 taken_more t (nodes.Const b) rest = omega arith
-taken_more t (nodes.Letter n) rest = omega arith
-taken_more t (nodes.Fresh n) rest = omega arith
-taken_more t (nodes.Unary op a) rest = omega arith
-taken_more t (nodes.Binary op a b) rest = omega arith
+taken_more t other rest = omega arith
 
 pub taken_done : (t : Table) (order done : List ℕ) (root : ℕ) → Ends t done order root → taken_by (trees_at t done) ≤ taken (tree_at t root)
 taken_done t [] done root e = let s : taken_by (trees_at t done) ≡ taken_by (trees_at t (root ∷ [])) = ap (λ xs. taken_by (trees_at t xs)) e in omega arith

@@ -180,9 +180,7 @@ module _ (t : Table) (root : ℕ) (m : Meanings) (sources : AreSources t root m.
 
 some_nodes : (f : Formula) → 1 ≤ nodes_in f
 some_nodes (Const b) = omega arith
-some_nodes (Letter p) = omega arith
-some_nodes (Unary op a) = omega arith
-some_nodes (Binary op a b) = omega arith
+some_nodes other = omega arith
 
 pub positions_few : (u : Trace) (f : Formula) → cells u f ≤ max_cells → positions u f ≤ 67108864
 positions_few u f few = let more : 1 * positions u f ≤ nodes_in f * positions u f = mul-le-mul_right (positions u f) (some_nodes f) in omega (arith, more, few)

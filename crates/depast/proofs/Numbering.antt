@@ -51,10 +51,8 @@ joined_size [] f = omega arith
 joined_size (x ∷ xs) f = let r = joined_size xs (Binary And f x) in omega arith
 
 some_size : (f : Formula) → 0 < formula_size f
-some_size (Const b) = omega arith
-some_size (Letter p) = omega arith
 some_size (Unary op a) = let r = some_size a in omega arith
-some_size (Binary op a b) = omega arith
+some_size other = omega arith
 
 pub names_counted : (f : Formula) → taken f < formula_size (depast f)
 names_counted f =

@@ -19,10 +19,7 @@ AreThere t (number ∷ rest) = (number < length t.nodes) × AreThere t rest
 
 fewer_of : (t : Table) (node : Node) (rest : List ℕ) → nodes_on t (operands node ++ rest) + 1 ≡ nodes_in (made t.names (trees_of t) node) + nodes_on t rest
 fewer_of t (nodes.Const b) rest = omega arith
-fewer_of t (nodes.Letter n) rest = omega arith
-fewer_of t (nodes.Fresh n) rest = omega arith
-fewer_of t (nodes.Unary op a) rest = omega arith
-fewer_of t (nodes.Binary op a b) rest = omega arith
+fewer_of t other rest = omega arith
 
 pub fewer : (t : Table) (number : ℕ) (node : Node) (rest : List ℕ) → tree_at t number ≡ made t.names (trees_of t) node
     → nodes_on t (operands node ++ rest) < nodes_on t (number ∷ rest)
@@ -31,8 +28,6 @@ fewer t number node rest e = let f = fewer_of t node rest in
 
 pub still_there : (t : Table) (number : ℕ) (node : Node) (rest : List ℕ) → number < length t.nodes → IsFine (length t.names) number node → AreThere t rest
     → AreThere t (operands node ++ rest)
-still_there t number (nodes.Const b) rest low fine all = all
-still_there t number (nodes.Letter n) rest low fine all = all
-still_there t number (nodes.Fresh n) rest low fine all = all
 still_there t number (nodes.Unary op a) rest low fine all = (omega arith, all)
 still_there t number (nodes.Binary op a b) rest low fine all = (let h = fine.1 in omega arith, (let h = fine.0 in omega arith, all))
+still_there t number other rest low fine all = all

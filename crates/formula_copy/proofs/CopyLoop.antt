@@ -143,10 +143,7 @@ copied s old t root k number M list table there under high count read w =
 
 same_size : (new : Numbers) (letter : ℕ) (node : Node) → node_size (moved new letter node) ≡ node_size node
 same_size new letter (nodes.Const b) = refl
-same_size new letter (nodes.Letter n) = refl
-same_size new letter (nodes.Fresh n) = refl
-same_size new letter (nodes.Unary op a) = refl
-same_size new letter (nodes.Binary op a b) = refl
+same_size new letter other = refl
 
 pub may_put : (s t t' : Table) (new : Numbers) (node copy : Node) → StandsOnRoots t new node → HasOrder node → IsMoved s new node t t' copy → MayFollow t' copy
 may_put s t t' new node copy roots order m = subst (MayFollow t') (sym m.is) (may_follow s t t' new m.letter node roots order m.named m.keeps)

@@ -9,9 +9,7 @@ use Rattle.lasso_eval.specs.Cells.{columns}
 
 pub some_nodes : (f : Formula) → 1 ≤ nodes_in f
 some_nodes (Const b) = omega arith
-some_nodes (Letter p) = omega arith
-some_nodes (Unary op a) = omega arith
-some_nodes (Binary op a b) = omega arith
+some_nodes other = omega arith
 
 -- one factor is at most a product whose other factor is not 0
 pub factor_within : (count columns limit : ℕ) → 1 ≤ count → count * columns ≤ limit → columns ≤ limit

@@ -76,10 +76,7 @@ top_sizes-push (g ∷ fs) f = omega (arith, top_sizes-push fs f)
 
 made_size : (names : List (List ℕ)) (trees : List Formula) (n : Node) → top_size (made names trees n) ≡ node_size n
 made_size names trees (nodes.Const b) = refl
-made_size names trees (nodes.Letter n) = refl
-made_size names trees (nodes.Fresh n) = refl
-made_size names trees (nodes.Unary op a) = refl
-made_size names trees (nodes.Binary op a b) = refl
+made_size names trees other = refl
 
 pub sizes-trees : (names : List (List ℕ)) (trees : List Formula) (ns : List Node) → top_sizes (trees_after names trees ns) ≡ top_sizes trees + sizes ns
 sizes-trees names trees [] = omega arith

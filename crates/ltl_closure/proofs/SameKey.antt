@@ -68,17 +68,11 @@ same_key a b e = absurd (cc)
 
 self_request : (a : Request) → request_eq a a ≡ true
 self_request asks.Next = refl
-self_request asks.WeakNext = refl
-self_request asks.Yesterday = refl
-self_request asks.WeakYesterday = refl
+self_request other = refl
 
 self_connective : (a : Connective) → connective_eq a a ≡ true
 self_connective joins.And = refl
-self_connective joins.Or = refl
-self_connective joins.Until = refl
-self_connective joins.Release = refl
-self_connective joins.Since = refl
-self_connective joins.Trigger = refl
+self_connective other = refl
 
 self_number : (n : ℕ) → eqb n n ≡ true
 self_number n = (Decides-eqb n n).1 refl

@@ -136,39 +136,25 @@ asking_other r g e i = cc
 
 asking_needs : (r : Request) (g : Norm) → needs (asking r g) ≡ g ∷ []
 asking_needs asks.Next g = refl
-asking_needs asks.WeakNext g = refl
-asking_needs asks.Yesterday g = refl
-asking_needs asks.WeakYesterday g = refl
+asking_needs other g = refl
 
 asking_stands : (names : List (List ℕ)) (kept : List Norm) (r : Request) (g : Norm) (n : ℕ)
     → place_in kept g ≡ n → StandsAmong names kept (asking r g) (asking_entry r n)
 asking_stands names kept asks.Next g n e = rw e refl
-asking_stands names kept asks.WeakNext g n e = rw e refl
-asking_stands names kept asks.Yesterday g n e = rw e refl
-asking_stands names kept asks.WeakYesterday g n e = rw e refl
+asking_stands names kept other g n e = rw e refl
 
 asking_key : (r : Request) (n : ℕ) → key_of (asking_entry r n) ≡ keys.Asks r n
 asking_key asks.Next n = refl
-asking_key asks.WeakNext n = refl
-asking_key asks.Yesterday n = refl
-asking_key asks.WeakYesterday n = refl
+asking_key other n = refl
 
 joined_key : (op : Connective) (a b r : ℕ) → key_of (joined_entry op a b r) ≡ keys.Joins op a b
 joined_key joins.And a b r = refl
-joined_key joins.Or a b r = refl
-joined_key joins.Until a b r = refl
-joined_key joins.Release a b r = refl
-joined_key joins.Since a b r = refl
-joined_key joins.Trigger a b r = refl
+joined_key other a b r = refl
 
 key_entry : (k : Key) (n : ℕ) → key_of (entry_of k n) ≡ k
-key_entry (keys.Const true) n = refl
-key_entry (keys.Const false) n = refl
-key_entry (keys.Letter m) n = refl
-key_entry (keys.Fresh m) n = refl
-key_entry (keys.NotLetter m) n = refl
 key_entry (keys.Asks r m) n = asking_key r m
 key_entry (keys.Joins op a b) n = joined_key op a b (n + 1)
+key_entry other n = refl
 
 module _ (names : List (List ℕ)) (kept : List Norm) (ks : List Key) (xs : List Entry) (g : Norm) (key : Key)
     (distinct : AreDistinct names) (shared : AreShared names kept ks xs) (has : HasOperands kept g) (is : IsKey names kept g key) where

@@ -73,7 +73,5 @@ shape_costs (Somewhere side range) d = omega arith
 shape_costs (Everywhere side range) d = omega arith
 
 pub cost_positive : (f : Formula) → 0 < cost f
-cost_positive (Const b) = omega arith
-cost_positive (Letter p) = omega arith
 cost_positive (Unary op a) = shape_costs (shape op) (cost a)
-cost_positive (Binary op a b) = omega arith
+cost_positive other = omega arith

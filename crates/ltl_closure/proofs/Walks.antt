@@ -61,32 +61,20 @@ placed g kept values = record { kept = with_new kept (own g); values = g ∷ val
 
 asking_key : (names : List (List ℕ)) (kept : List Norm) (r : Request) (a : Norm) → IsKey names kept (asking r a) (keys.Asks r (place_in kept a))
 asking_key names kept asks.Next a = refl
-asking_key names kept asks.WeakNext a = refl
-asking_key names kept asks.Yesterday a = refl
-asking_key names kept asks.WeakYesterday a = refl
+asking_key names kept other a = refl
 
 asking_operands : (r : Request) (a : Norm) → operands (asking r a) ≡ a ∷ []
 asking_operands asks.Next a = refl
-asking_operands asks.WeakNext a = refl
-asking_operands asks.Yesterday a = refl
-asking_operands asks.WeakYesterday a = refl
+asking_operands other a = refl
 
 joined_key : (names : List (List ℕ)) (kept : List Norm) (c : Connective) (a b : Norm)
     → IsKey names kept (joined c a b) (keys.Joins c (place_in kept a) (place_in kept b))
 joined_key names kept joins.And a b = refl
-joined_key names kept joins.Or a b = refl
-joined_key names kept joins.Until a b = refl
-joined_key names kept joins.Release a b = refl
-joined_key names kept joins.Since a b = refl
-joined_key names kept joins.Trigger a b = refl
+joined_key names kept other a b = refl
 
 joined_operands : (c : Connective) (a b : Norm) → operands (joined c a b) ≡ a ∷ b ∷ []
 joined_operands joins.And a b = refl
-joined_operands joins.Or a b = refl
-joined_operands joins.Until a b = refl
-joined_operands joins.Release a b = refl
-joined_operands joins.Since a b = refl
-joined_operands joins.Trigger a b = refl
+joined_operands other a b = refl
 
 module _ (t : Table) (root : ℕ) (ks : List Key) (xs : List Entry) (memo : Memo) (todo : List Work) where
   -- a normal form is put

@@ -98,20 +98,13 @@ sign_none b bs h =
 
 -- a bounded operator is a letter, an opening bracket, and more
 pub bounded_front : (bytes : List ℕ) (word : UnaryWord) → IsBounded bytes word → (b : ℕ) × (inner : List ℕ) × (bytes ≡ b ∷ 91 ∷ inner) × (is_word_byte b ≡ true)
-bounded_front bytes unary.X g = absurd g
-bounded_front bytes unary.WX g = absurd g
-bounded_front bytes unary.F g = absurd g
-bounded_front bytes unary.G g = absurd g
-bounded_front bytes unary.Y g = absurd g
-bounded_front bytes unary.Z g = absurd g
-bounded_front bytes unary.O g = absurd g
-bounded_front bytes unary.H g = absurd g
 bounded_front bytes (unary.XTimes n) g = (88, decimal n ++ 93 ∷ [], g.1, refl)
 bounded_front bytes (unary.YTimes n) g = (89, decimal n ++ 93 ∷ [], g.1, refl)
 bounded_front bytes (unary.FIn a b) g = (70, ((decimal a ++ 44 ∷ []) ++ decimal b) ++ 93 ∷ [], g.2, refl)
 bounded_front bytes (unary.GIn a b) g = (71, ((decimal a ++ 44 ∷ []) ++ decimal b) ++ 93 ∷ [], g.2, refl)
 bounded_front bytes (unary.OIn a b) g = (79, ((decimal a ++ 44 ∷ []) ++ decimal b) ++ 93 ∷ [], g.2, refl)
 bounded_front bytes (unary.HIn a b) g = (72, ((decimal a ++ 44 ∷ []) ++ decimal b) ++ 93 ∷ [], g.2, refl)
+bounded_front bytes other g = absurd g
 
 -- so it is no word
 pub bounded_no_word : (bytes : List ℕ) (word : UnaryWord) → IsBounded bytes word → IsWord bytes → ⊥
@@ -190,20 +183,13 @@ sign_fits bytes z = either_sign _ kinds.Not z _ tt (either_sign _ kinds.And z _ 
     (either_sign _ kinds.Iff z _ tt (either_sign _ kinds.OpenParen z _ tt (either_sign _ kinds.CloseParen z None tt (λ e. absurd (cc))))))))
 
 bounded_fits : (bytes : List ℕ) (word : UnaryWord) → IsBounded bytes word → HasNumbers word
-bounded_fits bytes unary.X g = tt
-bounded_fits bytes unary.WX g = tt
-bounded_fits bytes unary.F g = tt
-bounded_fits bytes unary.G g = tt
-bounded_fits bytes unary.Y g = tt
-bounded_fits bytes unary.Z g = tt
-bounded_fits bytes unary.O g = tt
-bounded_fits bytes unary.H g = tt
 bounded_fits bytes (unary.XTimes n) g = g.0
 bounded_fits bytes (unary.YTimes n) g = g.0
 bounded_fits bytes (unary.FIn a b) g = (g.0, g.1)
 bounded_fits bytes (unary.GIn a b) g = (g.0, g.1)
 bounded_fits bytes (unary.OIn a b) g = (g.0, g.1)
 bounded_fits bytes (unary.HIn a b) g = (g.0, g.1)
+bounded_fits bytes other g = tt
 
 pub numbers_fit : (bytes : List ℕ) (kind : TokenKind) (word : UnaryWord) → Spells bytes kind → kind ≡ kinds.Unary word → HasNumbers word
 numbers_fit bytes kind word (inl s) e = subst FitsKind e (sign_fits bytes kind s)

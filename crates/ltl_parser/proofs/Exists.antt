@@ -68,11 +68,9 @@ module _ (t : Symbol) (ts : List Symbol) (ih : GoesOn ts) where
 
   operator : (fs : List Frame) (before : List Symbol) (f : Formula) → ((m : ℕ) → IsHeld m fs before f) → (n : ℕ) → parens fs ≡ n → (s : Symbol)
       → s ≡ t → walk Operator n (s ∷ ts) ≡ None → HasReading (before ++ t ∷ ts)
-  operator fs before f h n p (Leaf g) e w = absurd (cc)
-  operator fs before f h n p (Prefix op) e w = absurd (cc)
-  operator fs before f h n p Open e w = absurd (cc)
   operator fs before f h n p (Infix op) e w = infix_next fs before f h op e (ap (λ k. walk Operand k ts) p ∙ later_none _ w)
   operator fs before f h n p Close e w = close_next fs before f h n p e w
+  operator fs before f h n p other e w = absurd (cc)
 
 at_end : (fs : List Frame) (before : List Symbol) (f : Formula) → IsHeld 0 fs before f → (n : ℕ)
     → parens fs ≡ n → walk Operator n [] ≡ None → HasReading (before ++ [])

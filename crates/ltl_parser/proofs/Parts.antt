@@ -23,15 +23,7 @@ part_weaker k m ts f le p = record { reads = p.reads; even = p.even; above = λ 
 
 pub strength_small : (o : BinaryOp) → strength o < 5
 strength_small two.And = omega arith
-strength_small two.Or = omega arith
-strength_small two.Implies = omega arith
-strength_small two.Iff = omega arith
-strength_small two.Until = omega arith
-strength_small two.Release = omega arith
-strength_small two.WeakUntil = omega arith
-strength_small two.StrongRelease = omega arith
-strength_small two.Since = omega arith
-strength_small two.Trigger = omega arith
+strength_small other = omega arith
 
 leaf_before : (f : Formula) (b : List Symbol) (t : Symbol) (a : List Symbol) → Leaf f ∷ [] ≡ b ++ t ∷ a → closes b ≤ opens b
 leaf_before f [] t a e = omega arith

@@ -136,15 +136,7 @@ spaced_infix two.Trigger text ss h = says_space (codes "T" ++ 32 ∷ text) (Infi
 
 spaced_breaks : (op : BinaryOp) (text : List ℕ) → Breaks (binary_text op ++ text)
 spaced_breaks two.And text = (omega arith, refl, refl)
-spaced_breaks two.Or text = (omega arith, refl, refl)
-spaced_breaks two.Implies text = (omega arith, refl, refl)
-spaced_breaks two.Iff text = (omega arith, refl, refl)
-spaced_breaks two.Until text = (omega arith, refl, refl)
-spaced_breaks two.Release text = (omega arith, refl, refl)
-spaced_breaks two.WeakUntil text = (omega arith, refl, refl)
-spaced_breaks two.StrongRelease text = (omega arith, refl, refl)
-spaced_breaks two.Since text = (omega arith, refl, refl)
-spaced_breaks two.Trigger text = (omega arith, refl, refl)
+spaced_breaks other text = (omega arith, refl, refl)
 
 unary_word : (b : ℕ) (bs text : List ℕ) (kind : TokenKind) (op : UnaryOp) (ss : List Symbol) → IsWord (b ∷ bs)
     → word_kind (b ∷ bs) ≡ kind → symbol kind (b ∷ bs) ≡ Prefix op → Says text ss → Says (b ∷ (bs ++ 32 ∷ text)) (Prefix op ∷ ss)

@@ -36,51 +36,27 @@ AreSimple [] = Unit {0}
 AreSimple (s ∷ ss) = IsSimple s × AreSimple ss
 
 within : (word : UnaryWord) → HasNumbers word → IsWithin (unary_op word)
-within uword.X h = tt
-within uword.WX h = tt
-within uword.F h = tt
-within uword.G h = tt
-within uword.Y h = tt
-within uword.Z h = tt
-within uword.O h = tt
-within uword.H h = tt
 within (uword.XTimes n) h = h
 within (uword.YTimes n) h = h
 within (uword.FIn a b) h = h
 within (uword.GIn a b) h = h
 within (uword.OIn a b) h = h
 within (uword.HIn a b) h = h
+within other h = tt
 
 in_order : (op : UnaryOp) → IsWithin op → IsInOrder op
-in_order one.Not h = tt
-in_order one.Next h = tt
-in_order one.WeakNext h = tt
-in_order one.Eventually h = tt
-in_order one.Always h = tt
-in_order one.Yesterday h = tt
-in_order one.WeakYesterday h = tt
-in_order one.Once h = tt
-in_order one.Historically h = tt
-in_order (one.NextTimes n) h = tt
-in_order (one.YesterdayTimes n) h = tt
 in_order (one.EventuallyIn a b) h = h.0
 in_order (one.AlwaysIn a b) h = h.0
 in_order (one.OnceIn a b) h = h.0
 in_order (one.HistoricallyIn a b) h = h.0
+in_order other h = tt
 
 simple_symbol : (kind : TokenKind) (bytes : List ℕ) → Spells bytes kind → IsSimple (symbol kind bytes)
 simple_symbol kinds.True bytes s = (refl, refl, tt)
 simple_symbol kinds.False bytes s = (refl, refl, tt)
-simple_symbol kinds.Not bytes s = tt
-simple_symbol kinds.And bytes s = tt
-simple_symbol kinds.Or bytes s = tt
-simple_symbol kinds.Implies bytes s = tt
-simple_symbol kinds.Iff bytes s = tt
-simple_symbol kinds.OpenParen bytes s = tt
-simple_symbol kinds.CloseParen bytes s = tt
 simple_symbol (kinds.Unary word) bytes s = within word (numbers_fit bytes (kinds.Unary word) word s refl)
-simple_symbol (kinds.Binary word) bytes s = tt
 simple_symbol kinds.Identifier bytes s = (refl, refl, identifier_is_word bytes s)
+simple_symbol other bytes s = tt
 
 -- the numbers of an operator that a token of a text names are in order
 pub prefix_ordered : (text : List ℕ) (t : Token) (op : UnaryOp) → IsPartOf text t → symbol_of text t ≡ Prefix op → IsInOrder op

@@ -24,18 +24,7 @@ use Rattle.ltl_run.proofs.Naming.{the_name, letter_names_are, letters_differ}
 
 pub letter_of : (e : Norm) → IsTrue (is_letter e) → (p : Atom) × (e ≡ NLetter p)
 letter_of (NLetter p) h = (p, refl)
-letter_of (NConst b) h = cc
-letter_of (NNotLetter p) h = cc
-letter_of (NAnd a b) h = cc
-letter_of (NOr a b) h = cc
-letter_of (NNext a) h = cc
-letter_of (NWeakNext a) h = cc
-letter_of (NYesterday a) h = cc
-letter_of (NWeakYesterday a) h = cc
-letter_of (NUntil a b) h = cc
-letter_of (NRelease a b) h = cc
-letter_of (NSince a b) h = cc
-letter_of (NTrigger a b) h = cc
+letter_of other h = cc
 
 module _ (f : Formula) (names : Names) (are : names ≡ map the_name (letters f))
     (differ : (p q : Atom) → Contains (closure f) (NLetter p) → Contains (closure f) (NLetter q) → name_of p ≡ name_of q → p ≡ q) where

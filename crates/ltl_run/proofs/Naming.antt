@@ -51,18 +51,7 @@ module _ (known : Names) (kept : List Norm) where
   one_more : (e : Norm) (rest : List Norm) (names : Names) → names ≡ map the_name (filter is_letter rest)
       → name_before (letter_name e) names ≡ map the_name (filter is_letter (e ∷ rest))
   one_more (NLetter p) rest names h = ap (λ ns. name_of p ∷ ns) h
-  one_more (NConst b) rest names h = h
-  one_more (NNotLetter p) rest names h = h
-  one_more (NAnd a b) rest names h = h
-  one_more (NOr a b) rest names h = h
-  one_more (NNext a) rest names h = h
-  one_more (NWeakNext a) rest names h = h
-  one_more (NYesterday a) rest names h = h
-  one_more (NWeakYesterday a) rest names h = h
-  one_more (NUntil a b) rest names h = h
-  one_more (NRelease a b) rest names h = h
-  one_more (NSince a b) rest names h = h
-  one_more (NTrigger a b) rest names h = h
+  one_more other rest names h = h
 
   names_agree : (es : List Norm) (xs : List Entry) → length xs ≡ length es
       → ((k : ℕ) → k < length es → StandsAmong known kept (get_or es k (NConst false)) (get_or xs k Is.True))

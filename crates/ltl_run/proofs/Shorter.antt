@@ -17,18 +17,7 @@ use Rattle.ltl_run.proofs.Looping.{until_request}
 
 until_of : (e : Norm) → IsTrue (is_eventuality e) → (a b : Norm) × (e ≡ NUntil a b)
 until_of (NUntil a b) h = (a, b, refl)
-until_of (NConst x) h = cc
-until_of (NLetter x) h = cc
-until_of (NNotLetter x) h = cc
-until_of (NAnd x y) h = cc
-until_of (NOr x y) h = cc
-until_of (NNext x) h = cc
-until_of (NWeakNext x) h = cc
-until_of (NYesterday x) h = cc
-until_of (NWeakYesterday x) h = cc
-until_of (NRelease x y) h = cc
-until_of (NSince x y) h = cc
-until_of (NTrigger x y) h = cc
+until_of other h = cc
 
 -- the request of an eventuality is a next request
 pub request_in : (f : Formula) (e : Norm) → Contains (eventualities f) e → Contains (nexts f) (NNext e)

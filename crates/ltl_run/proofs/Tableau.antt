@@ -87,16 +87,7 @@ module _ (t : Trace) (good : IsTrace t) where
       one_answer _ _ (Decides-to (basic (NWeakNext a) i) (λ g. g (suc i) (refl, at)) (λ x j w. subst (Holds t (formula_of a)) w.0 x))
       (val_decides a (suc i) at)
   next_case (NUntil a b) h i at = cc
-  next_case (NConst x) h i at = cc
-  next_case (NLetter x) h i at = cc
-  next_case (NNotLetter x) h i at = cc
-  next_case (NAnd x y) h i at = cc
-  next_case (NOr x y) h i at = cc
-  next_case (NYesterday x) h i at = cc
-  next_case (NWeakYesterday x) h i at = cc
-  next_case (NRelease x y) h i at = cc
-  next_case (NSince x y) h i at = cc
-  next_case (NTrigger x y) h i at = cc
+  next_case other h i at = cc
 
   before_case : (e : Norm) → IsTrue (is_yesterday e) → (i : ℕ) → IsPosition t i → states_of (suc i) e ≡ val (states_of i) (argument e)
   before_case (NYesterday a) h i at =
@@ -106,16 +97,7 @@ module _ (t : Trace) (good : IsTrace t) where
       one_answer _ _ (Decides-to (basic (NWeakYesterday a) (suc i)) (λ g. g i refl)
       (λ x j e. let d : i ≡ j = omega arith in subst (Holds t (formula_of a)) d x)) (val_decides a i at)
   before_case (NUntil a b) h i at = cc
-  before_case (NConst x) h i at = cc
-  before_case (NLetter x) h i at = cc
-  before_case (NNotLetter x) h i at = cc
-  before_case (NAnd x y) h i at = cc
-  before_case (NOr x y) h i at = cc
-  before_case (NNext x) h i at = cc
-  before_case (NWeakNext x) h i at = cc
-  before_case (NRelease x y) h i at = cc
-  before_case (NSince x y) h i at = cc
-  before_case (NTrigger x y) h i at = cc
+  before_case other h i at = cc
 
   pub states_run : (f : Formula) (k : ℕ) → IsPosition t k → Holds t (formula_of (pos_of f)) 0 → IsRun f k states_of
   states_run f k at h = record {

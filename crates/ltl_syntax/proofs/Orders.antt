@@ -20,11 +20,9 @@ use Rattle.ltl_syntax.specs.Flat.{order_among, ordered, orders_after, orders_of,
 
 ordered_same : (m place : ℕ) (old new : List (List ℕ)) → ((i : ℕ) → i < place → order_among new i ≡ order_among old i) → (number : ℕ) (node : Node)
     → IsFine m place node → ordered new number node ≡ ordered old number node
-ordered_same m place old new same number (nodes.Const b) f = refl
-ordered_same m place old new same number (nodes.Letter n) f = refl
-ordered_same m place old new same number (nodes.Fresh n) f = refl
 ordered_same m place old new same number (nodes.Unary op a) f = ap (λ xs. number ∷ xs) (same a f)
 ordered_same m place old new same number (nodes.Binary op a b) f = ap₂ (λ xs ys. number ∷ (xs ++ ys)) (same a f.0) (same b f.1)
+ordered_same m place old new same number other f = refl
 
 kept : (orders : List (List ℕ)) (ns : List Node) (i : ℕ) → i < length orders → order_among (orders_after orders ns) i ≡ order_among orders i
 kept orders [] i h = refl
@@ -57,11 +55,9 @@ node_there (n ∷ ns) (suc k) lt = node_there ns k (omega arith)
 
 module _ (orders : List (List ℕ)) (k : ℕ) where
   pub first_in : (node : Node) → Contains (ordered orders k node) k
-  first_in (nodes.Const b) = Contains-here k []
-  first_in (nodes.Letter n) = Contains-here k []
-  first_in (nodes.Fresh n) = Contains-here k []
   first_in (nodes.Unary op a) = Contains-here k (order_among orders a)
   first_in (nodes.Binary op a b) = Contains-here k (order_among orders a ++ order_among orders b)
+  first_in other = Contains-here k []
 
   pub child_in : (node : Node) (child x : ℕ) → IsTrue (has_child child node) → Contains (order_among orders child) x → Contains (ordered orders k node) x
   child_in (nodes.Const b) child x h c = absurd (cc)

@@ -30,9 +30,7 @@ nothing_replaced f = nothing_from f 0 0
 
 pub nodes_some : (f : Formula) → 0 < nodes_in f
 nodes_some (Const b) = omega arith
-nodes_some (Letter p) = omega arith
-nodes_some (Unary op a) = omega arith
-nodes_some (Binary op a b) = omega arith
+nodes_some other = omega arith
 
 pub part_left : (op : _) (a b : Formula) (n : ℕ) → n < nodes_in a → part_at (Binary op a b) (suc n) ≡ part_at a n
 part_left op a b n lt = cond-true _ _ _ (lt-ltb n (nodes_in a) lt)
@@ -236,12 +234,8 @@ module _ (f : Formula) (P : Places) (at : ℕ) (clear : IsClear f P at) where
 module _ (P : Places) where
   pub replaced-cut : (at : ℕ) (f : Formula) → P at ≡ true → replaced_from P at f ≡ f ∷ []
   replaced-cut at (Const b) e = cond-true _ _ _ e
-  replaced-cut at (Letter p) e = cond-true _ _ _ e
-  replaced-cut at (Unary op a) e = cond-true _ _ _ e
-  replaced-cut at (Binary op a b) e = cond-true _ _ _ e
+  replaced-cut at other e = cond-true _ _ _ e
 
   pub rep-cut : (at next : ℕ) (f : Formula) → P at ≡ true → rep_from P at next f ≡ Letter (Fresh next)
   rep-cut at next (Const b) e = cond-true _ _ _ e
-  rep-cut at next (Letter p) e = cond-true _ _ _ e
-  rep-cut at next (Unary op a) e = cond-true _ _ _ e
-  rep-cut at next (Binary op a b) e = cond-true _ _ _ e
+  rep-cut at next other e = cond-true _ _ _ e

@@ -17,11 +17,9 @@ less : (a k : ℕ) → a < k → (a == k) ≡ false
 less a k h = grind (arith, nat_tests)
 
 node_above : (m place : ℕ) (n : Node) (k : ℕ) → IsFine m place n → place ≤ k → has_child k n ≡ false
-node_above m place (nodes.Const b) k f le = refl
-node_above m place (nodes.Letter i) k f le = refl
-node_above m place (nodes.Fresh i) k f le = refl
 node_above m place (nodes.Unary op a) k f le = less a k (omega arith)
 node_above m place (nodes.Binary op a b) k f le = ap₂ (λ p q. p || q) (less a k (omega arith)) (less b k (omega arith))
+node_above m place other k f le = refl
 
 fine_above : (m place : ℕ) (ns : List Node) (k : ℕ) → AreFine m place ns → place + length ns ≤ k → list_any (has_child k) ns ≡ false
 fine_above m place [] k f le = refl

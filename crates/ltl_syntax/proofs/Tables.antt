@@ -55,11 +55,8 @@ single_push t node is may number = rw (count_by-push (has_child number) t.nodes 
   by_cases false e = let one : count_by (has_child number) t.nodes ≤ 1 = is.single number in omega arith
 
 order_node : (t : Table) (node : Node) → MayFollow t node → HasOrder node
-order_node t (nodes.Const b) may = tt
-order_node t (nodes.Letter n) may = tt
-order_node t (nodes.Fresh n) may = tt
 order_node t (nodes.Unary op a) may = may.1
-order_node t (nodes.Binary op a b) may = tt
+order_node t other may = tt
 
 pub is_table-push : (t : Table) (node : Node) → IsTable t.nodes t.names → MayFollow t node
     → sizes t.nodes + node_size node ≤ 16384 → IsTable (t.nodes ++ node ∷ []) t.names
@@ -104,11 +101,8 @@ fine_more m m' place (n ∷ ns) le f = (one n f.0, fine_more m m' (place + 1) ns
 
 made_more : (names : List (List ℕ)) (text : List ℕ) (trees : List Formula) (place : ℕ) (n : Node) → IsFine (length names) place n
     → made (names ++ text ∷ []) trees n ≡ made names trees n
-made_more names text trees place (nodes.Const b) f = refl
 made_more names text trees place (nodes.Letter k) f = ap (λ n. Letter (Name n)) (get_or-append names (text ∷ []) [] k f)
-made_more names text trees place (nodes.Fresh k) f = refl
-made_more names text trees place (nodes.Unary op a) f = refl
-made_more names text trees place (nodes.Binary op a b) f = refl
+made_more names text trees place other f = refl
 
 trees_after-names : (names : List (List ℕ)) (text : List ℕ) (trees : List Formula) (place : ℕ) (ns : List Node) → AreFine (length names) place ns
     → trees_after (names ++ text ∷ []) trees ns ≡ trees_after names trees ns

@@ -10,11 +10,9 @@ use Rattle.ltl_syntax.specs.Table.{Table, tree_among, made, trees_after, trees_o
 -- a node makes the same tree where the trees before its place are the same
 made_same : (names : List (List ℕ)) (m place : ℕ) (old new : List Formula) → ((i : ℕ) → i < place → tree_among new i ≡ tree_among old i) → (node : Node)
     → IsFine m place node → made names new node ≡ made names old node
-made_same names m place old new same (nodes.Const b) f = refl
-made_same names m place old new same (nodes.Letter n) f = refl
-made_same names m place old new same (nodes.Fresh n) f = refl
 made_same names m place old new same (nodes.Unary op a) f = ap (Unary op) (same a f)
 made_same names m place old new same (nodes.Binary op a b) f = rw (same a f.0, same b f.1) refl
+made_same names m place old new same other f = refl
 
 -- the trees that are there stay at their places
 pub kept : (names : List (List ℕ)) (trees : List Formula) (ns : List Node) (i : ℕ) → i < length trees

@@ -8,7 +8,7 @@ use Rattle.serde_json.specs.Data.{Data, string, object, member}
 use Rattle.serde_json.specs.View.{view, members_view}
 use Rattle.serde_json.specs.declared.value.Value.{Value}
 use Rattle.ltl_word.specs.declared.json.TraceFault.{TraceFault}
-use Rattle.ltl_word.specs.declared.json.TraceFault.TheVariants.{NotJson, NotTrace, EmptyLoop, EmptyStates, NoMemory}
+use Rattle.ltl_word.specs.declared.json.TraceFault.TheVariants.{NotTrace, NoMemory}
 use Rattle.ltl_word.specs.declared.trace.Trace.TheVariants.{Infinite, Finite}
 use Rattle.ltl_word.specs.Trace.{Names}
 use Rattle.ltl_word.specs.Json.{IsSetOf, AreSetsOf, IsStateReading, IsStatesReading, state_data, states_data, trace_data}
@@ -80,8 +80,6 @@ pub states_fault : (d part : Data) (e : TraceFault) (r : Result (List Names) Tra
 states_fault d part e (Ok x) up h w = let ok = w.0 in cc
 states_fault d part e (Err x) up h w = subst (λ y. IsStatesReading d (Err y)) (sym w.1) (by_fault e h) where
   by_fault : (e : TraceFault) → IsStateReading part (Err e) → IsStatesReading d (Err e)
-  by_fault NotJson h = h
   by_fault NotTrace h = λ all. up all h
-  by_fault EmptyLoop h = h
-  by_fault EmptyStates h = h
   by_fault NoMemory h = tt
+  by_fault other h = h

@@ -11,10 +11,8 @@ use Rattle.ltl_word.proofs.Agreement.{IsRange, Same, Same-not}
 use Rattle.ltl_word.proofs.Repeats.{Repeats, moved_up, moved_down, Always-repeats, Never-repeats, Since-repeats, Triggered-repeats}
 
 pub later_le : (r : Range) (i j : ℕ) → IsLater r i j → i ≤ j
-later_le Step i j w = omega arith
-later_le (Exactly n) i j w = omega arith
-later_le (Between a b) i j w = omega arith
 later_le Ever i j w = w
+later_le other i j w = omega arith
 
 -- exactly n is between n and n
 exactly_between : (P : Claim) (d : Direction) (n i j : ℕ) → Reached P d (Exactly n) i j ↔ Reached P d (Between n n) i j
@@ -130,22 +128,16 @@ Same-shape range (Everywhere d r) A C f = Same-everywhere range d r A C f
 -- ---- repetition
 
 later_up : (p : ℕ) (r : Range) (i j : ℕ) → IsLater r i j → IsLater r (i + p) (j + p)
-later_up p Step i j w = omega arith
-later_up p (Exactly n) i j w = omega arith
 later_up p (Between a b) i j w = (omega arith, omega arith)
-later_up p Ever i j w = omega arith
+later_up p other i j w = omega arith
 
 later_down : (p : ℕ) (r : Range) (i j : ℕ) → IsLater r (i + p) j → IsLater r i (j - p)
-later_down p Step i j w = omega arith
-later_down p (Exactly n) i j w = omega arith
 later_down p (Between a b) i j w = (omega arith, omega arith)
-later_down p Ever i j w = omega arith
+later_down p other i j w = omega arith
 
 earlier_down : (p : ℕ) (r : Range) (i j : ℕ) → p ≤ j → IsLater r j (i + p) → IsLater r (j - p) i
-earlier_down p Step i j le w = omega arith
-earlier_down p (Exactly n) i j le w = omega arith
 earlier_down p (Between a b) i j le w = (omega arith, omega arith)
-earlier_down p Ever i j le w = omega arith
+earlier_down p other i j le w = omega arith
 
 -- from m on, what is reached moves with the period, and all of it is from n on
 record Moves (R : ℕ → Claim) (p n m : ℕ) : Type 0 where

@@ -43,11 +43,8 @@ taken₂ two.And values x = refl
 taken₂ op values x = refl
 
 ring_taken : (node : Node) (values : List Bool) (x : Bool) → taken (ring_of node values) x ≡ ring_of node (taken (ring_of node values) x).values
-ring_taken (nodes.Const b) values x = refl
-ring_taken (nodes.Letter n) values x = refl
-ring_taken (nodes.Fresh n) values x = refl
-ring_taken (nodes.Unary op a) values x = refl
 ring_taken (nodes.Binary op a b) values x = taken₂ op values x
+ring_taken other values x = refl
 
 at_end : (t : List Names) (state : Names) → slice_index_or (t ++ state ∷ []) (length t) [] ≡ state
 at_end [] state = refl
@@ -113,19 +110,14 @@ module _ (names : List (List ℕ)) (trees : List Formula) (t : List Names) (stat
 same_is : (state : Names) (values values' : List Bool) (i : ℕ) (node : Node) (name : List ℕ) (r : RingValue) (v : Bool) → HasChildrenBelow i node
     → ((j : ℕ) → j < i → value_at values' j ≡ value_at values j)
     → IsValue state values node name r v → IsValue state values' node name r v
-same_is state values values' i (nodes.Const b) name r v below same is = is
-same_is state values values' i (nodes.Letter n) name r v below same is = is
-same_is state values values' i (nodes.Fresh n) name r v below same is = is
 same_is state values values' i (nodes.Unary op a) name r v below same is = is ∙ ap (value₁ op r) (sym (same a below))
 same_is state values values' i (nodes.Binary op a b) name r v below same is = is ∙ ap₂ (value₂ op r) (sym (same a below.0)) (sym (same b below.1))
+same_is state values values' i other name r v below same is = is
 
 same_joining : (values values' : List Bool) (i : ℕ) (node : Node) (v : Bool) → HasChildrenBelow i node
     → ((j : ℕ) → j < i → value_at values' j ≡ value_at values j) → joining values node v ≡ joining values' node v
-same_joining values values' i (nodes.Const b) v below same = refl
-same_joining values values' i (nodes.Letter n) v below same = refl
-same_joining values values' i (nodes.Fresh n) v below same = refl
 same_joining values values' i (nodes.Unary op a) v below same = ap (λ x. joining₁ op x v) (sym (same a below))
-same_joining values values' i (nodes.Binary op a b) v below same = refl
+same_joining values values' i other v below same = refl
 
 pub begun : (state : Names) (parts : List Part) (values : List Bool) → length values ≡ length parts → AreSteppedTo 0 state parts parts values
 begun state parts values long = record {
@@ -322,11 +314,9 @@ still_monitor names parts new values values' state was is = record {
 -- ---- the operands of each formula stand before it
 
 above : (names : List (List ℕ)) (formulas : List Formula) (i : ℕ) (node : Node) → HasChildrenBelow i node → StandAbove formulas i (made names formulas node)
-above names formulas i (nodes.Const b) below = tt
-above names formulas i (nodes.Letter n) below = tt
-above names formulas i (nodes.Fresh n) below = tt
 above names formulas i (nodes.Unary op a) below = (a, below, refl)
 above names formulas i (nodes.Binary op a b) below = ((a, below.0, refl), (b, below.1, refl))
+above names formulas i other below = tt
 
 pub all_there : (names : List (List ℕ)) (parts : List Part) → 0 < length parts → AreParts names parts → AreAll (formulas_of names parts)
 all_there names parts some are =

@@ -87,11 +87,8 @@ module _ (t : Table) (formulas : List Formula) (places : List ℕ) (number : ℕ
 
 -- a new ring is that of its node, and has no values
 new_values : (node : Node) → (ring_of node []).values ≡ []
-new_values (nodes.Const b) = refl
-new_values (nodes.Letter n) = refl
-new_values (nodes.Fresh n) = refl
-new_values (nodes.Unary op a) = refl
 new_values (nodes.Binary op a b) = no_values₂ op
+new_values other = refl
 
 fresh_values : (node : Node) (r : RingValue) → r ≡ ring_of node [] → r.values ≡ []
 fresh_values node r e = ap (λ (s : RingValue). s.values) e ∙ new_values node
@@ -200,11 +197,9 @@ module _ (t : Table) (marks : List Bool) (number : ℕ) (places places' : List �
 -- ---- a marked node that looks ahead is one under the root, which then looks ahead
 
 past_node : (names : List (List ℕ)) (trees : List Formula) (node : Node) → IsPast (made names trees node) → IsPastNode node
-past_node names trees (nodes.Const b) p = tt
-past_node names trees (nodes.Letter n) p = tt
-past_node names trees (nodes.Fresh n) p = tt
 past_node names trees (nodes.Unary op a) p = p.0
 past_node names trees (nodes.Binary op a b) p = p.0
+past_node names trees other p = tt
 
 pub refused : (t : Table) → IsTable t.nodes t.names → (root number : ℕ) → IsUnder t root number → LooksAhead t number → IsPast (tree_at t root) → ⊥
 refused t table root number under (node, at, ahead) past =

@@ -20,11 +20,9 @@ node_at ns k = slice_index_or ns k (nodes.Const false)
 pub made_same : (names : List (List ℕ)) (place : ℕ) (old new : List Formula) → ((i : ℕ) → i < place → formula_at new i ≡ formula_at old i) → (node : Node)
     → HasChildrenBelow place node
     → made names new node ≡ made names old node
-made_same names place old new same (nodes.Const b) f = refl
-made_same names place old new same (nodes.Letter n) f = refl
-made_same names place old new same (nodes.Fresh n) f = refl
 made_same names place old new same (nodes.Unary op a) f = ap (Unary op) (same a f)
 made_same names place old new same (nodes.Binary op a b) f = rw (same a f.0, same b f.1) refl
+made_same names place old new same other f = refl
 
 -- the formulas that are there stay at their places
 stays : (names : List (List ℕ)) (trees : List Formula) (ns : List Node) (i : ℕ) → i < length trees

@@ -92,20 +92,13 @@ range_plain a b h k =
     (none_joined (decimal a ++ 44 ∷ []) (decimal b) (none_joined (decimal a) (44 ∷ []) (decimal_plain a (omega (arith, h, k))) refl) (decimal_plain b k)) refl
 
 bounded_plain : (bytes : List ℕ) (word : UnaryWord) → IsBounded bytes word → has_newline bytes ≡ false
-bounded_plain bytes unary.X g = absurd g
-bounded_plain bytes unary.WX g = absurd g
-bounded_plain bytes unary.F g = absurd g
-bounded_plain bytes unary.G g = absurd g
-bounded_plain bytes unary.Y g = absurd g
-bounded_plain bytes unary.Z g = absurd g
-bounded_plain bytes unary.O g = absurd g
-bounded_plain bytes unary.H g = absurd g
 bounded_plain bytes (unary.XTimes n) g = ap has_newline g.1 ∙ times_plain n g.0
 bounded_plain bytes (unary.YTimes n) g = ap has_newline g.1 ∙ times_plain n g.0
 bounded_plain bytes (unary.FIn a b) g = ap has_newline g.2 ∙ range_plain a b g.0 g.1
 bounded_plain bytes (unary.GIn a b) g = ap has_newline g.2 ∙ range_plain a b g.0 g.1
 bounded_plain bytes (unary.OIn a b) g = ap has_newline g.2 ∙ range_plain a b g.0 g.1
 bounded_plain bytes (unary.HIn a b) g = ap has_newline g.2 ∙ range_plain a b g.0 g.1
+bounded_plain bytes other g = absurd g
 
 not_true : (t : Bool) → not t ≡ true → t ≡ true → ⊥
 not_true true e f = cc

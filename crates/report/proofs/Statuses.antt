@@ -14,37 +14,13 @@ is_refusal other = false
 
 pub fault_refuses : (fault : Fault) → is_refusal (fault_status fault) ≡ true
 fault_refuses faults.Usage = refl
-fault_refuses faults.NoSeparator = refl
-fault_refuses faults.Text = refl
-fault_refuses faults.Batch = refl
-fault_refuses (faults.Lexical byte) = refl
-fault_refuses (faults.Grammar byte) = refl
-fault_refuses (faults.Nodes count) = refl
-fault_refuses (faults.PastNodes count) = refl
-fault_refuses (faults.Letters depth) = refl
-fault_refuses (faults.Cells count) = refl
-fault_refuses (faults.Certificate byte) = refl
-fault_refuses faults.NotJson = refl
-fault_refuses faults.NotTrace = refl
-fault_refuses faults.EmptyLoop = refl
-fault_refuses faults.EmptyStates = refl
-fault_refuses faults.SystemStart = refl
-fault_refuses faults.SystemStep = refl
-fault_refuses faults.LooksAhead = refl
-fault_refuses (faults.State number) = refl
+fault_refuses other = refl
 
 pub not_refused : (s : Status) (fault : Fault) → is_refusal s ≡ false → s ≡ fault_status fault → ⊥
 not_refused s fault not e = let f : false ≡ true = sym not ∙ ap is_refusal e ∙ fault_refuses fault in cc
 
 pub refusal_answers : (s : Status) → is_refusal s ≡ true → is_answer s ≡ true
-refusal_answers statuses.Usage e = refl
-refusal_answers statuses.Text e = refl
-refusal_answers statuses.Limit e = refl
-refusal_answers statuses.Good e = refl
-refusal_answers statuses.Negative e = refl
-refusal_answers statuses.Sat e = refl
-refusal_answers statuses.Unsat e = refl
-refusal_answers statuses.Undecided e = refl
 refusal_answers statuses.ReadFault e = absurd (cc)
 refusal_answers statuses.WriteFault e = absurd (cc)
 refusal_answers statuses.NoMemory e = absurd (cc)
+refusal_answers other e = refl

@@ -88,22 +88,16 @@ is_asked d left n role a there is here =
 can_be : (d : DocumentValue) (given : List ℕ) (asked : List Formula) (a : Answer) → IsAnswerTo d given asked a
     → is_cannot a ≡ false → is_undecided a ≡ false → (t : Trace) × CanBe d given asked t
 can_be d given asked (answers.Can t) h can decided = (t, h)
-can_be d given asked (answers.Cannot b) h can decided = absurd (cc)
-can_be d given asked answers.Undecided h can decided = absurd (cc)
-can_be d given asked (answers.TooLarge size) h can decided = absurd (cc)
+can_be d given asked other h can decided = absurd (cc)
 
 cannot_be : (d : DocumentValue) (given : List ℕ) (asked : List Formula) (a : Answer) → IsAnswerTo d given asked a
     → is_can a ≡ false → is_undecided a ≡ false → (b : Because) × IsReason d given asked b
-cannot_be d given asked (answers.Can t) h cannot decided = absurd (cc)
 cannot_be d given asked (answers.Cannot b) h cannot decided = (b.value, h)
-cannot_be d given asked answers.Undecided h cannot decided = absurd (cc)
-cannot_be d given asked (answers.TooLarge size) h cannot decided = absurd (cc)
+cannot_be d given asked other h cannot decided = absurd (cc)
 
 not_cannot : (a : Answer) → IsOpen a → is_cannot a ≡ false
-not_cannot (answers.Can t) h = refl
 not_cannot (answers.Cannot b) h = absurd h
-not_cannot answers.Undecided h = refl
-not_cannot (answers.TooLarge size) h = refl
+not_cannot other h = refl
 
 -- what satisfies the given items satisfies each of them
 each_given : (P : Formula → Type 0) (d : DocumentValue) (given : List ℕ) → All P (formulas_of d given ++ []) → All (λ n. P (formula_of d n)) given

@@ -36,10 +36,8 @@ before_more P xs k x there holds before j y lt e = elim (before_or_at j k lt) [
 
 -- an answer that is no `cannot` says something else
 pub other_than : (a : Answer) → ((b : _) → a ≡ answers.Cannot b → ⊥) → IsOther a
-other_than (answers.Can t) not = tt
 other_than (answers.Cannot b) not = absurd (not b refl)
-other_than answers.Undecided not = tt
-other_than (answers.TooLarge size) not = tt
+other_than other not = tt
 
 module _ (r : Report) where
   -- an answer without a conflict is that of a reply, or there is none
@@ -54,10 +52,8 @@ module _ (r : Report) where
   conflict_has scope b have h = subst HasFormula h.same (one_of (λ c. HasFormula c.value) r.conflicts.items h.place h.conflict have.conflicts h.there)
 
   answer_formula : (a : Answer) (b : Because) → AnswerHasFormula a → IsCannot a b → HasFormula b
-  answer_formula (answers.Can t) b has cannot = absurd cannot
   answer_formula (answers.Cannot c) b has cannot = subst HasFormula cannot has
-  answer_formula answers.Undecided b has cannot = absurd cannot
-  answer_formula (answers.TooLarge size) b has cannot = absurd cannot
+  answer_formula other b has cannot = absurd cannot
 
   pub replies_have : {A : Type 0} (now : A → Because) (o : Option A) → HaveFormulas r
       → MatchOption o (HasNoReply r) (λ b. (asking : Asking) × IsFirstReply r asking (now b)) → MatchOption o (Unit {0}) (λ b. HasFormula (now b))

@@ -33,10 +33,8 @@ conflict_reasons d given (b ∷ bs) left (is, some, rest) =
 
 answer_reason : (d : DocumentValue) (given : List ℕ) (asked : List Formula) (a : Answer) (b : Because) → IsAnswerTo d given asked a → IsCannot a b
     → IsReason d given asked b
-answer_reason d given asked (answers.Can t) b is cannot = absurd cannot
 answer_reason d given asked (answers.Cannot c) b is cannot = subst (IsReason d given asked) cannot is
-answer_reason d given asked answers.Undecided b is cannot = absurd cannot
-answer_reason d given asked (answers.TooLarge size) b is cannot = absurd cannot
+answer_reason d given asked other b is cannot = absurd cannot
 
 module _ (d : DocumentValue) (scope : Scope) (r : Report) (is : IsReport d scope r) where
   conflict_reason : (b : Because) → IsFirstConflict r scope b → IsReasonFor d askings.Together b
@@ -65,10 +63,8 @@ conflicts_have d given (b ∷ bs) left (is, some, rest) =
     All-cons (λ c. HasFormula c.value) b bs is.there (conflicts_have d (without (places b.value.members.items) given) bs left rest)
 
 answer_has : (d : DocumentValue) (given : List ℕ) (asked : List Formula) (a : Answer) → IsAnswerTo d given asked a → AnswerHasFormula a
-answer_has d given asked (answers.Can t) is = tt
 answer_has d given asked (answers.Cannot b) is = is.there
-answer_has d given asked answers.Undecided is = tt
-answer_has d given asked (answers.TooLarge size) is = tt
+answer_has d given asked other is = tt
 
 replies_have : (d : DocumentValue) (left : List ℕ) (rs : List Reply) → All (IsReply d left) rs → All (λ p. AnswerHasFormula p.answer) rs
 replies_have d left [] are = All-nil (λ p. AnswerHasFormula p.answer)

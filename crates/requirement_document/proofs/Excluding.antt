@@ -51,21 +51,15 @@ good_item role ds taken d i h = record {
 } where
   keys_of : (r : Role) → HasKeys (knows sections.Assume) d → HasKeys (knows (section_of r)) d
   keys_of roles.Assume k = k
-  keys_of roles.Require k = k
-  keys_of roles.Allow k = k
-  keys_of roles.Ensure k = k
+  keys_of other k = k
 
   no_define : (r : Role) → section_of r ≡ sections.Define → ⊥
   no_define roles.Assume e = cc
-  no_define roles.Require e = cc
-  no_define roles.Allow e = cc
-  no_define roles.Ensure e = cc
+  no_define other e = cc
 
   no_behaviour : (r : Role) → section_of r ≡ sections.Behaviour → ⊥
   no_behaviour roles.Assume e = cc
-  no_behaviour roles.Require e = cc
-  no_behaviour roles.Allow e = cc
-  no_behaviour roles.Ensure e = cc
+  no_behaviour other e = cc
 
 good_behaviour : (ds : Definitions) (taken : List (List ℕ)) (d : Data) (b : BehaviourValue) → IsBehaviour taken d b
     → IsGood (record { section = sections.Behaviour; definitions = ds; taken = taken }) d

@@ -15,10 +15,8 @@ use Rattle.requirement_document.specs.Inner.{cause_of}
 
 -- the fault of a text is wrong with it, whatever is put in
 pub fault_is_wrong : (ds : Definitions) (text : List ℕ) (fault : FormulaFault) → HasFormulaFault text fault → IsFormulaCause ds text (cause_of fault)
-fault_is_wrong ds text wrong.Long h = h
-fault_is_wrong ds text (wrong.Lexical byte) h = h
-fault_is_wrong ds text (wrong.Grammar byte) h = h
 fault_is_wrong ds text (wrong.Nodes count) h = (h.1.0, h.0, h.1.1, inl h.1.2, h.1.3)
+fault_is_wrong ds text other h = h
 
 -- with what is defined put in it is too large
 pub put_is_large : (ds : Definitions) (text : List ℕ) (f : Formula) (size : ℕ) → IsAccepted text f → size ≡ formula_size (substituted ds f) → 16384 < size

@@ -63,20 +63,16 @@ under_are image t numbers i all h =
 -- a node over the same trees is the same
 pub made_same : (names : List (List ℕ)) (xs ys : List Formula) (count place : ℕ) (node : Node) → IsFine count place node
     → ((i : ℕ) → i < place → tree_among xs i ≡ tree_among ys i) → made names xs node ≡ made names ys node
-made_same names xs ys count place (nodes.Const b) fine each = refl
-made_same names xs ys count place (nodes.Letter n) fine each = refl
-made_same names xs ys count place (nodes.Fresh n) fine each = refl
 made_same names xs ys count place (nodes.Unary op a) fine each = ap (Unary op) (each a fine)
 made_same names xs ys count place (nodes.Binary op a b) fine each = ap₂ (Binary op) (each a fine.0) (each b fine.1)
+made_same names xs ys count place other fine each = refl
 
 -- and a node with definitions put in, over trees with definitions put in
 pub put_same : (ds : Definitions) (names : List (List ℕ)) (xs ys : List Formula) (count place : ℕ) (node : Node) → IsFine count place node
     → ((i : ℕ) → i < place → tree_among xs i ≡ substituted ds (tree_among ys i)) → put_over ds names xs node ≡ substituted ds (made names ys node)
-put_same ds names xs ys count place (nodes.Const b) fine each = refl
-put_same ds names xs ys count place (nodes.Letter n) fine each = refl
-put_same ds names xs ys count place (nodes.Fresh n) fine each = refl
 put_same ds names xs ys count place (nodes.Unary op a) fine each = ap (Unary op) (each a fine)
 put_same ds names xs ys count place (nodes.Binary op a b) fine each = ap₂ (Binary op) (each a fine.0) (each b fine.1)
+put_same ds names xs ys count place other fine each = refl
 
 -- the size of a letter that is defined
 pub size_defined : (ds : Definitions) (name : List ℕ) (f : Formula) (n : ℕ) → found ds name ≡ Some f → n ≡ formula_size f → HasSize ds (Letter (Name name)) n

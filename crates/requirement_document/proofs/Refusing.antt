@@ -43,15 +43,11 @@ handed_on P e (Err x) p w = subst P (sym w.1) p
 -- the items of each role have formulas
 pub role_has_formulas : (role : Role) → HasFormulas (section_of role)
 role_has_formulas roles.Assume = tt
-role_has_formulas roles.Require = tt
-role_has_formulas roles.Allow = tt
-role_has_formulas roles.Ensure = tt
+role_has_formulas other = tt
 
 pub role_keys : (role : Role) (d : Data) → HasKeys (knows (section_of role)) d → HasKeys knows_formula d
 role_keys roles.Assume d h = h
-role_keys roles.Require d h = h
-role_keys roles.Allow d h = h
-role_keys roles.Ensure d h = h
+role_keys other d h = h
 
 -- an entry that is refused is a fault of the document
 pub refused_at : (root : Data) (s : Section) (index : ℕ) (all : List Data) (d : Data) (define : List Data) (ds : Definitions) (refusal : Refusal) (r : Refused)

@@ -28,10 +28,8 @@ conflicts_shown law d given (b ∷ bs) left (is, some, rest) =
     (conflicts_shown law d (without (places b.value.members.items) given) bs left rest)
 
 answer_shown : LawfulCanBeShown → (d : DocumentValue) (given : List ℕ) (asked : List Formula) (a : Answer) → IsAnswerTo d given asked a → AnswerCanBeShown a
-answer_shown law d given asked (answers.Can t) is = tt
 answer_shown law d given asked (answers.Cannot b) is = because_shown law d given asked b.value is
-answer_shown law d given asked answers.Undecided is = tt
-answer_shown law d given asked (answers.TooLarge size) is = tt
+answer_shown law d given asked other is = tt
 
 replies_shown : LawfulCanBeShown → (d : DocumentValue) (left : List ℕ) (rs : List Reply) → All (IsReply d left) rs → All (λ p. AnswerCanBeShown p.answer) rs
 replies_shown law d left [] are = All-nil (λ p. AnswerCanBeShown p.answer)
