@@ -11,8 +11,8 @@ use Rattle.ltl_closure.specs.Closure.{closure}
 use Rattle.enc_layout.specs.Letters.{Counts, letters_through}
 use Rattle.enc_layout.specs.Clauses.{counts}
 use Rattle.enc_layout.proofs.Counting.{counts_few}
-use Rattle.batch_run.specs.declared.answer.Outcome.{Outcome}
-use Rattle.batch_run.specs.declared.answer.Outcome.TheVariants as outcomes
+use Rattle.batch_run.specs.declared.answer.LineOutcome.{LineOutcome}
+use Rattle.batch_run.specs.declared.answer.LineOutcome.TheVariants as outcomes
 use Rattle.batch_run.specs.Outcomes.{HasFewLetters, IsOutcome, refusal_of}
 use Rattle.batch_run.specs.Grouping.{ShowsVerdict}
 
@@ -23,14 +23,14 @@ outcome_of_fault kind asked line wrong.Long h = h
 outcome_of_fault kind asked line other h = h
 
 -- the verdict on the formula of a line is what is said of the line
-pub outcome_of_verdict : (line : List ℕ) (f : Formula) (kind : Kind) (asked : ℕ) (o : Outcome) → IsAccepted line f → ShowsVerdict f kind asked o
+pub outcome_of_verdict : (line : List ℕ) (f : Formula) (kind : Kind) (asked : ℕ) (o : LineOutcome) → IsAccepted line f → ShowsVerdict f kind asked o
     → IsOutcome kind asked line o
 outcome_of_verdict line f kind asked (outcomes.Sat k) read h = (f, read, h)
 outcome_of_verdict line f kind asked (outcomes.Unsat k) read h = (f, read, h)
 outcome_of_verdict line f kind asked (outcomes.Undecided k) read h = (f, read, h)
 outcome_of_verdict line f kind asked other read h = absurd h
 
-pub shown_outcome : {E : Type 0} (line : List ℕ) (f : Formula) (kind : Kind) (asked : ℕ) (r : Result Outcome E) → IsAccepted line f
+pub shown_outcome : {E : Type 0} (line : List ℕ) (f : Formula) (kind : Kind) (asked : ℕ) (r : Result LineOutcome E) → IsAccepted line f
     → IfOk r (ShowsVerdict f kind asked) → IfOk r (IsOutcome kind asked line)
 shown_outcome line f kind asked (Ok o) read h = outcome_of_verdict line f kind asked o read h
 shown_outcome line f kind asked (Err e) read h = tt

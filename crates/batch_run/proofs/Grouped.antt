@@ -6,8 +6,8 @@ use Rattle.std.proofs.Math.Seq.{get_or-append_seam}
 use Rattle.std.proofs.lemmas.Bool.{eqb-true}
 use Rattle.std.proofs.lemmas.List.{append-nil, map-append, take_more, length-take-le, get_or_append_left, get_or_default}
 use Rattle.ltl_syntax.specs.declared.node.Kind.{Kind}
-use Rattle.batch_run.specs.declared.answer.Outcome.{Outcome}
-use Rattle.batch_run.specs.declared.answer.Answer.{Answer}
+use Rattle.batch_run.specs.declared.answer.LineOutcome.{LineOutcome}
+use Rattle.batch_run.specs.declared.answer.LineAnswer.{LineAnswer}
 use Rattle.batch_run.specs.declared.lines.Line.{Line}
 use Rattle.batch_run.specs.declared.groups.Lane.{Lane}
 use Rattle.batch_run.specs.Lines.{FormulaLine, AreFormulaLines}
@@ -17,7 +17,7 @@ use Rattle.batch_run.proofs.Cutting.{no_line, continues_then}
 
 -- ---- the answers of some lines
 
-taken_more : (lanes : List Lane) (at : ℕ) (lines : List Line) (answers : List Answer) (l : Line) (x : Answer) → AreTaken lanes at lines answers
+taken_more : (lanes : List Lane) (at : ℕ) (lines : List Line) (answers : List LineAnswer) (l : Line) (x : LineAnswer) → AreTaken lanes at lines answers
     → x.line ≡ l.number → HasOutcome lanes (at + length lines) x.outcome
     → AreTaken lanes at (lines ++ l ∷ []) (answers ++ x ∷ [])
 taken_more lanes at [] [] l x h number has = (number, subst (λ n. HasOutcome lanes n x.outcome) (omega arith) has, tt)
@@ -28,11 +28,11 @@ taken_more lanes at (m ∷ lines) (y ∷ answers) l x (n, o, h) number has =
     (n, o, taken_more lanes (suc at) lines answers l x h number (subst (λ k. HasOutcome lanes k x.outcome) there has))
 
 -- before the first line
-pub nothing_collected : (lanes : List Lane) (lines : List Line) (before : List Answer) → HasOutcomes lanes (take 0 lines) before before
+pub nothing_collected : (lanes : List Lane) (lines : List Line) (before : List LineAnswer) → HasOutcomes lanes (take 0 lines) before before
 nothing_collected lanes lines before = ([], sym (append-nil before), tt)
 
 -- the outcome of one more line
-pub one_collected : (lanes : List Lane) (lines : List Line) (index : ℕ) (l : Line) (before answers : List Answer) (x : Answer) → index < length lines
+pub one_collected : (lanes : List Lane) (lines : List Line) (index : ℕ) (l : Line) (before answers : List LineAnswer) (x : LineAnswer) → index < length lines
     → HasOutcomes lanes (take index lines) before answers → l ≡ get_or lines index l
     → x.line ≡ l.number → HasOutcome lanes index x.outcome → HasOutcomes lanes (take (index + 1) lines) before (answers ++ x ∷ [])
 one_collected lanes lines index l before answers x low (more, e, taken) is number has =
@@ -46,7 +46,7 @@ one_collected lanes lines index l before answers x low (more, e, taken) is numbe
 -- ---- what the workers leave
 
 -- one more line of a worker is decided
-pub one_decided : (kind : Kind) (asked : ℕ) (lines : List Line) (worker workers index : ℕ) (old new : List Outcome) (line : Line) (o : Outcome)
+pub one_decided : (kind : Kind) (asked : ℕ) (lines : List Line) (worker workers index : ℕ) (old new : List LineOutcome) (line : Line) (o : LineOutcome)
     → index ≡ worker + length old * workers → AreOwn kind asked lines worker workers old
     → line ≡ get_or lines index line → index < length lines → IsOutcome kind asked line.text.now o
     → new ≡ old ++ o ∷ [] → AreOwn kind asked lines worker workers new
@@ -56,7 +56,7 @@ one_decided kind asked lines worker workers index old new line o at own is low h
     last : (l : Line) → IsOutcome kind asked (get_or lines index l).text.now o
     last l = subst (λ (x : Line). IsOutcome kind asked x.text.now o) (is ∙ get_or_default lines index line l low) here
 
-    case : (j : ℕ) (l : Line) (d : Outcome) → (j ≡ length old) ⊎ (j < length old)
+    case : (j : ℕ) (l : Line) (d : LineOutcome) → (j ≡ length old) ⊎ (j < length old)
         → IsOutcome kind asked (get_or lines (worker + j * workers) l).text.now (get_or (old ++ o ∷ []) j d)
     case j l d (inl behind) =
         subst (λ n. IsOutcome kind asked (get_or lines (worker + n * workers) l).text.now (get_or (old ++ o ∷ []) n d)) (sym behind)
@@ -71,7 +71,7 @@ one_decided kind asked lines worker workers index old new line o at own is low h
 module _ (kind : Kind) (asked : ℕ) (lanes : List Lane) (all : List Line) (some : 1 ≤ length lanes)
     (done : (worker : ℕ) (d : Lane) → worker < length lanes → AreOutcomes kind asked all worker (length lanes) (get_or lanes worker d)) where
   -- the lane of a line has what is said of it
-  outcome_here : (at : ℕ) (l : Line) (o : Outcome) → l ≡ get_or all at l → HasOutcome lanes at o → IsOutcome kind asked l.text.now o
+  outcome_here : (at : ℕ) (l : Line) (o : LineOutcome) → l ≡ get_or all at l → HasOutcome lanes at o → IsOutcome kind asked l.text.now o
   outcome_here at l o line (lane, is, low, e) =
       let workers = length lanes in
       let back : at % workers + at / workers * workers ≡ at = let h = mod-add-div at workers in let c = mul_comm workers (at / workers) in
@@ -82,7 +82,7 @@ module _ (kind : Kind) (asked : ℕ) (lanes : List Lane) (all : List Line) (some
       subst (λ (y : Line). IsOutcome kind asked y.text.now o) (sym line) (subst (λ x. IsOutcome kind asked (get_or all at l).text.now x) (sym e) told)
 
   -- what is taken answers the lines from a place on
-  pub answered_from : (at : ℕ) (lines : List Line) (more : List Answer) → ((i : ℕ) (d : Line) → i < length lines → get_or all (at + i) d ≡ get_or lines i d)
+  pub answered_from : (at : ℕ) (lines : List Line) (more : List LineAnswer) → ((i : ℕ) (d : Line) → i < length lines → get_or all (at + i) d ≡ get_or lines i d)
       → AreTaken lanes at lines more → AreAnswered kind asked (lines_of lines) more
   answered_from at [] [] same h = tt
   answered_from at [] (x ∷ more) same h = absurd h
@@ -95,7 +95,7 @@ module _ (kind : Kind) (asked : ℕ) (lanes : List Lane) (all : List Line) (some
             subst (λ n. get_or all n d ≡ get_or lines i d) next (same (suc i) d (omega (arith, low)))) h,
       )
 
-answered_both : (kind : Kind) (asked : ℕ) (xs ys : List FormulaLine) (before more : List Answer) → AreAnswered kind asked xs before
+answered_both : (kind : Kind) (asked : ℕ) (xs ys : List FormulaLine) (before more : List LineAnswer) → AreAnswered kind asked xs before
     → AreAnswered kind asked ys more → AreAnswered kind asked (xs ++ ys) (before ++ more)
 answered_both kind asked [] ys [] more h k = k
 answered_both kind asked [] ys (b ∷ before) more h k = absurd h
@@ -112,8 +112,8 @@ first_lines kind asked text lines number rest small are all room pieces =
     record { done = []; answered = tt; lines = are; all = all; room = omega (arith, room, small); pieces = omega (arith, pieces) }
 
 -- they are answered, and the next ones are taken
-pub next_lines : (kind : Kind) (asked : ℕ) (text : List ℕ) (answers : List Answer) (lanes : List Lane) (lines : List Line) (number : ℕ) (rest : List ℕ)
-    (after : List Answer) (later : List Line) (next : ℕ) (left : List ℕ)
+pub next_lines : (kind : Kind) (asked : ℕ) (text : List ℕ) (answers : List LineAnswer) (lanes : List Lane) (lines : List Line) (number : ℕ) (rest : List ℕ)
+    (after : List LineAnswer) (later : List Line) (next : ℕ) (left : List ℕ)
     → IsUnderWay kind asked text answers lines number rest → 1 ≤ length lanes
     → ((worker : ℕ) (d : Lane) → worker < length lanes → AreOutcomes kind asked lines worker (length lanes) (get_or lanes worker d))
     → HasOutcomes lanes lines answers after → Continues number rest next left (lines_of later) → (later ≡ [] → left ≡ [])
@@ -131,14 +131,14 @@ next_lines kind asked text answers lanes lines number rest after later next left
       pieces = let n = ap length e in let m = taken_long 0 lines more taken in omega (arith, way.pieces, pieces, n, m, length-append answers more);
     }
   where
-    taken_long : (at : ℕ) (ls : List Line) (found : List Answer) → AreTaken lanes at ls found → length found ≡ length ls
+    taken_long : (at : ℕ) (ls : List Line) (found : List LineAnswer) → AreTaken lanes at ls found → length found ≡ length ls
     taken_long at [] [] h = refl
     taken_long at [] (x ∷ found) h = absurd h
     taken_long at (l ∷ ls) [] h = absurd h
     taken_long at (l ∷ ls) (x ∷ found) (n, o, h) = ap suc (taken_long (suc at) ls found h)
 
 -- no line is left
-pub all_answered : (kind : Kind) (asked : ℕ) (text : List ℕ) (answers : List Answer) (lines : List Line) (number : ℕ) (rest : List ℕ)
+pub all_answered : (kind : Kind) (asked : ℕ) (text : List ℕ) (answers : List LineAnswer) (lines : List Line) (number : ℕ) (rest : List ℕ)
     → lines ≡ [] → IsUnderWay kind asked text answers lines number rest → AreAnswers kind asked text answers
 all_answered kind asked text answers lines number rest none way =
     let cut = subst (λ t. Continues 1 text number t (way.done ++ lines_of lines)) (way.all none) way.lines in

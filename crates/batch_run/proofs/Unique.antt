@@ -9,9 +9,9 @@ use Rattle.formula_reading.specs.declared.reading.FormulaFault.TheVariants as wr
 use Rattle.formula_reading.specs.Reading.{HasFormulaFault}
 use Rattle.ltl_closure.specs.Run.{Verdict, IsVerdict, Sat, Unsat, Undecided}
 use Rattle.ltl_run.specs.Laws.{VerdictIsOne}
-use Rattle.batch_run.specs.declared.answer.Outcome.{Outcome}
-use Rattle.batch_run.specs.declared.answer.Outcome.TheVariants as outcomes
-use Rattle.batch_run.specs.declared.answer.Answer.{Answer}
+use Rattle.batch_run.specs.declared.answer.LineOutcome.{LineOutcome}
+use Rattle.batch_run.specs.declared.answer.LineOutcome.TheVariants as outcomes
+use Rattle.batch_run.specs.declared.answer.LineAnswer.{LineAnswer}
 use Rattle.batch_run.specs.Lines.{newline, IsFrontLine, AreLines, FormulaLine, formula_lines}
 use Rattle.batch_run.specs.Outcomes.{IsBatchLimit, IsBatchVerdict, IsDecided, refusal_of, IsOutcome, AreAnswered, AreAnswers}
 
@@ -60,17 +60,17 @@ pub record Below : Type 0 where
   pub one_verdict : VerdictIsOne
 
 -- the outcome that a verdict is
-abbrev shown : Verdict → Outcome
+abbrev shown : Verdict → LineOutcome
 shown (Sat k) = outcomes.Sat k
 shown (Unsat k) = outcomes.Unsat k
 shown (Undecided k) = outcomes.Undecided k
 
 -- the line has a fault, or it has a verdict
-abbrev Comes : Kind → ℕ → List ℕ → Outcome → Type 0
+abbrev Comes : Kind → ℕ → List ℕ → LineOutcome → Type 0
 Comes kind asked line o =
     ((fault : FormulaFault) × (o ≡ refusal_of fault) × HasFormulaFault line fault) ⊎ ((v : Verdict) × (o ≡ shown v) × IsDecided kind asked line v)
 
-comes : (kind : Kind) (asked : ℕ) (line : List ℕ) (o : Outcome) → IsOutcome kind asked line o → Comes kind asked line o
+comes : (kind : Kind) (asked : ℕ) (line : List ℕ) (o : LineOutcome) → IsOutcome kind asked line o → Comes kind asked line o
 comes kind asked line outcomes.Text h = inl (wrong.Long, refl, h)
 comes kind asked line (outcomes.Lexical byte) h = inl (wrong.Lexical byte, refl, h)
 comes kind asked line (outcomes.Grammar byte) h = inl (wrong.Grammar byte, refl, h)
@@ -90,7 +90,7 @@ one_verdict_at : (f : Formula) (kind : Kind) (asked : ℕ) → VerdictIsOne → 
 one_verdict_at f kind asked one v w h k =
     one f kind h.limit v w h.decided (subst (λ d. IsVerdict f kind d w) (one_limit f kind asked k.limit h.limit k.limited h.limited) k.decided)
 
-one_comes : (kind : Kind) (asked : ℕ) (line : List ℕ) → Below → (a b : Outcome) → Comes kind asked line a → Comes kind asked line b → a ≡ b
+one_comes : (kind : Kind) (asked : ℕ) (line : List ℕ) → Below → (a b : LineOutcome) → Comes kind asked line a → Comes kind asked line b → a ≡ b
 one_comes kind asked line laws a b (inl (x, e, h)) (inl (y, e', k)) = e ∙ ap refusal_of (laws.one_fault line x y h k) ∙ sym e'
 one_comes kind asked line laws a b (inl (x, e, h)) (inr (w, e', d)) = absurd (laws.not_both line x d.0 h d.1)
 one_comes kind asked line laws a b (inr (v, e, d)) (inl (y, e', k)) = absurd (laws.not_both line y d.0 k d.1)
@@ -100,10 +100,10 @@ one_comes kind asked line laws a b (inr (v, e, d)) (inr (w, e', d')) =
 
 -- ---- answers
 
-same_answer : (a b : Answer) → a.line ≡ b.line → a.outcome ≡ b.outcome → a ≡ b
+same_answer : (a b : LineAnswer) → a.line ≡ b.line → a.outcome ≡ b.outcome → a ≡ b
 same_answer a b line outcome = ap₂ (λ n o. record { line = n; outcome = o }) line outcome
 
-answered_one : (kind : Kind) (asked : ℕ) → Below → (lines : List FormulaLine) (answers others : List Answer) → AreAnswered kind asked lines answers
+answered_one : (kind : Kind) (asked : ℕ) → Below → (lines : List FormulaLine) (answers others : List LineAnswer) → AreAnswered kind asked lines answers
     → AreAnswered kind asked lines others → answers ≡ others
 answered_one kind asked laws [] [] [] h k = refl
 answered_one kind asked laws [] [] (b ∷ others) h k = absurd k
@@ -116,7 +116,7 @@ answered_one kind asked laws (l ∷ lines) (a ∷ answers) (b ∷ others) (n, h,
     (one_comes kind asked l.bytes laws a.outcome b.outcome (comes kind asked l.bytes a.outcome h) (comes kind asked l.bytes b.outcome k)))
     (answered_one kind asked laws lines answers others more more')
 
-pub answers_one : (kind : Kind) (asked : ℕ) (text : List ℕ) → Below → (answers others : List Answer) → AreAnswers kind asked text answers
+pub answers_one : (kind : Kind) (asked : ℕ) (text : List ℕ) → Below → (answers others : List LineAnswer) → AreAnswers kind asked text answers
     → AreAnswers kind asked text others → answers ≡ others
 answers_one kind asked text laws answers others h k =
     let cut = lines_one text k.found.0 h.found.0 k.found.1 h.found.1 in

@@ -3,9 +3,9 @@ use Rattle.std.specs.Prelude.{◌≡◌, ℕ, suc, ◌+◌, ◌*◌, ◌/◌, �
 use Rattle.ltl_syntax.specs.declared.node.Kind.{Kind}
 use Rattle.ltl_syntax.specs.Formula.{Formula}
 use Rattle.ltl_closure.specs.Run.{Sat, Unsat, Undecided}
-use Rattle.batch_run.specs.declared.answer.Outcome.{Outcome}
-use Rattle.batch_run.specs.declared.answer.Outcome.TheVariants as outcomes
-use Rattle.batch_run.specs.declared.answer.Answer.{Answer}
+use Rattle.batch_run.specs.declared.answer.LineOutcome.{LineOutcome}
+use Rattle.batch_run.specs.declared.answer.LineOutcome.TheVariants as outcomes
+use Rattle.batch_run.specs.declared.answer.LineAnswer.{LineAnswer}
 use Rattle.batch_run.specs.declared.lines.Line.{Line}
 use Rattle.batch_run.specs.declared.lines.Rest.{Rest}
 use Rattle.batch_run.specs.declared.groups.Lane.{Lane}
@@ -32,30 +32,30 @@ abbrev pub lines_of : List Line → List FormulaLine
 lines_of lines = map line_of lines
 
 -- the outcomes of one worker's lines: of the line at its own number, and of each that stands as many places behind the one before as there are workers
-abbrev pub AreOwn : Kind → ℕ → List Line → ℕ → ℕ → List Outcome → Type 0
-AreOwn kind asked lines worker workers outcomes = (j : ℕ) (l : Line) (o : Outcome) → j < length outcomes
+abbrev pub AreOwn : Kind → ℕ → List Line → ℕ → ℕ → List LineOutcome → Type 0
+AreOwn kind asked lines worker workers outcomes = (j : ℕ) (l : Line) (o : LineOutcome) → j < length outcomes
     → IsOutcome kind asked (get_or lines (worker + j * workers) l).text.now (get_or outcomes j o)
 
 pub record AreOutcomes (kind : Kind) (asked : ℕ) (lines : List Line) (worker workers : ℕ) (lane : Lane) : Type 0 where
   pub own : AreOwn kind asked lines worker workers lane.outcomes.items
 
 -- the lane of the line at this place has its outcome
-abbrev pub HasOutcome : List Lane → ℕ → Outcome → Type 0
+abbrev pub HasOutcome : List Lane → ℕ → LineOutcome → Type 0
 HasOutcome lanes at o = (lane : Lane) × (lane ≡ get_or lanes (at % length lanes) lane) × (at / length lanes < length lane.outcomes.items)
     × (o ≡ get_or lane.outcomes.items (at / length lanes) o)
 
 -- the outcomes of lines that stand at this place and behind it, with the numbers of the lines
-abbrev pub AreTaken : List Lane → ℕ → List Line → List Answer → Type 0
+abbrev pub AreTaken : List Lane → ℕ → List Line → List LineAnswer → Type 0
 AreTaken lanes at [] [] = ⊤
 AreTaken lanes at (l ∷ lines) (x ∷ answers) = (x.line ≡ l.number) × HasOutcome lanes at x.outcome × AreTaken lanes (suc at) lines answers
 AreTaken lanes at lines answers = ⊥
 
 -- each line has an outcome, and these stand behind the answers before
-abbrev pub HasOutcomes : List Lane → List Line → List Answer → List Answer → Type 0
-HasOutcomes lanes lines before after = (more : List Answer) × (after ≡ before ++ more) × AreTaken lanes 0 lines more
+abbrev pub HasOutcomes : List Lane → List Line → List LineAnswer → List LineAnswer → Type 0
+HasOutcomes lanes lines before after = (more : List LineAnswer) × (after ≡ before ++ more) × AreTaken lanes 0 lines more
 
 -- a formula has this verdict, and it is no refusal
-abbrev pub ShowsVerdict : Formula → Kind → ℕ → Outcome → Type 0
+abbrev pub ShowsVerdict : Formula → Kind → ℕ → LineOutcome → Type 0
 ShowsVerdict f kind asked (outcomes.Sat k) = IsBatchVerdict f kind asked (Sat k)
 ShowsVerdict f kind asked (outcomes.Unsat k) = IsBatchVerdict f kind asked (Unsat k)
 ShowsVerdict f kind asked (outcomes.Undecided k) = IsBatchVerdict f kind asked (Undecided k)
@@ -66,7 +66,7 @@ ShowsVerdict f kind asked (outcomes.Nodes count) = ⊥
 
 -- before some lines are decided: those before them are answered, these are the next ones, and nothing is left where there is none. The
 -- numbers of lines and of pieces are small
-pub record IsUnderWay (kind : Kind) (asked : ℕ) (text : List ℕ) (answers : List Answer) (next : List Line) (number : ℕ) (rest : List ℕ) : Type 0 where
+pub record IsUnderWay (kind : Kind) (asked : ℕ) (text : List ℕ) (answers : List LineAnswer) (next : List Line) (number : ℕ) (rest : List ℕ) : Type 0 where
   pub done : List FormulaLine
   pub answered : AreAnswered kind asked done answers
   pub lines : Continues 1 text number rest (done ++ lines_of next)

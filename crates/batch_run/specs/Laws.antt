@@ -5,8 +5,8 @@ use Rattle.ltl_syntax.specs.Formula.{Formula}
 use Rattle.ltl_parser.specs.Text.{IsAccepted}
 use Rattle.ltl_closure.specs.Run.{bound}
 use Rattle.ltl_run.specs.Laws.{IsSatisfiable}
-use Rattle.batch_run.specs.declared.answer.Outcome.TheVariants as outcomes
-use Rattle.batch_run.specs.declared.answer.Answer.{Answer}
+use Rattle.batch_run.specs.declared.answer.LineOutcome.TheVariants as outcomes
+use Rattle.batch_run.specs.declared.answer.LineAnswer.{LineAnswer}
 use Rattle.batch_run.specs.Lines.{AreLines}
 use Rattle.batch_run.specs.Outcomes.{IsOutcome, AreAnswers}
 
@@ -16,7 +16,7 @@ LinesAreOne = (text : List ℕ) (lines others : List (List ℕ)) → AreLines te
 
 -- a text, a kind and a depth have one list of answers
 abbrev pub AnswersAreOne : Type 0
-AnswersAreOne = (kind : Kind) (asked : ℕ) (text : List ℕ) (answers others : List Answer)
+AnswersAreOne = (kind : Kind) (asked : ℕ) (text : List ℕ) (answers others : List LineAnswer)
     → AreAnswers kind asked text answers → AreAnswers kind asked text others → answers ≡ others
 
 -- a line that is answered SAT reads as a formula that a trace of the kind satisfies

@@ -9,9 +9,9 @@ use Rattle.formula_reading.specs.Reading.{HasFormulaFault}
 use Rattle.ltl_closure.specs.Run.{Verdict, IsVerdict, Sat, Unsat, Undecided}
 use Rattle.enc_layout.specs.Letters.{letters_through}
 use Rattle.enc_layout.specs.Clauses.{counts}
-use Rattle.batch_run.specs.declared.answer.Outcome.{Outcome}
-use Rattle.batch_run.specs.declared.answer.Outcome.TheVariants as outcomes
-use Rattle.batch_run.specs.declared.answer.Answer.{Answer}
+use Rattle.batch_run.specs.declared.answer.LineOutcome.{LineOutcome}
+use Rattle.batch_run.specs.declared.answer.LineOutcome.TheVariants as outcomes
+use Rattle.batch_run.specs.declared.answer.LineAnswer.{LineAnswer}
 use Rattle.batch_run.specs.Lines.{FormulaLine, AreFormulaLines}
 
 -- the letters of the formula's clauses through a depth are few enough for a batch
@@ -35,7 +35,7 @@ abbrev pub IsDecided : Kind → ℕ → List ℕ → Verdict → Type 0
 IsDecided kind asked line verdict = (f : Formula) × IsAccepted line f × IsBatchVerdict f kind asked verdict
 
 -- what is said of a line with this fault
-abbrev pub refusal_of : FormulaFault → Outcome
+abbrev pub refusal_of : FormulaFault → LineOutcome
 refusal_of wrong.Long = outcomes.Text
 refusal_of (wrong.Lexical byte) = outcomes.Lexical byte
 refusal_of (wrong.Grammar byte) = outcomes.Grammar byte
@@ -43,7 +43,7 @@ refusal_of (wrong.Nodes count) = outcomes.Nodes count
 
 -- what is said of a line: it is too long; it has a lexical fault, or a grammar fault, at a byte of its own; its formula has too
 -- many nodes; or the verdict
-abbrev pub IsOutcome : Kind → ℕ → List ℕ → Outcome → Type 0
+abbrev pub IsOutcome : Kind → ℕ → List ℕ → LineOutcome → Type 0
 IsOutcome kind asked line outcomes.Text = HasFormulaFault line wrong.Long
 IsOutcome kind asked line (outcomes.Lexical byte) = HasFormulaFault line (wrong.Lexical byte)
 IsOutcome kind asked line (outcomes.Grammar byte) = HasFormulaFault line (wrong.Grammar byte)
@@ -53,13 +53,13 @@ IsOutcome kind asked line (outcomes.Unsat k) = IsDecided kind asked line (Unsat 
 IsOutcome kind asked line (outcomes.Undecided k) = IsDecided kind asked line (Undecided k)
 
 -- one answer for each of these formula lines, in their order
-abbrev pub AreAnswered : Kind → ℕ → List FormulaLine → List Answer → Type 0
+abbrev pub AreAnswered : Kind → ℕ → List FormulaLine → List LineAnswer → Type 0
 AreAnswered kind asked [] [] = ⊤
 AreAnswered kind asked (l ∷ lines) (a ∷ answers) = (a.line ≡ l.number) × IsOutcome kind asked l.bytes a.outcome × AreAnswered kind asked lines answers
 AreAnswered kind asked lines answers = ⊥
 
 -- the answers to a text: those to its formula lines, whose numbers count all lines from 1
-pub record AreAnswers (kind : Kind) (asked : ℕ) (text : List ℕ) (answers : List Answer) : Type 0 where
+pub record AreAnswers (kind : Kind) (asked : ℕ) (text : List ℕ) (answers : List LineAnswer) : Type 0 where
   pub lines : List FormulaLine
   pub found : AreFormulaLines 1 text lines
   pub answered : AreAnswered kind asked lines answers

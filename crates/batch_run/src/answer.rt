@@ -4,7 +4,7 @@ ghost use Rattle.batch_run.specs.Texts.{is_verdict, is_clean};
 
 /// What is said of a formula line: the tableau's verdict at the batch limit, or why the line has none.
 #[derive(Clone, Copy, Debug, PartialEq, Eq)]
-pub enum Outcome {
+pub enum LineOutcome {
     /// Satisfiable, by an accepted run whose last state has this number, counted from 0.
     Sat(u32),
     /// Unsatisfiable, by the runs up to the state of this number, counted from 0.
@@ -23,26 +23,26 @@ pub enum Outcome {
 
 /// The answer to a formula line.
 #[derive(Clone, Copy, Debug, PartialEq, Eq)]
-pub struct Answer {
+pub struct LineAnswer {
     /// The number of the line, counted from 1 over all lines, blank ones too.
     pub line: u32,
-    pub outcome: Outcome,
+    pub outcome: LineOutcome,
 }
 
-impl Outcome {
+impl LineOutcome {
     /// Whether it is a verdict.
     fn is_verdict(self) -> bool
         ensures { result ≡ is_verdict self }
     {
         matches!(
             &self,
-            Outcome::Sat(_) | Outcome::Unsat(_) | Outcome::Undecided(_)
+            LineOutcome::Sat(_) | LineOutcome::Unsat(_) | LineOutcome::Undecided(_)
         )
     }
 }
 
 /// Whether each of the answers is a verdict.
-pub fn all_verdicts(answers: &[Answer]) -> bool
+pub fn all_verdicts(answers: &[LineAnswer]) -> bool
     ensures { result ≡ is_clean answers.now }
 {
     answers.iter().all(|answer| answer.outcome.is_verdict())

@@ -6,7 +6,7 @@ ghost use Rattle.enc_layout.specs.Clauses.{layout_of};
 ghost use Rattle.batch_run.specs.Outcomes.{IsOutcome, IsBatchLimit, refusal_of};
 ghost use Rattle.batch_run.specs.Grouping.{ShowsVerdict};
 
-use crate::answer::Outcome;
+use crate::answer::LineOutcome;
 use enc_layout::Layout;
 use formula_reading::{FormulaFault, Reading, read_formula};
 use ltl_closure::Closure;
@@ -18,7 +18,12 @@ use unravel::Decision;
 const MAX_LETTERS: u64 = 1_048_576;
 
 /// What is said of a line.
-pub fn outcome(alloc: Global, text: &[u8], kind: Kind, asked: u32) -> Result<Outcome, AllocError>
+pub fn outcome(
+    alloc: Global,
+    text: &[u8],
+    kind: Kind,
+    asked: u32,
+) -> Result<LineOutcome, AllocError>
     requires { asked ≤ 1000 }
     ensures { IfOk result (IsOutcome kind asked text.now) }
 {
@@ -29,14 +34,14 @@ pub fn outcome(alloc: Global, text: &[u8], kind: Kind, asked: u32) -> Result<Out
 }
 
 /// What is said of a line with this fault.
-fn refusal_of(fault: FormulaFault) -> Outcome
+fn refusal_of(fault: FormulaFault) -> LineOutcome
     ensures { result ≡ refusal_of fault }
 {
     match fault {
-        FormulaFault::Long => Outcome::Text,
-        FormulaFault::Lexical(byte) => Outcome::Lexical(byte),
-        FormulaFault::Grammar(byte) => Outcome::Grammar(byte),
-        FormulaFault::Nodes(count) => Outcome::Nodes(count),
+        FormulaFault::Long => LineOutcome::Text,
+        FormulaFault::Lexical(byte) => LineOutcome::Lexical(byte),
+        FormulaFault::Grammar(byte) => LineOutcome::Grammar(byte),
+        FormulaFault::Nodes(count) => LineOutcome::Nodes(count),
     }
 }
 
@@ -47,7 +52,7 @@ fn verdict(
     root: u32,
     kind: Kind,
     asked: u32,
-) -> Result<Outcome, AllocError>
+) -> Result<LineOutcome, AllocError>
     requires few { asked ≤ 1000 }
     requires root { root < length table.now.nodes }
     ensures { IfOk result (ShowsVerdict (tree_at table.now root) kind asked) }
@@ -55,9 +60,9 @@ fn verdict(
     let closure = Closure::of(alloc, table, root, kind)?;
     let limit = batch_limit(&closure, asked);
     match unravel::decide(alloc, &closure, limit)? {
-        Decision::Sat { depth, .. } => Ok(Outcome::Sat(depth)),
-        Decision::Unsat { depth, .. } => Ok(Outcome::Unsat(depth)),
-        Decision::Undecided { depth } => Ok(Outcome::Undecided(depth)),
+        Decision::Sat { depth, .. } => Ok(LineOutcome::Sat(depth)),
+        Decision::Unsat { depth, .. } => Ok(LineOutcome::Unsat(depth)),
+        Decision::Undecided { depth } => Ok(LineOutcome::Undecided(depth)),
     }
 }
 

@@ -5,7 +5,7 @@ ghost use Rattle.std.specs.Prelude.{◌≡◌, ℕ, ◌+◌, ◌^◌, ◌<◌, �
 ghost use Rattle.batch_run.specs.Outcomes.{AreAnswers};
 ghost use Rattle.batch_run.specs.Grouping.{Passes, AreOutcomes, HasOutcomes, end_of, lines_of};
 
-use crate::answer::{Answer, Outcome};
+use crate::answer::{LineAnswer, LineOutcome};
 use crate::deciding::outcome;
 use crate::lines::{Line, Rest};
 use ltl_io::Gate;
@@ -20,7 +20,7 @@ const GROUPS: u32 = 65536;
 /// What is said of the lines of one worker, one of each group. There are fewer where there is no memory.
 #[derive(Drop)]
 struct Lane {
-    outcomes: Vec<Outcome>,
+    outcomes: Vec<LineOutcome>,
 }
 
 /// The answers to the formula lines of a text of at most 16,777,216 bytes, in order. Each line is a piece,
@@ -34,7 +34,7 @@ pub fn answers<R: Threads + Sync, G: Gate + Sync>(
     asked: u32,
     workers: u32,
     gate: &G,
-) -> Result<Vec<Answer>, AllocError>
+) -> Result<Vec<LineAnswer>, AllocError>
     requires size { length text.now ≤ 16777216 }
     requires asked { asked ≤ 1000 }
     requires some { 1 ≤ workers }
@@ -185,7 +185,7 @@ fn decide_lane<G: Gate>(
 fn collect(
     lines: &Vec<Line<'_>>,
     lanes: &Vec<Lane>,
-    answers: &mut Vec<Answer>,
+    answers: &mut Vec<LineAnswer>,
 ) -> Result<(), AllocError>
     requires { 1 ≤ length lanes.now.items }
     ensures { OnOk result (HasOutcomes lanes.now.items lines.now.items answers.old.items answers.new.items) }
@@ -197,7 +197,7 @@ fn collect(
         if group >= outcomes.len() {
             return Err(AllocError);
         }
-        answers.push(Answer {
+        answers.push(LineAnswer {
             line: lines[index].number,
             outcome: outcomes[group],
         })?;

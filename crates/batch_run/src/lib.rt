@@ -9,6 +9,6 @@ mod lines;
 mod printing;
 mod shared;
 
-pub use answer::{Answer, Outcome, all_verdicts};
+pub use answer::{LineAnswer, LineOutcome, all_verdicts};
 pub use groups::answers;
 pub use printing::batch_text;

@@ -2,12 +2,12 @@
 ghost use Rattle.std.specs.Prelude.{◌≡◌, ◌++◌, IfOk, OnOk};
 ghost use Rattle.batch_run.specs.Texts.{worded, outcome_text, answer_text, batch_text};
 
-use crate::answer::{Answer, Outcome};
+use crate::answer::{LineAnswer, LineOutcome};
 use itoa::Buffer;
 use std::alloc::{AllocError, Global};
 
 /// A line for each answer: its number, one space, and what is said of the formula.
-pub fn batch_text(alloc: Global, answers: &[Answer]) -> Result<Vec<u8>, AllocError>
+pub fn batch_text(alloc: Global, answers: &[LineAnswer]) -> Result<Vec<u8>, AllocError>
     ensures { IfOk result (λ text. text.items ≡ batch_text answers.now) }
 {
     let mut text = Vec::new(alloc);
@@ -17,7 +17,7 @@ pub fn batch_text(alloc: Global, answers: &[Answer]) -> Result<Vec<u8>, AllocErr
     Ok(text)
 }
 
-fn push_answer(answer: Answer, text: &mut Vec<u8>) -> Result<(), AllocError>
+fn push_answer(answer: LineAnswer, text: &mut Vec<u8>) -> Result<(), AllocError>
     ensures { OnOk result (text.new.items ≡ text.old.items ++ answer_text answer) }
 {
     push_number(b"", answer.line, text)?;
@@ -27,17 +27,17 @@ fn push_answer(answer: Answer, text: &mut Vec<u8>) -> Result<(), AllocError>
     Ok(())
 }
 
-fn push_outcome(outcome: Outcome, text: &mut Vec<u8>) -> Result<(), AllocError>
+fn push_outcome(outcome: LineOutcome, text: &mut Vec<u8>) -> Result<(), AllocError>
     ensures { OnOk result (text.new.items ≡ text.old.items ++ outcome_text outcome) }
 {
     match outcome {
-        Outcome::Sat(depth) => push_number(b"SAT ", depth, text),
-        Outcome::Unsat(depth) => push_number(b"UNSAT ", depth, text),
-        Outcome::Undecided(depth) => push_number(b"UNDECIDED ", depth, text),
-        Outcome::Text => text.extend_from_slice(b"limit text 1048576"),
-        Outcome::Lexical(byte) => push_number(b"lexical fault at byte ", byte, text),
-        Outcome::Grammar(byte) => push_number(b"grammar fault at byte ", byte, text),
-        Outcome::Nodes(count) => push_number(b"limit nodes 16384 have ", count, text),
+        LineOutcome::Sat(depth) => push_number(b"SAT ", depth, text),
+        LineOutcome::Unsat(depth) => push_number(b"UNSAT ", depth, text),
+        LineOutcome::Undecided(depth) => push_number(b"UNDECIDED ", depth, text),
+        LineOutcome::Text => text.extend_from_slice(b"limit text 1048576"),
+        LineOutcome::Lexical(byte) => push_number(b"lexical fault at byte ", byte, text),
+        LineOutcome::Grammar(byte) => push_number(b"grammar fault at byte ", byte, text),
+        LineOutcome::Nodes(count) => push_number(b"limit nodes 16384 have ", count, text),
     }
 }
 

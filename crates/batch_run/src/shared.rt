@@ -1,10 +1,10 @@
 // Answers may stand in any thread. These calls stand only where the types are Send and Sync.
 
-use crate::{Answer, Outcome};
+use crate::{LineAnswer, LineOutcome};
 
 fn is_shared<T: Send + Sync>(_value: &T) {}
 
-fn are_shared(answer: &Answer, outcome: &Outcome) {
+fn are_shared(answer: &LineAnswer, outcome: &LineOutcome) {
     is_shared(answer);
     is_shared(outcome);
 }

@@ -7,8 +7,8 @@ use Rattle.ltl_parser.specs.Text.{IsAccepted}
 use Rattle.claims.specs.Certificate.{Certificate}
 use Rattle.claims.specs.Lawful.{IsLawful}
 use Rattle.claims.specs.Laws.{LawfulHasNoTrace}
-use Rattle.claim_check.specs.declared.reason.Verdict.TheVariants as verdicts
-use Rattle.claim_check.specs.declared.reason.Reason.{Reason}
+use Rattle.claim_check.specs.declared.reason.ClaimVerdict.TheVariants as verdicts
+use Rattle.claim_check.specs.declared.reason.CertificateFault.{CertificateFault}
 use Rattle.claim_check.specs.Reasons.{IsVerdict}
 use Rattle.claim_check.specs.Laws.{VerdictIsOne}
 use Rattle.claim_text.specs.Text.{IsTextOf}
@@ -48,7 +48,7 @@ verified_found kind f text before after a law (judged c verdicts.Verified is law
     record { certificate = c; is = is; lawful = lawful; none = λ t trace of. law f kind c lawful t trace of; printed = g }
 verified_found kind f text before after a law (judged c (verdicts.Refused reason) is first) e g = absurd (cc)
 
-refused_not_verified : (reason : Reason) → verdicts.Refused reason ≡ verdicts.Verified → ⊥
+refused_not_verified : (reason : CertificateFault) → verdicts.Refused reason ≡ verdicts.Verified → ⊥
 refused_not_verified reason e = cc
 
 rejected_found : (kind : Kind) (f : Formula) (text : List ℕ) (before after : Option (List ℕ)) (a : Answer) → VerdictIsOne → IsChecked kind f text a

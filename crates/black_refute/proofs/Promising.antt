@@ -1,7 +1,7 @@
 -- What both promises share: an answer that was printed whole, and a call that gave none.
 use Rattle.std.proofs.Common.{◌≡◌, ◌∙◌, ℕ, true, false, List, Option, refl, sym, ap, subst}
 use Rattle.ltl_io.specs.Outside.{Grows}
-use Rattle.claim_check.specs.declared.reason.Verdict.TheVariants as verdicts
+use Rattle.claim_check.specs.declared.reason.ClaimVerdict.TheVariants as verdicts
 use Rattle.report.specs.declared.status.Status.{Status}
 use Rattle.report.specs.declared.status.Status.TheVariants as statuses
 use Rattle.report.specs.Status.{is_answer, fault_status}

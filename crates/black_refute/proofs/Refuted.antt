@@ -7,7 +7,7 @@ use Rattle.ltl_parser.specs.Text.{IsAccepted}
 use Rattle.claims.specs.Certificate.{Certificate}
 use Rattle.claims.specs.Lawful.{IsLawful}
 use Rattle.claims.specs.Laws.{LawfulHasNoTrace}
-use Rattle.claim_check.specs.declared.reason.Verdict.TheVariants as verdicts
+use Rattle.claim_check.specs.declared.reason.ClaimVerdict.TheVariants as verdicts
 use Rattle.claim_text.specs.Text.{IsTextOf}
 use Rattle.claim_reading.specs.Never.{never_text}
 use Rattle.unravel.specs.Decision.{HasNoTrace}

@@ -1,11 +1,11 @@
 -- The text of a refused layer, piece by piece.
 use Rattle.std.proofs.Common.{◌≡◌, ◌∙◌, ◌++◌, ℕ, List, decimal, codes, append_assoc, ap, ap₂, sym}
-use Rattle.claim_check.specs.declared.reason.Fault.{Fault}
-use Rattle.claim_check.specs.declared.reason.Reason.{Reason}
-use Rattle.claim_check.specs.declared.reason.Reason.TheVariants as reasons
+use Rattle.claim_check.specs.declared.reason.LayerFault.{LayerFault}
+use Rattle.claim_check.specs.declared.reason.CertificateFault.{CertificateFault}
+use Rattle.claim_check.specs.declared.reason.CertificateFault.TheVariants as reasons
 use Rattle.black_refute.specs.Texts.{fault_text, reason_text}
 
-pub layer_added : (old first second last digits : List ℕ) (reason : Reason) (number : ℕ) (fault : Fault) → reason ≡ reasons.Layer number fault
+pub layer_added : (old first second last digits : List ℕ) (reason : CertificateFault) (number : ℕ) (fault : LayerFault) → reason ≡ reasons.Layer number fault
     → first ≡ old ++ codes "REJECTED layer " → second ≡ first ++ digits → digits ≡ decimal number → last ≡ second ++ fault_text fault
     → last ≡ old ++ reason_text reason
 layer_added old first second last digits reason number fault is begun more number_is ended =

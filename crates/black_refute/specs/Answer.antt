@@ -1,8 +1,8 @@
 -- The answers, each with its status and its text.
 use Rattle.std.specs.Prelude.{ℕ, List}
 use Rattle.ltl_word.specs.declared.trace.Trace.{Trace}
-use Rattle.claim_check.specs.declared.reason.Verdict.{Verdict}
-use Rattle.claim_check.specs.declared.reason.Verdict.TheVariants as verdicts
+use Rattle.claim_check.specs.declared.reason.ClaimVerdict.{ClaimVerdict}
+use Rattle.claim_check.specs.declared.reason.ClaimVerdict.TheVariants as verdicts
 use Rattle.command_words.specs.Usage.{refutation_usage_text}
 use Rattle.report.specs.declared.fault.Fault.{Fault}
 use Rattle.report.specs.declared.status.Status.{Status}
@@ -20,10 +20,10 @@ pub data Answer : Type 0 where
   unsat : List ℕ → Answer
   certified : List ℕ → Answer
   undecided : Answer
-  checked : Verdict → Answer
+  checked : ClaimVerdict → Answer
 
 -- the status of what is found of a certificate
-abbrev pub checked_status : Verdict → Status
+abbrev pub checked_status : ClaimVerdict → Status
 checked_status verdicts.Verified = statuses.Good
 checked_status (verdicts.Refused reason) = statuses.Negative
 

@@ -7,9 +7,9 @@ use Rattle.ltl_parser.specs.Text.{IsAccepted}
 use Rattle.unravel.specs.Decision.{HasNoTrace}
 use Rattle.claims.specs.Certificate.{Certificate}
 use Rattle.claims.specs.Lawful.{IsLawful}
-use Rattle.claim_check.specs.declared.reason.Reason.{Reason}
-use Rattle.claim_check.specs.declared.reason.Verdict.{Verdict}
-use Rattle.claim_check.specs.declared.reason.Verdict.TheVariants as verdicts
+use Rattle.claim_check.specs.declared.reason.CertificateFault.{CertificateFault}
+use Rattle.claim_check.specs.declared.reason.ClaimVerdict.{ClaimVerdict}
+use Rattle.claim_check.specs.declared.reason.ClaimVerdict.TheVariants as verdicts
 use Rattle.claim_check.specs.Reasons.{IsVerdict}
 use Rattle.claim_text.specs.Text.{IsTextOf, IsFault}
 use Rattle.report.specs.declared.fault.Fault.TheVariants as faults
@@ -27,7 +27,7 @@ use Rattle.black_refute.specs.Answer.{Answer, refused, checked, status_of, text_
 -- the answer to a formula and a text: the text is that of no certificate, or the certificate that it is has this verdict
 pub data IsChecked (kind : Kind) (f : Formula) (text : List ℕ) : Answer → Type 0 where
   unread : (byte : ℕ) → IsFault text byte → IsChecked kind f text (refused (faults.Certificate byte))
-  judged : (c : Certificate) (v : Verdict) → IsTextOf text c → IsVerdict f kind c v → IsChecked kind f text (checked v)
+  judged : (c : Certificate) (v : ClaimVerdict) → IsTextOf text c → IsVerdict f kind c v → IsChecked kind f text (checked v)
 
 -- the answer to a formula, a separator line and a text
 abbrev pub IsPartedCheck : Kind → List ℕ → Answer → Type 0
@@ -53,7 +53,7 @@ pub record PrintsVerified (kind : Kind) (f : Formula) (text : List ℕ) (before 
 pub record PrintsRejected (kind : Kind) (f : Formula) (text : List ℕ) (before after : Option (List ℕ)) : Type 0 where
   pub certificate : Certificate
   pub is : IsTextOf text certificate
-  pub reason : Reason
+  pub reason : CertificateFault
   pub first : IsVerdict f kind certificate (verdicts.Refused reason)
   pub unlawful : ¬ (IsLawful f kind certificate)
   pub printed : Grows (verdict_text (verdicts.Refused reason)) before after

@@ -1,5 +1,5 @@
-// Whether a certificate of claims shows that no trace of the kind satisfies a formula. The input is both, with
-// a separator line between. Nothing is searched for here: only the certificate counts.
+// Whether a certificate of claims shows that no trace of the kind satisfies a formula. The input is both,
+// with a separator line between. Nothing is searched for here: only the certificate counts.
 ghost use Rattle.std.specs.Prelude.{◌<◌, length, IfOk};
 ghost use Rattle.ltl_syntax.specs.Table.{tree_at};
 ghost use Rattle.black_refute.specs.Answer.{Answer};
@@ -10,7 +10,7 @@ use crate::output::{Output, checked, refusal};
 use claim_text::TextRefused;
 use ltl_closure::Closure;
 use ltl_syntax::{FormulaTable, Kind};
-use program_input::{Reading, cut, read_formula};
+use program_input::{PartReading, cut, read_formula};
 use report::Fault;
 use std::alloc::{AllocError, Global};
 
@@ -22,8 +22,8 @@ pub fn check(alloc: Global, kind: Kind, input: &[u8]) -> Result<Output, AllocErr
         return refusal(alloc, Fault::NoSeparator);
     };
     match read_formula(alloc, parts.formula)? {
-        Reading::Refused(fault) => refusal(alloc, fault),
-        Reading::Formula { table, root } => judge(alloc, &table, root, kind, parts.second),
+        PartReading::Refused(fault) => refusal(alloc, fault),
+        PartReading::Formula { table, root } => judge(alloc, &table, root, kind, parts.second),
     }
 }
 

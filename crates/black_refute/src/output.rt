@@ -6,7 +6,7 @@ ghost use Rattle.black_refute.specs.Answer.{refused, usage, sat, unsat, certifie
 ghost use Rattle.black_refute.specs.Inner.{Shows};
 
 use crate::verdict::add_verdict;
-use claim_check::Verdict;
+use claim_check::ClaimVerdict;
 use command_words::refutation_usage;
 use ltl_word::Trace;
 use report::{Fault, Status, line};
@@ -72,12 +72,12 @@ pub fn undecided(alloc: Global) -> Result<Output, AllocError>
 }
 
 /// VERIFIED, or REJECTED with the reason.
-pub fn checked(alloc: Global, verdict: Verdict) -> Result<Output, AllocError>
+pub fn checked(alloc: Global, verdict: ClaimVerdict) -> Result<Output, AllocError>
     ensures { IfOk result (λ out. Shows out (checked verdict)) }
 {
     let status = match verdict {
-        Verdict::Verified => Status::Good,
-        Verdict::Refused(_) => Status::Negative,
+        ClaimVerdict::Verified => Status::Good,
+        ClaimVerdict::Refused(_) => Status::Negative,
     };
     let mut text = Vec::new(alloc);
     add_verdict(verdict, &mut text)?;

@@ -9,14 +9,14 @@ ghost use Rattle.black_refute.specs.Inner.{Shows};
 
 use crate::output::{Output, certified, refusal, undecided, unsat};
 use crate::turns::take_turns;
-use claim_check::{Certificate, Verdict, check};
+use claim_check::{Certificate, ClaimVerdict, check};
 use claim_reading::never_lines;
 use claim_text::{TextRefused, append, read};
 use command_words::Options;
 use ltl_closure::Closure;
 use ltl_io::Sink;
 use ltl_syntax::FormulaTable;
-use program_input::{Reading, read_formula};
+use program_input::{PartReading, read_formula};
 use std::alloc::{AllocError, Global};
 
 /// The answer to the text of a formula. A text that is too long may be a front of the input.
@@ -31,8 +31,8 @@ pub fn refute<N: Sink>(
     ensures silent { options.progress ≡ false → notes.new ≡ notes.old }
 {
     match read_formula(alloc, text)? {
-        Reading::Refused(fault) => refusal(alloc, fault),
-        Reading::Formula { table, root } => settle(alloc, &table, root, options, notes),
+        PartReading::Refused(fault) => refusal(alloc, fault),
+        PartReading::Formula { table, root } => settle(alloc, &table, root, options, notes),
     }
 }
 
@@ -71,8 +71,8 @@ pub fn refuted(
     unsat(alloc, &lines)
 }
 
-/// The same by the certificate's text. What the text is read as is judged once more, as `--check` does it, since
-/// a lawful certificate need not have a text. Without a lawful one nothing is said.
+/// The same by the certificate's text. What the text is read as is judged once more, as `--check` does it,
+/// since a lawful certificate need not have a text. Without a lawful one nothing is said.
 fn refuted_by_text(
     alloc: Global,
     closure: &Closure<'_>,
@@ -90,7 +90,7 @@ fn refuted_by_text(
         Err(TextRefused::NoMemory) => return Err(AllocError),
     };
     match check(alloc, closure, closure.kind(), &again)? {
-        Verdict::Verified => Ok(out),
-        Verdict::Refused(_) => undecided(alloc),
+        ClaimVerdict::Verified => Ok(out),
+        ClaimVerdict::Refused(_) => undecided(alloc),
     }
 }

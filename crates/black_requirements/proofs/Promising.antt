@@ -8,8 +8,8 @@ use Rattle.requirement_document.specs.declared.document.Document.{Document}
 use Rattle.requirement_document.specs.Values.{DocumentValue, document_in}
 use Rattle.requirement_answers.specs.declared.findings.Report.{Report}
 use Rattle.requirement_answers.specs.declared.findings.Scope.{Scope}
-use Rattle.requirement_answers.specs.declared.judging.Verdict.{Verdict}
-use Rattle.requirement_answers.specs.declared.judging.Verdict.TheVariants as verdicts
+use Rattle.requirement_answers.specs.declared.judging.ReportVerdict.{ReportVerdict}
+use Rattle.requirement_answers.specs.declared.judging.ReportVerdict.TheVariants as verdicts
 use Rattle.requirement_answers.specs.Verdicts.{verdict}
 use Rattle.black_requirements.specs.Words.{Request, Query, Letters, About, Certificate}
 use Rattle.black_requirements.specs.Refusing.{cause_status}
@@ -22,7 +22,7 @@ cause_answers : (c : Cause) → is_answer (cause_status c) ≡ true
 cause_answers causes.TooLong = refl
 cause_answers other = refl
 
-verdict_answers : (v : Verdict) → is_answer (verdict_status v) ≡ true
+verdict_answers : (v : ReportVerdict) → is_answer (verdict_status v) ≡ true
 verdict_answers verdicts.AsWished = refl
 verdict_answers verdicts.NotAsWished = refl
 verdict_answers verdicts.Undecided = refl

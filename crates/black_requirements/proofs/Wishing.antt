@@ -9,8 +9,8 @@ use Rattle.requirement_document.specs.Values.{DocumentValue, document_in}
 use Rattle.requirement_document.specs.Document.{IsDocument}
 use Rattle.requirement_answers.specs.declared.findings.Scope.{Scope}
 use Rattle.requirement_answers.specs.declared.findings.Scope.TheVariants as scopes
-use Rattle.requirement_answers.specs.declared.judging.Verdict.{Verdict}
-use Rattle.requirement_answers.specs.declared.judging.Verdict.TheVariants as verdicts
+use Rattle.requirement_answers.specs.declared.judging.ReportVerdict.{ReportVerdict}
+use Rattle.requirement_answers.specs.declared.judging.ReportVerdict.TheVariants as verdicts
 use Rattle.requirement_answers.specs.Verdicts.{verdict}
 use Rattle.requirement_answers.specs.Reports.{IsReport}
 use Rattle.requirement_answers.specs.Laws.{IsAsWished, VerdictIsRight}
@@ -26,7 +26,7 @@ pub fault_status : (c : Cause) → cause_status c ≡ statuses.Good → ⊥
 fault_status causes.TooLong e = cc
 fault_status other e = cc
 
-good_verdict : (v : Verdict) → verdict_status v ≡ statuses.Good → v ≡ verdicts.AsWished
+good_verdict : (v : ReportVerdict) → verdict_status v ≡ statuses.Good → v ≡ verdicts.AsWished
 good_verdict verdicts.AsWished e = refl
 good_verdict verdicts.NotAsWished e = absurd (cc)
 good_verdict verdicts.Undecided e = absurd (cc)

@@ -8,8 +8,8 @@ use Rattle.requirement_document.specs.Values.{DocumentValue, document_in}
 use Rattle.requirement_document.specs.Document.{IsDocument, HasFault}
 use Rattle.requirement_answers.specs.declared.findings.Report.{Report}
 use Rattle.requirement_answers.specs.declared.findings.Scope.{Scope}
-use Rattle.requirement_answers.specs.declared.judging.Verdict.{Verdict}
-use Rattle.requirement_answers.specs.declared.judging.Verdict.TheVariants as verdicts
+use Rattle.requirement_answers.specs.declared.judging.ReportVerdict.{ReportVerdict}
+use Rattle.requirement_answers.specs.declared.judging.ReportVerdict.TheVariants as verdicts
 use Rattle.requirement_answers.specs.declared.findings.ReportRefused.TheVariants as refusals
 use Rattle.requirement_answers.specs.Reports.{IsReport, IsRefused}
 use Rattle.requirement_answers.specs.Verdicts.{verdict}
@@ -24,7 +24,7 @@ use Rattle.black_requirements.specs.Naming.{HasNoName, IsAskedAbout}
 use Rattle.black_requirements.specs.Certified.{IsCertified}
 
 -- the status of a verdict
-abbrev pub verdict_status : Verdict → Status
+abbrev pub verdict_status : ReportVerdict → Status
 verdict_status verdicts.AsWished = statuses.Good
 verdict_status verdicts.NotAsWished = statuses.Negative
 verdict_status verdicts.Undecided = statuses.Undecided

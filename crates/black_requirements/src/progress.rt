@@ -1,5 +1,5 @@
-// A report, with a line in the notes for each question where that is asked for. What comes of writing a line is
-// not looked at: the report is the same.
+// A report, with a line in the notes for each question where that is asked for. What comes of writing a line
+// is not looked at: the report is the same.
 ghost use Rattle.std.specs.Prelude.{◌≡◌, ◌++◌, false, IfOk, IfErr, OnOk};
 ghost use Rattle.requirement_document.specs.Values.{document_in};
 ghost use Rattle.requirement_answers.specs.Reports.{IsReport, IsRefused, RecordsTraces};

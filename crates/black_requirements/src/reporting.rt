@@ -20,7 +20,7 @@ use crate::progress::report_with;
 use crate::words::{Face, Query, Request};
 use ltl_io::Sink;
 use report::Status;
-use requirement_answers::{Report, ReportRefused, Scope, Verdict, verdict_of};
+use requirement_answers::{Report, ReportRefused, ReportVerdict, Scope, verdict_of};
 use requirement_document::Document;
 use requirement_json::json;
 use requirement_page::page;
@@ -155,12 +155,12 @@ fn faced(
     }
 }
 
-fn verdict_status(verdict: Verdict) -> Status
+fn verdict_status(verdict: ReportVerdict) -> Status
     ensures { result ≡ verdict_status verdict }
 {
     match verdict {
-        Verdict::AsWished => Status::Good,
-        Verdict::NotAsWished => Status::Negative,
-        Verdict::Undecided => Status::Undecided,
+        ReportVerdict::AsWished => Status::Good,
+        ReportVerdict::NotAsWished => Status::Negative,
+        ReportVerdict::Undecided => Status::Undecided,
     }
 }

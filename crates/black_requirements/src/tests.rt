@@ -320,7 +320,8 @@ const CONFLICT: &str =
 const FOLLOWING: &str =
     "traces = \"finite\"\n[[require]]\nname = \"both\"\nformula = \"p & q\"\n[[require]]\nname = \"one\"\nformula = \"p\"\n[[ensure]]\nname = \"other\"\nformula = \"q\"\n[[behaviour]]\nname = \"log\"\nstates = [[\"p\", \"q\"]]\n";
 
-// A certificate is printed with its formula in front, and is verified; where nothing is impossible, it is said.
+// A certificate is printed with its formula in front, and is verified; where nothing is impossible, it is
+// said.
 #[test]
 fn certificates(rt: HostRuntime) -> Result<(), Fail> {
     let alloc = rt.alloc();

@@ -12,9 +12,9 @@ use Rattle.enc_layout.specs.Letters.{Counts, letters_through}
 use Rattle.enc_layout.specs.Clauses.{counts}
 use Rattle.enc_layout.proofs.Counting.{counts_few}
 use Rattle.unravel.specs.Laws.{VerdictIsThere}
-use Rattle.batch_run.specs.declared.answer.Outcome.{Outcome}
-use Rattle.batch_run.specs.declared.answer.Outcome.TheVariants as outcomes
-use Rattle.batch_run.specs.declared.answer.Answer.{Answer as LineAnswer}
+use Rattle.batch_run.specs.declared.answer.LineOutcome.{LineOutcome}
+use Rattle.batch_run.specs.declared.answer.LineOutcome.TheVariants as outcomes
+use Rattle.batch_run.specs.declared.answer.LineAnswer.{LineAnswer as LineAnswer}
 use Rattle.batch_run.specs.Lines.{AreLines, FormulaLine, formula_lines}
 use Rattle.batch_run.specs.Outcomes.{HasFewLetters, IsBatchLimit, IsOutcome, AreAnswered, AreAnswers}
 use Rattle.report.specs.declared.fault.Fault.{Fault}
@@ -86,22 +86,22 @@ some_limit f kind asked few = let c = counts_few f (small_closure f few) in
 
 -- ---- answers
 
-refused_line : (kind : Kind) (asked : ℕ) (line : List ℕ) (fault : Fault) → RefusesPart line fault → (o : Outcome) × IsOutcome kind asked line o
+refused_line : (kind : Kind) (asked : ℕ) (line : List ℕ) (fault : Fault) → RefusesPart line fault → (o : LineOutcome) × IsOutcome kind asked line o
 refused_line kind asked line fault (too_long h) = (outcomes.Text, h)
 refused_line kind asked line fault (lexical byte short h) = (outcomes.Lexical byte, (short, h))
 refused_line kind asked line fault (grammar byte short h) = (outcomes.Grammar byte, (short, h))
 refused_line kind asked line fault (many_nodes count short h) = (outcomes.Nodes count, (short, h))
 
 module _ (outcome : EachHasOutcome) (verdicts : VerdictIsThere) (kind : Kind) (asked : ℕ) where
-  decided_line : (line : List ℕ) (f : Formula) → IsAccepted line f → (o : Outcome) × IsOutcome kind asked line o
+  decided_line : (line : List ℕ) (f : Formula) → IsAccepted line f → (o : LineOutcome) × IsOutcome kind asked line o
   decided_line line f read = let limit = some_limit f kind asked read.few in let v = verdicts f kind limit.0 in by limit.0 limit.1 v.0 v.1
     where
-      by : (d : ℕ) → IsBatchLimit f kind asked d → (v : Verdict) → IsVerdict f kind d v → (o : Outcome) × IsOutcome kind asked line o
+      by : (d : ℕ) → IsBatchLimit f kind asked d → (v : Verdict) → IsVerdict f kind d v → (o : LineOutcome) × IsOutcome kind asked line o
       by d limited (Sat k) h = (outcomes.Sat k, (f, read, record { limit = d; limited = limited; decided = h }))
       by d limited (Unsat k) h = (outcomes.Unsat k, (f, read, record { limit = d; limited = limited; decided = h }))
       by d limited (Undecided k) h = (outcomes.Undecided k, (f, read, record { limit = d; limited = limited; decided = h }))
 
-  some_outcome : (line : List ℕ) → (o : Outcome) × IsOutcome kind asked line o
+  some_outcome : (line : List ℕ) → (o : LineOutcome) × IsOutcome kind asked line o
   some_outcome line = elim (accepted_or_refused outcome line) [
     | inl (f, read) ↦ decided_line line f read
     | inr (fault, h) ↦ refused_line kind asked line fault h

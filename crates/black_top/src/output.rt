@@ -9,7 +9,7 @@ ghost use Rattle.black_top.specs.Answer.{shown_status, are_true, watched_status}
 ghost use Rattle.black_top.specs.Inner.{Shows};
 
 use crate::Status;
-use batch_run::{Answer, all_verdicts, batch_text};
+use batch_run::{LineAnswer, all_verdicts, batch_text};
 use cert_check::Verdict;
 use ltl_word::Trace;
 use report::{Fault, Shown, Summary};
@@ -119,7 +119,7 @@ pub fn checked(alloc: Global, verdict: Verdict) -> Result<Output, AllocError>
 }
 
 /// The answers to the lines of a batch.
-pub fn batched(alloc: Global, answers: &[Answer]) -> Result<Output, AllocError>
+pub fn batched(alloc: Global, answers: &[LineAnswer]) -> Result<Output, AllocError>
     ensures { IfOk result (λ out. Shows out (batched answers.now)) }
 {
     let status = if all_verdicts(answers) {

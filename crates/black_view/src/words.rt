@@ -1,7 +1,9 @@
 // The words behind the program's name, one after the other, and what they ask for.
-ghost use Rattle.std.specs.Prelude.{◌≡◌, ◌++◌, true, false, Some, map, string_bytes, option_map, IfOk, OnOk, MatchOption};
+ghost use Rattle.std.specs.Prelude.{◌≡◌, ◌++◌, true, false, Some, map, string_bytes, option_map, IfOk, OnOk};
+ghost use Rattle.std.specs.Prelude.{MatchOption};
 ghost use Rattle.black_view.specs.declared.words.TextOption.TheVariants as options;
-ghost use Rattle.black_view.specs.Words.{wanted, finished, with_word, with_option, with_text, option_named, is_dashed, letters_in, number_of};
+ghost use Rattle.black_view.specs.Words.{wanted, finished, with_word, with_option, with_text, option_named};
+ghost use Rattle.black_view.specs.Words.{is_dashed, letters_in, number_of};
 ghost use Rattle.black_view.specs.Words.{has_equals, before_equals, behind_equals};
 ghost use Rattle.black_view.specs.Asked.{IsAsked, wanted_of, said_of};
 

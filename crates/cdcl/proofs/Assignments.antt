@@ -14,7 +14,7 @@ use Rattle.clause_log.specs.LogValue.{LogValue, IsLog}
 use Rattle.clause_log.proofs.LogLemmas.{lines_follow}
 use Rattle.cdcl_state.specs.StateValue.{StateValue, IsModel, positive}
 use Rattle.cdcl_trail.specs.Trail.{literals_of, literal_at}
-use Rattle.cdcl_trail.specs.declared.assigned.Entry.{Entry}
+use Rattle.cdcl_trail.specs.declared.assigned.TrailEntry.{TrailEntry}
 use Rattle.cdcl_trail.proofs.Standing.{place_of}
 use Rattle.cdcl.specs.Solving.{AreTrue, IsNegated, IsSatisfiable, IsAfter, IsFound}
 use Rattle.cdcl.specs.SolverValue.{SolverValue, IsAnswer}
@@ -23,7 +23,7 @@ use Rattle.cdcl.specs.declared.solve.Answer.TheVariants.{Sat, Unsat}
 use Rattle.cdcl.proofs.Ending.{one_place}
 
 -- two true literals of one letter are one literal
-same_true : (trail : List Entry) → AllPairs (λ e f. e.literal.letter.0 ≢ f.literal.letter.0) trail → (a b : Literal)
+same_true : (trail : List TrailEntry) → AllPairs (λ e f. e.literal.letter.0 ≢ f.literal.letter.0) trail → (a b : Literal)
     → a.letter.0 ≡ b.letter.0 → Contains (literals_of trail) a → Contains (literals_of trail) b → a ≡ b
 same_true trail apart a b same a_in b_in =
     let p = place_of trail a a_in in

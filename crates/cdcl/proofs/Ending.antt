@@ -14,7 +14,7 @@ use Rattle.cdcl_state.specs.StateValue.{StateValue, with_log, with_all_lines, Is
 use Rattle.cdcl_trail.specs.Trail.{literals_of, blank_entry, literal_at, IsDecision}
 use Rattle.cdcl_state.specs.Turns.{IsFront, IsRefuted, IsTurn}
 use Rattle.cdcl_analyze.specs.Analysis.{refuted_at}
-use Rattle.cdcl_trail.specs.declared.assigned.Entry.{Entry}
+use Rattle.cdcl_trail.specs.declared.assigned.TrailEntry.{TrailEntry}
 use Rattle.cdcl_analyze.specs.declared.analyze.Learnt.{Learnt}
 use Rattle.cdcl_trail.proofs.Measure.{measure, restart_falls}
 use Rattle.cdcl_trail.proofs.Standing.{true_place}
@@ -110,7 +110,7 @@ falls_at_restart first s new left before letters falls cases = elim cases [
       (restart_falls left (places_of first) first.trail new.trail))
 ]
 
-module _ (trail : List Entry) (apart : AllPairs (λ e f. e.literal.letter.0 ≢ f.literal.letter.0) trail) where
+module _ (trail : List TrailEntry) (apart : AllPairs (λ e f. e.literal.letter.0 ≢ f.literal.letter.0) trail) where
   -- one letter stands at one place
   pub one_place : (i j : ℕ) → i < length trail → j < length trail → (literal_at trail i).letter.0 ≡ (literal_at trail j).letter.0 → i ≡ j
   one_place i j i_low j_low same = elim (cases_lt i j) [
@@ -160,18 +160,18 @@ module _ (trail : List Entry) (apart : AllPairs (λ e f. e.literal.letter.0 ≢ 
     pub refuted_assumed : (l : Literal) (p : ℕ) → Contains assumptions l → p < length trail → literal_at trail p ≡ opposite l
         → EachDecision (IsAssumed assumptions) (refuted_at trail p)
     refuted_assumed l p there low is k below free =
-        let e : Entry = record { literal = opposite (literal_at trail p); level = p + 1; reason = None } in
+        let e : TrailEntry = record { literal = opposite (literal_at trail p); level = p + 1; reason = None } in
         let front : length (take p trail) ≡ p = length-take-le p trail (omega (arith, low)) in
         elim (cases_lt k p) [
           | inl earlier ↦
               let same : get_or (refuted_at trail p) k blank_entry ≡ get_or trail k blank_entry =
               get_or_append_left (take p trail) (e ∷ []) blank_entry k (omega (arith, earlier, front)) ∙ get_or-take p trail k blank_entry earlier in
-              subst (λ (f : Entry). Contains assumptions f.literal) (sym same)
-              (assumed_up p l low there (ap (λ (m : Literal). m.letter.0) is) k (omega (arith, earlier)) (ap (λ (f : Entry). f.reason) (sym same) ∙ free))
+              subst (λ (f : TrailEntry). Contains assumptions f.literal) (sym same)
+              (assumed_up p l low there (ap (λ (m : Literal). m.letter.0) is) k (omega (arith, earlier)) (ap (λ (f : TrailEntry). f.reason) (sym same) ∙ free))
           | inr high ↦
               let last : length (take p trail) ≡ k = omega (arith, high, below, front, length_push (take p trail) e) in
               let same : get_or (refuted_at trail p) k blank_entry ≡ e = get_or_at (take p trail) e [] blank_entry k last in
-              subst (λ (f : Entry). Contains assumptions f.literal) (sym same)
+              subst (λ (f : TrailEntry). Contains assumptions f.literal) (sym same)
               (subst (Contains assumptions) (sym (ap opposite is ∙ opposite_opposite l)) there)
         ]
 

@@ -18,13 +18,13 @@ use Rattle.cdcl_state.specs.StateValue.{StateValue, with_trail, with_log, IsHeed
 use Rattle.cdcl_trail.specs.Trail.{literals_of, IsReason, blank_entry, literal_at, IsDecision}
 use Rattle.cdcl_analyze.specs.Learnt.{IsLearnt}
 use Rattle.cdcl_state.specs.Turns.{IsTurn, IsUnturned, IsDecided}
-use Rattle.cdcl_trail.specs.declared.assigned.Entry.{Entry}
+use Rattle.cdcl_trail.specs.declared.assigned.TrailEntry.{TrailEntry}
 use Rattle.cdcl_analyze.specs.declared.analyze.Learnt.{Learnt}
 use Rattle.cdcl_trail.proofs.Weight.{weight, weight_push, weight_swap}
 use Rattle.cdcl.specs.Solving.{IsLonger, IsAfter, IsNegated}
 
 -- P holds of the literals before each decision and of the decision
-abbrev pub EachDecision : (List Literal → Literal → Type 0) → List Entry → Type 0
+abbrev pub EachDecision : (List Literal → Literal → Type 0) → List TrailEntry → Type 0
 EachDecision P trail = (k : ℕ) → k < length trail → (get_or trail k blank_entry).reason ≡ None → P (literals_of (take k trail)) (literal_at trail k)
 
 -- a decision is an assumption, or came when all assumptions were true
@@ -51,38 +51,38 @@ pub record IsSearch (old s : StateValue) (assumptions : List Literal) : Type 0 w
   pub near : IsQuiet old s assumptions ⊎ HasNoNear old.log assumptions
 
 module _ (P : List Literal → Literal → Type 0) where
-  pub each_take : (n : ℕ) (trail : List Entry) → n ≤ length trail → EachDecision P trail → EachDecision P (take n trail)
+  pub each_take : (n : ℕ) (trail : List TrailEntry) → n ≤ length trail → EachDecision P trail → EachDecision P (take n trail)
   each_take n trail fits each k below free =
       let low : k < n = omega (arith, length-take n trail) in
       let same = get_or-take n trail k blank_entry low in
-      subst (λ (e : Entry). P (literals_of (take k (take n trail))) e.literal) (sym same)
+      subst (λ (e : TrailEntry). P (literals_of (take k (take n trail))) e.literal) (sym same)
       (subst (λ t. P (literals_of t) (literal_at trail k)) (sym (take-take k n trail (omega arith)))
-      (each k (omega arith) (ap (λ (e : Entry). e.reason) (sym same) ∙ free)))
+      (each k (omega arith) (ap (λ (e : TrailEntry). e.reason) (sym same) ∙ free)))
 
-  pub each_push : (trail : List Entry) (e : Entry) → EachDecision P trail → (e.reason ≡ None → P (literals_of trail) e.literal)
+  pub each_push : (trail : List TrailEntry) (e : TrailEntry) → EachDecision P trail → (e.reason ≡ None → P (literals_of trail) e.literal)
       → EachDecision P (trail ++ e ∷ [])
   each_push trail e each here k below free = elim (cases_lt k (length trail)) [
     | inl old ↦
         let same = get_or_append_left trail (e ∷ []) blank_entry k old in
-        subst (λ (f : Entry). P (literals_of (take k (trail ++ e ∷ []))) f.literal) (sym same)
+        subst (λ (f : TrailEntry). P (literals_of (take k (trail ++ e ∷ []))) f.literal) (sym same)
         (subst (λ t. P (literals_of t) (literal_at trail k)) (sym (take-append-le k trail (e ∷ []) (omega arith)))
-        (each k old (ap (λ (f : Entry). f.reason) (sym same) ∙ free)))
+        (each k old (ap (λ (f : TrailEntry). f.reason) (sym same) ∙ free)))
     | inr high ↦
         let last : length trail ≡ k = omega (arith, length_push trail e) in
         let same = get_or_at trail e [] blank_entry k last in
-        subst (λ (f : Entry). P (literals_of (take k (trail ++ e ∷ []))) f.literal) (sym same)
+        subst (λ (f : TrailEntry). P (literals_of (take k (trail ++ e ∷ []))) f.literal) (sym same)
         (subst (λ t. P (literals_of t) e.literal) (sym (take_at trail (e ∷ []) k last))
-        (here (ap (λ (f : Entry). f.reason) (sym same) ∙ free)))
+        (here (ap (λ (f : TrailEntry). f.reason) (sym same) ∙ free)))
   ]
 
-  pub each_append : (trail more : List Entry) → EachDecision P trail → All (λ e. e.reason ≢ None) more → EachDecision P (trail ++ more)
+  pub each_append : (trail more : List TrailEntry) → EachDecision P trail → All (λ e. e.reason ≢ None) more → EachDecision P (trail ++ more)
   each_append trail [] each forced = subst (EachDecision P) (sym (append-nil trail)) each
   each_append trail (e ∷ more) each forced =
       subst (EachDecision P) (append_assoc trail (e ∷ []) more)
       (each_append (trail ++ e ∷ []) more (each_push trail e each (λ free. absurd (All-head (λ f. f.reason ≢ None) e more forced free)))
       (All-tail (λ f. f.reason ≢ None) e more forced))
 
-  pub each_forced : (trail : List Entry) → All (λ e. e.reason ≢ None) trail → EachDecision P trail
+  pub each_forced : (trail : List TrailEntry) → All (λ e. e.reason ≢ None) trail → EachDecision P trail
   each_forced trail forced k below free = absurd (forced k blank_entry below free)
 
 -- what the measure does, with places enough for the trail
@@ -104,7 +104,7 @@ weight_turned old new turn bounded =
     subst (λ (s : StateValue). fuel s < fuel old) (sym turn.after)
     (subst (λ t. weight (places_of old) (front ++ turn.entry ∷ []) < weight (places_of old) t) (sym split) falls)
 
-pub weight_grown : (n : ℕ) (trail more : List Entry) → length (trail ++ more) ≤ n → weight n (trail ++ more) ≤ weight n trail
+pub weight_grown : (n : ℕ) (trail more : List TrailEntry) → length (trail ++ more) ≤ n → weight n (trail ++ more) ≤ weight n trail
 weight_grown n trail [] fits = subst (λ t. weight n t ≤ weight n trail) (sym (append-nil trail)) (omega arith)
 weight_grown n trail (e ∷ more) fits =
     let longer : length (trail ++ e ∷ more) ≡ length trail + length (e ∷ more) = length-append trail (e ∷ more) in
@@ -122,7 +122,7 @@ weight_propagated old new grown bounded =
 
 pub weight_decided : (old new : StateValue) (l : Literal) → IsDecided old new l → length old.trail ≤ old.letters + 1 → fuel new < fuel old
 weight_decided old new l decided bounded =
-    let e : Entry = record { literal = l; level = decided.level; reason = None } in
+    let e : TrailEntry = record { literal = l; level = decided.level; reason = None } in
     subst (λ (s : StateValue). fuel s < fuel old) (sym decided.after) (weight_push (places_of old) old.trail e (omega (arith, bounded)))
 
 -- where no line is forgotten, each clause is heeded
@@ -185,7 +185,7 @@ true_or_false true_ones (l ∷ clause) set = elim (set l (0, omega arith, refl))
 ]
 
 -- a learnt clause of assumed decisions has only opposites of assumptions
-pub assumed_negated : (log : LogValue) (trail : List Entry) (learnt : Learnt) (assumptions : List Literal) → IsLearnt log trail learnt
+pub assumed_negated : (log : LogValue) (trail : List TrailEntry) (learnt : Learnt) (assumptions : List Literal) → IsLearnt log trail learnt
     → All (IsDecision trail) learnt.places.items → EachDecision (IsAssumed assumptions) trail → IsNegated assumptions learnt.clause.items
 assumed_negated log trail learnt assumptions is decisions each k d below =
     let f : ℕ → Literal = λ p. opposite (literal_at trail p) in
@@ -206,7 +206,7 @@ after_none s = record { letters = refl; log = longer_none s.log }
 pub after_same : (old s new : StateValue) → IsAfter old s → new.letters ≡ s.letters → new.log ≡ s.log → IsAfter old new
 after_same old s new after letters log = record { letters = letters ∙ after.letters; log = subst (IsLonger old.log) (sym log) after.log }
 
-pub after_trail : (old s : StateValue) (trail : List Entry) (new : StateValue) → IsAfter old s → new ≡ with_trail s trail → IsAfter old new
+pub after_trail : (old s : StateValue) (trail : List TrailEntry) (new : StateValue) → IsAfter old s → new ≡ with_trail s trail → IsAfter old new
 after_trail old s trail new after is = after_same old s new after (ap (λ (x : StateValue). x.letters) is) (ap (λ (x : StateValue). x.log) is)
 
 longer_line : (old mid : LogValue) (clause : List Literal) (hints : List Hint) → IsLonger old mid → IsLonger old (with_line mid clause hints)
@@ -277,7 +277,7 @@ search_turned old s mid new clause hints assumptions search none derived turn =
 pub search_assumed : (old s new : StateValue) (l : Literal) (assumptions : List Literal) → IsSearch old s assumptions → Contains assumptions l
     → IsDecided s new l → IsSearch old new assumptions
 search_assumed old s new l assumptions search there decided =
-    let e : Entry = record { literal = l; level = decided.level; reason = None } in
+    let e : TrailEntry = record { literal = l; level = decided.level; reason = None } in
     let t : new.trail ≡ s.trail ++ e ∷ [] = ap (λ (x : StateValue). x.trail) decided.after in
     record {
       after = after_trail old s _ new search.after decided.after;
@@ -295,7 +295,7 @@ search_assumed old s new l assumptions search there decided =
 pub search_free : (old s new : StateValue) (l : Literal) (assumptions : List Literal) → IsSearch old s assumptions → IsSettled s
     → All (Contains (literals_of s.trail)) assumptions → IsDecided s new l → IsSearch old new assumptions
 search_free old s new l assumptions search settled all_true decided =
-    let e : Entry = record { literal = l; level = decided.level; reason = None } in
+    let e : TrailEntry = record { literal = l; level = decided.level; reason = None } in
     let t : new.trail ≡ s.trail ++ e ∷ [] = ap (λ (x : StateValue). x.trail) decided.after in
     record {
       after = after_trail old s _ new search.after decided.after;

@@ -6,7 +6,7 @@ use Rattle.cnf_base.specs.Known.{IsKnown}
 use Rattle.cdcl_state.specs.StateValue.{StateValue, AreSet}
 use Rattle.cdcl_trail.specs.Trail.{literals_of, IsUnset}
 use Rattle.cdcl_state.specs.Turns.{IsTop}
-use Rattle.cdcl_trail.specs.declared.assigned.Entry.{Entry}
+use Rattle.cdcl_trail.specs.declared.assigned.TrailEntry.{TrailEntry}
 use Rattle.cdcl.specs.declared.choice.Choice.{Choice}
 use Rattle.cdcl.specs.declared.choice.Choice.TheVariants.{Assume, Refuted, Search, Done}
 
@@ -18,9 +18,9 @@ IsChoice s assumptions (Search l) = All (Contains (literals_of s.trail)) assumpt
 IsChoice s assumptions Done = All (Contains (literals_of s.trail)) assumptions × AreSet s
 
 -- the last decision is an assumption, or there is none
-abbrev pub IsAssumedTop : List Entry → List Literal → Type 0
+abbrev pub IsAssumedTop : List TrailEntry → List Literal → Type 0
 IsAssumedTop trail assumptions = All (λ e. e.reason ≢ None) trail ⊎ ((l : Literal) × Contains assumptions l × IsTop trail l)
 
 -- the last decision is no assumption
-abbrev pub IsFreeTop : List Entry → List Literal → Type 0
+abbrev pub IsFreeTop : List TrailEntry → List Literal → Type 0
 IsFreeTop trail assumptions = (l : Literal) × (¬ Contains assumptions l) × IsTop trail l

@@ -1,10 +1,10 @@
 // Which lines are forgotten, and when. Once enough were learnt since some were forgotten last, the better
 // half of those that are left stays. A line is the better the fewer levels its literals had when it was
 // learnt, and then the shorter it is; but all that the hints of these new lines name are better than the
-// others, and a line of two levels or two literals stays for good. Each time more lines have to come first, so
-// a search that needs many at once has them in the end. A question begins with all lines, and if it is a long
-// one, forgets again what was forgotten before. After Audemard and Simon, Predicting learnt clauses quality in
-// modern SAT solvers (2009); that what hints name goes last is ours.
+// others, and a line of two levels or two literals stays for good. Each time more lines have to come first,
+// so a search that needs many at once has them in the end. A question begins with all lines, and if it is a
+// long one, forgets again what was forgotten before. After Audemard and Simon, Predicting learnt clauses
+// quality in modern SAT solvers (2009); that what hints name goes last is ours.
 ghost use Rattle.std.specs.Prelude.{◌≡◌, ◌⊎◌, false};
 ghost use Rattle.cdcl_state.specs.StateValue.{with_all_lines};
 

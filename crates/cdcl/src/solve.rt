@@ -1,8 +1,10 @@
 // The search: propagate; explain a conflict, learn the clause and go back; decide where nothing is left to
 // propagate. While assumptions alone are decided, a conflict or a false assumption is explained by them, and
 // that is the answer. A long search begins anew from time to time, and then forgets lines, which the next
-// question heeds again. After Marques-Silva and Sakallah, GRASP (1999), and Een and Sorensson, MiniSat (2003).
-ghost use Rattle.std.specs.Prelude.{◌≡◌, ◌≤◌, ◌+◌, ◌⊎◌, List, length, All, Contains, None, true, IfOk, OnOk, OnErr};
+// question heeds again. After Marques-Silva and Sakallah, GRASP (1999), and Een and Sorensson, MiniSat
+// (2003).
+ghost use Rattle.std.specs.Prelude.{◌≡◌, ◌≤◌, ◌+◌, ◌⊎◌, List, length, All, Contains, None, true, IfOk, OnOk};
+ghost use Rattle.std.specs.Prelude.{OnErr};
 ghost use Rattle.cnf_base.specs.declared.literal.Literal.{Literal};
 ghost use Rattle.cnf_base.specs.declared.literal.Hint.{Hint};
 ghost use Rattle.cnf_base.specs.Step.{IsHintedStep};
@@ -48,9 +50,9 @@ fn finish(state: &mut State, alloc: Global, learnt: &Learnt) -> Result<Answer, A
 }
 
 /// Heeds all lines, since one that was forgotten may be what answers this question, and takes back the first
-/// decision that is no assumption, with all that came after it. Where the last question forgot lines, it takes
-/// back all decisions: each list has to be visited again then, and what is visited on a level above its own
-/// would be visited again at each conflict.
+/// decision that is no assumption, with all that came after it. Where the last question forgot lines, it
+/// takes back all decisions: each list has to be visited again then, and what is visited on a level above its
+/// own would be visited again at each conflict.
 fn begin(
     state: &mut State,
     alloc: Global,

@@ -1,8 +1,9 @@
 // Which literal is decided next: of the letters without a value one that stood in many recent conflicts, with
-// the value that it had last. Activities are whole numbers of four bytes; those that wait are kept as a binary
-// heap. After Een and Sorensson, MiniSat (2003). Which one comes first is not promised: who asks for a letter
-// tests whether it has a value.
-ghost use Rattle.std.specs.Prelude.{◌≡◌, ◌≢◌, ◌↔◌, ◌⊎◌, ℕ, ◌^◌, ◌+◌, ◌/◌, ◌<◌, ◌≤◌, [], length, MatchOption, OnOk, OnErr};
+// the value that it had last. Activities are whole numbers of four bytes; those that wait are kept as a
+// binary heap. After Een and Sorensson, MiniSat (2003). Which one comes first is not promised: who asks for a
+// letter tests whether it has a value.
+ghost use Rattle.std.specs.Prelude.{◌≡◌, ◌≢◌, ◌↔◌, ◌⊎◌, ℕ, ◌^◌, ◌+◌, ◌/◌, ◌<◌, ◌≤◌, [], length, MatchOption};
+ghost use Rattle.std.specs.Prelude.{OnOk, OnErr};
 ghost use Rattle.cdcl_activity.specs.Order.{IsWaiting};
 ghost use Rattle.cdcl_activity.specs.Choices.{IsOffered};
 

@@ -1,7 +1,8 @@
 // All letters in an order: those that wait come first, as many as the count says, and the others behind them.
 // Each letter stands at one place, so that none waits twice, and there is room for all of them: a letter that
 // comes back changes places with another. Letters and places have four bytes each: there are many of both.
-ghost use Rattle.std.specs.Prelude.{◌≡◌, ◌≢◌, ◌↔◌, ◌⊎◌, ℕ, ◌^◌, ◌+◌, ◌<◌, [], length, MatchOption, OnOk, OnErr};
+ghost use Rattle.std.specs.Prelude.{◌≡◌, ◌≢◌, ◌↔◌, ◌⊎◌, ℕ, ◌^◌, ◌+◌, ◌<◌, [], length, MatchOption, OnOk};
+ghost use Rattle.std.specs.Prelude.{OnErr};
 ghost use Rattle.cdcl_activity.specs.Order.{OrderValue, IsWaiting, letter_at, place_of};
 
 use std::alloc::{AllocError, Global};

@@ -9,7 +9,7 @@ use Rattle.cnf_base.specs.declared.literal.Hint.{Hint}
 use Rattle.cnf_base.specs.Literal.{opposite}
 use Rattle.cnf_base.specs.Step.{named}
 use Rattle.cdcl_trail.specs.Trail.{literals_of, literal_at, AreValues, IsTrail}
-use Rattle.cdcl_trail.specs.declared.assigned.Entry.{Entry}
+use Rattle.cdcl_trail.specs.declared.assigned.TrailEntry.{TrailEntry}
 use Rattle.cdcl_trail.proofs.Standing.{reason_at as entry_reason, true_place}
 use Rattle.cdcl_analyze.specs.Analysis.{AreWaiting}
 use Rattle.cdcl_analyze.specs.Waiting.{IsWaiting}
@@ -31,11 +31,11 @@ letter_same : (old new : MarksValue) → take (length old.consequences) new.cons
     → letter_at new i ≡ letter_at old i
 letter_same old new first i low = ap (λ (c : Consequence). c.letter) (consequence_same old new first i low)
 
-pub marked_given : (trail : List Entry) (base : ℕ) (m : MarksValue) (x : ℕ) (b : Bool) → IsMarked m x → outcome_of m x ≡ Some b → IsGiven trail base m x
+pub marked_given : (trail : List TrailEntry) (base : ℕ) (m : MarksValue) (x : ℕ) (b : Bool) → IsMarked m x → outcome_of m x ≡ Some b → IsGiven trail base m x
 marked_given trail base m x true marked outcome = inr (inl outcome)
 marked_given trail base m x false marked outcome = inl (marked, outcome)
 
-module _ (inputs lines : List (List Literal)) (trail : List Entry) (base : ℕ) where
+module _ (inputs lines : List (List Literal)) (trail : List TrailEntry) (base : ℕ) where
   given_by : (old new : MarksValue) (i : ℕ) → ((x : ℕ) → IsKept old x → IsKept new x) → ((x : ℕ) → IsMarked old x → IsMarked new x)
       → ((j : ℕ) → j < i → letter_at new j ≡ letter_at old j) → (x : ℕ) → IsGivenBy trail base old i x → IsGivenBy trail base new i x
   given_by old new i kept marked same x given = elim given [

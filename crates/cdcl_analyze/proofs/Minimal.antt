@@ -14,7 +14,7 @@ use Rattle.cnf_base.proofs.SameLiteral.{opposite_opposite}
 use Rattle.clause_log.specs.LogValue.{greatest_u32}
 use Rattle.cdcl_trail.specs.Trail.{literals_of, IsTrail, IsReason, AreValues, literal_at, IsInside}
 use Rattle.cdcl_trail.specs.Values.{IsBelow, AreBelow}
-use Rattle.cdcl_trail.specs.declared.assigned.Entry.{Entry}
+use Rattle.cdcl_trail.specs.declared.assigned.TrailEntry.{TrailEntry}
 use Rattle.cdcl_trail.proofs.Standing.{reason_at as reason_of, true_place, places_apart}
 use Rattle.cdcl_trail.proofs.Bridge.{named_has}
 use Rattle.cdcl_analyze.specs.Analysis.{IsUnder, Covers, IsWalk}
@@ -50,7 +50,7 @@ falling_append xs ys from of_xs of_ys high low i j d earlier below = elim (cases
 ]
 
 -- the literal is the opposite of the one whose letter is among the first i that follow
-record HasCome (trail : List Entry) (m : MarksValue) (i : ℕ) (l : Literal) : Type 0 where
+record HasCome (trail : List TrailEntry) (m : MarksValue) (i : ℕ) (l : Literal) : Type 0 where
   index : ℕ
   low : index < i
   place : ℕ
@@ -59,12 +59,12 @@ record HasCome (trail : List Entry) (m : MarksValue) (i : ℕ) (l : Literal) : T
   is : l ≡ opposite (literal_at trail place)
 
 -- the false literals are those of the beginning and the opposites of the literals whose letters are the first i that follow
-record Reached (trail : List Entry) (m : MarksValue) (falses more : List Literal) (i : ℕ) : Type 0 where
+record Reached (trail : List TrailEntry) (m : MarksValue) (falses more : List Literal) (i : ℕ) : Type 0 where
   first : (l : Literal) → Contains falses l → Contains more l
   done : (j q : ℕ) → j < i → q < length trail → (literal_at trail q).letter.0 ≡ letter_at m j → Contains more (opposite (literal_at trail q))
   only : (l : Literal) → Contains more l → Contains falses l ⊎ HasCome trail m i l
 
-module _ (trail : List Entry) (values : List (Option Bool)) (are : AreValues values trail) where
+module _ (trail : List TrailEntry) (values : List (Option Bool)) (are : AreValues values trail) where
   reached_next : (m : MarksValue) (falses more : List Literal) (i p : ℕ) → p < length trail → (literal_at trail p).letter.0 ≡ letter_at m i
       → Reached trail m falses more i
       → Reached trail m falses (opposite (literal_at trail p) ∷ more) (i + 1)
@@ -87,7 +87,7 @@ module _ (trail : List Entry) (values : List (Option Bool)) (are : AreValues val
         ];
       }
 
-module _ (inputs lines : List (List Literal)) (trail : List Entry) (values : List (Option Bool)) (letters base from : ℕ) (old new : MarksValue)
+module _ (inputs lines : List (List Literal)) (trail : List TrailEntry) (values : List (Option Bool)) (letters base from : ℕ) (old new : MarksValue)
     (clause : List Literal) (hints : List Hint) (places : List ℕ) (more : List Literal) (next : List ℕ)
     (is_trail : IsTrail inputs lines trail) (are : AreValues values trail) (known_inputs : AreBelow letters inputs) (known_lines : AreBelow letters lines)
     (few : letters ≤ 2 ^ 32) (fits : base ≤ from)

@@ -9,18 +9,18 @@ use Rattle.cnf_base.specs.Literal.{opposite}
 use Rattle.cdcl_trail.specs.Trail.{literals_of, IsReason, IsUnset, StandsAt, AreValues, blank_entry, literal_at}
 use Rattle.cdcl_analyze.specs.Analysis.{AreFromOne, IsLike, refuted_at}
 use Rattle.cdcl_analyze.specs.Graph.{GraphValue, IsGraph}
-use Rattle.cdcl_trail.specs.declared.assigned.Entry.{Entry}
+use Rattle.cdcl_trail.specs.declared.assigned.TrailEntry.{TrailEntry}
 use Rattle.cdcl_trail.proofs.Assign.{values_push, values_pop, trail_push, trail_take}
 use Rattle.cdcl_trail.proofs.Standing.{true_place, places_apart}
 use Rattle.cdcl_trail.proofs.Levels.{level_bound}
 
 -- values of a front of the trail
-pub record HasValues (letters : ℕ) (trail : List Entry) : Type 0 where
+pub record HasValues (letters : ℕ) (trail : List TrailEntry) : Type 0 where
   pub values : List (Option Bool)
   pub told : AreValues values trail
   pub size : length values ≡ letters
 
-pub values_take : (values : List (Option Bool)) (trail : List Entry) → AreValues values trail → (d n : ℕ) → n + d ≡ length trail
+pub values_take : (values : List (Option Bool)) (trail : List TrailEntry) → AreValues values trail → (d n : ℕ) → n + d ≡ length trail
     → HasValues (length values) (take n trail)
 values_take values trail are zero n is =
     record { values = values; told = subst (AreValues values) (sym (take_all n trail (omega (arith, is)))) are; size = refl }
@@ -63,13 +63,13 @@ module _ (graph : GraphValue) (sound : IsGraph graph) (p : ℕ) (low : p < lengt
         (get_or graph.trail k blank_entry).level refl in
         let same : get_or (take p graph.trail) k d ≡ get_or graph.trail k blank_entry =
         get_or-take p graph.trail k d k_low ∙ get_or_default graph.trail k d blank_entry (omega arith) in
-        subst (λ (e : Entry). e.level ≤ p + 1) (sym same) (omega (arith, level));
+        subst (λ (e : TrailEntry). e.level ≤ p + 1) (sym same) (omega (arith, level));
   }
 
   -- the graph.trail with the decision is like the one that is read
   pub refuted_like : IsLike graph (refuted_at graph.trail p) p
   refuted_like =
-      let e : Entry = record { literal = opposite (literal_at graph.trail p); level = p + 1; reason = None } in
+      let e : TrailEntry = record { literal = opposite (literal_at graph.trail p); level = p + 1; reason = None } in
       let less = values_front in
       let unset : IsUnset (literals_of (take p graph.trail)) e.literal =
       record { not_true = foreign e.literal refl; not_false = foreign (opposite e.literal) refl } in
@@ -96,7 +96,7 @@ module _ (graph : GraphValue) (sound : IsGraph graph) (p : ℕ) (low : p < lengt
       All-push (λ e. 1 ≤ e.literal.letter.0) (take p graph.trail) (record { literal = opposite (literal_at graph.trail p); level = p + 1; reason = None })
       (λ k d below.
       let k_low : k < p = omega (arith, below, front_length) in
-      subst (λ (e : Entry). 1 ≤ e.literal.letter.0) (sym (get_or-take p graph.trail k d k_low)) (from_one k d (omega (arith, low))))
+      subst (λ (e : TrailEntry). 1 ≤ e.literal.letter.0) (sym (get_or-take p graph.trail k d k_low)) (from_one k d (omega (arith, low))))
       (from_one p blank_entry low)
 
   -- its reason is false on it
@@ -104,9 +104,9 @@ module _ (graph : GraphValue) (sound : IsGraph graph) (p : ℕ) (low : p < lengt
       → All (λ l. Contains (literals_of (refuted_at graph.trail p)) (opposite l)) reason.clause
   refuted_false hint reason i d below =
       let u = literal_at graph.trail p in
-      let e : Entry = record { literal = opposite u; level = p + 1; reason = None } in
+      let e : TrailEntry = record { literal = opposite u; level = p + 1; reason = None } in
       let pushed : literals_of (refuted_at graph.trail p) ≡ literals_of (take p graph.trail) ++ opposite u ∷ [] =
-      map-append (λ (f : Entry). f.literal) (take p graph.trail) (e ∷ []) in
+      map-append (λ (f : TrailEntry). f.literal) (take p graph.trail) (e ∷ []) in
       subst (λ ls. Contains ls (opposite (get_or reason.clause i d))) (sym pushed) (elim (reason.others i d below) [
         | inl is ↦ subst (λ l. Contains (literals_of (take p graph.trail) ++ opposite u ∷ []) (opposite l)) (sym is)
             (Contains-push (literals_of (take p graph.trail)) (opposite u))

@@ -7,7 +7,7 @@ use Rattle.std.proofs.lemmas.List.Elements.{All-nil, All-push, All-weaker, Conta
 use Rattle.cnf_base.specs.declared.literal.Literal.{Literal}
 use Rattle.cnf_base.specs.Literal.{opposite}
 use Rattle.cdcl_trail.specs.Trail.{AreValues, blank_entry, literal_at}
-use Rattle.cdcl_trail.specs.declared.assigned.Entry.{Entry}
+use Rattle.cdcl_trail.specs.declared.assigned.TrailEntry.{TrailEntry}
 use Rattle.cdcl_analyze.specs.Analysis.{AreWaiting}
 use Rattle.cdcl_analyze.specs.Waiting.{IsWaiting, IsNext}
 use Rattle.cdcl_analyze.specs.Marks.{MarksValue, IsMarked, outcome_of, FoundSame}
@@ -18,7 +18,7 @@ use Rattle.cdcl_analyze.proofs.Growth.{consequences_found, grows_denied}
 use Rattle.cdcl_analyze.proofs.Minimal.{falling_append}
 use Rattle.cdcl_analyze.proofs.Steps.{still_waiting}
 
-module _ (inputs lines : List (List Literal)) (trail : List Entry) (values : List (Option Bool)) (base from : ℕ) (old : MarksValue) (clause : List Literal)
+module _ (inputs lines : List (List Literal)) (trail : List TrailEntry) (values : List (Option Bool)) (base from : ℕ) (old : MarksValue) (clause : List Literal)
     (places : List ℕ) (are : AreValues values trail) (inside : from ≤ length trail) where
   abbrev letter_of : ℕ → ℕ
   letter_of p = (literal_at trail p).letter.0
@@ -171,12 +171,12 @@ module _ (inputs lines : List (List Literal)) (trail : List Entry) (values : Lis
           rest_same end base m popped (omega arith) high found (λ x h. (same x).1 h) (λ x h. inl ((same x).0 h))
           (λ j high low is. none j low (waits j low (omega (arith, low, fits, inside)) is)) rest
 
-      module _ (place : ℕ) (e : Entry) (is_next : IsNext m.waiting popped.waiting end place) (is : e ≡ get_or trail place e) where
+      module _ (place : ℕ) (e : TrailEntry) (is_next : IsNext m.waiting popped.waiting end place) (is : e ≡ get_or trail place e) where
         entry_is : e ≡ get_or trail place blank_entry
         entry_is = is ∙ get_or_default trail place e blank_entry (omega (arith, is_next.low, fits, inside))
 
         letter_is : letter_of place ≡ e.literal.letter.0
-        letter_is = ap (λ (f : Entry). f.literal.letter.0) (sym entry_is)
+        letter_is = ap (λ (f : TrailEntry). f.literal.letter.0) (sym entry_is)
 
         -- it is below k, so that from k on nothing is left
         rest_popped : (k : ℕ) → place < k → base ≤ k → k ≤ end → IsRest inputs lines trail base from k old popped clause places more next
@@ -234,6 +234,6 @@ module _ (inputs lines : List (List Literal)) (trail : List Entry) (values : Lis
           asked_kept kept more_now next_now many not_follows kept_is more_is next_is = (
             rest_kept place n under high asked kept more_now next_now many (λ follows. not_follows (ap (outcome_of n) (sym letter_is) ∙ follows))
                 (kept_is ∙ ap (denied n) (sym letter_is))
-                (more_is ∙ ap (λ (f : Entry). more ++ opposite f.literal ∷ []) entry_is) next_is,
+                (more_is ∙ ap (λ (f : TrailEntry). more ++ opposite f.literal ∷ []) entry_is) next_is,
             subst (AreWaiting trail place) (sym kept_is) waiting_still,
           )

@@ -6,7 +6,7 @@ use Rattle.cnf_base.specs.declared.literal.Literal.{Literal}
 use Rattle.cnf_base.specs.declared.literal.Hint.{Hint}
 use Rattle.cnf_base.specs.Step.{named}
 use Rattle.cdcl_trail.specs.Trail.{IsTrail, AreValues, literal_at}
-use Rattle.cdcl_trail.specs.declared.assigned.Entry.{Entry}
+use Rattle.cdcl_trail.specs.declared.assigned.TrailEntry.{TrailEntry}
 use Rattle.cdcl_trail.specs.Entries.{hint_of}
 use Rattle.cdcl_watches.specs.Heads.{ArenaValue}
 use Rattle.cdcl_watches.specs.Watching.{clause_of}
@@ -32,7 +32,7 @@ noted_read inputs lines arena hint name read stored name_is (c, below, there, re
     (from.0, subst (λ h. named inputs lines h ≡ Some from.0) hint_is from.1, subst (HaveSame from.0) (sym read_is) from.2)
 
 -- the other letters that are read stand before the letter that is forced
-pub read_stands : (inputs lines : List (List Literal)) (trail : List Entry) (base : ℕ) (values : List (Option Bool)) (letter : ℕ) (reason : Hint)
+pub read_stands : (inputs lines : List (List Literal)) (trail : List TrailEntry) (base : ℕ) (values : List (Option Bool)) (letter : ℕ) (reason : Hint)
     → AreValues values trail → IsTrail inputs lines trail
     → HasReason trail base letter reason → (read : List Literal) → ((clause : List Literal) → named inputs lines reason ≡ Some clause → HaveSame clause read)
     → (i other : ℕ) (d : Literal) → i < length read → other ≡ (get_or read i d).letter.0 → other ≢ letter

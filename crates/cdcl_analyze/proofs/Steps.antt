@@ -13,7 +13,7 @@ use Rattle.cdcl_analyze.specs.Graph.{GraphValue, IsGraph}
 use Rattle.cdcl_analyze.specs.Analysis.{AreWaiting, IsLike, IsWalk}
 use Rattle.cdcl_analyze.specs.Marks.{MarksValue, IsMarked, FoundSame, IsUnasked}
 use Rattle.cdcl_analyze.specs.Waiting.{IsWaiting, IsNext}
-use Rattle.cdcl_trail.specs.declared.assigned.Entry.{Entry}
+use Rattle.cdcl_trail.specs.declared.assigned.TrailEntry.{TrailEntry}
 use Rattle.cdcl_trail.proofs.Bridge.{named_has}
 use Rattle.cdcl_analyze.proofs.Walk.{walk_pass, walk_keep, walk_resolve}
 use Rattle.cdcl_trail.proofs.Standing.{reason_at}
@@ -39,7 +39,7 @@ like_itself graph sound from fits =
     record { same = λ k low. refl; long = fits; is_trail = sound.is_trail; values = graph.values; told = sound.told; few = sound.few }
 
 -- what waits below the next place waits on
-pub still_waiting : (trail : List Entry) (end place : ℕ) (old new : MarksValue) → AreWaiting trail end old → ((x : ℕ) → IsMarked new x ↔ IsMarked old x)
+pub still_waiting : (trail : List TrailEntry) (end place : ℕ) (old new : MarksValue) → AreWaiting trail end old → ((x : ℕ) → IsMarked new x ↔ IsMarked old x)
     → IsNext old.waiting new.waiting end place → end ≤ length trail → AreWaiting trail place new
 still_waiting trail end place old new waits same next fits j low inside is =
     elim (next.before j (omega (arith, low, next.low)) (waits j (omega (arith, low, next.low)) inside ((same _).0 is))) [
@@ -48,7 +48,7 @@ still_waiting trail end place old new waits same next fits j low inside is =
     ]
 
 -- a letter that is marked anew waits at its place
-pub waiting_marked : (trail : List Entry) (letter place end : ℕ) (old new : MarksValue)
+pub waiting_marked : (trail : List TrailEntry) (letter place end : ℕ) (old new : MarksValue)
     → ((k : ℕ) → k < length trail → (literal_at trail k).letter.0 ≡ letter → place ≡ k)
     → ((x : ℕ) → IsMarked new x → (x ≡ letter) ⊎ IsMarked old x) → ((p : ℕ) → (p ≡ place) ⊎ IsWaiting old.waiting p → IsWaiting new.waiting p)
     → AreWaiting trail end old → AreWaiting trail end new
@@ -58,11 +58,11 @@ waiting_marked trail letter place end old new place_is only more waits j low ins
 ]
 
 -- the walk over a trail that is like the graph's
-module _ (graph : GraphValue) (t : List Entry) (from end : ℕ) (old new : MarksValue) (like : IsLike graph t from) (fits : end ≤ from)
+module _ (graph : GraphValue) (t : List TrailEntry) (from end : ℕ) (old new : MarksValue) (like : IsLike graph t from) (fits : end ≤ from)
     (inside : from ≤ length graph.trail) (waits : AreWaiting graph.trail end old) where
   marked_waits : (j : ℕ) → j < end → IsMarked old (literal_at t j).letter.0 → IsWaiting old.waiting j
   marked_waits j low is =
-      waits j low (omega (arith, low, fits, inside)) (subst (λ (e : Entry). IsMarked old e.literal.letter.0) (like.same j (omega (arith, low, fits))) is)
+      waits j low (omega (arith, low, fits, inside)) (subst (λ (e : TrailEntry). IsMarked old e.literal.letter.0) (like.same j (omega (arith, low, fits))) is)
 
   -- where nothing waits the walk is at its end
   pub like_ended : ((p : ℕ) → p < end → ¬ IsWaiting old.waiting p) → (clause : List Literal) (hints : List Hint) (places : List ℕ)
@@ -73,7 +73,7 @@ module _ (graph : GraphValue) (t : List Entry) (from end : ℕ) (old new : Marks
       (λ j low is. absurd (none j low (marked_waits j low is))) walk
 
   -- a place that waits is the next to be gone over
-  module _ (place : ℕ) (e : Entry) (same : (x : ℕ) → IsMarked new x ↔ IsMarked old x) (next : IsNext old.waiting new.waiting end place)
+  module _ (place : ℕ) (e : TrailEntry) (same : (x : ℕ) → IsMarked new x ↔ IsMarked old x) (next : IsNext old.waiting new.waiting end place)
       (is : e ≡ get_or graph.trail place e) where
     entry_is : get_or t place blank_entry ≡ e
     entry_is =
@@ -83,7 +83,7 @@ module _ (graph : GraphValue) (t : List Entry) (from end : ℕ) (old new : Marks
     like_decided places more free more_is decided =
         rw more_is (All-push (IsDecision t) places place decided (record {
           within = omega (arith, next.low, fits, like.long);
-          free = ap (λ (f : Entry). f.reason) entry_is ∙ free;
+          free = ap (λ (f : TrailEntry). f.reason) entry_is ∙ free;
         }))
 
     module _ (clause : List Literal) (hints : List Hint) (places : List ℕ)
@@ -102,7 +102,7 @@ module _ (graph : GraphValue) (t : List Entry) (from end : ℕ) (old new : Marks
           → c ≡ clause ++ l ∷ [] → hs ≡ hints → ps ≡ places ++ place ∷ []
           → IsWalk graph.log.inputs graph.log.lines t place (IsMarked new) c hs ps
       like_keep l c hs ps l_is c_is hs_is ps_is =
-          let kept : l ≡ opposite (literal_at t place) = l_is ∙ ap (λ (f : Entry). opposite f.literal) (sym entry_is) in
+          let kept : l ≡ opposite (literal_at t place) = l_is ∙ ap (λ (f : TrailEntry). opposite f.literal) (sym entry_is) in
           rw (c_is, hs_is, ps_is, kept) (walk_keep _ _ _ place _ _ _ _ here)
 
       pub like_resolve : IsGraph graph → (more : ℕ → Type 0) (hint : Hint) (read : List Literal) (c : List Literal) (hs : List Hint) (ps : List ℕ)
@@ -113,7 +113,7 @@ module _ (graph : GraphValue) (t : List Entry) (from end : ℕ) (old new : Marks
       like_resolve sound more hint read c hs ps forced reads kept all c_is hs_is ps_is =
           let letters = length graph.values in
           let in_t : place < length t = omega (arith, here.within) in
-          let reason = reason_at graph.log.inputs graph.log.lines t place hint like.is_trail in_t (ap (λ (f : Entry). f.reason) entry_is ∙ forced) in
+          let reason = reason_at graph.log.inputs graph.log.lines t place hint like.is_trail in_t (ap (λ (f : TrailEntry). f.reason) entry_is ∙ forced) in
           let known = named_has (All (IsBelow letters)) graph.log.inputs graph.log.lines hint reason.clause sound.known_inputs sound.known_lines reason.is in
           rw (c_is, hs_is, ps_is)
           (walk_resolve _ _ _ place _ _ _ _ here letters like.values more hint reason like.told known sound.few kept

@@ -16,7 +16,7 @@ use Rattle.cdcl_trail.specs.Trail.{literals_of, IsReason, AreValues, blank_entry
 use Rattle.cnf_base.specs.Known.{IsKnown}
 use Rattle.cdcl_trail.specs.Values.{IsBelow}
 use Rattle.cdcl_analyze.specs.Analysis.{AreFromOne, IsUnder, Covers, IsWalk}
-use Rattle.cdcl_trail.specs.declared.assigned.Entry.{Entry}
+use Rattle.cdcl_trail.specs.declared.assigned.TrailEntry.{TrailEntry}
 use Rattle.cdcl_trail.proofs.Standing.{true_place, places_apart}
 
 pub Contains_cons : {X : Type 0} (x y : X) (xs : List X) → Contains xs y → Contains (x ∷ xs) y
@@ -31,10 +31,10 @@ Contains_map f d xs y (k, below, is) =
     (get_or xs k d, Contains-get_or xs k d low, sym is ∙ get_or-map f xs k d y low)
 
 -- the marked letters below n stand below k, and are marked still
-abbrev pub StandBelow : List Entry → ℕ → ℕ → (ℕ → Type 0) → (ℕ → Type 0) → Type 0
+abbrev pub StandBelow : List TrailEntry → ℕ → ℕ → (ℕ → Type 0) → (ℕ → Type 0) → Type 0
 StandBelow trail n k marked more = (j : ℕ) → j < n → marked (literal_at trail j).letter.0 → (j < k) × more (literal_at trail j).letter.0
 
-covers_pass : (trail : List Entry) (n k : ℕ) (marked more : ℕ → Type 0) (clause falses : List Literal) → k ≤ n → StandBelow trail n k marked more
+covers_pass : (trail : List TrailEntry) (n k : ℕ) (marked more : ℕ → Type 0) (clause falses : List Literal) → k ≤ n → StandBelow trail n k marked more
     → Covers trail k more clause falses → Covers trail n marked clause falses
 covers_pass trail n k marked more clause falses fits below covers = record {
   marked_in = λ j low is. let here = below j low is in covers.marked_in j here.0 here.1;
@@ -43,7 +43,7 @@ covers_pass trail n k marked more clause falses fits below covers = record {
       (λ m h. elim h [ inl c ↦ inl c | inr b ↦ inr (b.0, omega (arith, b.1, fits), b.2) ]) falses covers.only;
 }
 
-module _ (trail : List Entry) (k : ℕ) (marked : ℕ → Type 0) (clause : List Literal) where
+module _ (trail : List TrailEntry) (k : ℕ) (marked : ℕ → Type 0) (clause : List Literal) where
   pub covers_keep : (falses : List Literal) → Covers trail k marked (clause ++ opposite (literal_at trail k) ∷ []) falses
       → Covers trail (k + 1) marked clause falses
   covers_keep falses covers =
@@ -82,7 +82,7 @@ module _ (trail : List Entry) (k : ℕ) (marked : ℕ → Type 0) (clause : List
       }
 
 -- what is false on the first k and marked is covered
-covered : (trail : List Entry) (k : ℕ) (marked : ℕ → Type 0) (clause falses : List Literal) → Covers trail k marked clause falses → k ≤ length trail
+covered : (trail : List TrailEntry) (k : ℕ) (marked : ℕ → Type 0) (clause falses : List Literal) → Covers trail k marked clause falses → k ≤ length trail
     → (l : Literal) → Contains (literals_of (take k trail)) (opposite l) → marked l.letter.0 → Contains falses l
 covered trail k marked clause falses covers within l there is_marked =
     let place = true_place trail k (opposite l) within there in
@@ -94,7 +94,7 @@ covered trail k marked clause falses covers within l there is_marked =
 pub within_u32 : (letters : ℕ) (clause : List Literal) → letters ≤ 2 ^ 32 → All (IsBelow letters) clause → All (IsKnown greatest_u32) clause
 within_u32 letters clause few known k d below = let here = known k d below in record { from_one = here.0; within = omega (arith, here.1, few) }
 
-pub walk_start : (inputs lines : List (List Literal)) (trail : List Entry) (letters : ℕ) (marked : ℕ → Type 0) (hint : Hint) (clause : List Literal)
+pub walk_start : (inputs lines : List (List Literal)) (trail : List TrailEntry) (letters : ℕ) (marked : ℕ → Type 0) (hint : Hint) (clause : List Literal)
     → named inputs lines hint ≡ Some clause → All (IsBelow letters) clause → letters ≤ 2 ^ 32 → All (λ l. Contains (literals_of trail) (opposite l)) clause
     → All (λ l. marked l.letter.0) clause
     → IsWalk inputs lines trail (length trail) marked [] (hint ∷ []) []
@@ -111,7 +111,7 @@ walk_start inputs lines trail letters marked hint clause is known few all_false 
 }
 
 -- what is not marked is passed over
-pub walk_pass : (inputs lines : List (List Literal)) (trail : List Entry) (n k : ℕ) (marked more : ℕ → Type 0) (clause : List Literal) (hints : List Hint)
+pub walk_pass : (inputs lines : List (List Literal)) (trail : List TrailEntry) (n k : ℕ) (marked more : ℕ → Type 0) (clause : List Literal) (hints : List Hint)
     (places : List ℕ) → k ≤ n → StandBelow trail n k marked more
     → IsWalk inputs lines trail n marked clause hints places → IsWalk inputs lines trail k more clause hints places
 walk_pass inputs lines trail n k marked more clause hints places fits below walk = record {
@@ -123,7 +123,7 @@ walk_pass inputs lines trail n k marked more clause hints places fits below walk
   within = omega (arith, walk.within, fits);
 }
 
-module _ (inputs lines : List (List Literal)) (trail : List Entry) (k : ℕ) (marked : ℕ → Type 0) (clause : List Literal) (hints : List Hint) (places : List ℕ)
+module _ (inputs lines : List (List Literal)) (trail : List TrailEntry) (k : ℕ) (marked : ℕ → Type 0) (clause : List Literal) (hints : List Hint) (places : List ℕ)
     (walk : IsWalk inputs lines trail (k + 1) marked clause hints places) where
   pub walk_keep : IsWalk inputs lines trail k marked (clause ++ opposite (literal_at trail k) ∷ []) hints (places ++ k ∷ [])
   walk_keep = record {
@@ -180,7 +180,7 @@ module _ (inputs lines : List (List Literal)) (trail : List Entry) (k : ℕ) (ma
       }
 
 -- at the foot of the trail the clause with its hints is a hinted step
-pub walk_end : (values : List (Option Bool)) (inputs lines : List (List Literal)) (trail : List Entry) (marked : ℕ → Type 0) (clause : List Literal)
+pub walk_end : (values : List (Option Bool)) (inputs lines : List (List Literal)) (trail : List TrailEntry) (marked : ℕ → Type 0) (clause : List Literal)
     (hints : List Hint) (places : List ℕ)
     → AreValues values trail → length values ≤ 2 ^ 32 → AreFromOne trail → IsWalk inputs lines trail 0 marked clause hints places
     → IsHintedStep inputs lines greatest_u32 clause (reverse hints)

@@ -5,13 +5,13 @@ use Rattle.cnf_base.specs.declared.literal.Hint.{Hint}
 use Rattle.cnf_base.specs.Literal.{opposite}
 use Rattle.cnf_base.specs.Step.{named}
 use Rattle.cdcl_trail.specs.Trail.{literal_at, place_reason}
-use Rattle.cdcl_trail.specs.declared.assigned.Entry.{Entry}
+use Rattle.cdcl_trail.specs.declared.assigned.TrailEntry.{TrailEntry}
 use Rattle.cdcl_analyze.specs.Marks.{MarksValue, IsMarked, outcome_of, letter_at, reason_at, IsAmong}
 use Rattle.cdcl_analyze.specs.Analysis.{AreWaiting}
 use Rattle.cdcl_analyze.specs.Graph.{GraphValue}
 
 -- the letter stands on the trail below the end
-abbrev pub StandsBelow : List Entry → ℕ → ℕ → Type 0
+abbrev pub StandsBelow : List TrailEntry → ℕ → ℕ → Type 0
 StandsBelow trail end letter = (p : ℕ) × (p < end) × ((literal_at trail p).letter.0 ≡ letter)
 
 -- the letter is marked and its value does not follow: the clause keeps it
@@ -19,19 +19,19 @@ abbrev pub IsKept : MarksValue → ℕ → Type 0
 IsKept m letter = IsMarked m letter × (outcome_of m letter ≡ Some false)
 
 -- the letter is marked and stands below the base
-abbrev pub IsBasic : List Entry → ℕ → MarksValue → ℕ → Type 0
+abbrev pub IsBasic : List TrailEntry → ℕ → MarksValue → ℕ → Type 0
 IsBasic trail base m letter = IsMarked m letter × StandsBelow trail base letter
 
 -- the letter's value is known once the clause is false and what is marked below the base is known
-abbrev pub IsGiven : List Entry → ℕ → MarksValue → ℕ → Type 0
+abbrev pub IsGiven : List TrailEntry → ℕ → MarksValue → ℕ → Type 0
 IsGiven trail base m letter = IsKept m letter ⊎ ((outcome_of m letter ≡ Some true) ⊎ IsBasic trail base m letter)
 
 -- the same, where of what follows the first i are known
-abbrev pub IsGivenBy : List Entry → ℕ → MarksValue → ℕ → ℕ → Type 0
+abbrev pub IsGivenBy : List TrailEntry → ℕ → MarksValue → ℕ → ℕ → Type 0
 IsGivenBy trail base m i letter = IsKept m letter ⊎ (IsAmong m i letter ⊎ IsBasic trail base m letter)
 
 -- the letter stands from the base on, with this reason
-pub record HasReason (trail : List Entry) (base letter : ℕ) (reason : Hint) : Type 0 where
+pub record HasReason (trail : List TrailEntry) (base letter : ℕ) (reason : Hint) : Type 0 where
   pub place : ℕ
   pub high : base ≤ place
   pub inside : place < length trail
@@ -39,21 +39,21 @@ pub record HasReason (trail : List Entry) (base letter : ℕ) (reason : Hint) : 
   pub reason_is : place_reason trail place ≡ Some reason
 
 -- the letter's value follows by the reason from what is given by the first i
-pub record FollowsBy (inputs lines : List (List Literal)) (trail : List Entry) (base : ℕ) (m : MarksValue) (i letter : ℕ) (reason : Hint) : Type 0 where
+pub record FollowsBy (inputs lines : List (List Literal)) (trail : List TrailEntry) (base : ℕ) (m : MarksValue) (i letter : ℕ) (reason : Hint) : Type 0 where
   pub why : HasReason trail base letter reason
   pub clause : List Literal
   pub is : named inputs lines reason ≡ Some clause
   pub others : All (λ l. (l.letter.0 ≡ letter) ⊎ IsGivenBy trail base m i l.letter.0) clause
 
 -- each consequence follows from those before it, they are of different letters, and just these letters are remembered to follow
-pub record AreConsequences (inputs lines : List (List Literal)) (trail : List Entry) (base : ℕ) (m : MarksValue) : Type 0 where
+pub record AreConsequences (inputs lines : List (List Literal)) (trail : List TrailEntry) (base : ℕ) (m : MarksValue) : Type 0 where
   pub each : (i : ℕ) → i < length m.consequences → FollowsBy inputs lines trail base m i (letter_at m i) (reason_at m i)
   pub follow : (i : ℕ) → i < length m.consequences → outcome_of m (letter_at m i) ≡ Some true
   pub apart : (i j : ℕ) → i < j → j < length m.consequences → letter_at m i ≢ letter_at m j
   pub all : (x : ℕ) → outcome_of m x ≡ Some true → IsAmong m (length m.consequences) x
 
 -- more is found out, of letters below the end alone, and nothing is lost
-pub record Grows (inputs lines : List (List Literal)) (trail : List Entry) (base end : ℕ) (old new : MarksValue) : Type 0 where
+pub record Grows (inputs lines : List (List Literal)) (trail : List TrailEntry) (base end : ℕ) (old new : MarksValue) : Type 0 where
   pub consequences : AreConsequences inputs lines trail base new
   pub marked : (x : ℕ) → IsMarked old x → IsMarked new x
   pub based : (x : ℕ) → IsMarked new x → IsMarked old x ⊎ StandsBelow trail base x
@@ -75,7 +75,7 @@ pub record CanAsk (graph : GraphValue) (base : ℕ) (m : MarksValue) : Type 0 wh
   pub consequences : AreConsequences graph.log.inputs graph.log.lines graph.trail base m
 
 -- of the marked places from `end` up to `from` the clause got those that do not follow, the last first; what follows stands below `from`
-pub record IsRest (inputs lines : List (List Literal)) (trail : List Entry) (base from end : ℕ) (old new : MarksValue) (clause : List Literal) (places : List ℕ)
+pub record IsRest (inputs lines : List (List Literal)) (trail : List TrailEntry) (base from end : ℕ) (old new : MarksValue) (clause : List Literal) (places : List ℕ)
     (more : List Literal) (next : List ℕ) : Type 0 where
   pub consequences : AreConsequences inputs lines trail base new
   pub marked : (x : ℕ) → IsMarked old x → IsMarked new x

@@ -4,7 +4,8 @@
 // resolved, each behind those that it needs, and then the conflict are the clause's hints. After
 // Marques-Silva and Sakallah, GRASP (1999), and, for the hints, Goldberg and Novikov, Verification of proofs
 // of unsatisfiability for CNF formulas (2003).
-ghost use Rattle.std.specs.Prelude.{◌≡◌, ℕ, ◌<◌, ◌≤◌, List, [], ◌∷◌, ◌++◌, length, map, reverse, All, Some, None, OnOk, IfOk, slice_index_or};
+ghost use Rattle.std.specs.Prelude.{◌≡◌, ℕ, ◌<◌, ◌≤◌, List, [], ◌∷◌, ◌++◌, length, map, reverse, All, Some};
+ghost use Rattle.std.specs.Prelude.{None, OnOk, IfOk, slice_index_or};
 ghost use Rattle.cdcl_trail.specs.Trail.{IsConflict, literals_of, blank_entry, IsDecision};
 ghost use Rattle.cdcl_analyze.specs.Learnt.{IsLearnt};
 ghost use Rattle.cdcl_analyze.specs.Reason.{read_literals};
@@ -12,7 +13,7 @@ ghost use Rattle.cdcl_trail.specs.Values.{IsBelow};
 ghost use Rattle.cdcl_analyze.specs.Analysis.{AreFromOne, AreWaiting, CanWalk, IsLike, Walks, refuted_at};
 ghost use Rattle.cdcl_analyze.specs.Marks.{IsMarked, FoundSame, IsUnasked};
 ghost use Rattle.cdcl_analyze.specs.Consequences.{IsRest};
-ghost use Rattle.cdcl_trail.specs.declared.assigned.Entry.{Entry};
+ghost use Rattle.cdcl_trail.specs.declared.assigned.TrailEntry.{TrailEntry};
 ghost use Rattle.cdcl_analyze.specs.declared.analyze.Cut.TheVariants.{Decisions};
 
 use crate::graph::ImplicationGraph;
@@ -20,7 +21,7 @@ use crate::marks::{Consequence, Marks};
 use crate::minimize::follows;
 use crate::reason::Reason;
 use cdcl_activity::Choices;
-use cdcl_trail::Entry;
+use cdcl_trail::TrailEntry;
 use cnf_base::{Hint, Literal};
 use std::alloc::{AllocError, Global};
 
@@ -162,9 +163,9 @@ fn walk(
 ) -> Result<(), AllocError>
     requires can_walk { CanWalk graph.now from marks.old }
     ensures size { length marks.new.stamps ≡ length marks.old.stamps }
-    ensures walked { OnOk result ((t : List Entry) → IsLike graph.now t from
+    ensures walked { OnOk result ((t : List TrailEntry) → IsLike graph.now t from
         → Walks graph.now.log t from 0 marks.old marks.new learnt.old learnt.new) }
-    ensures decided { OnOk result ((t : List Entry) → IsLike graph.now t from
+    ensures decided { OnOk result ((t : List TrailEntry) → IsLike graph.now t from
         → All (IsDecision t) learnt.old.places.items → All (IsDecision t) learnt.new.places.items) }
 {
     graph.invariant();

@@ -11,7 +11,7 @@ ghost use Rattle.cdcl_analyze.specs.Graph.{IsGraph};
 ghost use Rattle.cdcl_analyze.specs.Reason.{IsAnalyzable, read_literals};
 
 use crate::reason::Reason;
-use cdcl_trail::{Assigned, Entry, clause_of, encode_hint};
+use cdcl_trail::{Assigned, TrailEntry, clause_of, encode_hint};
 use cdcl_watches::Arena;
 use clause_log::{Log, LogView};
 use cnf_base::Hint;
@@ -82,7 +82,7 @@ impl<'a> ImplicationGraph<'a> {
 
     /// The entry of the trail at a place.
     #[inline(always)]
-    pub(crate) fn entry(&self, place: usize) -> Entry
+    pub(crate) fn entry(&self, place: usize) -> TrailEntry
         requires { place < length self.now.trail }
         ensures { result ≡ slice_index_or self.now.trail place result }
     {

@@ -2,9 +2,11 @@
 // last one first. A letter is marked by the number of the analysis, so that the next one begins with no
 // marks, whatever became of this one. What the analysis found out of other letters is remembered in the same
 // way, and of those whose values follow there is a list, each behind those that it follows from.
-ghost use Rattle.std.specs.Prelude.{◌≡◌, ◌≢◌, ℕ, ◌+◌, ◌%◌, ◌<◌, ◌≤◌, [], ◌∷◌, ◌++◌, ◌⊎◌, ◌↔◌, true, All, length, take, IsTrue, Some, None, MatchOption, OnOk, slice_set};
+ghost use Rattle.std.specs.Prelude.{◌≡◌, ◌≢◌, ℕ, ◌+◌, ◌%◌, ◌<◌, ◌≤◌, [], ◌∷◌, ◌++◌, ◌⊎◌, ◌↔◌, true, All};
+ghost use Rattle.std.specs.Prelude.{length, take, IsTrue, Some, None, MatchOption, OnOk, slice_set};
 ghost use Rattle.std.specs.Int.{bit_at};
-ghost use Rattle.cdcl_analyze.specs.Marks.{IsMarked, outcome_of, outcome_number, with_outcomes, with_consequences, with_levels, FoundSame, IsFrom, MayHave};
+ghost use Rattle.cdcl_analyze.specs.Marks.{IsMarked, outcome_of, outcome_number, with_outcomes};
+ghost use Rattle.cdcl_analyze.specs.Marks.{with_consequences, with_levels, FoundSame, IsFrom, MayHave};
 ghost use Rattle.cdcl_analyze.specs.Consequences.{IsKept};
 ghost use Rattle.cdcl_analyze.specs.Waiting.{IsWaiting, IsNext};
 

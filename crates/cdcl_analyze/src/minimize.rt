@@ -5,7 +5,8 @@
 // remembered for one analysis, so that each letter is asked once but for those found on the way to one that
 // does not follow: these are taken back, for no hint is to be there in vain. A letter on a level of which the
 // clause has nothing is not asked at all. After Sorensson and Biere, Minimizing learned clauses (2009).
-ghost use Rattle.std.specs.Prelude.{◌≡◌, ℕ, ◌<◌, ◌⊎◌, ◌↔◌, IsTrue, List, true, All, length, Some, None, IfOk, OnOk};
+ghost use Rattle.std.specs.Prelude.{◌≡◌, ℕ, ◌<◌, ◌⊎◌, ◌↔◌, IsTrue, List, true, All, length, Some, None, IfOk};
+ghost use Rattle.std.specs.Prelude.{OnOk};
 ghost use Rattle.cnf_base.specs.declared.literal.Literal.{Literal};
 ghost use Rattle.cnf_base.specs.Step.{named};
 ghost use Rattle.cdcl_trail.specs.Trail.{literal_at};

@@ -10,16 +10,16 @@ use Rattle.cnf_base.specs.Step.{named}
 use Rattle.cdcl_trail.specs.Trail.{literals_of, IsReason, IsTrail, StandsAt, HasLevel, blank_entry, place_level}
 use Rattle.cdcl_propagate.specs.Visit.{HasTrue, IsGrown}
 use Rattle.cdcl_propagate.specs.Units.{IsOne, AreFirm}
-use Rattle.cdcl_trail.specs.declared.assigned.Entry.{Entry}
+use Rattle.cdcl_trail.specs.declared.assigned.TrailEntry.{TrailEntry}
 use Rattle.cdcl_trail.proofs.Assign.{level_there}
 use Rattle.cdcl_trail.proofs.Levels.{levels_rise, level_bound}
 
 -- the last level, or 0
-abbrev pub IsLastLevel : List Entry → ℕ → Type 0
+abbrev pub IsLastLevel : List TrailEntry → ℕ → Type 0
 IsLastLevel trail level = ((length trail ≡ 0) × (level ≡ 0)) ⊎ ((0 < length trail) × (level ≡ place_level trail (length trail - 1)))
 
 -- the one literal of a short clause stands behind the trail
-pub unit_stands : (inputs lines : List (List Literal)) (trail : List Entry) (hint : Hint) (clause : List Literal) (u : Literal) (level : ℕ)
+pub unit_stands : (inputs lines : List (List Literal)) (trail : List TrailEntry) (hint : Hint) (clause : List Literal) (u : Literal) (level : ℕ)
     → IsTrail inputs lines trail → named inputs lines hint ≡ Some clause → IsOne clause → Contains clause u
     → IsLastLevel trail level → StandsAt inputs lines trail (record { literal = u; level = level; reason = Some hint })
 unit_stands inputs lines trail hint clause u level is_trail is one there last =
@@ -46,39 +46,39 @@ unit_stands inputs lines trail hint clause u level is_trail is one there last =
                 arith,
                 levels_rise inputs lines trail is_trail k n front n_low,
                 some.1,
-                ap (λ (e : Entry). e.level) (get_or_default trail k d blank_entry below),
+                ap (λ (e : TrailEntry). e.level) (get_or_default trail k d blank_entry below),
               )
               | inr end ↦ let same : k ≡ n = omega (arith, below) in
-                  omega (arith, ap (λ m. (get_or trail m d).level) same, ap (λ (e : Entry). e.level) (get_or_default trail n d blank_entry n_low), some.1)
+                  omega (arith, ap (λ m. (get_or trail m d).level) same, ap (λ (e : TrailEntry). e.level) (get_or_default trail n d blank_entry n_low), some.1)
             ];
           }
     ]
 
 -- an entry that has a reason more
-pub grown_one : (trail : List Entry) (u : Literal) (level : ℕ) (hint : Hint)
+pub grown_one : (trail : List TrailEntry) (u : Literal) (level : ℕ) (hint : Hint)
     → IsGrown trail (trail ++ record { literal = u; level = level; reason = Some hint } ∷ [])
 grown_one trail u level hint = record {
   more = record { literal = u; level = level; reason = Some hint } ∷ [];
   trail = refl;
-  forced = All-cons (λ (e : Entry). e.reason ≢ None) _ [] (λ e. cc) (All-nil (λ (e : Entry). e.reason ≢ None));
+  forced = All-cons (λ (e : TrailEntry). e.reason ≢ None) _ [] (λ e. cc) (All-nil (λ (e : TrailEntry). e.reason ≢ None));
 }
 
-pub pushed_true : (trail : List Entry) (e : Entry) → Contains (literals_of (trail ++ e ∷ [])) e.literal
+pub pushed_true : (trail : List TrailEntry) (e : TrailEntry) → Contains (literals_of (trail ++ e ∷ [])) e.literal
 pushed_true trail e =
-    subst (λ ls. Contains ls e.literal) (sym (map-append (λ (f : Entry). f.literal) trail (e ∷ []))) (Contains-push (literals_of trail) e.literal)
+    subst (λ ls. Contains ls e.literal) (sym (map-append (λ (f : TrailEntry). f.literal) trail (e ∷ []))) (Contains-push (literals_of trail) e.literal)
 
 -- what is true stays true
-pub true_grown : (old new : List Entry) (clause : List Literal) → IsGrown old new → HasTrue (literals_of old) clause → HasTrue (literals_of new) clause
+pub true_grown : (old new : List TrailEntry) (clause : List Literal) → IsGrown old new → HasTrue (literals_of old) clause → HasTrue (literals_of new) clause
 true_grown old new clause grown told = (
   told.0,
   told.1,
   subst (λ t. Contains (literals_of t) told.0) (sym grown.trail)
-      (subst (λ ls. Contains ls told.0) (sym (map-append (λ (f : Entry). f.literal) old grown.more))
+      (subst (λ ls. Contains ls told.0) (sym (map-append (λ (f : TrailEntry). f.literal) old grown.more))
       (Contains-append_left (literals_of old) (literals_of grown.more) told.0 told.2)),
 )
 
 -- one short clause more is true
-pub firm_more : (inputs lines : List (List Literal)) (units : List Hint) (n : ℕ) (old new : List Entry) (hint d : Hint) → IsGrown old new
+pub firm_more : (inputs lines : List (List Literal)) (units : List Hint) (n : ℕ) (old new : List TrailEntry) (hint d : Hint) → IsGrown old new
     → AreFirm inputs lines units n (literals_of old) → hint ≡ get_or units n d → n < length units
     → ((clause : List Literal) → named inputs lines hint ≡ Some clause → HasTrue (literals_of new) clause)
     → AreFirm inputs lines units (n + 1) (literals_of new)

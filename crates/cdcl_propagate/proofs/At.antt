@@ -12,7 +12,7 @@ use Rattle.cnf_base.specs.Literal.{opposite}
 use Rattle.cnf_base.proofs.SameLiteral.{opposite_opposite}
 use Rattle.cdcl_trail.specs.Trail.{literals_of, HasLevel, IsTrail, StandsAt, IsReason, IsConflict, blank_entry, literal_at}
 use Rattle.cdcl_trail.specs.Entries.{hint_of}
-use Rattle.cdcl_trail.specs.declared.assigned.Entry.{Entry}
+use Rattle.cdcl_trail.specs.declared.assigned.TrailEntry.{TrailEntry}
 use Rattle.cdcl_trail.proofs.Assign.{entry_there, level_there}
 use Rattle.cdcl_watches.specs.Watching.{IsWatch, IsWatching, clause_of, list_of, code, WatchValue, blank}
 use Rattle.cdcl_watches.proofs.Moves.{first_two, code_same}
@@ -176,7 +176,7 @@ module _ {inputs lines : List (List Literal)} {k i : ℕ} {a : AssignedValue} {w
       at_bit l = omega arith
 
 -- the last level is the greatest, and stands on the trail
-pub last_level : (inputs lines : List (List Literal)) (trail : List Entry) → IsTrail inputs lines trail → 0 < length trail → (u : Literal) (hint : Hint)
+pub last_level : (inputs lines : List (List Literal)) (trail : List TrailEntry) → IsTrail inputs lines trail → 0 < length trail → (u : Literal) (hint : Hint)
     → IsReason inputs lines (literals_of trail) u hint
     → StandsAt inputs lines trail (record { literal = u; level = (get_or trail (length trail - 1) blank_entry).level; reason = Some hint })
 last_level inputs lines trail is_trail some u hint reason =
@@ -189,11 +189,11 @@ last_level inputs lines trail is_trail some u hint reason =
       reason = (reason, low, inr (level_there trail n blank_entry (omega arith)));
       decision = λ is. cc;
       rising = λ p d below. elim (cases_lt p n) [
-        | inl front ↦ subst (λ (f : Entry). f.level ≤ e.level) (get_or-take n trail p d front) (here.rising p d (omega (arith, n_len)))
+        | inl front ↦ subst (λ (f : TrailEntry). f.level ≤ e.level) (get_or-take n trail p d front) (here.rising p d (omega (arith, n_len)))
         | inr back ↦
             let last : p ≡ n = omega arith in
             let is : get_or trail p d ≡ e = ap (λ m. get_or trail m d) last ∙ get_or_default trail n d blank_entry (omega arith) in
-            omega (arith, ap (λ (f : Entry). f.level) is)
+            omega (arith, ap (λ (f : TrailEntry). f.level) is)
       ];
     }
   where
@@ -246,13 +246,13 @@ module _ {inputs lines : List (List Literal)} {k i : ℕ} {a : AssignedValue} {w
       (get_or (names_of w) c blank_hint) (at_reason at rest))
 
   -- and was put there
-  pub at_assigned : (e : Entry) (n : AssignedValue) → StandsAt inputs lines a.trail e → e.literal ≡ get_or (clause_of w.clauses c) 0 blank
+  pub at_assigned : (e : TrailEntry) (n : AssignedValue) → StandsAt inputs lines a.trail e → e.literal ≡ get_or (clause_of w.clauses c) 0 blank
       → n.trail ≡ a.trail ++ e ∷ [] → length n.values ≡ length a.values → IsVisiting inputs lines k (i + 1) n w
   at_assigned e n stands e_is trail_is values_is =
       let after = visit_grown inputs lines k i a w e n stands trail_is values_is at.visiting in
       let b = get_or (clause_of w.clauses c) 0 blank in
       let same : false_at n.trail k ≡ false_at a.trail k =
-      ap (λ t. false_at t k) trail_is ∙ ap (λ (f : Entry). opposite f.literal) (get_or_append_left a.trail (e ∷ []) blank_entry k at.visiting.within) in
+      ap (λ t. false_at t k) trail_is ∙ ap (λ (f : TrailEntry). opposite f.literal) (get_or_append_left a.trail (e ∷ []) blank_entry k at.visiting.within) in
       let pushed : literals_of n.trail ≡ literals_of a.trail ++ e.literal ∷ [] = ap literals_of trail_is ∙ map-append (λ f. f.literal) a.trail (e ∷ []) in
       let b_true : Contains (literals_of n.trail) b =
       subst (λ t. Contains t b) (sym pushed) (subst (Contains (literals_of a.trail ++ e.literal ∷ [])) e_is (Contains-push (literals_of a.trail) e.literal)) in

@@ -4,7 +4,7 @@ use Rattle.std.proofs.lemmas.List.Elements.{All-contains}
 use Rattle.cnf_base.specs.declared.literal.Literal.{Literal}
 use Rattle.cdcl_trail.specs.Trail.{literals_of}
 use Rattle.cdcl_trail.specs.Assigned.{AssignedValue}
-use Rattle.cdcl_trail.specs.declared.assigned.Entry.{Entry}
+use Rattle.cdcl_trail.specs.declared.assigned.TrailEntry.{TrailEntry}
 use Rattle.cdcl_watches.specs.Watching.{code, clause_of, list_of, WatchValue}
 use Rattle.cdcl_watches.specs.Heads.{ArenaValue, number_of}
 use Rattle.cdcl_watches.specs.Watchers.{blocker_of, clause_number, numbers, AreWatchers}
@@ -43,7 +43,7 @@ module _ {w : ListWalk} {head : ℕ} (new : ArenaValue) (is : IsWalked w) (there
     ]);
   }
 
-  pub faced_lasting : (trail : List Entry) (n : ℕ) → IsLasting w.arena.clauses trail n → IsLasting new.clauses trail n
+  pub faced_lasting : (trail : List TrailEntry) (n : ℕ) → IsLasting w.arena.clauses trail n → IsLasting new.clauses trail n
   faced_lasting trail n =
       lasting_faced (walked w) (walked (with_arena w new)) trail n (number_in w head) w.literal (next_watched is there head_is).0 faced_there
 

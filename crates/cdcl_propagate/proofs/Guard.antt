@@ -11,7 +11,7 @@ use Rattle.cnf_base.specs.declared.literal.Hint.{Hint}
 use Rattle.cnf_base.specs.Literal.{opposite}
 use Rattle.cdcl_trail.specs.Trail.{literals_of, IsTrail, StandsAt, blank_entry, literal_at}
 use Rattle.cdcl_trail.specs.Entries.{hint_of}
-use Rattle.cdcl_trail.specs.declared.assigned.Entry.{Entry}
+use Rattle.cdcl_trail.specs.declared.assigned.TrailEntry.{TrailEntry}
 use Rattle.cdcl_trail.proofs.Assign.{entry_there, trail_push}
 use Rattle.cdcl_watches.specs.Watching.{IsWatch, IsWatching, clause_of, list_of, code, WatchValue, blank}
 use Rattle.cdcl_watches.proofs.Moves.{first_two, are_first, contains_swapped, contains_unswapped, list_same}
@@ -195,7 +195,7 @@ module _ (inputs lines : List (List Literal)) (k i : ℕ) (a : AssignedValue) (w
       )
 
   -- one entry more
-  pub visit_grown : (e : Entry) (n : AssignedValue) → StandsAt inputs lines a.trail e → n.trail ≡ a.trail ++ e ∷ [] → length n.values ≡ length a.values
+  pub visit_grown : (e : TrailEntry) (n : AssignedValue) → StandsAt inputs lines a.trail e → n.trail ≡ a.trail ++ e ∷ [] → length n.values ≡ length a.values
       → IsVisiting inputs lines k i a w → IsVisiting inputs lines k i n w
   visit_grown e n stands trail_is values_is visiting =
       let pushed : literals_of (a.trail ++ e ∷ []) ≡ literals_of a.trail ++ e.literal ∷ [] = map-append (λ f. f.literal) a.trail (e ∷ []) in
@@ -204,7 +204,7 @@ module _ (inputs lines : List (List Literal)) (k i : ℕ) (a : AssignedValue) (w
       (subst (λ t. Contains t l) (sym pushed) (Contains-append_left (literals_of a.trail) (e.literal ∷ []) l h)) in
       let still : (r : List Literal) → HasTrue (literals_of a.trail) r → HasTrue (literals_of n.trail) r = λ r told. (told.0, told.1, more told.0 told.2) in
       let same_at : (p : ℕ) → p < length a.trail → literal_at n.trail p ≡ literal_at a.trail p = λ p p_low.
-      ap (λ (t : List Entry). literal_at t p) trail_is ∙ ap (λ (f : Entry). f.literal) (get_or_append_left a.trail (e ∷ []) blank_entry p p_low) in
+      ap (λ (t : List TrailEntry). literal_at t p) trail_is ∙ ap (λ (f : TrailEntry). f.literal) (get_or_append_left a.trail (e ∷ []) blank_entry p p_low) in
       let longer : length n.trail ≡ length a.trail + 1 = ap length trail_is ∙ length_push a.trail e in
       let f_same : false_at n.trail k ≡ false_at a.trail k = ap opposite (same_at k visiting.within) in
       record {

@@ -7,7 +7,7 @@ use Rattle.std.proofs.lemmas.List.Edits.{swapped_from_swap, length-swap}
 use Rattle.cnf_base.specs.declared.literal.Literal.{Literal}
 use Rattle.cnf_base.specs.Literal.{opposite}
 use Rattle.cdcl_trail.specs.Trail.{literals_of, blank_entry, literal_at, place_level}
-use Rattle.cdcl_trail.specs.declared.assigned.Entry.{Entry}
+use Rattle.cdcl_trail.specs.declared.assigned.TrailEntry.{TrailEntry}
 use Rattle.cdcl_trail.proofs.Assign.{entry_there}
 use Rattle.cdcl_watches.specs.Watching.{IsWatch, clause_of, WatchValue, blank}
 use Rattle.cdcl_watches.proofs.Moves.{first_two, are_first}
@@ -16,13 +16,13 @@ use Rattle.cdcl_propagate.specs.Lasting.{IsLasting, IsTrueBy}
 use Rattle.cdcl_propagate.proofs.Guard.{watch_turned, watch_set, literal_set}
 
 -- a clause that is true by a level is so after one is turned or moved
-true_by_set : (clauses : List (List Literal)) (trail : List Entry) (level c i j k : ℕ) → c < length clauses → i < length (clause_of clauses c)
+true_by_set : (clauses : List (List Literal)) (trail : List TrailEntry) (level c i j k : ℕ) → c < length clauses → i < length (clause_of clauses c)
     → j < length (clause_of clauses c) → IsTrueBy trail level (clause_of clauses k)
     → IsTrueBy trail level (clause_of (set clauses c (swap (clause_of clauses c) i j)) k)
 true_by_set clauses trail level c i j k known i_low j_low told =
     (told.0, told.1, literal_set clauses c i j k (literal_at trail told.0) known i_low j_low told.2, told.3)
 
-module _ (clauses : List (List Literal)) (trail : List Entry) (n c : ℕ) (known : c < length clauses) (lasting : IsLasting clauses trail n) where
+module _ (clauses : List (List Literal)) (trail : List TrailEntry) (n c : ℕ) (known : c < length clauses) (lasting : IsLasting clauses trail n) where
   pub lasting_turned : 2 ≤ length (clause_of clauses c) → IsLasting (set clauses c (swap (clause_of clauses c) 0 1)) trail n
   lasting_turned long p k a p_low watch below is_false =
       let s = swap (clause_of clauses c) 0 1 in
@@ -59,27 +59,27 @@ module _ (clauses : List (List Literal)) (trail : List Entry) (n c : ℕ) (known
             ]
       ])
 
-pub lasting_grown : (clauses : List (List Literal)) (trail : List Entry) (n : ℕ) (e : Entry) → n ≤ length trail → IsLasting clauses trail n
+pub lasting_grown : (clauses : List (List Literal)) (trail : List TrailEntry) (n : ℕ) (e : TrailEntry) → n ≤ length trail → IsLasting clauses trail n
     → IsLasting clauses (trail ++ e ∷ []) n
 lasting_grown clauses trail n e fits lasting c k a known watch below is_false =
     let same : (p : ℕ) → p < length trail → get_or (trail ++ e ∷ []) p blank_entry ≡ get_or trail p blank_entry =
     λ p low. get_or_append_left trail (e ∷ []) blank_entry p low in
     let k_same = same k (omega arith) in
-    let at = lasting c k a known watch below (sym (ap (λ (f : Entry). f.literal) k_same) ∙ is_false) in
+    let at = lasting c k a known watch below (sym (ap (λ (f : TrailEntry). f.literal) k_same) ∙ is_false) in
     let j_same = same at.0 at.1 in (
       at.0,
       omega (arith, at.1, length_push trail e),
-      subst (Contains (clause_of clauses c)) (ap (λ (f : Entry). f.literal) (sym j_same)) at.2,
+      subst (Contains (clause_of clauses c)) (ap (λ (f : TrailEntry). f.literal) (sym j_same)) at.2,
       omega (
         arith,
         at.3,
-        ap (λ (f : Entry). f.level) j_same,
-        ap (λ (f : Entry). f.level) k_same,
+        ap (λ (f : TrailEntry). f.level) j_same,
+        ap (λ (f : TrailEntry). f.level) k_same,
       ),
     )
 
 -- the clause was faced, or was already
-pub lasting_faced : (w v : WatchValue) (trail : List Entry) (n c : ℕ) (l : Literal) → c < length w.clauses → IsFaced w v c l → IsLasting w.clauses trail n
+pub lasting_faced : (w v : WatchValue) (trail : List TrailEntry) (n c : ℕ) (l : Literal) → c < length w.clauses → IsFaced w v c l → IsLasting w.clauses trail n
     → IsLasting v.clauses trail n
 lasting_faced w v trail n c l known faced lasting = elim faced.same [
   | inl same ↦ subst (λ (u : WatchValue). IsLasting u.clauses trail n) (sym same) lasting

@@ -8,25 +8,25 @@ use Rattle.cnf_base.specs.declared.literal.Literal.{Literal}
 use Rattle.cnf_base.specs.Literal.{opposite}
 use Rattle.cnf_base.proofs.SameLiteral.{opposite_opposite}
 use Rattle.cdcl_trail.specs.Trail.{literals_of, AreValues, blank_entry}
-use Rattle.cdcl_trail.specs.declared.assigned.Entry.{Entry}
+use Rattle.cdcl_trail.specs.declared.assigned.TrailEntry.{TrailEntry}
 use Rattle.cdcl_watches.specs.Watching.{IsWatch, IsWatching, clause_of, list_of, code, WatchValue}
 use Rattle.cdcl_trail.specs.Assigned.{AssignedValue}
 use Rattle.cdcl_propagate.specs.Visit.{HasTrue, IsVisiting, IsReady, IsGrown, false_at}
 
-pub grown_none : (t : List Entry) → IsGrown t t
-grown_none t = record { more = []; trail = sym (append-nil t); forced = All-nil (λ (e : Entry). e.reason ≢ None) }
+pub grown_none : (t : List TrailEntry) → IsGrown t t
+grown_none t = record { more = []; trail = sym (append-nil t); forced = All-nil (λ (e : TrailEntry). e.reason ≢ None) }
 
-pub grown_more : (s t u : List Entry) → IsGrown s t → IsGrown t u → IsGrown s u
+pub grown_more : (s t u : List TrailEntry) → IsGrown s t → IsGrown t u → IsGrown s u
 grown_more s t u one two = record {
   more = one.more ++ two.more;
   trail = two.trail ∙ ap (λ x. x ++ two.more) one.trail ∙ append_assoc s one.more two.more;
-  forced = All-append (λ (e : Entry). e.reason ≢ None) one.more two.more one.forced two.forced;
+  forced = All-append (λ (e : TrailEntry). e.reason ≢ None) one.more two.more one.forced two.forced;
 }
 
-pub grown_at : (s t : List Entry) (k : ℕ) → IsGrown s t → k < length s → false_at t k ≡ false_at s k
-grown_at s t k grown low = ap (λ x. false_at x k) grown.trail ∙ ap (λ (e : Entry). opposite e.literal) (get_or_append_left s grown.more blank_entry k low)
+pub grown_at : (s t : List TrailEntry) (k : ℕ) → IsGrown s t → k < length s → false_at t k ≡ false_at s k
+grown_at s t k grown low = ap (λ x. false_at x k) grown.trail ∙ ap (λ (e : TrailEntry). opposite e.literal) (get_or_append_left s grown.more blank_entry k low)
 
-pub grown_longer : (s t : List Entry) → IsGrown s t → length s ≤ length t
+pub grown_longer : (s t : List TrailEntry) → IsGrown s t → length s ≤ length t
 grown_longer s t grown = omega (arith, ap length grown.trail, length-append s grown.more)
 
 module _ (inputs lines : List (List Literal)) (k : ℕ) (a : AssignedValue) (w : WatchValue) where
@@ -73,7 +73,7 @@ code_known l n low = go l.negated refl
     go false is = rw is (omega arith)
 
 -- the literal that is false from a place on has its list
-pub list_known : (values : List (Option Bool)) (trail : List Entry) (k : ℕ) (lists : List (List ℕ)) → AreValues values trail → k < length trail
+pub list_known : (values : List (Option Bool)) (trail : List TrailEntry) (k : ℕ) (lists : List (List ℕ)) → AreValues values trail → k < length trail
     → length lists ≡ 2 * length values → code (false_at trail k) < length lists
 list_known values trail k lists are low sized = omega (arith, code_known (false_at trail k) (length values) (are.known k blank_entry low), sized)
 

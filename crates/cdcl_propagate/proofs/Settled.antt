@@ -7,13 +7,13 @@ use Rattle.cnf_base.specs.Literal.{opposite}
 use Rattle.cnf_base.specs.Step.{named}
 use Rattle.clause_log.specs.LogValue.{LogValue}
 use Rattle.cdcl_trail.specs.Trail.{literals_of, AreValues, IsConflict, IsReason, IsUnset}
-use Rattle.cdcl_trail.specs.declared.assigned.Entry.{Entry}
+use Rattle.cdcl_trail.specs.declared.assigned.TrailEntry.{TrailEntry}
 use Rattle.cdcl_watches.specs.Watching.{IsWatch, AreApart, clause_of, blank}
 use Rattle.cdcl_watches.proofs.Moves.{are_first}
 use Rattle.cdcl_propagate.specs.Visit.{HaveSame, IsGuarded}
 use Rattle.cdcl_trail.proofs.Standing.{not_both, place_of}
 
-module _ (values : List (Option Bool)) (trail : List Entry) (are : AreValues values trail) (clauses : List (List Literal))
+module _ (values : List (Option Bool)) (trail : List TrailEntry) (are : AreValues values trail) (clauses : List (List Literal))
     (guarded : IsGuarded clauses trail (length trail)) where
   -- where a watched literal is false, and each literal but u, u is true
   lone_by : (c : ℕ) (u a : Literal) → c < length clauses → IsWatch (clause_of clauses c) a → Contains (literals_of trail) (opposite a)

@@ -8,7 +8,7 @@ use Rattle.cnf_base.specs.Literal.{opposite}
 use Rattle.cnf_base.specs.Step.{named}
 use Rattle.cdcl_trail.specs.Trail.{literals_of, IsTrail, literal_at}
 use Rattle.cdcl_trail.specs.Entries.{hint_of}
-use Rattle.cdcl_trail.specs.declared.assigned.Entry.{Entry}
+use Rattle.cdcl_trail.specs.declared.assigned.TrailEntry.{TrailEntry}
 use Rattle.cdcl_watches.specs.Watching.{IsWatch, clause_of, list_of, WatchValue, blank}
 use Rattle.cdcl_watches.specs.Heads.{ArenaValue}
 use Rattle.cdcl_watches.specs.Watchers.{ListWalk, walked, row_of}
@@ -38,12 +38,12 @@ abbrev pub HasTrue : List Literal → List Literal → Type 0
 HasTrue true_ones clause = (l : Literal) × Contains clause l × Contains true_ones l
 
 -- where a clause watches a literal that is false from a place below `propagated` on, it has a true one
-abbrev pub IsGuarded : List (List Literal) → List Entry → ℕ → Type 0
+abbrev pub IsGuarded : List (List Literal) → List TrailEntry → ℕ → Type 0
 IsGuarded clauses trail propagated = (c k : ℕ) (a : Literal) → c < length clauses → IsWatch (clause_of clauses c) a
     → k < propagated → literal_at trail k ≡ opposite a → HasTrue (literals_of trail) (clause_of clauses c)
 
 -- the literal that the entry at a place makes false
-abbrev pub false_at : List Entry → ℕ → Literal
+abbrev pub false_at : List TrailEntry → ℕ → Literal
 false_at trail k = opposite (literal_at trail k)
 
 -- the clause at a place of the literal's list
@@ -60,7 +60,7 @@ pub record IsVisiting (inputs lines : List (List Literal)) (k i : ℕ) (a : Assi
   pub done : (j : ℕ) → j < i → j < length (list_of w.lists (false_at a.trail k)) → HasTrue (literals_of a.trail) (watcher_at w (false_at a.trail k) j)
 
 -- how many clauses watch the literal that became false at the place k
-abbrev pub list_length : List Entry → WatchValue → ℕ → ℕ
+abbrev pub list_length : List TrailEntry → WatchValue → ℕ → ℕ
 list_length trail w k = length (list_of w.lists (false_at trail k))
 
 -- clauses that are watched by these lists
@@ -74,17 +74,17 @@ pub record IsPassed (inputs lines : List (List Literal)) (k : ℕ) (a : Assigned
   pub same : length (row_of new) ≡ length (row_of old)
 
 -- entries that have reasons were put behind the trail
-pub record IsGrown (old new : List Entry) : Type 0 where
-  pub more : List Entry
+pub record IsGrown (old new : List TrailEntry) : Type 0 where
+  pub more : List TrailEntry
   pub trail : new ≡ old ++ more
   pub forced : All (λ e. e.reason ≢ None) more
 
 -- the literals at the places from i to n are false
-abbrev pub AreFalseFrom : List Entry → List Literal → ℕ → ℕ → Type 0
+abbrev pub AreFalseFrom : List TrailEntry → List Literal → ℕ → ℕ → Type 0
 AreFalseFrom trail clause i n = (j : ℕ) → i ≤ j → j < n → Contains (literals_of trail) (opposite (slice_index_or clause j blank))
 
 -- the place is behind the first two, and its literal is not false
-pub record IsReplacement (trail : List Entry) (clause : List Literal) (j : ℕ) : Type 0 where
+pub record IsReplacement (trail : List TrailEntry) (clause : List Literal) (j : ℕ) : Type 0 where
   pub behind : 2 ≤ j
   pub within : j < length clause
   pub not_false : ¬ Contains (literals_of trail) (opposite (slice_index_or clause j blank))

@@ -3,7 +3,8 @@
 // clauses are true already, and a true blocker spares loading them. `lasting` marks the places whose visits a
 // way back need not repeat. After Moskewicz, Madigan, Zhao, Zhang and Malik, Chaff (2001), and Sorensson and
 // Een, MiniSat 2.1 (2008).
-ghost use Rattle.std.specs.Prelude.{◌≡◌, ℕ, ◌+◌, ◌-◌, ◌*◌, ◌<◌, ◌≤◌, length, Option, Some, None, MatchOption, IfOk};
+ghost use Rattle.std.specs.Prelude.{◌≡◌, ℕ, ◌+◌, ◌-◌, ◌*◌, ◌<◌, ◌≤◌, length, Option, Some, None, MatchOption};
+ghost use Rattle.std.specs.Prelude.{IfOk};
 ghost use Rattle.cdcl_trail.specs.Trail.{literals_of, IsConflict};
 ghost use Rattle.cdcl_propagate.specs.Lasting.{IsLasting};
 ghost use Rattle.cdcl_watches.specs.Watching.{code};

@@ -8,7 +8,7 @@ ghost use Rattle.cdcl_propagate.specs.Visit.{HasTrue, IsGrown};
 ghost use Rattle.cdcl_propagate.specs.Units.{AreShort, AreFirm, IsOne};
 ghost use Rattle.cdcl_trail.specs.Values.{AreBelow};
 
-use cdcl_trail::{Assigned, Entry, clause_of};
+use cdcl_trail::{Assigned, TrailEntry, clause_of};
 use clause_log::Log;
 use cnf_base::Hint;
 use std::alloc::AllocError;
@@ -83,7 +83,7 @@ fn visit_unit(assigned: &mut Assigned, log: &Log, hint: Hint) -> Result<Option<H
         return Ok(Some(hint));
     }
     let level = last_level(assigned);
-    assigned.assign(Entry {
+    assigned.assign(TrailEntry {
         literal,
         level,
         reason: Some(hint),

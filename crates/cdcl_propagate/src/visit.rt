@@ -2,15 +2,17 @@
 // is true, or another literal is watched in its place, or the other is forced, or the clause is false.
 // Wherever it stays in the list, its other watched literal becomes the blocker. After Moskewicz, Madigan,
 // Zhao, Zhang and Malik, Chaff (2001).
-ghost use Rattle.std.specs.Prelude.{◌≡◌, ℕ, ◌<◌, ◌≤◌, List, [], All, Contains, length, Option, Some, None, MatchOption, IfOk, slice_index_or};
+ghost use Rattle.std.specs.Prelude.{◌≡◌, ℕ, ◌<◌, ◌≤◌, List, [], All, Contains, length, Option, Some, None};
+ghost use Rattle.std.specs.Prelude.{MatchOption, IfOk, slice_index_or};
 ghost use Rattle.cdcl_trail.specs.Trail.{literals_of, IsConflict};
 ghost use Rattle.cdcl_watches.specs.Watching.{code, clause_of, IsWatch};
 ghost use Rattle.cdcl_watches.specs.Watchers.{nobody, IsWalked, walk_in, walked};
 ghost use Rattle.cdcl_watches.specs.Heads.{number_of};
 ghost use Rattle.cdcl_propagate.specs.Lasting.{IsLasting};
-ghost use Rattle.cdcl_propagate.specs.Visit.{IsVisiting, IsPassed, IsGrown, IsFaced, IsReplacement, AreFalseFrom, false_at, watched_by};
+ghost use Rattle.cdcl_propagate.specs.Visit.{IsVisiting, IsPassed, IsGrown, IsFaced, IsReplacement};
+ghost use Rattle.cdcl_propagate.specs.Visit.{AreFalseFrom, false_at, watched_by};
 
-use cdcl_trail::{Assigned, Entry, decode_hint};
+use cdcl_trail::{Assigned, TrailEntry, decode_hint};
 use cdcl_watches::{Arena, Clause, Walk, WatchLists, keep, number, rewatch};
 use clause_log::Log;
 use cnf_base::{Hint, Literal};
@@ -102,7 +104,7 @@ pub fn visit(
         return Ok(Some(hint));
     }
     let level = assigned.level();
-    assigned.assign(Entry {
+    assigned.assign(TrailEntry {
         literal: other,
         level,
         reason: Some(hint),

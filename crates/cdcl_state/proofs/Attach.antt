@@ -20,7 +20,7 @@ use Rattle.cdcl_propagate.specs.Visit.{HasTrue, IsStored, IsGuarded, HaveSame, b
 use Rattle.cdcl_state.specs.State.{IsUnwatched, IsRewound, IsNamed, Parts, IsState, IsListed, AreAll, AreLong}
 use Rattle.cdcl_propagate.specs.Lasting.{IsLasting, IsTrueBy}
 use Rattle.cdcl_propagate.specs.Units.{IsOne, AreShort, AreFirm}
-use Rattle.cdcl_trail.specs.declared.assigned.Entry.{Entry}
+use Rattle.cdcl_trail.specs.declared.assigned.TrailEntry.{TrailEntry}
 use Rattle.cdcl_watches.proofs.Moves.{first_two}
 use Rattle.cdcl_propagate.proofs.Ready.{code_known}
 
@@ -94,7 +94,7 @@ module _ (old new : LogValue) (hint : Hint) (clause : List Literal) (more : IsMo
   reason_more : (before : List Literal) (u : Literal) (h : Hint) → IsReason old.inputs old.lines before u h → IsReason new.inputs new.lines before u h
   reason_more before u h reason = record { clause = reason.clause; is = more.kept h reason.clause reason.is; there = reason.there; others = reason.others }
 
-  stands_more : (before : List Entry) (e : Entry) → StandsAt old.inputs old.lines before e → StandsAt new.inputs new.lines before e
+  stands_more : (before : List TrailEntry) (e : TrailEntry) → StandsAt old.inputs old.lines before e → StandsAt new.inputs new.lines before e
   stands_more before e stands = record { reason = go e.reason stands.reason; decision = stands.decision; rising = stands.rising }
     where
       go : (o : Option Hint) → IfSome o
@@ -104,7 +104,7 @@ module _ (old new : LogValue) (hint : Hint) (clause : List Literal) (more : IsMo
       go None told = tt
       go (Some h) told = (reason_more (literals_of before) e.literal h told.0, told.1, told.2)
 
-  pub trail_more : (trail : List Entry) → IsTrail old.inputs old.lines trail → IsTrail new.inputs new.lines trail
+  pub trail_more : (trail : List TrailEntry) → IsTrail old.inputs old.lines trail → IsTrail new.inputs new.lines trail
   trail_more trail is_trail k d below = stands_more (take k trail) (get_or trail k d) (is_trail k d below)
 
   pub stored_more : (clauses : List (List Literal)) (names : List Hint) (r : List Literal) → HaveSame clause r → IsStored old.inputs old.lines clauses names
@@ -153,14 +153,14 @@ module _ (old new : LogValue) (hint : Hint) (clause : List Literal) (more : IsMo
       subst (HasTrue true_ones) same (firm u told.0 below told.1)
 
 -- a literal that became false below the place is none of the first two
-pub not_false_first : (trail : List Entry) (r : List Literal) (place k : ℕ) (x : Literal) → IsUnwatched trail r place → k < place → IsWatch r x
+pub not_false_first : (trail : List TrailEntry) (r : List Literal) (place k : ℕ) (x : Literal) → IsUnwatched trail r place → k < place → IsWatch r x
     → ¬ (literal_at trail k ≡ opposite x)
 not_false_first trail r place k x free low watch is = elim (first_two r x watch.0 blank watch.1) [
   | inl e ↦ (free k low).0 (is ∙ ap opposite e.0)
   | inr e ↦ (free k low).1 (is ∙ ap opposite e.0)
 ]
 
-module _ (clauses : List (List Literal)) (r : List Literal) (trail : List Entry) where
+module _ (clauses : List (List Literal)) (r : List Literal) (trail : List TrailEntry) where
   pub guarded_added : (propagated : ℕ) → IsGuarded clauses trail propagated
       → ((k : ℕ) (x : Literal) → IsWatch r x → k < propagated → literal_at trail k ≡ opposite x → HasTrue (literals_of trail) r)
       → IsGuarded (clauses ++ r ∷ []) trail propagated

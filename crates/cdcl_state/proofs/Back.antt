@@ -7,7 +7,7 @@ use Rattle.cnf_base.specs.declared.literal.Literal.{Literal}
 use Rattle.cnf_base.specs.declared.literal.Hint.{Hint}
 use Rattle.cdcl_state.specs.StateValue.{StateValue, IsBack}
 use Rattle.cdcl_trail.specs.Trail.{literals_of, HasLevel, IsReason, IsTrail, blank_entry, IsDecision}
-use Rattle.cdcl_trail.specs.declared.assigned.Entry.{Entry}
+use Rattle.cdcl_trail.specs.declared.assigned.TrailEntry.{TrailEntry}
 use Rattle.cdcl_trail.proofs.Levels.{level_at, levels_rise}
 use Rattle.cdcl_watches.specs.Watching.{clause_of}
 use Rattle.cdcl_propagate.specs.Lasting.{IsLasting}
@@ -35,7 +35,7 @@ module _ (old new : StateValue) (b : ℕ) (is_trail : IsTrail old.log.inputs old
 
   pub high_dropped : (p : ℕ) → b < level_at old.trail p → length new.trail ≤ p
   high_dropped p high = elim (cases_lt p (length new.trail)) [
-    | inl kept ↦ absurd (omega (arith, back.low p blank_entry kept, ap (λ (e : Entry). e.level) (kept_at p kept), high))
+    | inl kept ↦ absurd (omega (arith, back.low p blank_entry kept, ap (λ (e : TrailEntry). e.level) (kept_at p kept), high))
     | inr above ↦ above
   ]
 
@@ -52,9 +52,9 @@ module _ (old new : StateValue) (b : ℕ) (is_trail : IsTrail old.log.inputs old
         | inl none ↦ omega (arith, above, none)
         | inr has ↦
             let there = subst (λ t. HasLevel t e.level) (sym front_trail) has in
-            let below : there.0 < length new.trail = omega (arith, there.1, length-map new.trail (λ (f : Entry). f.level)) in
+            let below : there.0 < length new.trail = omega (arith, there.1, length-map new.trail (λ (f : TrailEntry). f.level)) in
             let level_is : (get_or new.trail there.0 blank_entry).level ≡ e.level =
-            sym (get_or-map (λ (f : Entry). f.level) new.trail there.0 blank_entry e.level below) ∙ there.2 in
+            sym (get_or-map (λ (f : TrailEntry). f.level) new.trail there.0 blank_entry e.level below) ∙ there.2 in
             omega (arith, above, level_is, back.low there.0 blank_entry below)
       ]
 
@@ -73,17 +73,17 @@ pub lasting_back : (clauses : List (List Literal)) (old new : StateValue) (b n m
 lasting_back clauses old new b n m is_trail back lasting le within c k a known watch below is_false =
     let k_low : k < length new.trail = omega arith in
     let k_same = kept_at old new b is_trail back k k_low in
-    let at = lasting c k a known watch (omega arith) (ap (λ (e : Entry). e.literal) (sym k_same) ∙ is_false) in
-    let k_level : level_at old.trail k ≤ b = subst (λ (e : Entry). e.level ≤ b) k_same (back.low k blank_entry k_low) in
+    let at = lasting c k a known watch (omega arith) (ap (λ (e : TrailEntry). e.literal) (sym k_same) ∙ is_false) in
+    let k_level : level_at old.trail k ≤ b = subst (λ (e : TrailEntry). e.level ≤ b) k_same (back.low k blank_entry k_low) in
     let kept = low_kept old new b is_trail back at.0 at.1 (omega (arith, at.3)) in
     let same = kept_at old new b is_trail back at.0 kept in (
       at.0,
       kept,
-      subst (Contains (clause_of clauses c)) (ap (λ (e : Entry). e.literal) (sym same)) at.2,
+      subst (Contains (clause_of clauses c)) (ap (λ (e : TrailEntry). e.literal) (sym same)) at.2,
       omega (
         arith,
-        ap (λ (e : Entry). e.level) same,
-        ap (λ (e : Entry). e.level) k_same,
+        ap (λ (e : TrailEntry). e.level) same,
+        ap (λ (e : TrailEntry). e.level) k_same,
         at.3,
       ),
     )

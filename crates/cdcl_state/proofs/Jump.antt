@@ -11,7 +11,7 @@ use Rattle.cnf_base.proofs.SameLiteral.{opposite_opposite}
 use Rattle.clause_log.specs.LogValue.{LogValue}
 use Rattle.cdcl_state.specs.StateValue.{StateValue, MayStand, IsBack}
 use Rattle.cdcl_trail.specs.Trail.{literals_of, HasLevel, IsReason, IsTrail, AreValues, blank_entry, literal_at, IsDecision, IsInside}
-use Rattle.cdcl_trail.specs.declared.assigned.Entry.{Entry}
+use Rattle.cdcl_trail.specs.declared.assigned.TrailEntry.{TrailEntry}
 use Rattle.cdcl_trail.proofs.Assign.{level_there, entry_there}
 use Rattle.cdcl_trail.proofs.Standing.{true_place, places_apart}
 use Rattle.cdcl_trail.proofs.Levels.{level_at, levels_rise, level_bound}
@@ -62,7 +62,7 @@ jump_stands values old new b line clause places u are is_trail back target claus
             let kept = low_kept old new b is_trail back p di (omega (arith, li, target.second more)) in
             let is_l : get_or clause i d ≡ opposite (literal_at old.trail p) =
             ap (λ c. get_or c i d) clause_is ∙ get_or-map (λ q. opposite (literal_at old.trail q)) places i 0 d below_places in
-            let there = subst (λ (e : Entry). Contains (literals_of new.trail) e.literal) (kept_at old new b is_trail back p kept)
+            let there = subst (λ (e : TrailEntry). Contains (literals_of new.trail) e.literal) (kept_at old new b is_trail back p kept)
             (entry_there new.trail p blank_entry kept) in
             inr (subst (Contains (literals_of new.trail)) (sym (ap opposite is_l ∙ opposite_opposite (literal_at old.trail p))) there)
       ];
@@ -82,7 +82,7 @@ jump_stands values old new b line clause places u are is_trail back target claus
                 | inl more ↦ (
                   of_new,
                   level_bound inputs lines old.trail is_trail (get_or places 1 0) (length new.trail) (second more).0 back.short b (second more).1,
-                  inr (subst (HasLevel new.trail) (ap (λ (e : Entry). e.level) (kept_at old new b is_trail back (get_or places 1 0) (second more).0)
+                  inr (subst (HasLevel new.trail) (ap (λ (e : TrailEntry). e.level) (kept_at old new b is_trail back (get_or places 1 0) (second more).0)
                       ∙ (second more).1) (level_there new.trail (get_or places 1 0) blank_entry (second more).0)),
                 )
                 | inr lone ↦ (of_new, omega (arith, target.lone lone), inl (target.lone lone))

@@ -12,7 +12,7 @@ use Rattle.cdcl_trail.specs.Trail.{IsTrail, AreValues, blank_entry, literal_at}
 use Rattle.cdcl_analyze.specs.Learnt.{IsLearnt}
 use Rattle.cdcl_analyze.specs.Analysis.{AreFromOne, refuted_at}
 use Rattle.cdcl_state.specs.State.{AreKnownDecisions}
-use Rattle.cdcl_trail.specs.declared.assigned.Entry.{Entry}
+use Rattle.cdcl_trail.specs.declared.assigned.TrailEntry.{TrailEntry}
 use Rattle.cdcl_analyze.specs.declared.analyze.Learnt.{Learnt}
 use Rattle.cdcl_trail.proofs.Bridge.{named_has}
 use Rattle.cdcl_trail.proofs.Bound.{bounded_by}
@@ -21,10 +21,10 @@ use Rattle.cdcl_trail.proofs.Standing.{reason_at}
 pub opposite_known : (letters : ℕ) (l : Literal) → IsKnown letters l → IsKnown letters (opposite l)
 opposite_known letters l known = record { from_one = known.from_one; within = known.within }
 
-pub trail_known : (letters : ℕ) (inputs lines : List (List Literal)) (trail : List Entry) → IsTrail inputs lines trail → AreKnown letters inputs
+pub trail_known : (letters : ℕ) (inputs lines : List (List Literal)) (trail : List TrailEntry) → IsTrail inputs lines trail → AreKnown letters inputs
     → AreKnown letters lines → AreKnownDecisions letters trail → All (λ e. IsKnown letters e.literal) trail
 trail_known letters inputs lines trail is_trail known_inputs known_lines decided k d below =
-    subst (λ (e : Entry). IsKnown letters e.literal) (get_or_default trail k blank_entry d below) (go (get_or trail k blank_entry).reason refl)
+    subst (λ (e : TrailEntry). IsKnown letters e.literal) (get_or_default trail k blank_entry d below) (go (get_or trail k blank_entry).reason refl)
   where
     go : (o : Option Hint) → (get_or trail k blank_entry).reason ≡ o → IsKnown letters (literal_at trail k)
     go None free = decided k blank_entry below free
@@ -33,10 +33,10 @@ trail_known letters inputs lines trail is_trail known_inputs known_lines decided
         All-contains (IsKnown letters) reason.clause (literal_at trail k)
         (named_has (All (IsKnown letters)) inputs lines hint reason.clause known_inputs known_lines reason.is) reason.there
 
-pub known_from_one : (letters : ℕ) (trail : List Entry) → All (λ e. IsKnown letters e.literal) trail → AreFromOne trail
+pub known_from_one : (letters : ℕ) (trail : List TrailEntry) → All (λ e. IsKnown letters e.literal) trail → AreFromOne trail
 known_from_one letters trail known k d below = (known k d below).from_one
 
-pub learnt_known : (letters : ℕ) (log : LogValue) (trail : List Entry) (learnt : Learnt) → IsLearnt log trail learnt
+pub learnt_known : (letters : ℕ) (log : LogValue) (trail : List TrailEntry) (learnt : Learnt) → IsLearnt log trail learnt
     → All (λ e. IsKnown letters e.literal) trail → All (IsKnown letters) learnt.clause.items
 learnt_known letters log trail learnt is known i d below =
     let f : ℕ → Literal = λ p. opposite (literal_at trail p) in
@@ -46,16 +46,16 @@ learnt_known letters log trail learnt is known i d below =
     let p = get_or learnt.places.items i 0 in
     subst (IsKnown letters) (sym at) (opposite_known letters (literal_at trail p) (known p blank_entry (is.inside i 0 low)))
 
-pub trail_short : (letters : ℕ) (values : List (Option Bool)) (trail : List Entry) → AreValues values trail → All (λ e. IsKnown letters e.literal) trail
+pub trail_short : (letters : ℕ) (values : List (Option Bool)) (trail : List TrailEntry) → AreValues values trail → All (λ e. IsKnown letters e.literal) trail
     → length trail ≤ letters + 1
 trail_short letters values trail are known = bounded_by values trail (letters + 1) are (λ k d below. omega (arith, (known k d below).within))
 
 -- the letters of a trail on which a literal was refuted are known
-pub refuted_known : (letters : ℕ) (trail : List Entry) (p : ℕ) → p < length trail → All (λ e. IsKnown letters e.literal) trail
+pub refuted_known : (letters : ℕ) (trail : List TrailEntry) (p : ℕ) → p < length trail → All (λ e. IsKnown letters e.literal) trail
     → All (λ e. IsKnown letters e.literal) (refuted_at trail p)
 refuted_known letters trail p low known =
     All-push (λ e. IsKnown letters e.literal) (take p trail) (record { literal = opposite (literal_at trail p); level = p + 1; reason = None })
     (λ k d below.
     let k_low : k < p = omega (arith, below, length-take-le p trail (omega arith)) in
-    subst (λ (e : Entry). IsKnown letters e.literal) (sym (get_or-take p trail k d k_low)) (known k d (omega (arith, low))))
+    subst (λ (e : TrailEntry). IsKnown letters e.literal) (sym (get_or-take p trail k d k_low)) (known k d (omega (arith, low))))
     (opposite_known letters (literal_at trail p) (known p blank_entry low))

@@ -15,7 +15,7 @@ use Rattle.cdcl_watches.specs.Watching.{AreApart, WatchValue, blank}
 use Rattle.cdcl_trail.specs.Assigned.{AssignedValue}
 use Rattle.cdcl_propagate.specs.Lasting.{IsLasting}
 use Rattle.cdcl_state.specs.State.{IsNamed, Parts, IsState}
-use Rattle.cdcl_trail.specs.declared.assigned.Entry.{Entry}
+use Rattle.cdcl_trail.specs.declared.assigned.TrailEntry.{TrailEntry}
 use Rattle.cdcl_trail.proofs.Standing.{places_apart}
 use Rattle.cdcl_state.proofs.Jump.{jump_stands}
 use Rattle.cdcl_trail.proofs.Levels.{level_at}
@@ -24,7 +24,7 @@ use Rattle.cdcl_state.proofs.Attach.{IsMore, trail_more, state_long}
 use Rattle.cdcl_state.proofs.Learning.{target_below, second_kept, learnt_lasting, state_raise}
 
 -- the literals of a learnt clause stand there once
-pub learnt_apart : (values : List (Option Bool)) (trail : List Entry) (clause : List Literal) (places : List ℕ) → AreValues values trail
+pub learnt_apart : (values : List (Option Bool)) (trail : List TrailEntry) (clause : List Literal) (places : List ℕ) → AreValues values trail
     → clause ≡ map (λ p. opposite (literal_at trail p)) places → All (IsInside trail) places → AllPairs (λ p q. q < p) places → AreApart clause
 learnt_apart values trail clause places are is inside falling i j d earlier below same =
     let f : ℕ → Literal = λ p. opposite (literal_at trail p) in
@@ -98,7 +98,7 @@ module _ {s : Parts} {b : AssignedValue} {next : LogValue} {m n level still soli
         → d.trail ≡ b.trail ++ record { literal = u; level = level; reason = Some (Line line) } ∷ [] → u ≡ get_or clause 0 blank
         → IsState (record s { assigned = d; watches = v; log = next; propagated = m; lasting = m; units_done = still; units_trail = solid })
     learned d told same is first =
-        let e : Entry = record { literal = u; level = level; reason = Some (Line line) } in
+        let e : TrailEntry = record { literal = u; level = level; reason = Some (Line line) } in
         let pushed = state_pushed d e learned_cut same learned_stands.0.stands (λ free. cc) is in
         let second = second_kept old new level clause places is_trail back cut.target cut.clause_is cut.inside long in
         let len : length b.trail ≡ n = ap length cut.trail_is ∙ length-take-le n s.assigned.trail cut.fits in

@@ -13,7 +13,7 @@ use Rattle.cdcl_state.specs.Turns.{IsTarget, IsAsserting}
 use Rattle.cdcl_watches.specs.Watching.{blank}
 use Rattle.cdcl_propagate.specs.Lasting.{IsLasting}
 use Rattle.cdcl_state.specs.State.{Parts, IsState}
-use Rattle.cdcl_trail.specs.declared.assigned.Entry.{Entry}
+use Rattle.cdcl_trail.specs.declared.assigned.TrailEntry.{TrailEntry}
 use Rattle.cdcl_watches.proofs.Moves.{first_two}
 use Rattle.cdcl_trail.proofs.Standing.{places_apart}
 use Rattle.cdcl_trail.proofs.Levels.{level_at, decision_level}
@@ -23,14 +23,14 @@ use Rattle.cdcl_state.proofs.States.{lasting_push}
 use Rattle.cdcl_state.proofs.Attach.{lasting_added}
 
 -- the level to go back to is below that of the first literal
-pub target_below : (trail : List Entry) (places : List ℕ) (b : ℕ) → IsAsserting trail places → IsTarget trail places b → b < level_at trail (get_or places 0 0)
+pub target_below : (trail : List TrailEntry) (places : List ℕ) (b : ℕ) → IsAsserting trail places → IsTarget trail places b → b < level_at trail (get_or places 0 0)
 target_below trail places b asserting target = elim (cases_lt 1 (length places)) [
   | inl more ↦ omega (arith, target.second more, asserting.second more)
   | inr lone ↦ omega (arith, target.lone lone, asserting.lone lone)
 ]
 
 -- a clause of decisions is asserting
-pub decisions_asserting : (inputs lines : List (List Literal)) (trail : List Entry) (places : List ℕ) → IsTrail inputs lines trail
+pub decisions_asserting : (inputs lines : List (List Literal)) (trail : List TrailEntry) (places : List ℕ) → IsTrail inputs lines trail
     → All (IsDecision trail) places → AllPairs (λ p q. q < p) places → 0 < length places → IsAsserting trail places
 decisions_asserting inputs lines trail places is_trail decisions falling some = record {
   some = some;
@@ -73,7 +73,7 @@ state_raise {s} m state fits is_lasting = record {
 }
 
 -- where the second literal of the clause became false
-pub record IsSecond (trail : List Entry) (l : Literal) (level : ℕ) : Type 0 where
+pub record IsSecond (trail : List TrailEntry) (l : Literal) (level : ℕ) : Type 0 where
   pub place : ℕ
   pub within : place < length trail
   pub is : literal_at trail place ≡ opposite l
@@ -94,12 +94,12 @@ second_kept old new b clause places is_trail back target clause_is inside long =
     record {
       place = p;
       within = kept;
-      is = ap (λ (e : Entry). e.literal) same ∙ sym (ap opposite at ∙ opposite_opposite (literal_at old.trail p));
-      same = ap (λ (e : Entry). e.level) same ∙ level;
+      is = ap (λ (e : TrailEntry). e.literal) same ∙ sym (ap opposite at ∙ opposite_opposite (literal_at old.trail p));
+      same = ap (λ (e : TrailEntry). e.level) same ∙ level;
     }
 
 -- behind the trail stands the first literal, on the level of the second: the rule holds of the new clause
-pub learnt_lasting : (values : List (Option Bool)) (clauses : List (List Literal)) (r : List Literal) (trail : List Entry) (e : Entry) (m : ℕ)
+pub learnt_lasting : (values : List (Option Bool)) (clauses : List (List Literal)) (r : List Literal) (trail : List TrailEntry) (e : TrailEntry) (m : ℕ)
     → AreValues values (trail ++ e ∷ []) → m ≤ length trail → IsLasting clauses trail m
     → 0 < length r → e.literal ≡ get_or r 0 blank → IsSecond trail (get_or r 1 blank) e.level → IsLasting (clauses ++ r ∷ []) (trail ++ e ∷ []) m
 learnt_lasting values clauses r trail e m are fits lasting some first second =
@@ -109,16 +109,16 @@ learnt_lasting values clauses r trail e m are fits lasting some first second =
     let last : get_or t n blank_entry ≡ e = get_or_at trail e [] blank_entry n refl in
     let p = second.place in
     let p_at : get_or t p blank_entry ≡ get_or trail p blank_entry = get_or_append_left trail (e ∷ []) blank_entry p second.within in
-    let u_in : Contains r (literal_at t n) = subst (Contains r) (sym (ap (λ (f : Entry). f.literal) last ∙ first)) (Contains-get_or r 0 blank some) in
+    let u_in : Contains r (literal_at t n) = subst (Contains r) (sym (ap (λ (f : TrailEntry). f.literal) last ∙ first)) (Contains-get_or r 0 blank some) in
     lasting_added clauses r t m (lasting_push clauses trail (e ∷ []) m fits lasting) (λ k x watch below is. elim (first_two r x watch.0 blank watch.1) [
       | inl one ↦ absurd (places_apart values t are k n (omega (arith, below, longer)) (omega (arith, longer)) (λ same. omega (arith, same, below))
-          (ap (λ (l : Literal). l.letter.0) (is ∙ ap opposite (one.0 ∙ sym first)) ∙ ap (λ (f : Entry). f.literal.letter.0) (sym last)))
+          (ap (λ (l : Literal). l.letter.0) (is ∙ ap opposite (one.0 ∙ sym first)) ∙ ap (λ (f : TrailEntry). f.literal.letter.0) (sym last)))
       | inr two ↦
           let same : k ≡ p = elim (cases_eq k p) [
             | inl equal ↦ equal
             | inr differ ↦ absurd (places_apart values t are k p (omega (arith, below, longer)) (omega (arith, longer, second.within)) differ
-                (ap (λ (l : Literal). l.letter.0) (is ∙ ap opposite two.0 ∙ sym second.is) ∙ ap (λ (f : Entry). f.literal.letter.0) (sym p_at)))
+                (ap (λ (l : Literal). l.letter.0) (is ∙ ap opposite two.0 ∙ sym second.is) ∙ ap (λ (f : TrailEntry). f.literal.letter.0) (sym p_at)))
           ] in
-          let level : level_at t k ≡ e.level = ap (level_at t) same ∙ ap (λ (f : Entry). f.level) p_at ∙ second.same in
-          (n, omega (arith, longer), u_in, omega (arith, level, ap (λ (f : Entry). f.level) last))
+          let level : level_at t k ≡ e.level = ap (level_at t) same ∙ ap (λ (f : TrailEntry). f.level) p_at ∙ second.same in
+          (n, omega (arith, longer), u_in, omega (arith, level, ap (λ (f : TrailEntry). f.level) last))
     ])

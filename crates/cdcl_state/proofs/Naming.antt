@@ -7,7 +7,7 @@ use Rattle.std.proofs.lemmas.List.Elements.{All-contains, All-more, All-push, Co
 use Rattle.cnf_base.specs.declared.literal.Literal.{Literal}
 use Rattle.cnf_base.proofs.SameLiteral.{opposite_opposite}
 use Rattle.cdcl_trail.specs.Trail.{literals_of}
-use Rattle.cdcl_trail.specs.declared.assigned.Entry.{Entry}
+use Rattle.cdcl_trail.specs.declared.assigned.TrailEntry.{TrailEntry}
 use Rattle.cdcl_trail.proofs.Assign.{same_letter}
 use Rattle.cdcl_state.specs.Named.{AreListed, AreOf}
 use Rattle.cdcl_state.specs.StateValue.{IsSet}
@@ -67,7 +67,7 @@ of_next old new clause k d below kept there are =
     (λ i e low. All-contains (Contains new) old (get_or (take k clause) i e).letter.0 kept (are i e low)) there
 
 -- where the literal or its opposite is true, one of each literal of its letter is
-pub set_letter : (trail : List Entry) (l m : Literal) → m.letter.0 ≡ l.letter.0 → IsSet trail l → IsSet trail m
+pub set_letter : (trail : List TrailEntry) (l m : Literal) → m.letter.0 ≡ l.letter.0 → IsSet trail l → IsSet trail m
 set_letter trail l m same set = elim (same_letter m l same) [
   | inl e ↦ subst (IsSet trail) (sym e) set
   | inr e ↦ subst (IsSet trail) (sym e) (elim set [

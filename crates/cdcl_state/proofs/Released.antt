@@ -4,11 +4,11 @@ use Rattle.std.proofs.lemmas.Bool.{cases_eq}
 use Rattle.cdcl_activity.specs.Order.{IsWaiting}
 use Rattle.cdcl_activity.specs.Choices.{ChoicesValue, IsOffered}
 use Rattle.cdcl_trail.specs.Trail.{blank_entry, literal_at}
-use Rattle.cdcl_trail.specs.declared.assigned.Entry.{Entry}
+use Rattle.cdcl_trail.specs.declared.assigned.TrailEntry.{TrailEntry}
 use Rattle.cdcl_state.specs.Turns.{IsReleased}
 
 -- the letter of one entry more
-pub released_more : (trail : List Entry) (from k : ℕ) (first old new : ChoicesValue) (e : Entry) (x : ℕ) → from ≤ k → e ≡ get_or trail k blank_entry
+pub released_more : (trail : List TrailEntry) (from k : ℕ) (first old new : ChoicesValue) (e : TrailEntry) (x : ℕ) → from ≤ k → e ≡ get_or trail k blank_entry
     → length old.order.places ≡ length first.order.places
     → (IsWaiting old.order x ↔ (IsReleased trail from k first x ⊎ IsWaiting first.order x))
     → (IsWaiting new.order x ↔ (IsOffered old x e.literal.letter.0 ⊎ IsWaiting old.order x))
@@ -41,10 +41,10 @@ released_more trail from k first old new e x on e_is same before step = (
 )
   where
     letter_is : e.literal.letter.0 ≡ (literal_at trail k).letter.0
-    letter_is = ap (λ (f : Entry). f.literal.letter.0) e_is
+    letter_is = ap (λ (f : TrailEntry). f.literal.letter.0) e_is
 
 -- where all places were gone over, or there were none
-pub released_all : (trail : List Entry) (from to len : ℕ) (first new : ChoicesValue) (x : ℕ) → len ≤ to → (from ≡ to) ⊎ (to ≤ len)
+pub released_all : (trail : List TrailEntry) (from to len : ℕ) (first new : ChoicesValue) (x : ℕ) → len ≤ to → (from ≡ to) ⊎ (to ≤ len)
     → (IsWaiting new.order x ↔ (IsReleased trail from to first x ⊎ IsWaiting first.order x))
     → IsWaiting new.order x ↔ (IsReleased trail from len first x ⊎ IsWaiting first.order x)
 released_all trail from to len first new x long at all = (

@@ -12,7 +12,7 @@ use Rattle.cdcl_state.specs.StateValue.{positive}
 use Rattle.cdcl_watches.specs.Watching.{WatchValue}
 use Rattle.cdcl_trail.specs.Assigned.{AssignedValue}
 use Rattle.cdcl_state.specs.State.{Parts, IsState}
-use Rattle.cdcl_trail.specs.declared.assigned.Entry.{Entry}
+use Rattle.cdcl_trail.specs.declared.assigned.TrailEntry.{TrailEntry}
 
 pub state_widened : {s : Parts} (b : AssignedValue) (v : WatchValue) (wide : ℕ) → IsState s → b.trail ≡ s.assigned.trail → v.clauses ≡ s.watches.clauses
     → v.names ≡ s.watches.names → length v.lists ≡ 2 * length b.values → length s.assigned.values ≤ length b.values
@@ -71,7 +71,7 @@ state_lettered {s} count state more room = record {
 }
 
 -- the values of the letters of one entry more
-pub model_more : (trail : List Entry) (old new : List Bool) (k n : ℕ) → k < length trail
+pub model_more : (trail : List TrailEntry) (old new : List Bool) (k n : ℕ) → k < length trail
     → ((x : ℕ) → x < n → (get_or new x false ≡ true) ↔ ((get_or old x false ≡ true) ⊎ (literal_at trail k ≡ positive x)))
     → ((x : ℕ) → x < n → (get_or old x false ≡ true) ↔ Contains (literals_of (take k trail)) (positive x))
     → (x : ℕ) → x < n → (get_or new x false ≡ true) ↔ Contains (literals_of (take (k + 1) trail)) (positive x)
@@ -79,7 +79,7 @@ model_more trail old new k n below set told x low =
     let front = literals_of (take k trail) in
     let last = literal_at trail k in
     let e : literals_of (take (k + 1) trail) ≡ front ++ last ∷ [] =
-    ap literals_of (take_more trail k blank_entry below) ∙ map-append (λ (e : Entry). e.literal) (take k trail) (get_or trail k blank_entry ∷ []) in
+    ap literals_of (take_more trail k blank_entry below) ∙ map-append (λ (e : TrailEntry). e.literal) (take k trail) (get_or trail k blank_entry ∷ []) in
     subst (λ ls. (get_or new x false ≡ true) ↔ Contains ls (positive x)) (sym e) (
       (λ is. elim ((set x low).0 is) [
         | inl before ↦ Contains-append_left front (last ∷ []) (positive x) ((told x low).0 before)
@@ -92,7 +92,7 @@ model_more trail old new k n below set told x low =
     )
 
 -- no letter is true yet
-pub model_none : (trail : List Entry) (n x : ℕ) → (get_or (replicate n false) x false ≡ true) ↔ Contains (literals_of (take 0 trail)) (positive x)
+pub model_none : (trail : List TrailEntry) (n x : ℕ) → (get_or (replicate n false) x false ≡ true) ↔ Contains (literals_of (take 0 trail)) (positive x)
 model_none trail n x = (
   (λ is. absurd (false≢true (sym (none (cases_lt x n)) ∙ is))),
   (λ there. absurd (omega (arith, there.1))),

@@ -11,17 +11,17 @@ use Rattle.cdcl_state.specs.StateValue.{StateValue, with_trail, with_log, IsBack
 use Rattle.cdcl_trail.specs.Trail.{IsTrail, AreValues, literal_at, IsDecision}
 use Rattle.cdcl_analyze.specs.Learnt.{IsLearnt}
 use Rattle.cdcl_state.specs.Turns.{IsAsserting, IsTurn, IsUnturned}
-use Rattle.cdcl_trail.specs.declared.assigned.Entry.{Entry}
+use Rattle.cdcl_trail.specs.declared.assigned.TrailEntry.{TrailEntry}
 use Rattle.cdcl_analyze.specs.declared.analyze.Learnt.{Learnt}
 use Rattle.cdcl_state.proofs.Attach.{line_more, trail_more}
 use Rattle.cdcl_state.proofs.Jump.{jump_stands}
 use Rattle.cdcl_state.proofs.Learning.{decisions_asserting}
 
 -- what a line forces on level 0
-abbrev pub forced_by : Literal → ℕ → Entry
+abbrev pub forced_by : Literal → ℕ → TrailEntry
 forced_by u line = record { literal = u; level = 0; reason = Some (Line line) }
 
-pub learnt_asserting : (log : LogValue) (trail : List Entry) (learnt : Learnt) → IsTrail log.inputs log.lines trail → IsLearnt log trail learnt
+pub learnt_asserting : (log : LogValue) (trail : List TrailEntry) (learnt : Learnt) → IsTrail log.inputs log.lines trail → IsLearnt log trail learnt
     → All (IsDecision trail) learnt.places.items
     → (learnt.clause.items ≡ []) ⊎ IsAsserting trail learnt.places.items
 learnt_asserting log trail learnt is_trail is decisions = elim (cases_lt 0 (length learnt.places.items)) [
@@ -51,7 +51,7 @@ short_stands values old mid back line learnt u are is_trail is asserting short m
     (record { lone = λ _. refl; second = λ two. absurd (omega (arith, few, two)) })
     is.clause_is is.inside is.falling asserting.some (asserting.lone (omega (arith, few))) more.here first)
 
-pub short_turned : (mid back new : StateValue) (e : Entry) → IsBack mid back 0 → IsDecision mid.trail (length back.trail)
+pub short_turned : (mid back new : StateValue) (e : TrailEntry) → IsBack mid back 0 → IsDecision mid.trail (length back.trail)
     → e.reason ≢ None → new ≡ with_trail back (back.trail ++ e ∷ []) → IsTurn mid new
 short_turned mid back new e went decision forced is = record {
   place = length back.trail;

@@ -24,7 +24,7 @@ use Rattle.cdcl_propagate.specs.Lasting.{IsLasting}
 use Rattle.cdcl_analyze.specs.Reason.{IsAnalyzable}
 use Rattle.cdcl_state.specs.State.{Parts, IsState, AreAll, AreLong, AreKnownDecisions}
 use Rattle.cdcl_propagate.specs.Units.{IsOne, AreFirm}
-use Rattle.cdcl_trail.specs.declared.assigned.Entry.{Entry}
+use Rattle.cdcl_trail.specs.declared.assigned.TrailEntry.{TrailEntry}
 use Rattle.cdcl_trail.proofs.Standing.{not_both}
 use Rattle.cdcl_propagate.proofs.Settled.{settled_watched}
 use Rattle.cdcl_state.proofs.Back.{lasting_back}
@@ -115,15 +115,15 @@ settled {s} state are watching all finished hint heeded = (
         let told = state.are_firm at.0 clause (omega (arith, at.1, finished)) (ap (named s.log.inputs s.log.lines) at.2 ∙ is) in
         (told.0, told.1, front_true s.assigned.trail s.units_trail told.0 state.units_trail_in told.2)
       where
-        front_true : (trail : List Entry) (n : ℕ) (l : Literal) → n ≤ length trail → Contains (literals_of (take n trail)) l → Contains (literals_of trail) l
+        front_true : (trail : List TrailEntry) (n : ℕ) (l : Literal) → n ≤ length trail → Contains (literals_of (take n trail)) l → Contains (literals_of trail) l
         front_true trail n l fits (k, low, is_l) =
-            let k_take : k < length (take n trail) = omega (arith, low, length-map (take n trail) (λ (e : Entry). e.literal)) in
+            let k_take : k < length (take n trail) = omega (arith, low, length-map (take n trail) (λ (e : TrailEntry). e.literal)) in
             let k_low : k < n = omega (arith, k_take, length-take-le n trail fits) in
             let k_in : k < length trail = omega arith in (
               k,
-              omega (arith, k_in, length-map trail (λ (e : Entry). e.literal)),
-              get_or-map (λ (e : Entry). e.literal) trail k blank_entry l k_in ∙ ap (λ (e : Entry). e.literal) (sym (get_or-take n trail k blank_entry k_low))
-                  ∙ sym (get_or-map (λ (e : Entry). e.literal) (take n trail) k blank_entry l k_take) ∙ is_l,
+              omega (arith, k_in, length-map trail (λ (e : TrailEntry). e.literal)),
+              get_or-map (λ (e : TrailEntry). e.literal) trail k blank_entry l k_in ∙ ap (λ (e : TrailEntry). e.literal) (sym (get_or-take n trail k blank_entry k_low))
+                  ∙ sym (get_or-map (λ (e : TrailEntry). e.literal) (take n trail) k blank_entry l k_take) ∙ is_l,
             )
 
 -- forced entries more on the trail
@@ -216,56 +216,56 @@ back_of letters a b log all_lines n level is_trail trail_is fits low high =
             | inl front ↦ levels_rise log.inputs log.lines a.trail is_trail k (n - 1) front (omega arith)
             | inr last ↦ let same : k ≡ n - 1 = omega arith in omega (arith, ap (level_at a.trail) same)
           ] in
-          omega (arith, ap (λ (e : Entry). e.level) at, rises, low (omega arith));
+          omega (arith, ap (λ (e : TrailEntry). e.level) at, rises, low (omega arith));
       high = λ d below.
           let shorter : n < length a.trail = omega (arith, len) in
           let at : get_or a.trail (length b.trail) d ≡ get_or a.trail n blank_entry =
           ap (λ m. get_or a.trail m d) len ∙ get_or_default a.trail n d blank_entry shorter in
-          omega (arith, ap (λ (e : Entry). e.level) at, high shorter);
+          omega (arith, ap (λ (e : TrailEntry). e.level) at, high shorter);
     }
 
 -- entries more behind the trail keep the watch rule
-pub guarded_push : (clauses : List (List Literal)) (trail more : List Entry) (n : ℕ) → n ≤ length trail → IsGuarded clauses trail n
+pub guarded_push : (clauses : List (List Literal)) (trail more : List TrailEntry) (n : ℕ) → n ≤ length trail → IsGuarded clauses trail n
     → IsGuarded clauses (trail ++ more) n
 guarded_push clauses trail more n fits guarded c k a known watch below is_false =
-    let same : literal_at (trail ++ more) k ≡ literal_at trail k = ap (λ (f : Entry). f.literal) (get_or_append_left trail more blank_entry k (omega arith)) in
+    let same : literal_at (trail ++ more) k ≡ literal_at trail k = ap (λ (f : TrailEntry). f.literal) (get_or_append_left trail more blank_entry k (omega arith)) in
     let told = guarded c k a known watch below (sym same ∙ is_false) in (
       told.0,
       told.1,
-      subst (λ ls. Contains ls told.0) (sym (map-append (λ (f : Entry). f.literal) trail more))
+      subst (λ ls. Contains ls told.0) (sym (map-append (λ (f : TrailEntry). f.literal) trail more))
           (Contains-append_left (literals_of trail) (literals_of more) told.0 told.2),
     )
 
-pub lasting_push : (clauses : List (List Literal)) (trail more : List Entry) (n : ℕ) → n ≤ length trail → IsLasting clauses trail n
+pub lasting_push : (clauses : List (List Literal)) (trail more : List TrailEntry) (n : ℕ) → n ≤ length trail → IsLasting clauses trail n
     → IsLasting clauses (trail ++ more) n
 lasting_push clauses trail more n fits lasting c k a known watch below is_false =
     let k_same = get_or_append_left trail more blank_entry k (omega arith) in
-    let at = lasting c k a known watch below (ap (λ (f : Entry). f.literal) (sym k_same) ∙ is_false) in
+    let at = lasting c k a known watch below (ap (λ (f : TrailEntry). f.literal) (sym k_same) ∙ is_false) in
     let j_same = get_or_append_left trail more blank_entry at.0 at.1 in (
       at.0,
       omega (arith, at.1, length-append trail more),
-      subst (Contains (clause_of clauses c)) (ap (λ (f : Entry). f.literal) (sym j_same)) at.2,
+      subst (Contains (clause_of clauses c)) (ap (λ (f : TrailEntry). f.literal) (sym j_same)) at.2,
       omega (
         arith,
         at.3,
-        ap (λ (f : Entry). f.level) j_same,
-        ap (λ (f : Entry). f.level) k_same,
+        ap (λ (f : TrailEntry). f.level) j_same,
+        ap (λ (f : TrailEntry). f.level) k_same,
       ),
     )
 
 -- a decision stands behind the trail
-pub decision_stands : (inputs lines : List (List Literal)) (trail : List Entry) (l : Literal) (level : ℕ) → IsTrail inputs lines trail
+pub decision_stands : (inputs lines : List (List Literal)) (trail : List TrailEntry) (l : Literal) (level : ℕ) → IsTrail inputs lines trail
     → level ≡ length trail + 1 → StandsAt inputs lines trail (record { literal = l; level = level; reason = None })
 decision_stands inputs lines trail l level is_trail is = record {
   reason = tt;
   decision = λ _. is;
   rising = λ k d below.
       let bound = level_bound inputs lines trail is_trail k (length trail) below (omega arith) (level_at trail k) refl in
-      omega (arith, bound, is, ap (λ (e : Entry). e.level) (get_or_default trail k d blank_entry below));
+      omega (arith, bound, is, ap (λ (e : TrailEntry). e.level) (get_or_default trail k d blank_entry below));
 }
 
 -- an entry more behind the trail
-module _ {s : Parts} (b : AssignedValue) (e : Entry) (state : IsState s) (values_is : length b.values ≡ length s.assigned.values)
+module _ {s : Parts} (b : AssignedValue) (e : TrailEntry) (state : IsState s) (values_is : length b.values ≡ length s.assigned.values)
     (stands : StandsAt s.log.inputs s.log.lines s.assigned.trail e) (known : e.reason ≡ None → IsKnown s.letters e.literal) where
   pub state_pushed : b.trail ≡ s.assigned.trail ++ e ∷ [] → IsState (record s { assigned = b })
   state_pushed is = record {
@@ -343,19 +343,19 @@ ready_grown inputs lines propagated a b w ready grown is_trail same = record {
   sized = ready.sized ∙ ap (λ x. 2 * x) (sym same);
 }
 
-pub lasting_grown : (clauses : List (List Literal)) (old new : List Entry) (n : ℕ) → n ≤ length old → IsGrown old new → IsLasting clauses old n
+pub lasting_grown : (clauses : List (List Literal)) (old new : List TrailEntry) (n : ℕ) → n ≤ length old → IsGrown old new → IsLasting clauses old n
     → IsLasting clauses new n
 lasting_grown clauses old new n fits grown lasting = subst (λ t. IsLasting clauses t n) (sym grown.trail) (lasting_push clauses old grown.more n fits lasting)
 
 -- what is true on the front is true on the trail
-pub firm_now : (inputs lines : List (List Literal)) (units : List Hint) (units_done units_trail : ℕ) (trail : List Entry) → units_trail ≤ length trail
+pub firm_now : (inputs lines : List (List Literal)) (units : List Hint) (units_done units_trail : ℕ) (trail : List TrailEntry) → units_trail ≤ length trail
     → AreFirm inputs lines units units_done (literals_of (take units_trail trail)) → AreFirm inputs lines units units_done (literals_of trail)
 firm_now inputs lines units units_done units_trail trail fits are u clause below is =
     let told = are u clause below is in (
       told.0,
       told.1,
       subst (λ ls. Contains ls told.0) (sym
-          (ap literals_of (sym (take-append-drop units_trail trail)) ∙ map-append (λ (e : Entry). e.literal) (take units_trail trail) (drop units_trail trail)))
+          (ap literals_of (sym (take-append-drop units_trail trail)) ∙ map-append (λ (e : TrailEntry). e.literal) (take units_trail trail) (drop units_trail trail)))
           (Contains-append_left (literals_of (take units_trail trail)) (literals_of (drop units_trail trail)) told.0 told.2),
     )
 
@@ -392,7 +392,7 @@ pub finished : (count units_done still solid units_trail len : ℕ)
 finished count units_done still solid units_trail len fits cases = elim cases [ inl kept ↦ omega (arith, kept.0, kept.1, fits) | inr now ↦ now.0 ]
 
 -- the same, for what callers see
-pub is_propagated : (letters : ℕ) (log : LogValue) (all_lines : Bool) (old new : List Entry) → IsGrown old new
+pub is_propagated : (letters : ℕ) (log : LogValue) (all_lines : Bool) (old new : List TrailEntry) → IsGrown old new
     → Propagated (state_of letters old log all_lines) (state_of letters new log all_lines)
 is_propagated letters log all_lines old new grown =
     record { letters = refl; log = refl; all_lines = refl; more = grown.more; trail = grown.trail; forced = grown.forced }

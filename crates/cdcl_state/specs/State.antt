@@ -11,7 +11,7 @@ use Rattle.cdcl_watches.specs.Watching.{WatchValue, with_clause, blank}
 use Rattle.cdcl_trail.specs.Assigned.{AssignedValue}
 use Rattle.cdcl_propagate.specs.Lasting.{IsLasting}
 use Rattle.cdcl_propagate.specs.Visit.{IsReady, blank_hint, names_of}
-use Rattle.cdcl_trail.specs.declared.assigned.Entry.{Entry}
+use Rattle.cdcl_trail.specs.declared.assigned.TrailEntry.{TrailEntry}
 use Rattle.cnf_base.specs.Literal.{opposite}
 use Rattle.cdcl_propagate.specs.Units.{IsOne, AreShort, AreFirm}
 use Rattle.cdcl_state.specs.StateValue.{IsHeeded}
@@ -40,16 +40,16 @@ abbrev pub AreOnes : List (List Literal) → List (List Literal) → List Hint �
 AreOnes inputs lines units = (hint : Hint) (clause : List Literal) → named inputs lines hint ≡ Some clause → IsOne clause → IsListed units hint
 
 -- a decision's letter is known
-abbrev pub AreKnownDecisions : ℕ → List Entry → Type 0
+abbrev pub AreKnownDecisions : ℕ → List TrailEntry → Type 0
 AreKnownDecisions letters trail = All (λ e. e.reason ≡ None → IsKnown letters e.literal) trail
 
 -- no entry below the place makes one of the first two literals false
-abbrev pub IsUnwatched : List Entry → List Literal → ℕ → Type 0
+abbrev pub IsUnwatched : List TrailEntry → List Literal → ℕ → Type 0
 IsUnwatched trail clause place =
     (k : ℕ) → k < place → (literal_at trail k ≢ opposite (slice_index_or clause 0 blank)) × (literal_at trail k ≢ opposite (slice_index_or clause 1 blank))
 
 -- no letter stands in the clause twice, and neither of its first two literals is false
-pub record IsWatchable (trail : List Entry) (clause : List Literal) : Type 0 where
+pub record IsWatchable (trail : List TrailEntry) (clause : List Literal) : Type 0 where
   pub once : HasLettersOnce clause
   pub first : 0 < length clause → ¬ Contains (literals_of trail) (opposite (slice_index_or clause 0 blank))
   pub second : 1 < length clause → ¬ Contains (literals_of trail) (opposite (slice_index_or clause 1 blank))
@@ -61,7 +61,7 @@ pub record IsNamed (old new : WatchValue) (clause : List Literal) (hint : Hint) 
   pub is : new ≡ with_clause old clause name
 
 -- the marks went back to where neither of the first two literals is false
-pub record IsRewound (trail : List Entry) (clause : List Literal) (old_propagated old_lasting propagated lasting : ℕ) : Type 0 where
+pub record IsRewound (trail : List TrailEntry) (clause : List Literal) (old_propagated old_lasting propagated lasting : ℕ) : Type 0 where
   pub propagated_falls : propagated ≤ old_propagated
   pub lasting_falls : lasting ≤ old_lasting
   pub low : lasting ≤ propagated

@@ -4,7 +4,7 @@ use Rattle.cnf_base.specs.declared.literal.Literal.{Literal}
 use Rattle.cnf_base.specs.Literal.{opposite}
 use Rattle.clause_log.specs.LogValue.{with_line}
 use Rattle.cdcl_state.specs.StateValue.{StateValue, with_trail}
-use Rattle.cdcl_trail.specs.declared.assigned.Entry.{Entry}
+use Rattle.cdcl_trail.specs.declared.assigned.TrailEntry.{TrailEntry}
 use Rattle.cdcl_analyze.specs.declared.analyze.Learnt.{Learnt}
 use Rattle.cdcl_trail.specs.Trail.{blank_entry, literal_at, IsDecision, place_level}
 use Rattle.cdcl_analyze.specs.Learnt.{IsLearnt}
@@ -12,12 +12,12 @@ use Rattle.cdcl_analyze.specs.Analysis.{refuted_at}
 use Rattle.cdcl_activity.specs.Choices.{ChoicesValue, IsOffered}
 
 -- the level to go back to: that of the second literal, or 0
-pub record IsTarget (trail : List Entry) (places : List ℕ) (b : ℕ) : Type 0 where
+pub record IsTarget (trail : List TrailEntry) (places : List ℕ) (b : ℕ) : Type 0 where
   pub lone : length places ≤ 1 → b ≡ 0
   pub second : 1 < length places → b ≡ place_level trail (slice_index_or places 1 0)
 
 -- only the first place is of the highest level, and that is not 0
-pub record IsAsserting (trail : List Entry) (places : List ℕ) : Type 0 where
+pub record IsAsserting (trail : List TrailEntry) (places : List ℕ) : Type 0 where
   pub some : 0 < length places
   pub lone : length places ≤ 1 → 0 < place_level trail (slice_index_or places 0 0)
   pub second : 1 < length places → place_level trail (slice_index_or places 1 0) < place_level trail (slice_index_or places 0 0)
@@ -25,7 +25,7 @@ pub record IsAsserting (trail : List Entry) (places : List ℕ) : Type 0 where
 -- a decision at a place of the old trail, and all behind it, gave way to an entry that is forced
 pub record IsTurn (old new : StateValue) : Type 0 where
   pub place : ℕ
-  pub entry : Entry
+  pub entry : TrailEntry
   pub decision : IsDecision old.trail place
   pub forced : entry.reason ≢ None
   pub after : new ≡ with_trail old (take place old.trail ++ entry ∷ [])
@@ -41,7 +41,7 @@ pub record IsFront (old new : StateValue) : Type 0 where
   pub after : new ≡ with_trail old (take count old.trail)
 
 -- x is the letter of an entry from one place up to another, and one of those that there are
-pub record IsReleased (trail : List Entry) (from to : ℕ) (choices : ChoicesValue) (x : ℕ) : Type 0 where
+pub record IsReleased (trail : List TrailEntry) (from to : ℕ) (choices : ChoicesValue) (x : ℕ) : Type 0 where
   pub place : ℕ
   pub on : from ≤ place
   pub below : place < to
@@ -53,7 +53,7 @@ pub record IsDecided (old new : StateValue) (literal : Literal) : Type 0 where
   pub after : new ≡ with_trail old (old.trail ++ record { literal = literal; level = level; reason = None } ∷ [])
 
 -- the literal is that of the last decision
-pub record IsTop (trail : List Entry) (literal : Literal) : Type 0 where
+pub record IsTop (trail : List TrailEntry) (literal : Literal) : Type 0 where
   pub place : ℕ
   pub decision : IsDecision trail place
   pub is : literal_at trail place ≡ literal

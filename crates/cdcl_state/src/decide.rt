@@ -1,5 +1,5 @@
-// The next decision: of the letters that inputs name and that have no value the most active one is held ready.
-// Nothing is promised of it but safety: who asks for a letter tests whether it has a value.
+// The next decision: of the letters that inputs name and that have no value the most active one is held
+// ready. Nothing is promised of it but safety: who asks for a letter tests whether it has a value.
 ghost use Rattle.std.specs.Prelude.{◌≡◌, ◌≢◌, ◌<◌, ◌↔◌, IsTrue, None, length};
 ghost use Rattle.cdcl_trail.specs.Trail.{literals_of, IsUnset};
 ghost use Rattle.cdcl_state.specs.StateValue.{positive};
@@ -10,8 +10,8 @@ use cdcl_trail::Assigned;
 use cnf_base::{Hint, Letter, Literal};
 
 /// Holds the most active letter without a value ready, if there is one. The one that was held before goes
-/// back, if it has no value; if it has one, it waits again once it loses that. A letter that lost its value and
-/// that no input names waits no longer. After a conflict nothing is decided, and so nothing is done.
+/// back, if it has no value; if it has one, it waits again once it loses that. A letter that lost its value
+/// and that no input names waits no longer. After a conflict nothing is decided, and so nothing is done.
 pub fn offer(choices: &mut Choices, assigned: &Assigned, named: &Named, conflict: Option<Hint>)
     ensures { conflict ≢ None → choices.new ≡ choices.old }
 {

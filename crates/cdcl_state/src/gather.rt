@@ -2,7 +2,8 @@
 // that are watched now, those that are kept come over as they are watched, each copied as one block. And the
 // lines that are missing come from the log, behind those that are watched, which stay where they stand.
 // Clauses of one literal or none are left out, since nobody watches them.
-ghost use Rattle.std.specs.Prelude.{◌≡◌, ℕ, ◌⊎◌, ◌<◌, ◌≤◌, List, true, false, length, map, All, IfOk, OnErr, OnOk, slice_index_or};
+ghost use Rattle.std.specs.Prelude.{◌≡◌, ℕ, ◌⊎◌, ◌<◌, ◌≤◌, List, true, false, length, map, All, IfOk, OnErr};
+ghost use Rattle.std.specs.Prelude.{OnOk, slice_index_or};
 ghost use Rattle.cnf_base.specs.declared.literal.Hint.TheVariants.{Line};
 ghost use Rattle.cdcl_trail.specs.Entries.{hint_of};
 ghost use Rattle.cdcl_watches.specs.Watching.{code, AreApart};

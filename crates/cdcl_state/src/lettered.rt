@@ -2,7 +2,8 @@
 // decision from then on.
 ghost use Rattle.std.specs.Prelude.{◌≡◌, [], length, All, Contains, IfOk, OnErr, OnOk};
 ghost use Rattle.cnf_base.specs.Step.{IsHintedStep};
-ghost use Rattle.clause_log.specs.LogValue.{LogValue, IsLog, IsInputAdded, IsLineAdded, with_input, with_line, greatest_u32};
+ghost use Rattle.clause_log.specs.LogValue.{LogValue, IsLog, IsInputAdded, IsLineAdded, with_input};
+ghost use Rattle.clause_log.specs.LogValue.{with_line, greatest_u32};
 ghost use Rattle.cdcl_state.specs.Named.{AreOf};
 
 use crate::named::Named;

@@ -1,6 +1,7 @@
-// The letters that inputs name, each once, in the order in which they came. A letter may be known and stand in
-// no input, as most letters of pairs of steps do: none of those has to be decided.
-ghost use Rattle.std.specs.Prelude.{◌≡◌, ℕ, ◌<◌, [], length, true, false, All, Contains, IfOk, OnOk, slice_index_or};
+// The letters that inputs name, each once, in the order in which they came. A letter may be known and stand
+// in no input, as most letters of pairs of steps do: none of those has to be decided.
+ghost use Rattle.std.specs.Prelude.{◌≡◌, ℕ, ◌<◌, [], length, true, false, All, Contains, IfOk, OnOk};
+ghost use Rattle.std.specs.Prelude.{slice_index_or};
 
 use std::alloc::{AllocError, Global};
 use std::marker::Model;

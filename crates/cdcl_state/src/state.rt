@@ -1,7 +1,9 @@
 // The state of the solver: the trail, the log, and the log's clauses in the order in which they are watched.
-ghost use Rattle.std.specs.Prelude.{◌≡◌, ◌≢◌, ◌↔◌, ◌⊎◌, ℕ, ◌+◌, ◌<◌, ◌≤◌, [], true, false, All, IsTrue, AllPairs, length, slice_index_or, MatchOption, IfSome, IfOk, OnErr, OnOk};
+ghost use Rattle.std.specs.Prelude.{◌≡◌, ◌≢◌, ◌↔◌, ◌⊎◌, ℕ, ◌+◌, ◌<◌, ◌≤◌, [], true, false, All, IsTrue};
+ghost use Rattle.std.specs.Prelude.{AllPairs, length, slice_index_or, MatchOption, IfSome, IfOk, OnErr, OnOk};
 ghost use Rattle.cnf_base.specs.Known.{IsKnown, AreKnown};
-ghost use Rattle.cdcl_state.specs.StateValue.{IsSettled, Propagated, AreSet, IsSet, IsModel, positive, with_log, with_letters};
+ghost use Rattle.cdcl_state.specs.StateValue.{IsSettled, Propagated, AreSet, IsSet, IsModel, positive};
+ghost use Rattle.cdcl_state.specs.StateValue.{with_log, with_letters};
 ghost use Rattle.cdcl_trail.specs.Trail.{IsConflict, literals_of, IsUnset, HasValue, place_level};
 ghost use Rattle.cnf_base.specs.Step.{IsHintedStep};
 ghost use Rattle.clause_log.specs.LogValue.{IsLog, greatest_u32, with_line, with_input};
@@ -18,7 +20,7 @@ use cdcl_activity::Choices;
 use cdcl_analyze::Marks;
 use cdcl_propagate::propagate::propagate;
 use cdcl_propagate::visit_units;
-use cdcl_trail::{Assigned, Entry};
+use cdcl_trail::{Assigned, TrailEntry};
 use cdcl_watches::Watches;
 use clause_log::Log;
 use cnf_base::{Hint, Literal};
@@ -439,7 +441,7 @@ impl State {
     {
         self.assigned.invariant();
         let level = self.assigned.len() + 1;
-        self.assigned.assign(Entry {
+        self.assigned.assign(TrailEntry {
             literal,
             level,
             reason: None,

@@ -1,6 +1,7 @@
 // A clause comes into the state: each of its literals once, watched by the first two. A repeated literal is
 // dropped.
-ghost use Rattle.std.specs.Prelude.{◌≡◌, ◌≢◌, ℕ, ◌<◌, ◌≤◌, ◌⊎◌, ◌↔◌, IsTrue, [], length, All, Contains, OnErr, OnOk, slice_index_or};
+ghost use Rattle.std.specs.Prelude.{◌≡◌, ◌≢◌, ℕ, ◌<◌, ◌≤◌, ◌⊎◌, ◌↔◌, IsTrue, [], length, All, Contains};
+ghost use Rattle.std.specs.Prelude.{OnErr, OnOk, slice_index_or};
 ghost use Rattle.cdcl_watches.specs.Watching.{code, AreApart, blank};
 ghost use Rattle.cnf_base.specs.Literal.{opposite};
 ghost use Rattle.cdcl_trail.specs.Trail.{literals_of, literal_at};
@@ -110,8 +111,8 @@ fn bring(assigned: &Assigned, clause: &mut Vec<Literal>, to: usize)
     clause.swap(to, from);
 }
 
-/// Puts two literals first that are not false, or else became false last, so that the lists of what became false
-/// before them need not be visited again for this clause.
+/// Puts two literals first that are not false, or else became false last, so that the lists of what became
+/// false before them need not be visited again for this clause.
 pub fn lead(assigned: &Assigned, clause: &mut Vec<Literal>)
     requires known { All (λ l. l.letter.0 < length assigned.now.values) clause.old.items }
     requires apart { AreApart clause.old.items }

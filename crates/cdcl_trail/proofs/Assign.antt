@@ -10,7 +10,7 @@ use Rattle.cnf_base.specs.Literal.{opposite}
 use Rattle.cnf_base.proofs.SameLiteral.{not_not}
 use Rattle.cdcl_trail.specs.Values.{value_at}
 use Rattle.cdcl_trail.specs.Trail.{HasLevel, literals_of, IsUnset, StandsAt, IsTrail, AreValues}
-use Rattle.cdcl_trail.specs.declared.assigned.Entry.{Entry}
+use Rattle.cdcl_trail.specs.declared.assigned.TrailEntry.{TrailEntry}
 
 -- two literals of one letter are the same or opposite
 pub same_letter : (l u : Literal) → l.letter.0 ≡ u.letter.0 → (l ≡ u) ⊎ (l ≡ opposite u)
@@ -33,12 +33,12 @@ apart_from_unset true_ones l u there unset same = elim (same_letter l u same) [
 ]
 
 -- the literal of an entry of the trail is true
-pub entry_there : (trail : List Entry) (k : ℕ) (d : Entry) → k < length trail → Contains (literals_of trail) (get_or trail k d).literal
+pub entry_there : (trail : List TrailEntry) (k : ℕ) (d : TrailEntry) → k < length trail → Contains (literals_of trail) (get_or trail k d).literal
 entry_there trail k d below =
     subst (Contains (literals_of trail)) (get_or-map (λ e. e.literal) trail k d d.literal below)
     (Contains-get_or (literals_of trail) k d.literal (rw (length-map trail (λ e. e.literal)) below))
 
-pub level_there : (trail : List Entry) (k : ℕ) (d : Entry) → k < length trail → HasLevel trail (get_or trail k d).level
+pub level_there : (trail : List TrailEntry) (k : ℕ) (d : TrailEntry) → k < length trail → HasLevel trail (get_or trail k d).level
 level_there trail k d below =
     subst (Contains (map (λ e. e.level) trail)) (get_or-map (λ e. e.level) trail k d d.level below)
     (Contains-get_or (map (λ e. e.level) trail) k d.level (rw (length-map trail (λ e. e.level)) below))
@@ -46,13 +46,13 @@ level_there trail k d below =
 some_bool : {a b : Bool} → Some (not a) ≡ Some (not b) → a ≡ b
 some_bool {a} {b} e = let f : not a ≡ not b = cc in sym (not_not a) ∙ ap not f ∙ not_not b
 
-module _ (values : List (Option Bool)) (trail : List Entry) (e : Entry) (are : AreValues values trail) (unset : IsUnset (literals_of trail) e.literal)
+module _ (values : List (Option Bool)) (trail : List TrailEntry) (e : TrailEntry) (are : AreValues values trail) (unset : IsUnset (literals_of trail) e.literal)
     (known : e.literal.letter.0 < length values) where
   pub values_push : AreValues (set values e.literal.letter.0 (Some (not e.literal.negated))) (trail ++ e ∷ [])
   values_push =
       let x = e.literal.letter.0 in
       let v : Option Bool = Some (not e.literal.negated) in
-      let P : Entry → Type 0 = λ f. value_at (set values x v) f.literal.letter.0 ≡ Some (not f.literal.negated) in
+      let P : TrailEntry → Type 0 = λ f. value_at (set values x v) f.literal.letter.0 ≡ Some (not f.literal.negated) in
       let pushed : literals_of (trail ++ e ∷ []) ≡ literals_of trail ++ e.literal ∷ [] = map-append (λ f. f.literal) trail (e ∷ []) in
       record {
         true_on = All-push P trail e
@@ -80,7 +80,7 @@ module _ (values : List (Option Bool)) (trail : List Entry) (e : Entry) (are : A
         known = rw (length-set values x v) (All-push (λ f. f.literal.letter.0 < length values) trail e are.known known);
       }
 
-pub trail_push : (inputs lines : List (List Literal)) (trail : List Entry) (e : Entry) → IsTrail inputs lines trail → StandsAt inputs lines trail e
+pub trail_push : (inputs lines : List (List Literal)) (trail : List TrailEntry) (e : TrailEntry) → IsTrail inputs lines trail → StandsAt inputs lines trail e
     → IsTrail inputs lines (trail ++ e ∷ [])
 trail_push inputs lines trail e is_trail stands k d below = elim (cases_lt k (length trail)) [
   | inl old ↦ rw (take-append-le k trail (e ∷ []) (omega arith), get_or_append_left trail (e ∷ []) d k old) (is_trail k d old)
@@ -89,7 +89,7 @@ trail_push inputs lines trail e is_trail stands k d below = elim (cases_lt k (le
       rw (take_at trail (e ∷ []) k last, get_or_at trail e [] d k last) stands
 ]
 
-module _ (values : List (Option Bool)) (ys : List Entry) (e : Entry) (are : AreValues values (ys ++ e ∷ [])) where
+module _ (values : List (Option Bool)) (ys : List TrailEntry) (e : TrailEntry) (are : AreValues values (ys ++ e ∷ [])) where
   pub values_pop : AreValues (set values e.literal.letter.0 None) ys
   values_pop =
       let x = e.literal.letter.0 in
@@ -98,16 +98,16 @@ module _ (values : List (Option Bool)) (ys : List Entry) (e : Entry) (are : AreV
       record {
         true_on = λ k d below.
             let ne : (get_or ys k d).literal.letter.0 ≢ x =
-            subst (λ (f : Entry). f.literal.letter.0 ≢ x) (get_or_append_left ys (e ∷ []) d k below)
-            (subst (λ (f : Entry). (get_or (ys ++ e ∷ []) k d).literal.letter.0 ≢ f.literal.letter.0) (get_or_at ys e [] d (length ys) refl)
+            subst (λ (f : TrailEntry). f.literal.letter.0 ≢ x) (get_or_append_left ys (e ∷ []) d k below)
+            (subst (λ (f : TrailEntry). (get_or (ys ++ e ∷ []) k d).literal.letter.0 ≢ f.literal.letter.0) (get_or_at ys e [] d (length ys) refl)
             (are.apart k (length ys) d below (omega arith))) in
             get_or-set_other values x _ None None ne
-            ∙ subst (λ (f : Entry). value_at values f.literal.letter.0 ≡ Some (not f.literal.negated)) (get_or_append_left ys (e ∷ []) d k below)
+            ∙ subst (λ (f : TrailEntry). value_at values f.literal.letter.0 ≡ Some (not f.literal.negated)) (get_or_append_left ys (e ∷ []) d k below)
             (are.true_on k d (omega arith));
         on_trail = λ l is. elim (cases_eq l.letter.0 x) [
           | inl same ↦
               let known : x < length values =
-              subst (λ (f : Entry). f.literal.letter.0 < length values) (get_or_at ys e [] e (length ys) refl) (are.known (length ys) e (omega arith)) in
+              subst (λ (f : TrailEntry). f.literal.letter.0 < length values) (get_or_at ys e [] e (length ys) refl) (are.known (length ys) e (omega arith)) in
               let gone = sym (get_or-set_same values x None None known) ∙ ap (λ y. value_at (set values x None) y) (sym same) ∙ is in
               cc
           | inr other ↦
@@ -122,12 +122,12 @@ module _ (values : List (Option Bool)) (ys : List Entry) (e : Entry) (are : AreV
         known = rw (length-set values x None) (λ k d below. rw (← get_or_append_left ys (e ∷ []) d k below) (are.known k d (omega arith)));
       }
 
-pub trail_pop : (inputs lines : List (List Literal)) (ys : List Entry) (e : Entry) → IsTrail inputs lines (ys ++ e ∷ []) → IsTrail inputs lines ys
+pub trail_pop : (inputs lines : List (List Literal)) (ys : List TrailEntry) (e : TrailEntry) → IsTrail inputs lines (ys ++ e ∷ []) → IsTrail inputs lines ys
 trail_pop inputs lines ys e is_trail k d below =
     subst (λ before. StandsAt inputs lines before (get_or ys k d)) (take-append-le k ys (e ∷ []) (omega arith))
     (subst (λ f. StandsAt inputs lines (take k (ys ++ e ∷ [])) f) (get_or_append_left ys (e ∷ []) d k below) (is_trail k d (omega (arith, length_push ys e))))
 
-pub trail_take : (inputs lines : List (List Literal)) (trail : List Entry) (n : ℕ) → n ≤ length trail → IsTrail inputs lines trail
+pub trail_take : (inputs lines : List (List Literal)) (trail : List TrailEntry) (n : ℕ) → n ≤ length trail → IsTrail inputs lines trail
     → IsTrail inputs lines (take n trail)
 trail_take inputs lines trail n fits is_trail k d below =
     let low : k < n = omega (arith, below, length-take-le n trail fits) in

@@ -9,13 +9,13 @@ use Rattle.std.proofs.lemmas.List.Elements.{All-map, All-contains}
 use Rattle.cnf_base.proofs.Soundness.{some_element}
 use Rattle.cdcl_trail.specs.Trail.{AreValues, IsUnset, literals_of, blank_entry}
 use Rattle.cdcl_trail.proofs.Assign.{values_push}
-use Rattle.cdcl_trail.specs.declared.assigned.Entry.{Entry}
+use Rattle.cdcl_trail.specs.declared.assigned.TrailEntry.{TrailEntry}
 
 -- a trail whose letters are below n
-pub bounded_by : (values : List (Option Bool)) (trail : List Entry) (n : ℕ) → AreValues values trail → All (λ e. e.literal.letter.0 < n) trail
+pub bounded_by : (values : List (Option Bool)) (trail : List TrailEntry) (n : ℕ) → AreValues values trail → All (λ e. e.literal.letter.0 < n) trail
     → length trail ≤ n
 bounded_by values trail n are below_n =
-    let f : Entry → ℕ = λ e. e.literal.letter.0 in
+    let f : TrailEntry → ℕ = λ e. e.literal.letter.0 in
     let xs = map f trail in
     let same = length-map trail f in
     let distinct = IsDistinct-from_apart eqb xs (λ i j d earlier below.
@@ -30,11 +30,11 @@ bounded_by values trail n are below_n =
     let found = some_element (eqb q) xs is in
     rw (eqb-true q found.0 found.2) (All-contains (λ x. x < n) xs found.0 (All-map (λ x. x < n) f trail below_n) found.1)))
 
-pub trail_bounded : (values : List (Option Bool)) (trail : List Entry) → AreValues values trail → length trail ≤ length values
+pub trail_bounded : (values : List (Option Bool)) (trail : List TrailEntry) → AreValues values trail → length trail ≤ length values
 trail_bounded values trail are = bounded_by values trail (length values) are are.known
 
 -- where a letter has no value the trail is shorter
-pub room_left : (values : List (Option Bool)) (trail : List Entry) (e : Entry) → AreValues values trail → IsUnset (literals_of trail) e.literal
+pub room_left : (values : List (Option Bool)) (trail : List TrailEntry) (e : TrailEntry) → AreValues values trail → IsUnset (literals_of trail) e.literal
     → e.literal.letter.0 < length values → length trail < length values
 room_left values trail e are unset known =
     let x = e.literal.letter.0 in

@@ -13,7 +13,7 @@ use Rattle.cdcl_trail.specs.Values.{value_at, IsFalseLiteral, HasNoValue}
 use mathlib.Core.Bool.{beq, false≢true}
 use Rattle.std.specs.Prelude.{is_none}
 use Rattle.cdcl_trail.specs.Trail.{HasValue, literals_of, IsUnset, AreValues}
-use Rattle.cdcl_trail.specs.declared.assigned.Entry.{Entry}
+use Rattle.cdcl_trail.specs.declared.assigned.TrailEntry.{TrailEntry}
 
 -- what holds of each clause holds of the one of a number
 numbered_has : (P : List Literal → Type 0) (clauses : List (List Literal)) (n : ℕ) (clause : List Literal) → All P clauses
@@ -26,7 +26,7 @@ pub named_has : (P : List Literal → Type 0) (inputs lines : List (List Literal
 named_has P inputs lines (Clause n) clause of_inputs of_lines is = numbered_has P inputs n clause of_inputs is
 named_has P inputs lines (Line n) clause of_inputs of_lines is = numbered_has P lines n clause of_lines is
 
-module _ (values : List (Option Bool)) (trail : List Entry) (are : AreValues values trail) where
+module _ (values : List (Option Bool)) (trail : List TrailEntry) (are : AreValues values trail) where
   pub false_on : (l : Literal) → IsFalseLiteral values l → Contains (literals_of trail) (opposite l)
   false_on l h = are.on_trail (opposite l) (h.is ∙ ap Some (sym (not_not l.negated)))
 
@@ -58,7 +58,7 @@ pub match_weaker : {X : Type 0} (A B : Type 0) (P Q : X → Type 0) (o : Option 
 match_weaker A B P Q None f g h = f h
 match_weaker A B P Q (Some x) f g h = g x h
 
-module _ (values : List (Option Bool)) (trail : List Entry) (are : AreValues values trail) where
+module _ (values : List (Option Bool)) (trail : List TrailEntry) (are : AreValues values trail) where
   -- what the value of a letter says of its literals
   pub value_told : (l : Literal) (v : Bool) → value_at values l.letter.0 ≡ Some v → HasValue (literals_of trail) l (not (beq v l.negated))
   value_told l v is = go v is l.negated refl

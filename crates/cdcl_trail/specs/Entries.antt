@@ -4,7 +4,7 @@ use Rattle.std.specs.Prelude.{ℕ, ◌-◌, ◌/◌, ◌%◌, ◌≤◌, nat_eq,
 use Rattle.cnf_base.specs.declared.literal.Literal.{Literal}
 use Rattle.cnf_base.specs.declared.literal.Hint.{Hint}
 use Rattle.cnf_base.specs.declared.literal.Hint.TheVariants.{Clause, Line}
-use Rattle.cdcl_trail.specs.declared.assigned.Entry.{Entry}
+use Rattle.cdcl_trail.specs.declared.assigned.TrailEntry.{TrailEntry}
 
 -- the literal of a number: its letter is half of it, and it is negated where the number is odd
 abbrev pub literal_of : ℕ → Literal
@@ -32,7 +32,7 @@ abbrev pub HasNumber : Option Hint → Type 0
 HasNumber reason = IfSome reason IsShort
 
 -- the numbers of the entry's literal and its reason, and its level, fit into 32 bits each
-pub record Fits (e : Entry) : Type 0 where
+pub record Fits (e : TrailEntry) : Type 0 where
   pub literal : e.literal.letter.0 ≤ 2147483647
   pub level : e.level ≤ 4294967295
   pub reason : HasNumber e.reason

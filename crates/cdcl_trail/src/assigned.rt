@@ -1,7 +1,10 @@
 // The trail: the literals that are true, in the order in which they became so, each with its level and its
 // reason, and the letters' values that it tells. After Marques-Silva and Sakallah, GRASP (1999).
-ghost use Rattle.std.specs.Prelude.{◌≡◌, ℕ, ◌+◌, ◌-◌, ◌<◌, ◌≤◌, [], ◌∷◌, ◌++◌, length, take, Option, Some, None, OnOk, not, if◌then◌else◌, is_ok, slice_index_or, Contains, ◌↔◌, IsTrue};
-ghost use Rattle.cdcl_trail.specs.Trail.{IsUnset, literals_of, AreValues, blank_entry, literal_at, place_level};
+ghost use Rattle.std.specs.Prelude.{◌≡◌, ℕ, ◌+◌, ◌-◌, ◌<◌, ◌≤◌, [], ◌∷◌, ◌++◌, length, take, Option, Some};
+ghost use Rattle.std.specs.Prelude.{None, OnOk, not, if◌then◌else◌, is_ok, slice_index_or, Contains, ◌↔◌};
+ghost use Rattle.std.specs.Prelude.{IsTrue};
+ghost use Rattle.cdcl_trail.specs.Trail.{IsUnset, literals_of, AreValues, blank_entry, literal_at};
+ghost use Rattle.cdcl_trail.specs.Trail.{place_level};
 ghost use Rattle.cdcl_trail.specs.Entries.{Fits};
 
 use crate::entries::Entries;
@@ -15,7 +18,7 @@ const MAX_LETTERS: usize = 4294967296;
 
 /// A literal that is true, and why.
 #[derive(Clone, Copy, Drop)]
-pub struct Entry {
+pub struct TrailEntry {
     pub literal: Literal,
     /// One more than the place of the last decision up to here; 0 before the first.
     pub level: usize,
@@ -66,7 +69,7 @@ impl Assigned {
     }
 
     /// The entry at a place.
-    pub fn entry(&self, place: usize) -> Entry
+    pub fn entry(&self, place: usize) -> TrailEntry
         requires { place < length self.now.trail }
         ensures { result ≡ slice_index_or self.now.trail place result }
     {
@@ -115,7 +118,7 @@ impl Assigned {
 
     /// Puts the entry on the trail. One that does not fit is refused, as is any for want of memory.
     #[inline(always)]
-    pub fn assign(&mut self, entry: Entry) -> Result<(), AllocError>
+    pub fn assign(&mut self, entry: TrailEntry) -> Result<(), AllocError>
         requires unset { IsUnset (literals_of self.old.trail) entry.literal }
         requires known { entry.literal.letter.0 < length self.old.values }
         ensures trail { self.new.trail ≡ (if is_ok result then self.old.trail ++ entry
@@ -175,8 +178,8 @@ impl Assigned {
         count - 1
     }
 
-    /// How many entries stand before the first of those at the end that are above the level. It goes down from
-    /// decision to decision.
+    /// How many entries stand before the first of those at the end that are above the level. It goes down
+    /// from decision to decision.
     pub fn front(&self, level: usize) -> usize
         ensures within { result ≤ length self.now.trail }
         ensures low { 0 < result → (slice_index_or self.now.trail (result - 1) blank_entry).level ≤ level }

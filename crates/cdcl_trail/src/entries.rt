@@ -1,10 +1,11 @@
 // The entries of the trail in twelve bytes each: an analysis reads levels and reasons here and there, so
 // what matters is that many of them fit into a cache.
-ghost use Rattle.std.specs.Prelude.{◌≡◌, ◌<◌, ◌≤◌, [], ◌∷◌, ◌++◌, length, take, if◌then◌else◌, is_ok, MatchOption, OnOk, slice_index_or};
+ghost use Rattle.std.specs.Prelude.{◌≡◌, ◌<◌, ◌≤◌, [], ◌∷◌, ◌++◌, length, take, if◌then◌else◌, is_ok};
+ghost use Rattle.std.specs.Prelude.{MatchOption, OnOk, slice_index_or};
 ghost use Rattle.cdcl_trail.specs.Entries.{literal_of, reason_of, HasNumber, Fits};
 ghost use Rattle.cdcl_trail.specs.Trail.{blank_entry, place_level};
 
-use crate::assigned::Entry;
+use crate::assigned::TrailEntry;
 use crate::hints::{decode_hint, encode_hint};
 use cnf_base::{Hint, Letter, Literal};
 use std::alloc::{AllocError, Global};
@@ -78,10 +79,10 @@ pub struct Entries {
 
 impl Model for Entries {
     ghost use Rattle.std.specs.Prelude.{List, map};
-    ghost use Rattle.cdcl_trail.specs.declared.assigned.Entry.{Entry};
+    ghost use Rattle.cdcl_trail.specs.declared.assigned.TrailEntry.{TrailEntry};
     ghost use Rattle.cdcl_trail.specs.Entries.{literal_of, reason_of};
 
-    ghost Value = { List Entry };
+    ghost Value = { List TrailEntry };
 
     ghost view = { λ a. map (λ p. record {
       literal = literal_of p.literal;
@@ -108,12 +109,12 @@ impl Entries {
     }
 
     /// The entry at a place.
-    pub fn get(&self, place: usize) -> Entry
+    pub fn get(&self, place: usize) -> TrailEntry
         requires { place < length self.now }
         ensures { result ≡ slice_index_or self.now place blank_entry }
     {
         let packed = self.items[place];
-        Entry {
+        TrailEntry {
             literal: lengthen_literal(packed.literal),
             level: packed.level as usize,
             reason: lengthen_reason(packed.reason),
@@ -132,7 +133,7 @@ impl Entries {
 
     /// Puts the entry behind the others. One that does not fit is refused, as is any for want of memory.
     #[inline(always)]
-    pub fn push(&mut self, entry: Entry) -> Result<(), AllocError>
+    pub fn push(&mut self, entry: TrailEntry) -> Result<(), AllocError>
         ensures items { self.new ≡ (if is_ok result then self.old ++ entry ∷ [] else self.old) }
         ensures fits { OnOk result (Fits entry) }
     {

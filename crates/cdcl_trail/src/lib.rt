@@ -8,6 +8,6 @@ mod hints;
 mod named;
 mod values;
 
-pub use assigned::{Assigned, Entry};
+pub use assigned::{Assigned, TrailEntry};
 pub use hints::{decode_hint, encode_hint};
 pub use named::clause_of;

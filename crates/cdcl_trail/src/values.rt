@@ -2,7 +2,8 @@
 // anything else, so what matters is that many of them fit into a cache, and that whether a literal is true is
 // one read. It is inlined before all else, so that the place of a literal that was made from its number is
 // that number again. After Een and Sorensson, An extensible SAT-solver (2003).
-ghost use Rattle.std.specs.Prelude.{◌≡◌, ◌<◌, ◌↔◌, IsTrue, [], ◌∷◌, ◌++◌, length, Some, None, not, if◌then◌else◌, is_ok, slice_set};
+ghost use Rattle.std.specs.Prelude.{◌≡◌, ◌<◌, ◌↔◌, IsTrue, [], ◌∷◌, ◌++◌, length, Some, None, not};
+ghost use Rattle.std.specs.Prelude.{if◌then◌else◌, is_ok, slice_set};
 ghost use Rattle.cdcl_trail.specs.Values.{value_at, truth_place};
 
 use cnf_base::Literal;

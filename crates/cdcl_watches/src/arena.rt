@@ -6,7 +6,9 @@
 // The codes behind the first two stand from the last down. Propagation looks at the first two literals and
 // then from the end of the clause on: so what it looks at first stands beside the head, and a long clause
 // costs one read of memory far away in place of two. Callers see each clause in its own order.
-ghost use Rattle.std.specs.Prelude.{◌≡◌, ℕ, suc, ◌+◌, ◌-◌, ◌<◌, ◌^◌, [], ◌∷◌, ◌++◌, length, map, take, replicate, All, Contains, IfSome, IfOk, OnOk, OnErr, MatchOption, slice_index_or, slice_set};
+ghost use Rattle.std.specs.Prelude.{◌≡◌, ℕ, suc, ◌+◌, ◌-◌, ◌<◌, ◌^◌, [], ◌∷◌, ◌++◌, length, map, take};
+ghost use Rattle.std.specs.Prelude.{replicate, All, Contains, IfSome, IfOk, OnOk, OnErr, MatchOption};
+ghost use Rattle.std.specs.Prelude.{slice_index_or, slice_set};
 ghost use Rattle.std.specs.List.{swap};
 ghost use Rattle.cdcl_watches.specs.Watching.{code, clause_of, AreApart};
 ghost use Rattle.cdcl_watches.specs.Turned.{turned};
@@ -35,7 +37,8 @@ pub struct Arena {
 }
 
 impl Model for Arena {
-    ghost use Rattle.cdcl_watches.specs.Heads.{ArenaValue, clauses_at, heads_of, names_at, AreHeads, AreNoted};
+    ghost use Rattle.cdcl_watches.specs.Heads.{ArenaValue, clauses_at, heads_of, names_at, AreHeads};
+    ghost use Rattle.cdcl_watches.specs.Heads.{AreNoted};
 
     ghost Value = { ArenaValue };
 

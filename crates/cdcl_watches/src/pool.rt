@@ -1,6 +1,6 @@
-// Blocks of the pool: a list that has no room left moves to a block of half as much room again, or of a third,
-// the first one of two watchers: 2, 3, 4, 6, 8, 12 and so on. Its old block is spare then, and serves the next
-// list that wants one of that room, so that the pool stays small.
+// Blocks of the pool: a list that has no room left moves to a block of half as much room again, or of a
+// third, the first one of two watchers: 2, 3, 4, 6, 8, 12 and so on. Its old block is spare then, and serves
+// the next list that wants one of that room, so that the pool stays small.
 ghost use Rattle.std.specs.Prelude.{◌≡◌, ◌+◌, ◌<◌, ◌≤◌, ◌^◌, List, ℕ, length, IfOk, OnOk, slice_set};
 ghost use Rattle.std.specs.List.{SameBelow};
 ghost use Rattle.cdcl_watches.specs.declared.span.Span.{Span};

@@ -2,8 +2,8 @@
 ghost use Rattle.std.specs.Prelude.{◌≡◌, ◌<◌};
 ghost use Rattle.cdcl_watches.specs.Pool.{room_of};
 
-/// A list begins at `from` in the pool and has `len` watchers. Its block has room for 2, 3, 4, 6, 8, 12 and so
-/// on by its class, from 1 on; a list of class 0 has no block.
+/// A list begins at `from` in the pool and has `len` watchers. Its block has room for 2, 3, 4, 6, 8, 12 and
+/// so on by its class, from 1 on; a list of class 0 has no block.
 #[derive(Clone, Copy, Drop)]
 pub struct Span {
     pub from: u32,

@@ -1,6 +1,7 @@
 // The blocks of the pool that no list has, by their class: a row for each class has the places where its
 // blocks begin. The block that was given back last is taken first.
-ghost use Rattle.std.specs.Prelude.{◌≡◌, ◌≢◌, ℕ, ◌+◌, ◌-◌, ◌<◌, ◌≤◌, [], ◌∷◌, ◌++◌, map, take, length, IfSome, IsSome, OnOk, OnErr};
+ghost use Rattle.std.specs.Prelude.{◌≡◌, ◌≢◌, ℕ, ◌+◌, ◌-◌, ◌<◌, ◌≤◌, [], ◌∷◌, ◌++◌, map, take, length};
+ghost use Rattle.std.specs.Prelude.{IfSome, IsSome, OnOk, OnErr};
 ghost use Rattle.cdcl_watches.specs.Pool.{row_at, spare_at};
 
 use std::alloc::{AllocError, Global};

@@ -1,7 +1,8 @@
 // A walk along the list of a literal, in order. Watchers that are taken off leave a gap, which goes along
 // with the walk: so each watcher is read once and moves at most once, and the others keep their order. After
 // Sorensson and Een, MiniSat 2.1 (2008).
-ghost use Rattle.std.specs.Prelude.{◌≡◌, ◌+◌, ◌<◌, ◌≤◌, [], ◌∷◌, ◌++◌, length, if◌then◌else◌, is_ok, slice_index_or, slice_set};
+ghost use Rattle.std.specs.Prelude.{◌≡◌, ◌+◌, ◌<◌, ◌≤◌, [], ◌∷◌, ◌++◌, length, if◌then◌else◌, is_ok};
+ghost use Rattle.std.specs.Prelude.{slice_index_or, slice_set};
 ghost use Rattle.std.specs.List.{remove, swap};
 ghost use Rattle.cdcl_watches.specs.Watching.{code, list_of, clause_of};
 ghost use Rattle.cdcl_watches.specs.Watchers.{nobody, IsWalked, walk_in, walked};

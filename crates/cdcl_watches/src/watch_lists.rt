@@ -1,8 +1,9 @@
 // For each literal the list of the clauses that watch it. The lists stand in one pool, each in a block of its
 // own whose room is a power of two or one and a half of it: so lists of a watcher or two cost little, a list
-// that grows moves seldom, and at most a third of a block is empty behind a list that grew, or half of it behind
-// a single watcher. A block that a list has outgrown serves another list.
-ghost use Rattle.std.specs.Prelude.{◌≡◌, ◌+◌, ◌-◌, ◌<◌, ◌≤◌, ◌^◌, List, [], ◌∷◌, ◌++◌, length, take, replicate, IfOk, if◌then◌else◌, is_ok, slice_index_or, slice_set};
+// that grows moves seldom, and at most a third of a block is empty behind a list that grew, or half of it
+// behind a single watcher. A block that a list has outgrown serves another list.
+ghost use Rattle.std.specs.Prelude.{◌≡◌, ◌+◌, ◌-◌, ◌<◌, ◌≤◌, ◌^◌, List, [], ◌∷◌, ◌++◌, length, take};
+ghost use Rattle.std.specs.Prelude.{replicate, IfOk, if◌then◌else◌, is_ok, slice_index_or, slice_set};
 ghost use Rattle.cdcl_watches.specs.Watchers.{nobody, without};
 
 use crate::pool::{put, widen};

@@ -2,10 +2,12 @@
 // keeps it so. As long as neither is false, nothing else of the clause matters. After Moskewicz, Madigan,
 // Zhao, Zhang and Malik, Chaff (2001). Each place of a list also gives a literal of its clause; contracts
 // promise no more of which one it is.
-ghost use Rattle.std.specs.Prelude.{◌≡◌, suc, ◌+◌, ◌-◌, ◌<◌, ◌≤◌, [], ◌∷◌, ◌++◌, length, replicate, All, Contains, IfOk, OnOk, OnErr, if◌then◌else◌, is_ok, slice_index_or};
+ghost use Rattle.std.specs.Prelude.{◌≡◌, suc, ◌+◌, ◌-◌, ◌<◌, ◌≤◌, [], ◌∷◌, ◌++◌, length, replicate, All};
+ghost use Rattle.std.specs.Prelude.{Contains, IfOk, OnOk, OnErr, if◌then◌else◌, is_ok, slice_index_or};
 ghost use Rattle.cdcl_watches.specs.Heads.{number_of, without_last};
 ghost use Rattle.cdcl_watches.specs.Watchers.{IsLinked};
-ghost use Rattle.cdcl_watches.specs.Watching.{code, clause_of, IsWatching, AreApart, IsWidened, WatchValue, with_clause, with_lists};
+ghost use Rattle.cdcl_watches.specs.Watching.{code, clause_of, IsWatching, AreApart, IsWidened, WatchValue};
+ghost use Rattle.cdcl_watches.specs.Watching.{with_clause, with_lists};
 
 use crate::arena::Arena;
 use crate::watch_lists::WatchLists;

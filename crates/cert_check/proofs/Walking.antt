@@ -16,8 +16,8 @@ use Rattle.enc_layout.specs.Clauses.{counts, clause_list}
 use Rattle.enc_layout.proofs.Numbering.{list_range}
 use Rattle.cert_text.specs.Text.{Part, Line, Delete, Certificate}
 use Rattle.cert_text.specs.Live.{lines_of, hints_of, parts_before, live_line, live_at, IsGoodLine}
-use Rattle.cert_text.specs.declared.item.Item.{Item}
-use Rattle.cert_text.specs.declared.item.Item.TheVariants as items
+use Rattle.cert_text.specs.declared.item.CertItem.{CertItem}
+use Rattle.cert_text.specs.declared.item.CertItem.TheVariants as items
 use Rattle.cert_text.specs.Items.{items_from}
 use Rattle.cert_text.proofs.LiveLines.{lines_on}
 use Rattle.log_checker.specs.Judging.{Checker, fresh, LiveLine, found, with_item, IsGoodItem, IsFirstBadLine}
@@ -52,7 +52,7 @@ lines_long (Delete ns ∷ before) ls hs coming = lines_long before ls hs coming
 
 module _ (clauses : List (List Signed)) (letters : ℕ) (c : Certificate) where
   -- what the walk keeps: the parts taken and those to come
-  pub record IsWalked (rest : List Item) (checker : Checker) : Type 0 where
+  pub record IsWalked (rest : List CertItem) (checker : Checker) : Type 0 where
     pub before : List Part
     pub coming : List Part
     pub parts : c.parts ≡ before ++ coming
@@ -61,7 +61,7 @@ module _ (clauses : List (List Signed)) (letters : ℕ) (c : Certificate) where
     pub letters_are : checker.letters ≡ letters
     pub good : (k : ℕ) → k < length (lines_of before) → IsGoodLine clauses letters c.parts k
 
-  pub walk_starts : (rest : List Item) (checker : Checker) → rest ≡ items_from c.parts c.targets → checker ≡ fresh letters → IsWalked rest checker
+  pub walk_starts : (rest : List CertItem) (checker : Checker) → rest ≡ items_from c.parts c.targets → checker ≡ fresh letters → IsWalked rest checker
   walk_starts rest checker is none = record {
     before = [];
     coming = c.parts;
@@ -101,32 +101,32 @@ module _ (clauses : List (List Signed)) (letters : ℕ) (c : Certificate) where
     )
 
   -- the parts to come, where the next item is a line, a delete or the close
-  next_line : (coming : List Part) (ls : List Signed) (hs : List Hint) (more : List Item) → items.Line ls hs ∷ more ≡ items_from coming c.targets
+  next_line : (coming : List Part) (ls : List Signed) (hs : List Hint) (more : List CertItem) → items.Line ls hs ∷ more ≡ items_from coming c.targets
       → (ps : List Part) × (coming ≡ Line ls hs ∷ ps) × (more ≡ items_from ps c.targets)
   next_line [] ls hs more is = absurd (cc)
   next_line (Delete ns ∷ ps) ls hs more is = absurd (cc)
   next_line (Line l h ∷ ps) ls hs more is = (ps, cc, cc)
 
-  next_delete : (coming : List Part) (ns : List ℕ) (more : List Item) → items.Delete ns ∷ more ≡ items_from coming c.targets
+  next_delete : (coming : List Part) (ns : List ℕ) (more : List CertItem) → items.Delete ns ∷ more ≡ items_from coming c.targets
       → (ps : List Part) × (coming ≡ Delete ns ∷ ps) × (more ≡ items_from ps c.targets)
   next_delete [] ns more is = absurd (cc)
   next_delete (Line l h ∷ ps) ns more is = absurd (cc)
   next_delete (Delete ms ∷ ps) ns more is = (ps, cc, cc)
 
-  next_close : (coming : List Part) (ts : List ℕ) (more : List Item) → items.Close ts ∷ more ≡ items_from coming c.targets → (coming ≡ []) × (ts ≡ c.targets)
+  next_close : (coming : List Part) (ts : List ℕ) (more : List CertItem) → items.Close ts ∷ more ≡ items_from coming c.targets → (coming ≡ []) × (ts ≡ c.targets)
   next_close [] ts more is = (refl, cc)
   next_close (Line l h ∷ ps) ts more is = absurd (cc)
   next_close (Delete ms ∷ ps) ts more is = absurd (cc)
 
   -- there is always a next item before the close is taken
-  pub walk_goes_on : (rest : List Item) (checker : Checker) → IsWalked rest checker → rest ≡ [] → ⊥
+  pub walk_goes_on : (rest : List CertItem) (checker : Checker) → IsWalked rest checker → rest ≡ [] → ⊥
   walk_goes_on rest checker w none = never w.coming (sym none ∙ w.left)
     where
       never : (coming : List Part) → [] ≡ items_from coming c.targets → ⊥
       never [] e = cc
       never (p ∷ ps) e = cc
 
-  module _ (rest more : List Item) (checker new : Checker) (w : IsWalked rest checker) where
+  module _ (rest more : List CertItem) (checker new : Checker) (w : IsWalked rest checker) where
     -- where a line comes there is room for its number
     pub line_counts : (ls : List Signed) (hs : List Hint) → rest ≡ items.Line ls hs ∷ more → checker.lines < length (lines_of c.parts)
     line_counts ls hs is =

@@ -12,7 +12,7 @@ use crate::listing::stored_for;
 use crate::on_demand::OnDemand;
 use crate::targets::{allowed, are_among, by_targets};
 use crate::verdict::{Reason, Verdict};
-use cert_text::{Form, Item, Items, LineNumbers};
+use cert_text::{CertItem, Form, Items, LineNumbers};
 use clause_index::Indexed;
 use enc_layout::Layout;
 use log_checker::{LiveChecker, NamedClauses};
@@ -105,16 +105,16 @@ fn judge_over<C: NamedClauses>(
     let mut left = form.lines;
     'items: for item in Items::new(bytes) {
         match item {
-            Item::Line { literals, hints } => {
+            CertItem::Line { literals, hints } => {
                 left -= 1;
-                if !checker.take(Item::Line { literals, hints }, clauses)? {
+                if !checker.take(CertItem::Line { literals, hints }, clauses)? {
                     return Ok(Verdict::Rejected(Reason::Line(form.lines - left)));
                 }
             }
-            Item::Delete { lines } => {
-                let _ = checker.take(Item::Delete { lines }, clauses)?;
+            CertItem::Delete { lines } => {
+                let _ = checker.take(CertItem::Delete { lines }, clauses)?;
             }
-            Item::Close { targets } => {
+            CertItem::Close { targets } => {
                 let bad = first_bad_target(closure, form.depth, &checker, targets);
                 return Ok(by_targets(bad));
             }

@@ -7,7 +7,7 @@ ghost use Rattle.clause_index.specs.Literals.{literals};
 
 use clause_index::{Found, Indexed};
 use cnf_base::Clauses;
-use log_checker::{Assignment, NamedClauses, Outcome, with_literal};
+use log_checker::{Assignment, ClauseStatus, NamedClauses, with_literal};
 
 /// The clauses of a formula by their numbers, as a judge asks for them.
 #[derive(Drop)]
@@ -24,15 +24,15 @@ impl<'i, 'c> OnDemand<'i, 'c> {
 }
 
 /// What a clause that was found is under these values.
-fn of_found(assignment: &Assignment, clause: &Found) -> Outcome
+fn of_found(assignment: &Assignment, clause: &Found) -> ClauseStatus
     requires { All (IsKnown (letters_in assignment.now)) (literals clause.now) }
     ensures { IsOutcome (falses_in assignment.now) (literals clause.now) result }
 {
-    let mut outcome = Outcome::AllFalse;
+    let mut outcome = ClauseStatus::AllFalse;
     'places: for place in 0..clause.len() {
         outcome = with_literal(assignment, outcome, clause.literal(place));
-        if let Outcome::Neither = outcome {
-            return Outcome::Neither;
+        if let ClauseStatus::Neither = outcome {
+            return ClauseStatus::Neither;
         }
     }
     outcome
@@ -47,7 +47,7 @@ impl<'i, 'c> NamedClauses for OnDemand<'i, 'c> {
         self.indexed.count()
     }
 
-    fn outcome(&self, assignment: &Assignment, number: u64) -> Outcome {
+    fn outcome(&self, assignment: &Assignment, number: u64) -> ClauseStatus {
         of_found(assignment, &self.indexed.clause(number))
     }
 }

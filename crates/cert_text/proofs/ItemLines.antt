@@ -8,8 +8,8 @@ use Rattle.std.proofs.lemmas.List.{take_at, take_rest, drop_at, get_or_append_le
 use Rattle.std.proofs.lemmas.List.Elements.{All-nil, All-head, All-push}
 use Rattle.cnf_base.specs.declared.literal.Literal.{Literal}
 use Rattle.cnf_base.specs.declared.literal.Hint.{Hint}
-use Rattle.cert_text.specs.declared.item.Item.{Item}
-use Rattle.cert_text.specs.declared.item.Item.TheVariants as items
+use Rattle.cert_text.specs.declared.item.CertItem.{CertItem}
+use Rattle.cert_text.specs.declared.item.CertItem.TheVariants as items
 use Rattle.cert_text.specs.Text.{greatest_u64, IsLiteral, IsNumber, sign_text, literal_text, hint_text, target_text}
 use Rattle.cert_text.specs.Items.{IsItem, line_text, item_line}
 use Rattle.cert_text.proofs.Standing.{middle}
@@ -40,14 +40,14 @@ line_low (l ∷ ls) hs all =
     omega (arith, low, ap (λ x. get_or x 0 0) is)
 
 -- numbers stand behind the first bytes of the line
-pub record HasNumbers (line : List ℕ) (item : Item) (skip : ℕ) (make : List ℕ → Item) : Type 0 where
+pub record HasNumbers (line : List ℕ) (item : CertItem) (skip : ℕ) (make : List ℕ → CertItem) : Type 0 where
   pub numbers : List ℕ
   pub fits : All IsNumber numbers
   pub is : item ≡ make numbers
   pub long : skip ≤ length line
   pub slice : take (length line - skip) (drop skip line) ≡ flat_map target_text numbers
 
-pub close_line : (line : List ℕ) (item : Item) → IsItem item → line ≡ item_line item → get_or line 0 0 ≡ 99 → HasNumbers line item 5 items.Close
+pub close_line : (line : List ℕ) (item : CertItem) → IsItem item → line ≡ item_line item → get_or line 0 0 ≡ 99 → HasNumbers line item 5 items.Close
 close_line line (items.Line ls hs) fits is first = absurd (let low = line_low ls hs fits.0 in omega (arith, low, first, ap (λ x. get_or x 0 0) is))
 close_line line (items.Delete ns) fits is first = absurd (let e : 100 ≡ 99 = sym (ap (λ x. get_or x 0 0) is) ∙ first in omega (arith, e))
 close_line line (items.Close ts) fits is first = record {
@@ -58,7 +58,7 @@ close_line line (items.Close ts) fits is first = record {
   slice = take_rest line 5 ∙ ap (drop 5) is ∙ drop_at (codes "close") (flat_map target_text ts) 5 refl;
 }
 
-pub delete_line : (line : List ℕ) (item : Item) → IsItem item → line ≡ item_line item → get_or line 0 0 ≡ 100 → HasNumbers line item 1 items.Delete
+pub delete_line : (line : List ℕ) (item : CertItem) → IsItem item → line ≡ item_line item → get_or line 0 0 ≡ 100 → HasNumbers line item 1 items.Delete
 delete_line line (items.Line ls hs) fits is first = absurd (let low = line_low ls hs fits.0 in omega (arith, low, first, ap (λ x. get_or x 0 0) is))
 delete_line line (items.Close ts) fits is first = absurd (let e : 99 ≡ 100 = sym (ap (λ x. get_or x 0 0) is) ∙ first in omega (arith, e))
 delete_line line (items.Delete ns) fits is first = record {

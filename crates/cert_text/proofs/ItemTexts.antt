@@ -13,8 +13,8 @@ use Rattle.ltl_syntax.specs.declared.node.Kind.TheVariants as Kinds
 use Rattle.cnf_base.specs.declared.literal.Literal.{Literal}
 use Rattle.cnf_base.specs.declared.literal.Hint.{Hint}
 use Rattle.cnf_base.specs.declared.literal.Hint.TheVariants as hints
-use Rattle.cert_text.specs.declared.item.Item.{Item}
-use Rattle.cert_text.specs.declared.item.Item.TheVariants as items
+use Rattle.cert_text.specs.declared.item.CertItem.{CertItem}
+use Rattle.cert_text.specs.declared.item.CertItem.TheVariants as items
 use Rattle.cert_text.specs.Text.{Part, Line, Delete, Certificate, greatest_u64, IsLiteral, IsHint, IsNumber, IsPart, IsBegun, IsTextOf, sign_text, kind_text}
 use Rattle.cert_text.specs.Text.{literal_text, hint_text, target_text, part_text, header_text, close_text}
 use Rattle.cert_text.specs.Reading.{certificate_in}
@@ -84,7 +84,7 @@ hint_other (hints.Line n) is = cons_other 45 (decimal n ++ codes " ") (λ e. ome
 target_other : (n : ℕ) → IsNumber n → All Other (target_text n)
 target_other n is = cons_other 32 (decimal n) (λ e. omega (arith, e)) (digits_other n is.1)
 
-pub item_other : (item : Item) → IsItem item → All Other (item_line item)
+pub item_other : (item : CertItem) → IsItem item → All Other (item_line item)
 item_other (items.Line ls hs) is =
     All-append Other (flat_map literal_text ls) (codes "0 " ++ (flat_map hint_text hs ++ codes "0")) (flat_other IsLiteral literal_text ls literal_other is.0)
     (cons_other 48 (32 ∷ (flat_map hint_text hs ++ codes "0")) (λ e. omega (arith, e))
@@ -141,11 +141,11 @@ header_other c is =
     (cons_other 32 (decimal c.depth) (λ e. omega (arith, e)) (digits_other c.depth (let low = is.depth in omega (arith, low)))))))
 
 -- behind the text of some items are the others
-behind_none : (items : List Item) → items_behind 0 items ≡ items
+behind_none : (items : List CertItem) → items_behind 0 items ≡ items
 behind_none [] = refl
 behind_none (item ∷ more) = refl
 
-behind_past : (past left : List Item) → items_behind (length (flat_map item_text past)) (past ++ left) ≡ left
+behind_past : (past left : List CertItem) → items_behind (length (flat_map item_text past)) (past ++ left) ≡ left
 behind_past [] left = behind_none left
 behind_past (item ∷ past) left =
     let n : ℕ = length (flat_map item_text (item ∷ past)) in
@@ -179,7 +179,7 @@ reading_all whole c end is found =
       place = omega (arith, at, size, ap length (header_split c), ap length (append-nil (header_text c)));
     }
 
-all_behind : (xs ys : List Item) → All IsItem (xs ++ ys) → All IsItem ys
+all_behind : (xs ys : List CertItem) → All IsItem (xs ++ ys) → All IsItem ys
 all_behind [] ys all = all
 all_behind (x ∷ xs) ys all = all_behind xs ys (All-tail IsItem x (xs ++ ys) all)
 
@@ -198,8 +198,8 @@ reading_new whole c end is found =
 
 -- an item begins here
 pub record Front (whole : List ℕ) (at : ℕ) : Type 0 where
-  pub item : Item
-  pub others : List Item
+  pub item : CertItem
+  pub others : List CertItem
   pub fits : IsItem item
   pub before : List ℕ
   pub more : List ℕ
@@ -212,7 +212,7 @@ pub record Front (whole : List ℕ) (at : ℕ) : Type 0 where
 pub front : (whole : List ℕ) (at : ℕ) → IsReading whole at → at < length whole → Front whole at
 front whole at r low = go r.left r.split refl
   where
-    go : (left : List Item) → items_of r.certificate ≡ r.past ++ left → r.left ≡ left → Front whole at
+    go : (left : List CertItem) → items_of r.certificate ≡ r.past ++ left → r.left ≡ left → Front whole at
     go [] split same = absurd (
         let one : whole ≡ header_text r.certificate ++ flat_map item_text r.past =
         whole_text whole r.certificate r.is ∙ ap (λ x. header_text r.certificate ++ flat_map item_text x) (split ∙ append-nil r.past) in
@@ -252,7 +252,7 @@ front whole at r low = go r.left r.split refl
           left_next = items_left whole (at + length (item_line item) + 1) next;
         }
       where
-        fits : (item : Item) (others : List Item) → items_of r.certificate ≡ r.past ++ item ∷ others → IsItem item
+        fits : (item : CertItem) (others : List CertItem) → items_of r.certificate ≡ r.past ++ item ∷ others → IsItem item
         fits item others split =
             let all = subst (All IsItem) split
             (items_fit r.certificate.version r.certificate.parts r.certificate.targets r.is.lawful.begun.parts r.is.lawful.targets) in
@@ -262,7 +262,7 @@ front whole at r low = go r.left r.split refl
 pub none_left : (whole : List ℕ) (at : ℕ) → IsReading whole at → length whole ≤ at → items_at whole at ≡ []
 none_left whole at r end = items_left whole at r ∙ go r.left r.split
   where
-    go : (left : List Item) → items_of r.certificate ≡ r.past ++ left → left ≡ []
+    go : (left : List CertItem) → items_of r.certificate ≡ r.past ++ left → left ≡ []
     go [] split = refl
     go (item ∷ others) split = absurd (
         let c = r.certificate in
@@ -281,6 +281,6 @@ pub front_line : (whole : List ℕ) (at end : ℕ) (f : Front whole at) → end 
 front_line whole at end f is = ap (λ y. slice_range y at end) f.spelled ∙ middle f.before (item_line f.item) (10 ∷ f.more) at end (sym f.place) is
 
 -- it is read
-pub front_read : (whole : List ℕ) (at end : ℕ) (f : Front whole at) (item : Item) → end ≡ at + length (item_line f.item)
+pub front_read : (whole : List ℕ) (at end : ℕ) (f : Front whole at) (item : CertItem) → end ≡ at + length (item_line f.item)
     → item ≡ f.item → items_at whole at ≡ item ∷ items_at whole (end + 1)
 front_read whole at end f item is same = f.left ∙ ap₂ (λ x xs. x ∷ xs) (sym same) (sym (ap (λ n. items_at whole (n + 1)) is ∙ f.left_next))

@@ -1,5 +1,5 @@
-// Hints, gone over by blocks of bytes. Where each byte may stand behind the one before it, and no space is far
-// from the next, the bytes up to a space are numbers that fit, and no byte of a block waits for another.
+// Hints, gone over by blocks of bytes. Where each byte may stand behind the one before it, and no space is
+// far from the next, the bytes up to a space are numbers that fit, and no byte of a block waits for another.
 ghost use Rattle.std.specs.Prelude.{◌≡◌, ◌⊎◌, ◌+◌, ◌-◌, ◌≤◌, length, get_or, IsTrue};
 ghost use Rattle.cert_text.specs.Skipped.{between, AreShort, AreInOrder, HasSpace, AreSpaced};
 

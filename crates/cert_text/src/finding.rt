@@ -1,5 +1,5 @@
-// Where things stand in a text: a byte, and the 0 behind the literals of a line. Both may be far away, and are
-// looked for by several bytes at once.
+// Where things stand in a text: a byte, and the 0 behind the literals of a line. Both may be far away, and
+// are looked for by several bytes at once.
 ghost use Rattle.std.specs.Prelude.{◌≡◌, ℕ, ◌+◌, ◌-◌, ◌<◌, ◌≤◌, List, ◌∷◌, ◌++◌, length, get_or, All, IsTrue};
 ghost use Rattle.std.specs.List.{flat_map};
 ghost use Rattle.cnf_base.specs.declared.literal.Literal.{Literal as SomeLiteral};

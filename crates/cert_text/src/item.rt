@@ -2,7 +2,7 @@
 ghost use Rattle.std.specs.Prelude.{◌≡◌, List, All};
 ghost use Rattle.cnf_base.specs.declared.literal.Literal.{Literal as SomeLiteral};
 ghost use Rattle.cnf_base.specs.declared.literal.Hint.{Hint as SomeHint};
-ghost use Rattle.cert_text.specs.declared.item.Item.{Item as SomeItem};
+ghost use Rattle.cert_text.specs.declared.item.CertItem.{CertItem as SomeItem};
 ghost use Rattle.cert_text.specs.Text.{IsLiteral, IsHint};
 ghost use Rattle.cert_text.specs.Items.{IsItem, item_line, line_text, IsItemLine, IsLineText};
 
@@ -11,7 +11,7 @@ use crate::spelled::{Hints, LineNumbers, Literals};
 
 /// A line, a delete or the close. The lists go over slices of the text and copy nothing.
 #[derive(Drop)]
-pub enum Item<'t> {
+pub enum CertItem<'t> {
     /// A line, and the hints that show it. Lines are numbered from 1 in the order of the text.
     Line {
         literals: Literals<'t>,
@@ -40,18 +40,18 @@ fn line_in(line: &[u8]) -> (Literals<'_>, Hints<'_>)
 }
 
 /// The item that a line of the text spells, without its newline.
-pub(crate) fn item_in(line: &[u8]) -> Item<'_>
+pub(crate) fn item_in(line: &[u8]) -> CertItem<'_>
     requires { IsItemLine line.now }
     ensures { (item : SomeItem) → IsItem item → line.now ≡ item_line item → result ≡ item }
 {
     if line[0] == b'c' {
         let targets = LineNumbers::new(&line[5..]);
-        return Item::Close { targets };
+        return CertItem::Close { targets };
     }
     if line[0] == b'd' {
         let lines = LineNumbers::new(&line[1..]);
-        return Item::Delete { lines };
+        return CertItem::Delete { lines };
     }
     let (literals, hints) = line_in(line);
-    Item::Line { literals, hints }
+    CertItem::Line { literals, hints }
 }

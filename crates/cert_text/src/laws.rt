@@ -1,7 +1,12 @@
 //! Laws of certificate texts. Each function is empty: its contract is the law, and a proof cites it by a
 //! call.
 ghost use Rattle.cert_text.specs.Worked.{WorkedTexts};
-ghost use Rattle.cert_text.specs.Laws.{TextsSayOne, TextsAreFound, FaultsAreOne, TextsHaveNone, OthersHaveOne, ScansRead, ScansBegin, ScansStop, ScansEnd, AllAreLive, GoodLinesAreLive, LiveToUser, LastUsersStand, GoodLinesFollow, LastUsesAreLast, EndedAscend, EndedAreOne, EndedAmongAll, LinesStand, TargetsStand, WrittenSays, WrittenIsText, WrittenIsGood, TargetsAreLive};
+ghost use Rattle.cert_text.specs.Laws.{TextsSayOne, TextsAreFound, FaultsAreOne, TextsHaveNone};
+ghost use Rattle.cert_text.specs.Laws.{OthersHaveOne, ScansRead, ScansBegin, ScansStop, ScansEnd, AllAreLive};
+ghost use Rattle.cert_text.specs.Laws.{GoodLinesAreLive, LiveToUser, LastUsersStand, GoodLinesFollow};
+ghost use Rattle.cert_text.specs.Laws.{LastUsesAreLast, EndedAscend, EndedAreOne, EndedAmongAll, LinesStand};
+ghost use Rattle.cert_text.specs.Laws.{TargetsStand, WrittenSays, WrittenIsText, WrittenIsGood};
+ghost use Rattle.cert_text.specs.Laws.{TargetsAreLive};
 
 /// A text says one thing. Bytes that are no text have one form fault, and a text has none.
 pub fn texts()

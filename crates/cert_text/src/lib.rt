@@ -22,7 +22,7 @@ pub mod view;
 pub mod writing;
 
 pub use glance::Form;
-pub use item::Item;
+pub use item::CertItem;
 pub use reader::Items;
 pub use refused::CertRefused;
 pub use scanning::form;

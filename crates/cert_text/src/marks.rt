@@ -1,5 +1,6 @@
 // Where the lines of a text stand, and up to where each may be used.
-ghost use Rattle.std.specs.Prelude.{◌≡◌, ◌+◌, ◌-◌, ◌<◌, ◌≤◌, ◌^◌, [], ◌∷◌, ◌++◌, length, slice_range, IfOk, OnOk};
+ghost use Rattle.std.specs.Prelude.{◌≡◌, ◌+◌, ◌-◌, ◌<◌, ◌≤◌, ◌^◌, [], ◌∷◌, ◌++◌, length, slice_range, IfOk};
+ghost use Rattle.std.specs.Prelude.{OnOk};
 ghost use Rattle.std.specs.List.{flat_map};
 ghost use Rattle.cert_text.specs.Text.{Part, IsTextOf, part_text, header_text};
 ghost use Rattle.cert_text.specs.Reading.{certificate_in, AreNumbers, numbers_in};

@@ -1,7 +1,8 @@
 // The text of a certificate: its numbers, its lines with what is deleted behind each, and the close.
 ghost use Rattle.std.specs.Prelude.{◌≡◌, ◌++◌, OnOk, decimal, codes};
 ghost use Rattle.std.specs.List.{flat_map};
-ghost use Rattle.cert_text.specs.Text.{literal_text, hint_text, target_text, part_text, kind_text, close_text};
+ghost use Rattle.cert_text.specs.Text.{literal_text, hint_text, target_text, part_text, kind_text};
+ghost use Rattle.cert_text.specs.Text.{close_text};
 ghost use Rattle.cert_text.specs.Text as text;
 ghost use Rattle.cert_text.specs.Writing.{delete_of};
 

@@ -5,7 +5,7 @@ ghost use Rattle.cert_text.specs.Reading.{certificate_in};
 ghost use Rattle.cert_text.specs.Items.{items_of};
 
 use crate::finding::find;
-use crate::item::{Item, item_in};
+use crate::item::{CertItem, item_in};
 use std::marker::Model;
 
 /// The items of a text that are still to come: its parts in order, and then the close. Behind the close there
@@ -18,10 +18,10 @@ pub struct Items<'t> {
 
 impl<'t> Model for Items<'t> {
     ghost use Rattle.std.specs.Prelude.{List};
-    ghost use Rattle.cert_text.specs.declared.item.Item.{Item};
+    ghost use Rattle.cert_text.specs.declared.item.CertItem.{CertItem};
     ghost use Rattle.cert_text.specs.Items.{items_at, IsReading};
 
-    ghost Value = { List Item };
+    ghost Value = { List CertItem };
 
     ghost view = { λ a. items_at a.whole.now a.at };
 
@@ -42,13 +42,13 @@ impl<'t> Items<'t> {
 impl<'t> Iterator for Items<'t> {
     ghost use Rattle.std.specs.Iterator.{YieldsFirst, item_count};
 
-    type Item = Item<'t>;
+    type CertItem = CertItem<'t>;
 
     ghost next_gives = { YieldsFirst (λ rest. rest) };
 
     ghost remaining = { item_count (λ rest. rest) };
 
-    fn next(&mut self) -> Option<Item<'t>> {
+    fn next(&mut self) -> Option<CertItem<'t>> {
         let start = self.at;
         if start >= self.whole.len() {
             return None;

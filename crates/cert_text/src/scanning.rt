@@ -3,7 +3,8 @@
 // once.
 ghost use Rattle.std.specs.Prelude.{◌≡◌, ◌+◌, ◌<◌, ◌≤◌, ◌^◌, [], Some, None, MatchOption, MatchResult};
 ghost use Rattle.cert_text.specs.Text.{Certificate, IsTextOf, IsFormFault};
-ghost use Rattle.cert_text.specs.Shape.{small_step, small_advance, number_in, literal_in, first_in, end_in, greatest_in, with_target, IsFew, IsInRange, lines_at, form_of};
+ghost use Rattle.cert_text.specs.Shape.{small_step, small_advance, number_in, literal_in, first_in, end_in};
+ghost use Rattle.cert_text.specs.Shape.{greatest_in, with_target, IsFew, IsInRange, lines_at, form_of};
 ghost use Rattle.cert_text.specs.declared.scanning.Role.TheVariants as roles;
 ghost use Rattle.cert_text.specs.declared.scanning.Place.TheVariants as places;
 

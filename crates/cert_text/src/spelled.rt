@@ -2,7 +2,8 @@
 // literal or a hint is inlined, since a checker does little else.
 ghost use Rattle.std.specs.Prelude.{◌≡◌, ℕ, Bool, ◌<◌, ◌≤◌, ◌∷◌, ◌++◌, List, length, decimal};
 ghost use Rattle.cert_text.specs.Text.{greatest_u64};
-ghost use Rattle.cert_text.specs.Reading.{EndsNumber, IsSigned, signed_text, AreLiterals, literals_in, AreHints, hints_in, AreNumbers, numbers_in};
+ghost use Rattle.cert_text.specs.Reading.{EndsNumber, IsSigned, signed_text, AreLiterals, literals_in};
+ghost use Rattle.cert_text.specs.Reading.{AreHints, hints_in, AreNumbers, numbers_in};
 
 use cnf_base::{Hint, Letter, Literal};
 use std::marker::Model;

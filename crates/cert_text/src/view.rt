@@ -1,5 +1,6 @@
 // A certificate text with the places of its lines, for readers that go to any line.
-ghost use Rattle.std.specs.Prelude.{◌≡◌, ℕ, ◌+◌, ◌-◌, ◌≤◌, ◌↔◌, [], length, slice_index_or, is_some, IsTrue, Err, IfOk};
+ghost use Rattle.std.specs.Prelude.{◌≡◌, ℕ, ◌+◌, ◌-◌, ◌≤◌, ◌↔◌, [], length, slice_index_or, is_some, IsTrue};
+ghost use Rattle.std.specs.Prelude.{Err, IfOk};
 ghost use Rattle.cert_text.specs.Text.{Certificate, IsTextOf, IsCertificate, IsFormFault};
 ghost use Rattle.cert_text.specs.Shape.{form_of};
 ghost use Rattle.cert_text.specs.Live.{lines_of, hints_of, live_line, last_user};

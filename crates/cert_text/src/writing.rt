@@ -1,5 +1,6 @@
 // The text of the lines of a derivation, each deleted after its last use.
-ghost use Rattle.std.specs.Prelude.{◌≡◌, ℕ, ◌+◌, ◌<◌, ◌≤◌, [], ◌∷◌, ◌++◌, List, length, filter, slice_index_or, Contains, IfOk, OnOk, if◌then◌else◌};
+ghost use Rattle.std.specs.Prelude.{◌≡◌, ℕ, ◌+◌, ◌<◌, ◌≤◌, [], ◌∷◌, ◌++◌, List, length, filter};
+ghost use Rattle.std.specs.Prelude.{slice_index_or, Contains, IfOk, OnOk, if◌then◌else◌};
 ghost use Rattle.std.specs.List.{flat_map};
 ghost use Rattle.cnf_base.specs.declared.literal.Hint.{Hint as SomeHint};
 ghost use Rattle.cnf_base.specs.declared.literal.Hint.TheVariants as hint_kinds;
@@ -117,9 +118,9 @@ fn push_step(
 }
 
 /// Puts the certificate text, of version 2, of the lines and of the targets behind what is there. Behind each
-/// line that is the last use of some lines which are no targets stands one delete that names these, ascending.
-/// It is a text where the depth is at most 1,000, there are as many targets as the depth plus 2, each target is
-/// a number from 1, and each letter of a line is from 1 to 16,777,216.
+/// line that is the last use of some lines which are no targets stands one delete that names these,
+/// ascending. It is a text where the depth is at most 1,000, there are as many targets as the depth plus 2,
+/// each target is a number from 1, and each letter of a line is from 1 to 16,777,216.
 pub fn append(
     alloc: Global,
     kind: Kind,

@@ -3,7 +3,7 @@ ghost use Rattle.std.specs.Prelude.{◌≡◌, ◌≤◌, IfOk};
 ghost use Rattle.cnf_base.specs.Known.{AreKnown};
 ghost use Rattle.cert_text.specs.Text.{Certificate, IsTextOf};
 
-use cert_text::{CertView, Item, Items, form};
+use cert_text::{CertItem, CertView, Items, form};
 use cnf_base::{ClauseList, Letter, Literal};
 use log_checker::{Lines, LiveChecker, Scratch, check_lines, laws};
 use ltl_io::NoGate;
@@ -59,7 +59,7 @@ fn take_all<'t>(
     let mut checker = LiveChecker::new(alloc, 6)?;
     let mut line: u64 = 0;
     'items: for item in Items::new(bytes) {
-        if matches!(item, Item::Line { .. }) {
+        if matches!(item, CertItem::Line { .. }) {
             line = line.wrapping_add(1);
         }
         if !checker.take(item, clauses)? {

@@ -3,7 +3,7 @@ ghost use Rattle.std.specs.Prelude.{◌≡◌, length, IfOk};
 
 use crate::worked::{log_of_false, minus};
 use cert_text::{
-    CertRefused, CertView, Hints, Item, Items, LineNumbers, Literals, form, laws, write,
+    CertItem, CertRefused, CertView, Hints, Items, LineNumbers, Literals, form, laws, write,
 };
 use cnf_base::Hint;
 use derivation::NamedLog;
@@ -86,12 +86,12 @@ fn reads_item_by_item(rt: HostRuntime) -> Result<(), Fail> {
             assert_eq!(rt; (said.version, said.depth, said.lines), (2, 0, 2));
             for item in Items::new(TWO_LINES) {
                 match item {
-                    Item::Line { literals, hints } => {
+                    CertItem::Line { literals, hints } => {
                         push_literals(literals.again(), &mut told)?;
                         push_hints(hints, &mut told)?;
                     }
-                    Item::Delete { lines } => push_targets(lines.again(), &mut told)?,
-                    Item::Close { targets } => push_targets(targets, &mut told)?,
+                    CertItem::Delete { lines } => push_targets(lines.again(), &mut told)?,
+                    CertItem::Close { targets } => push_targets(targets, &mut told)?,
                 }
             }
         }

@@ -8,7 +8,8 @@ use log_trim::{laws, trim};
 use std::alloc::{AllocError, Global};
 use std::test::Fail;
 
-/// Three lines, of which the last one stands on the second alone. The inputs are clauses 3, 1 and 5 of a list.
+/// Three lines, of which the last one stands on the second alone. The inputs are clauses 3, 1 and 5 of a
+/// list.
 fn three_lines(alloc: Global) -> Result<NamedLog, AllocError>
     ensures { IfOk result (λ log. length log.lines ≡ 3) }
 {

@@ -18,8 +18,8 @@ use Rattle.claim_check.specs.Bases.{IsFound}
 use Rattle.claim_check.specs.Reasons.{IsLayerAnswer, IsReadToClose, IsGoodClose, IsClosed, IsReason}
 use Rattle.claim_check.specs.declared.certificate.Layer.{Layer as StoredLayer}
 use Rattle.claim_check.specs.declared.certificate.Certificate.{Certificate as Stored}
-use Rattle.claim_check.specs.declared.reason.Fault.{Fault}
-use Rattle.claim_check.specs.declared.reason.Reason.TheVariants as Reasons
+use Rattle.claim_check.specs.declared.reason.LayerFault.{LayerFault}
+use Rattle.claim_check.specs.declared.reason.CertificateFault.TheVariants as Reasons
 use Rattle.claim_check.proofs.Finding.{found_some, found_none}
 use Rattle.claim_check.proofs.Layered.{over}
 
@@ -39,7 +39,7 @@ module _ (f : Formula) (kind : Kind) (c : Certificate) where
 
   module _ (j : ℕ) (clauses lines : List (List Signed)) (layer : Layer) (ce : clauses ≡ clauses_before f c j) (le : lines ≡ lines_before c j)
       (is : layer ≡ layer_at c j) where
-    here : (answer : Option Fault) → IsLayerAnswer f kind clauses lines layer answer
+    here : (answer : Option LayerFault) → IsLayerAnswer f kind clauses lines layer answer
         → IsLayerAnswer f kind (clauses_before f c j) (lines_before c j) (layer_at c j) answer
     here answer said =
         subst (λ l. IsLayerAnswer f kind (clauses_before f c j) (lines_before c j) l answer) is
@@ -56,12 +56,12 @@ module _ (f : Formula) (kind : Kind) (c : Certificate) where
         ∙ (ap (λ (l : Layer). lines_before c j ++ clauses_of l.base_lines ++ clauses_of l.step_lines) is
         ∙ (sym (layer_lines_grow c j) ∙ ap (lines_before c) (sym (add-one j)))))
 
-    pub good_more : ((i : ℕ) → i < j → Good i) → (answer : Option Fault) → answer ≡ None → IsLayerAnswer f kind clauses lines layer answer → (i : ℕ)
+    pub good_more : ((i : ℕ) → i < j → Good i) → (answer : Option LayerFault) → answer ≡ None → IsLayerAnswer f kind clauses lines layer answer → (i : ℕ)
         → i < j + 1 → Good i
     good_more good answer e said =
         below_more Good j good (subst (IsLayerAnswer f kind (clauses_before f c j) (lines_before c j) (layer_at c j)) e (here answer said))
 
-    pub layer_refused : c.kind ≡ kind → j < length c.layers → ((i : ℕ) → i < j → Good i) → (answer : Option Fault) (fault : Fault) → answer ≡ Some fault
+    pub layer_refused : c.kind ≡ kind → j < length c.layers → ((i : ℕ) → i < j → Good i) → (answer : Option LayerFault) (fault : LayerFault) → answer ≡ Some fault
         → IsLayerAnswer f kind clauses lines layer answer
         → IsReason f kind c (Reasons.Layer (j + 1) fault)
     layer_refused same lt good answer fault e said = (

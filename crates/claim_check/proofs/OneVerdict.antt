@@ -14,11 +14,11 @@ use Rattle.claim_check.specs.Data.{IsGoodStep}
 use Rattle.claim_check.specs.Bases.{IsFirst, IsBased}
 use Rattle.claim_check.specs.Laws.{VerdictIsOne}
 use Rattle.claim_check.specs.Reasons.{IsOfEntries, IsKept, IsFault, IsFirstFault, IsGoodClose, IsReason}
-use Rattle.claim_check.specs.declared.reason.Fault.{Fault}
-use Rattle.claim_check.specs.declared.reason.Fault.TheVariants.{Eventuality, Claim, BaseLine, BaseTarget, StepLine, StepTarget}
-use Rattle.claim_check.specs.declared.reason.Reason.{Reason}
-use Rattle.claim_check.specs.declared.reason.Reason.TheVariants as Reasons
-use Rattle.claim_check.specs.declared.reason.Verdict.TheVariants.{Verified, Refused}
+use Rattle.claim_check.specs.declared.reason.LayerFault.{LayerFault}
+use Rattle.claim_check.specs.declared.reason.LayerFault.TheVariants.{Eventuality, Claim, BaseLine, BaseTarget, StepLine, StepTarget}
+use Rattle.claim_check.specs.declared.reason.CertificateFault.{CertificateFault}
+use Rattle.claim_check.specs.declared.reason.CertificateFault.TheVariants as Reasons
+use Rattle.claim_check.specs.declared.reason.ClaimVerdict.TheVariants.{Verified, Refused}
 use Rattle.claim_check.proofs.Finding.{not_all}
 use Rattle.claim_check.proofs.Layered.{base_each}
 use Rattle.claim_check.proofs.Faults.{fault_refuses, reason_refuses}
@@ -29,7 +29,7 @@ one_number Good count m n (k, e, is) (i, d, it) = let same : Some k ≡ Some i =
     omega (arith, e, d, at)
 
 -- how many kinds of faults come before
-abbrev stage : Fault → ℕ
+abbrev stage : LayerFault → ℕ
 stage Eventuality = 0
 stage (Claim n) = 1
 stage (BaseLine n) = 2
@@ -37,7 +37,7 @@ stage (BaseTarget n) = 3
 stage (StepLine n) = 4
 stage (StepTarget n) = 5
 
-last_stage : (fault : Fault) → stage fault < 6
+last_stage : (fault : LayerFault) → stage fault < 6
 last_stage Eventuality = omega arith
 last_stage other = omega arith
 
@@ -45,7 +45,7 @@ module _ (f : Formula) (kind : Kind) (clauses lines : List (List Signed)) (layer
   foreign : (n : ℕ) → IsFirst (IsOfEntries f layer) (length layer.claims) n → ¬ AreKnown (width f) layer.claims
   foreign n is known = not_all (IsOfEntries f layer) (length layer.claims) n is (λ q lt. All-get_or (λ c. All (IsKnown (width f)) c) layer.claims q [] lt known)
 
-  clash : (a b : Fault) → stage a < stage b → IsFault f kind clauses lines layer a → IsFault f kind clauses lines layer b → ⊥
+  clash : (a b : LayerFault) → stage a < stage b → IsFault f kind clauses lines layer a → IsFault f kind clauses lines layer b → ⊥
   clash Eventuality (Claim n) lt x y = x y.0
   clash Eventuality (BaseLine n) lt x y = x y.0.base
   clash Eventuality (BaseTarget n) lt x y = x y.0.begun.base
@@ -71,7 +71,7 @@ module _ (f : Formula) (kind : Kind) (clauses lines : List (List Signed)) (layer
   clash (StepTarget m) b lt x y = absurd (omega (arith, lt, last_stage b))
   clash a b lt x y = absurd (omega (arith, lt))
 
-  fault_one : (a b : Fault) → IsFault f kind clauses lines layer a → IsFault f kind clauses lines layer b → a ≡ b
+  fault_one : (a b : LayerFault) → IsFault f kind clauses lines layer a → IsFault f kind clauses lines layer b → a ≡ b
   fault_one Eventuality Eventuality x y = refl
   fault_one (Claim m) (Claim n) x y = ap Claim (one_number (IsOfEntries f layer) (length layer.claims) m n x.1 y.1)
   fault_one (BaseLine m) (BaseLine n) x y =
@@ -90,10 +90,10 @@ module _ (f : Formula) (kind : Kind) (clauses lines : List (List Signed)) (layer
   ]
 
 module _ (f : Formula) (kind : Kind) (c : Certificate) where
-  refuses : (j : ℕ) (fault : Fault) → IsFirstFault f kind c j fault → ¬ AreLawfulLayers f kind c
+  refuses : (j : ℕ) (fault : LayerFault) → IsFirstFault f kind c j fault → ¬ AreLawfulLayers f kind c
   refuses j fault is all = fault_refuses f kind (clauses_before f c j) (lines_before c j) (layer_at c j) fault is.here (all j is.within)
 
-  layers_one : (m n i j : ℕ) (a b : Fault) → m ≡ suc i → n ≡ suc j → IsFirstFault f kind c i a → IsFirstFault f kind c j b
+  layers_one : (m n i j : ℕ) (a b : LayerFault) → m ≡ suc i → n ≡ suc j → IsFirstFault f kind c i a → IsFirstFault f kind c j b
       → Reasons.Layer m a ≡ Reasons.Layer n b
   layers_one m n i j a b e d x y = elim (cases_order i j) [
     | inl same ↦
@@ -106,7 +106,7 @@ module _ (f : Formula) (kind : Kind) (c : Certificate) where
     | inr (inr more) ↦ absurd (fault_refuses f kind (clauses_before f c j) (lines_before c j) (layer_at c j) b y.here (x.before j more))
   ]
 
-  reason_one : (a b : Reason) → IsReason f kind c a → IsReason f kind c b → a ≡ b
+  reason_one : (a b : CertificateFault) → IsReason f kind c a → IsReason f kind c b → a ≡ b
   reason_one Reasons.Kind Reasons.Kind x y = refl
   reason_one Reasons.Kind (Reasons.Layer n b) x y = absurd (x y.2.same_kind)
   reason_one Reasons.Kind (Reasons.Line n) x y = absurd (x y.0.same_kind)

@@ -21,11 +21,11 @@ use Rattle.claim_check.specs.Data.{IsGoodStep}
 use Rattle.claim_check.specs.Bases.{IsFound, HasBase, IsBased}
 use Rattle.claim_check.specs.Laws.{VerdictIsThere}
 use Rattle.claim_check.specs.Reasons.{IsOfEntries, IsKept, IsBegun, IsBasedWhole, IsLayerAnswer, IsReadToClose, IsGoodClose, IsVerdict}
-use Rattle.claim_check.specs.declared.reason.Fault.{Fault}
-use Rattle.claim_check.specs.declared.reason.Fault.TheVariants.{Eventuality, Claim, BaseLine, BaseTarget, StepLine, StepTarget}
-use Rattle.claim_check.specs.declared.reason.Reason.TheVariants as Reasons
-use Rattle.claim_check.specs.declared.reason.Verdict.{Verdict}
-use Rattle.claim_check.specs.declared.reason.Verdict.TheVariants.{Verified, Refused}
+use Rattle.claim_check.specs.declared.reason.LayerFault.{LayerFault}
+use Rattle.claim_check.specs.declared.reason.LayerFault.TheVariants.{Eventuality, Claim, BaseLine, BaseTarget, StepLine, StepTarget}
+use Rattle.claim_check.specs.declared.reason.CertificateFault.TheVariants as Reasons
+use Rattle.claim_check.specs.declared.reason.ClaimVerdict.{ClaimVerdict}
+use Rattle.claim_check.specs.declared.reason.ClaimVerdict.TheVariants.{Verified, Refused}
 use Rattle.claim_check.proofs.Finding.{bad_here}
 use Rattle.claim_check.proofs.Layered.{all_known, base_whole}
 use Rattle.claim_check.proofs.Faults.{fault_refuses}
@@ -82,7 +82,7 @@ based_or_not f Kinds.Infinite lines layer (Some m) q = both_or_not _ _
 
 module _ (f : Formula) (kind : Kind) (clauses lines : List (List Signed)) (layer : Layer) where
   abbrev Answer : Type 0
-  Answer = (a : Option Fault) × IsLayerAnswer f kind clauses lines layer a
+  Answer = (a : Option LayerFault) × IsLayerAnswer f kind clauses lines layer a
 
   abbrev based : List (List Signed)
   based = lines ++ clauses_of layer.base_lines
@@ -146,7 +146,7 @@ kind_or_not Kinds.Finite Kinds.Finite = inl refl
 
 module _ (f : Formula) (kind : Kind) (c : Certificate) where
   abbrev Said : Type 0
-  Said = (v : Verdict) × IsVerdict f kind c v
+  Said = (v : ClaimVerdict) × IsVerdict f kind c v
 
   abbrev Good : ℕ → Type 0
   Good j = IsLawfulLayer f kind (clauses_before f c j) (lines_before c j) (layer_at c j)
@@ -170,7 +170,7 @@ module _ (f : Formula) (kind : Kind) (c : Certificate) where
       go (None, all) = on_close (record { same_kind = same; layers = all })
       go (Some n, (j, e, is)) = at_fault (layer_answer f kind (clauses_before f c j) (lines_before c j) (layer_at c j))
         where
-          at_fault : (a : Option Fault) × IsLayerAnswer f kind (clauses_before f c j) (lines_before c j) (layer_at c j) a → Said
+          at_fault : (a : Option LayerFault) × IsLayerAnswer f kind (clauses_before f c j) (lines_before c j) (layer_at c j) a → Said
           at_fault (None, lawful) = absurd (is.2 lawful)
           at_fault (Some fault, here) =
               (Refused (Reasons.Layer n fault), (j, e, record { same_kind = same; within = is.1; before = λ i less. is.3 i (omega arith) less; here = here }))

@@ -4,12 +4,12 @@ use Rattle.ltl_syntax.specs.declared.node.Kind.{Kind}
 use Rattle.ltl_syntax.specs.Formula.{Formula}
 use Rattle.claims.specs.Certificate.{Certificate}
 use Rattle.claim_check.specs.Reasons.{IsVerdict}
-use Rattle.claim_check.specs.declared.reason.Verdict.{Verdict}
+use Rattle.claim_check.specs.declared.reason.ClaimVerdict.{ClaimVerdict}
 
 -- there is a verdict on each certificate
 abbrev pub VerdictIsThere : Type 0
-VerdictIsThere = (f : Formula) (kind : Kind) (c : Certificate) → (v : Verdict) × IsVerdict f kind c v
+VerdictIsThere = (f : Formula) (kind : Kind) (c : Certificate) → (v : ClaimVerdict) × IsVerdict f kind c v
 
 -- and one only: it is lawful, or has one first reason
 abbrev pub VerdictIsOne : Type 0
-VerdictIsOne = (f : Formula) (kind : Kind) (c : Certificate) (a b : Verdict) → IsVerdict f kind c a → IsVerdict f kind c b → a ≡ b
+VerdictIsOne = (f : Formula) (kind : Kind) (c : Certificate) (a b : ClaimVerdict) → IsVerdict f kind c a → IsVerdict f kind c b → a ≡ b

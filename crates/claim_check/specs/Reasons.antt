@@ -10,12 +10,12 @@ use Rattle.claims.specs.Certificate.{Layer, Certificate, layer_at, claim_at, cla
 use Rattle.claims.specs.Lawful.{AreHintedSteps, IsBase, IsLawfulLayer, AreLawfulLayers, IsLawful, clauses_before, lines_before, not_after, not_first}
 use Rattle.claim_check.specs.Data.{IsGoodStep}
 use Rattle.claim_check.specs.Bases.{IsFirst, HasBase, IsBased}
-use Rattle.claim_check.specs.declared.reason.Fault.{Fault}
-use Rattle.claim_check.specs.declared.reason.Fault.TheVariants.{Eventuality, Claim, BaseLine, BaseTarget, StepLine, StepTarget}
-use Rattle.claim_check.specs.declared.reason.Reason.{Reason}
-use Rattle.claim_check.specs.declared.reason.Reason.TheVariants as Reasons
-use Rattle.claim_check.specs.declared.reason.Verdict.{Verdict}
-use Rattle.claim_check.specs.declared.reason.Verdict.TheVariants.{Verified, Refused}
+use Rattle.claim_check.specs.declared.reason.LayerFault.{LayerFault}
+use Rattle.claim_check.specs.declared.reason.LayerFault.TheVariants.{Eventuality, Claim, BaseLine, BaseTarget, StepLine, StepTarget}
+use Rattle.claim_check.specs.declared.reason.CertificateFault.{CertificateFault}
+use Rattle.claim_check.specs.declared.reason.CertificateFault.TheVariants as Reasons
+use Rattle.claim_check.specs.declared.reason.ClaimVerdict.{ClaimVerdict}
+use Rattle.claim_check.specs.declared.reason.ClaimVerdict.TheVariants.{Verified, Refused}
 
 -- claim q + 1 has only letters of entries
 abbrev pub IsOfEntries : Formula → Layer → ℕ → Type 0
@@ -48,7 +48,7 @@ module _ (f : Formula) (kind : Kind) (clauses lines : List (List Signed)) (layer
     pub steps : AreHintedSteps (clauses ++ next_claims (width f) layer) (lines ++ clauses_of layer.base_lines) (greatest f) layer.step_lines
 
   -- the first fault of the layer: what is before it in this order is in order
-  abbrev pub IsFault : Fault → Type 0
+  abbrev pub IsFault : LayerFault → Type 0
   IsFault Eventuality = ¬ HasBase f kind layer.eventuality
   IsFault (Claim n) = HasBase f kind layer.eventuality × IsFirst (IsOfEntries f layer) (length layer.claims) n
   IsFault (BaseLine n) = IsBegun × IsFirst (IsGoodStep clauses lines (greatest f) layer.base_lines) (length layer.base_lines) n
@@ -59,17 +59,17 @@ module _ (f : Formula) (kind : Kind) (clauses lines : List (List Signed)) (layer
   IsFault (StepTarget n) = IsReadToStep × IsFirst (IsKept f (lines ++ clauses_of layer.base_lines ++ clauses_of layer.step_lines) layer) (length layer.claims) n
 
   -- the same up to the base
-  abbrev pub IsBaseAnswer : Option Fault → Type 0
+  abbrev pub IsBaseAnswer : Option LayerFault → Type 0
   IsBaseAnswer None = IsBasedWhole
   IsBaseAnswer (Some fault) = IsFault fault
 
   -- the first fault; none where the layer is lawful
-  abbrev pub IsLayerAnswer : Option Fault → Type 0
+  abbrev pub IsLayerAnswer : Option LayerFault → Type 0
   IsLayerAnswer None = IsLawfulLayer f kind clauses lines layer
   IsLayerAnswer (Some fault) = IsFault fault
 
 -- the first fault of the step alone, where these lines may be named before it
-abbrev pub IsStepAnswer : Formula → List (List Signed) → List (List Signed) → Layer → Option Fault → Type 0
+abbrev pub IsStepAnswer : Formula → List (List Signed) → List (List Signed) → Layer → Option LayerFault → Type 0
 IsStepAnswer f clauses lines layer None =
     AreHintedSteps (clauses ++ next_claims (width f) layer) lines (greatest f) layer.step_lines
     × ((q : ℕ) → q < length layer.claims → IsKept f (lines ++ clauses_of layer.step_lines) layer q)
@@ -87,7 +87,7 @@ module _ (f : Formula) (kind : Kind) (c : Certificate) where
     pub layers : AreLawfulLayers f kind c
 
   -- layer j + 1 has this fault, and the layers before it are lawful
-  pub record IsFirstFault (j : ℕ) (fault : Fault) : Type 0 where
+  pub record IsFirstFault (j : ℕ) (fault : LayerFault) : Type 0 where
     pub same_kind : c.kind ≡ kind
     pub within : j < length c.layers
     pub before : (i : ℕ) → i < j → IsLawfulLayer f kind (clauses_before f c i) (lines_before c i) (layer_at c i)
@@ -101,13 +101,13 @@ module _ (f : Formula) (kind : Kind) (c : Certificate) where
   IsClosed = IsTarget (lines_before c (length c.layers) ++ clauses_of c.lines) (c.target ∷ []) 0 (not_first f ∷ [])
 
   -- the first reason
-  abbrev pub IsReason : Reason → Type 0
+  abbrev pub IsReason : CertificateFault → Type 0
   IsReason Reasons.Kind = ¬ (c.kind ≡ kind)
   IsReason (Reasons.Layer n fault) = (j : ℕ) × (n ≡ suc j) × IsFirstFault j fault
   IsReason (Reasons.Line n) = IsReadToClose × IsFirst IsGoodClose (length c.lines) n
   IsReason Reasons.Target = IsReadToClose × ((k : ℕ) → k < length c.lines → IsGoodClose k) × ¬ IsClosed
 
   -- verified where the certificate is lawful, else refused for the first reason
-  abbrev pub IsVerdict : Verdict → Type 0
+  abbrev pub IsVerdict : ClaimVerdict → Type 0
   IsVerdict Verified = IsLawful f kind c
   IsVerdict (Refused reason) = IsReason reason

@@ -4,7 +4,8 @@ ghost use Rattle.ltl_syntax.specs.declared.node.Kind.TheVariants as Kinds;
 ghost use Rattle.ltl_closure.specs.Closure.{eventualities};
 ghost use Rattle.ltl_closure.specs.Entries.{IsNumber};
 ghost use Rattle.claims.specs.Between.{width};
-ghost use Rattle.claim_check.specs.Bases.{right_by, request_by, right_number, request_number, HasBase, IsBaseOf};
+ghost use Rattle.claim_check.specs.Bases.{right_by, request_by, right_number, request_number, HasBase};
+ghost use Rattle.claim_check.specs.Bases.{IsBaseOf};
 
 use cnf_base::{Letter, Literal};
 use ltl_closure::{Closure, Entry};

@@ -2,12 +2,12 @@
 ghost use Rattle.std.specs.Prelude.{◌≡◌, ◌↔◌, IfOk};
 ghost use Rattle.claims.specs.Lawful.{IsLawful};
 ghost use Rattle.claim_check.specs.Data.{certificate_in};
-ghost use Rattle.claim_check.specs.declared.reason.Verdict.TheVariants.{Verified};
+ghost use Rattle.claim_check.specs.declared.reason.ClaimVerdict.TheVariants.{Verified};
 ghost use Rattle.claim_check.specs.Reasons.{IsVerdict};
 
 use crate::certificate::Certificate;
 use crate::layer::{negation, take_layer};
-use crate::reason::{Reason, Verdict};
+use crate::reason::{CertificateFault, ClaimVerdict};
 use crate::step_list::push_step_list;
 use crate::taking::take_lines;
 use crate::targets::is_target;
@@ -17,20 +17,20 @@ use ltl_closure::Closure;
 use ltl_syntax::Kind;
 use std::alloc::{AllocError, Global};
 
-/// Whether the certificate is lawful for the formula of the closure and the kind, and else the first reason why
-/// it is not.
+/// Whether the certificate is lawful for the formula of the closure and the kind, and else the first reason
+/// why it is not.
 pub fn check(
     alloc: Global,
     closure: &Closure<'_>,
     kind: Kind,
     certificate: &Certificate,
-) -> Result<Verdict, AllocError>
+) -> Result<ClaimVerdict, AllocError>
     ensures verdict { IfOk result (IsVerdict closure.now.formula kind (certificate_in certificate.now)) }
     ensures lawful { IfOk result (λ verdict. (verdict ≡ Verified)
         ↔ IsLawful closure.now.formula kind (certificate_in certificate.now)) }
 {
     if certificate.kind != kind {
-        return Ok(Verdict::Refused(Reason::Kind));
+        return Ok(ClaimVerdict::Refused(CertificateFault::Kind));
     }
     let mut clauses = ClauseList::new(alloc);
     push_step_list(closure, &mut clauses)?;
@@ -49,15 +49,15 @@ pub fn check(
             &mut lines,
             &mut moved,
         )? {
-            return Ok(Verdict::Refused(Reason::Layer(j as u64 + 1, fault)));
+            return Ok(ClaimVerdict::Refused(CertificateFault::Layer(j as u64 + 1, fault)));
         }
     }
     if let Some(line) = take_lines(&mut assignment, &clauses, &certificate.lines, &mut lines)? {
-        return Ok(Verdict::Refused(Reason::Line(line)));
+        return Ok(ClaimVerdict::Refused(CertificateFault::Line(line)));
     }
     let first = negation(closure, 2);
     if !is_target(&lines, &[certificate.target], 0, &[], &[first]) {
-        return Ok(Verdict::Refused(Reason::Target));
+        return Ok(ClaimVerdict::Refused(CertificateFault::Target));
     }
-    Ok(Verdict::Verified)
+    Ok(ClaimVerdict::Verified)
 }

@@ -12,7 +12,7 @@ ghost use Rattle.claim_check.specs.Reasons.{IsBaseAnswer, IsStepAnswer, IsLayerA
 use crate::base::{Base, base_of};
 use crate::certificate::Layer;
 use crate::opening::open_next;
-use crate::reason::Fault;
+use crate::reason::LayerFault;
 use crate::taking::take_lines;
 use crate::targets::{first_missed, first_missed_twice};
 use cnf_base::{ClauseList, Clauses, Letter, Literal};
@@ -113,7 +113,7 @@ fn take_base(
     assignment: &mut Assignment,
     clauses: &ClauseList,
     lines: &mut ClauseList,
-) -> Result<Option<Fault>, AllocError>
+) -> Result<Option<LayerFault>, AllocError>
     requires clauses { AreKnown (greatest closure.now.formula) clauses.now }
     requires lines { AreKnown (greatest closure.now.formula) lines.old }
     requires letters { letters_in assignment.old ≡ greatest closure.now.formula }
@@ -126,16 +126,16 @@ fn take_base(
 {
     let width = closure.entries().len() as u32;
     let Some(base) = base_of(closure, kind, layer.eventuality) else {
-        return Ok(Some(Fault::Eventuality));
+        return Ok(Some(LayerFault::Eventuality));
     };
     if let Some(claim) = first_foreign(&layer.claims, width) {
-        return Ok(Some(Fault::Claim(claim)));
+        return Ok(Some(LayerFault::Claim(claim)));
     }
     if let Some(line) = take_lines(assignment, clauses, &layer.base_lines, lines)? {
-        return Ok(Some(Fault::BaseLine(line)));
+        return Ok(Some(LayerFault::BaseLine(line)));
     }
     if let Some(claim) = first_unbased(closure, kind, base, layer, lines) {
-        return Ok(Some(Fault::BaseTarget(claim)));
+        return Ok(Some(LayerFault::BaseTarget(claim)));
     }
     Ok(None)
 }
@@ -149,7 +149,7 @@ fn take_step(
     clauses: &mut ClauseList,
     lines: &mut ClauseList,
     moved: &mut Vec<Literal>,
-) -> Result<Option<Fault>, AllocError>
+) -> Result<Option<LayerFault>, AllocError>
     requires claims { AreKnown (width closure.now.formula) layer.now.claims }
     requires clauses { AreKnown (greatest closure.now.formula) clauses.old }
     requires lines { AreKnown (greatest closure.now.formula) lines.old }
@@ -166,11 +166,11 @@ fn take_step(
     let width = closure.entries().len() as u32;
     open_next(&layer.claims, width, moved, clauses)?;
     if let Some(line) = take_lines(assignment, clauses, &layer.step_lines, lines)? {
-        return Ok(Some(Fault::StepLine(line)));
+        return Ok(Some(LayerFault::StepLine(line)));
     }
     let after = negation(closure, 1);
     if let Some(claim) = first_missed(lines, &layer.claims, &layer.step_targets, &[after]) {
-        return Ok(Some(Fault::StepTarget(claim)));
+        return Ok(Some(LayerFault::StepTarget(claim)));
     }
     push_all(&layer.claims, clauses)?;
     Ok(None)
@@ -186,7 +186,7 @@ pub fn take_layer(
     clauses: &mut ClauseList,
     lines: &mut ClauseList,
     moved: &mut Vec<Literal>,
-) -> Result<Option<Fault>, AllocError>
+) -> Result<Option<LayerFault>, AllocError>
     requires clauses { AreKnown (greatest closure.now.formula) clauses.old }
     requires lines { AreKnown (greatest closure.now.formula) lines.old }
     requires letters { letters_in assignment.old ≡ greatest closure.now.formula }

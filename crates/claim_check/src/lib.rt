@@ -15,5 +15,5 @@ mod targets;
 
 pub use certificate::{Certificate, HintedLines, Layer};
 pub use checking::check;
-pub use reason::{Fault, Reason, Verdict};
+pub use reason::{CertificateFault, ClaimVerdict, LayerFault};
 pub use step_list::push_step_list;

@@ -1,6 +1,6 @@
 // The list of a step, written over the entries of a closure: the gates at the state and at the next one, the
-// links between them, what a first state has, and what a last one has. Each part is one walk over the entries.
-// The gates are those of the clause list, over other letters.
+// links between them, what a first state has, and what a last one has. Each part is one walk over the
+// entries. The gates are those of the clause list, over other letters.
 ghost use Rattle.std.specs.Prelude.{◌≡◌, ◌+◌, ◌*◌, true, ◌≤◌, ◌++◌, length, All, OnOk};
 ghost use Rattle.ltl_closure.specs.Entries.{IsNumber};
 ghost use Rattle.enc_layout.specs.Letters.{EntryAt};

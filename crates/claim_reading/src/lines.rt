@@ -5,7 +5,8 @@ ghost use Rattle.ltl_syntax.specs.Print.{text_of};
 ghost use Rattle.cnf_base.specs.Known.{IsKnown, AreKnown};
 ghost use Rattle.claims.specs.Between.{width};
 ghost use Rattle.claim_check.specs.Data.{certificate_in};
-ghost use Rattle.claim_reading.specs.Never.{denied, behind_and, joined_text, never_line, never_text, AreOfEntries};
+ghost use Rattle.claim_reading.specs.Never.{denied, behind_and, joined_text, never_line, never_text};
+ghost use Rattle.claim_reading.specs.Never.{AreOfEntries};
 ghost use Rattle.claim_reading.specs.Sizes.{AreSizes};
 
 use crate::entry_sizes::{fits, sizes_of};

@@ -1,5 +1,5 @@
-// Certificates and closures from rows of a table. A literal is a number, negative where it is negated; a hint is
-// one too, negative where it names a line.
+// Certificates and closures from rows of a table. A literal is a number, negative where it is negated; a hint
+// is one too, negative where it names a line.
 ghost use Rattle.std.specs.Prelude.{IsTrue};
 ghost use Rattle.ltl_syntax.specs.Table.{IsPlain};
 

@@ -2,7 +2,7 @@
 // a trace, and its certificate is the same however its questions are cut into calls.
 ghost use Rattle.std.specs.Prelude.{◌≤◌, length};
 
-use claim_check::{Certificate, HintedLines, Verdict, check};
+use claim_check::{Certificate, ClaimVerdict, HintedLines, check};
 use claim_search::{Progress, Search};
 use cnf_base::{Clauses, Hint, Literal};
 use ltl_closure::Closure;
@@ -110,8 +110,8 @@ fn searched(rt: &impl Abort, alloc: Global, kind: Kind, row: Row, step: u64) -> 
         Progress::Ended => Outcome::Ended,
         Progress::Found(certificate) => {
             match check(alloc, &closure, kind, &certificate).expect(rt, "memory") {
-                Verdict::Verified => Outcome::Lawful(sum_of(&certificate)),
-                Verdict::Refused(_) => Outcome::Unlawful,
+                ClaimVerdict::Verified => Outcome::Lawful(sum_of(&certificate)),
+                ClaimVerdict::Refused(_) => Outcome::Unlawful,
             }
         }
     }

@@ -1,6 +1,6 @@
 // Certificates that were worked by hand, and the first reason of each that is spoiled.
 use crate::building::{LayerRow, LineRow, certificate, table_of};
-use claim_check::{Fault, Reason, Verdict, check};
+use claim_check::{CertificateFault, ClaimVerdict, LayerFault, check};
 use ltl_closure::Closure;
 use ltl_syntax::{BinaryOp, Kind, Node, UnaryOp};
 use std::alloc::Global;
@@ -15,7 +15,7 @@ struct Row {
     target: u64,
     /// Of which kind it is asked.
     asked: Kind,
-    verdict: Verdict,
+    verdict: ClaimVerdict,
 }
 
 const P: Node = Node::Letter(0);
@@ -62,7 +62,7 @@ const NEVER: Row = Row {
     close: NEVER_CLOSE,
     target: 6,
     asked: Kind::Infinite,
-    verdict: Verdict::Verified,
+    verdict: ClaimVerdict::Verified,
 };
 
 // `G F (p & Y q) & F G !q`; 33 there is a next state, 34 a first one; 66 clauses.
@@ -123,7 +123,7 @@ const LAYERS: Row = Row {
     ],
     target: 13,
     asked: Kind::Infinite,
-    verdict: Verdict::Verified,
+    verdict: ClaimVerdict::Verified,
 };
 
 // `G X p`, which holds neither at a last state nor before a state where it does not.
@@ -138,7 +138,7 @@ const ENDING: Row = Row {
     close: &[(&[-12], &[15, 18])],
     target: 3,
     asked: Kind::Finite,
-    verdict: Verdict::Verified,
+    verdict: ClaimVerdict::Verified,
 };
 
 const ENDING_LAYER: LayerRow = LayerRow {
@@ -158,7 +158,7 @@ const BEFORE_ALL: Row = Row {
     close: &[(&[-6], &[3, 4])],
     target: 1,
     asked: Kind::Finite,
-    verdict: Verdict::Verified,
+    verdict: ClaimVerdict::Verified,
 };
 
 const ROWS: &[Row] = &[
@@ -168,7 +168,7 @@ const ROWS: &[Row] = &[
     BEFORE_ALL,
     Row {
         asked: Kind::Finite,
-        verdict: Verdict::Refused(Reason::Kind),
+        verdict: ClaimVerdict::Refused(CertificateFault::Kind),
         ..NEVER
     },
     // The claim without one of its literals, and without an eventuality.
@@ -177,7 +177,7 @@ const ROWS: &[Row] = &[
             claims: &[&[-5]],
             ..NEVER_BOTH
         }],
-        verdict: Verdict::Refused(Reason::Layer(1, Fault::BaseTarget(1))),
+        verdict: ClaimVerdict::Refused(CertificateFault::Layer(1, LayerFault::BaseTarget(1))),
         ..NEVER
     },
     Row {
@@ -185,7 +185,7 @@ const ROWS: &[Row] = &[
             eventuality: None,
             ..NEVER_BOTH
         }],
-        verdict: Verdict::Refused(Reason::Layer(1, Fault::BaseTarget(1))),
+        verdict: ClaimVerdict::Refused(CertificateFault::Layer(1, LayerFault::BaseTarget(1))),
         ..NEVER
     },
     // An eventuality that is none of the formula's, and a claim that has a letter of the next state.
@@ -194,7 +194,7 @@ const ROWS: &[Row] = &[
             eventuality: Some(1),
             ..NEVER_BOTH
         }],
-        verdict: Verdict::Refused(Reason::Layer(1, Fault::Eventuality)),
+        verdict: ClaimVerdict::Refused(CertificateFault::Layer(1, LayerFault::Eventuality)),
         ..NEVER
     },
     Row {
@@ -202,7 +202,7 @@ const ROWS: &[Row] = &[
             claims: &[&[-5, -10], &[-5, -12]],
             ..NEVER_BOTH
         }],
-        verdict: Verdict::Refused(Reason::Layer(1, Fault::Claim(2))),
+        verdict: ClaimVerdict::Refused(CertificateFault::Layer(1, LayerFault::Claim(2))),
         ..NEVER
     },
     // The step names the claim at the state itself; its target is another line.
@@ -214,7 +214,7 @@ const ROWS: &[Row] = &[
             ],
             ..NEVER_BOTH
         }],
-        verdict: Verdict::Refused(Reason::Layer(1, Fault::StepLine(2))),
+        verdict: ClaimVerdict::Refused(CertificateFault::Layer(1, LayerFault::StepLine(2))),
         ..NEVER
     },
     Row {
@@ -222,13 +222,13 @@ const ROWS: &[Row] = &[
             step_targets: &[3],
             ..NEVER_BOTH
         }],
-        verdict: Verdict::Refused(Reason::Layer(1, Fault::StepTarget(1))),
+        verdict: ClaimVerdict::Refused(CertificateFault::Layer(1, LayerFault::StepTarget(1))),
         ..NEVER
     },
     // The layers in the other order.
     Row {
         layers: &[NOT_BOTH, NOT_DUE],
-        verdict: Verdict::Refused(Reason::Layer(1, Fault::BaseLine(1))),
+        verdict: ClaimVerdict::Refused(CertificateFault::Layer(1, LayerFault::BaseLine(1))),
         ..LAYERS
     },
     Row {
@@ -236,17 +236,17 @@ const ROWS: &[Row] = &[
             (&[-11], &[1, 17, 18, 7, 13, 14, 12, 48, 6]),
             (&[-24], &[45]),
         ],
-        verdict: Verdict::Refused(Reason::Line(2)),
+        verdict: ClaimVerdict::Refused(CertificateFault::Line(2)),
         ..NEVER
     },
     Row {
         target: 5,
-        verdict: Verdict::Refused(Reason::Target),
+        verdict: ClaimVerdict::Refused(CertificateFault::Target),
         ..NEVER
     },
 ];
 
-fn verdict_of(rt: &impl Abort, alloc: Global, row: &Row) -> Verdict {
+fn verdict_of(rt: &impl Abort, alloc: Global, row: &Row) -> ClaimVerdict {
     let (table, root) = table_of(rt, alloc, row.nodes);
     assert!(rt; root < table.len());
     let closure = Closure::of(alloc, &table, root, row.asked).expect(rt, "memory");

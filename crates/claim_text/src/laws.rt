@@ -1,6 +1,7 @@
 //! Laws of the texts. Each function is empty: its contract is the law, and a proof cites it by a call.
 ghost use Rattle.claim_text.specs.Worked.{WorkedTexts};
-ghost use Rattle.claim_text.specs.Laws.{TextsSayOne, OthersHaveFaults, TextsHaveNone, FaultsAreOne, WrittenIsText};
+ghost use Rattle.claim_text.specs.Laws.{TextsSayOne, OthersHaveFaults, TextsHaveNone, FaultsAreOne};
+ghost use Rattle.claim_text.specs.Laws.{WrittenIsText};
 
 /// A text says one thing. Bytes that are no text have one fault, and a text has none.
 pub fn texts()

@@ -3,7 +3,7 @@
 
 mod draft;
 pub mod laws;
-pub mod place;
+mod place;
 mod reading;
 mod refused;
 mod scanning;

@@ -7,8 +7,8 @@ use std::alloc::{AllocError, AllocFailed};
 /// Why bytes are not read as a certificate of claims.
 #[derive(Clone, Copy, Debug, PartialEq, Eq)]
 pub enum TextRefused {
-    /// They are no text. The number is the first byte, counted from 0, that no text continues, or the count of
-    /// bytes where they begin a text and are none.
+    /// They are no text. The number is the first byte, counted from 0, that no text continues, or the count
+    /// of bytes where they begin a text and are none.
     Form(u64),
     /// Memory was wanting, and nothing is said of the bytes.
     NoMemory,

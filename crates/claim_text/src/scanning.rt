@@ -1,7 +1,9 @@
-// What a byte decides, by the place and by what is read so far: the bytes that must come then, the place behind
-// them, and what is read with it.
+// What a byte decides, by the place and by what is read so far: the bytes that must come then, the place
+// behind them, and what is read with it.
 ghost use Rattle.std.specs.Prelude.{◌≡◌, ◌==◌, ◌+◌, ◌≤◌, None, Some, MatchOption, length, if◌then◌else◌};
-ghost use Rattle.claim_text.specs.Scan.{decided, advanced, end_in, first_in, number_in, nought_in, literal_in, hint_in, item_in, more_in, kind_in, greatest_in, place_behind, wanted, IsInRange};
+ghost use Rattle.claim_text.specs.Scan.{decided, advanced, end_in, first_in, number_in, nought_in};
+ghost use Rattle.claim_text.specs.Scan.{literal_in, hint_in, item_in, more_in, kind_in, greatest_in};
+ghost use Rattle.claim_text.specs.Scan.{place_behind, wanted, IsInRange};
 ghost use Rattle.claim_text.specs.Stored.{draft_in};
 ghost use Rattle.claim_text.specs.declared.place.Place.TheVariants as places;
 ghost use Rattle.claim_text.specs.declared.place.Role.TheVariants as roles;

@@ -3,7 +3,8 @@ ghost use Rattle.std.specs.Prelude.{◌≡◌, ◌++◌, IfOk, OnOk, map, decima
 ghost use Rattle.std.specs.List.{flat_map};
 ghost use Rattle.cert_text.specs.Text.{kind_text, literal_text, hint_text, target_text};
 ghost use Rattle.claim_check.specs.Data.{lines_in, layer_in, certificate_in};
-ghost use Rattle.claim_text.specs.Text.{claim_text, line_text, layer_text, text_of, targets_text, eventuality_number};
+ghost use Rattle.claim_text.specs.Text.{claim_text, line_text, layer_text, text_of, targets_text};
+ghost use Rattle.claim_text.specs.Text.{eventuality_number};
 
 use cert_text::printing;
 use claim_check::{Certificate, HintedLines, Layer};

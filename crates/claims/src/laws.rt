@@ -4,7 +4,10 @@
 //! the layer's eventuality, and at each state whose next state has them; so they hold everywhere. In the end
 //! no state is left that could be a first one. Layers are invariants, each relative to those before it, as in
 //! Bradley's IC3 (2011), and stand where k-liveness counts (Claessen and Sorensson 2012).
-ghost use Rattle.claims.specs.Laws.{LettersAreKnown, NamedAreKnown, NextAreKnown, LinesGrow, LayersGrow, LayerLinesGrow, StatesMakeSteps, StepsShowStates, RunsAreSequences, RunsEnd, RunsUnroll, EndlessKeepClaims, EndingKeepClaims, LawfulHasNoTrace};
+ghost use Rattle.claims.specs.Laws.{LettersAreKnown, NamedAreKnown, NextAreKnown, LinesGrow, LayersGrow};
+ghost use Rattle.claims.specs.Laws.{LayerLinesGrow, StatesMakeSteps, StepsShowStates, RunsAreSequences};
+ghost use Rattle.claims.specs.Laws.{RunsEnd, RunsUnroll, EndlessKeepClaims, EndingKeepClaims};
+ghost use Rattle.claims.specs.Laws.{LawfulHasNoTrace};
 ghost use Rattle.claims.specs.Worked.{WorkedCertificates};
 
 /// Each letter of what may be named is known, and what may be named grows line by line and layer by layer.

@@ -12,8 +12,8 @@ use Rattle.enc_layout.specs.Letters.{LayoutValue}
 use Rattle.enc_layout.specs.Clauses.{Clause, layout_of, state_clauses, gates_part, pairs_part, acceptance_part, pruning_part, step_clauses, clauses_through}
 use Rattle.enc_layout.specs.Clauses.{literal_in, counts, signed_clauses, clause_list, is_strong_next}
 use Rattle.clause_index.specs.declared.sizes.Sizes.{Sizes}
-use Rattle.clause_index.specs.declared.place.Section.{Section}
-use Rattle.clause_index.specs.declared.place.Section.TheVariants as sections
+use Rattle.clause_index.specs.declared.place.StepSection.{StepSection}
+use Rattle.clause_index.specs.declared.place.StepSection.TheVariants as sections
 use Rattle.clause_index.specs.declared.numbers.Numbers.{Numbers}
 use Rattle.clause_index.specs.Rows.{row_at}
 use Rattle.clause_index.specs.Counts.{sizes_of, state_size, pairs_size, accept_size, before_step}
@@ -32,7 +32,7 @@ list_long f kind d =
     length-map (clauses_through f kind d) (map (literal_in kind (counts f)))
     ∙ (length-steps f kind (suc d) ∙ ap (before_step kind (sizes_of f kind)) (sym (add-one d)))
 
-pub section_long : (f : Formula) (kind : Kind) (i : ℕ) (s : Section) → length (section_clauses f kind i s) ≡ section_size kind (sizes_of f kind) i s
+pub section_long : (f : Formula) (kind : Kind) (i : ℕ) (s : StepSection) → length (section_clauses f kind i s) ≡ section_size kind (sizes_of f kind) i s
 section_long f kind i sections.States = length-states f kind i
 section_long f kind i sections.Pairs = length-pairs_part f kind i
 section_long f kind i sections.Acceptance = length-acceptance_part f kind i
@@ -68,10 +68,10 @@ module _ (f : Formula) (kind : Kind) (d i : ℕ) (le : i ≤ d) where
   last_stand : Stand f kind d (first + state_size s i + pairs_size kind s i) last
   last_stand = stands_right f kind d (first + state_size s i) (pairs_size kind s i) (pairs_part f kind i) last (length-pairs_part f kind i) late_stand
 
-  abbrev at : Section → ℕ
+  abbrev at : StepSection → ℕ
   at t = number_behind f kind i (before_section kind (sizes_of f kind) i t)
 
-  pub section_stands : (t : Section) → Stand f kind d (number_behind f kind i (before_section kind (sizes_of f kind) i t)) (section_clauses f kind i t)
+  pub section_stands : (t : StepSection) → Stand f kind d (number_behind f kind i (before_section kind (sizes_of f kind) i t)) (section_clauses f kind i t)
   section_stands sections.States =
       stands_at f kind d first (at sections.States) (state_clauses f i) (omega arith) (stands_left f kind d first (state_clauses f i) late both_stand)
   section_stands sections.Pairs =
@@ -87,7 +87,7 @@ module _ (f : Formula) (kind : Kind) (d i : ℕ) (le : i ≤ d) where
       stands_at f kind d (n + e) (at sections.Pruning) (pruning_part f kind i) (omega arith)
       (stands_right f kind d n e (acceptance_part f kind i) (pruning_part f kind i) (length-acceptance_part f kind i) last_stand)
 
-pub section_within : (f : Formula) (kind : Kind) (i : ℕ) (t : Section) (k : ℕ) (s : Sizes) → s ≡ sizes_of f kind → k < section_size s.kind s i t
+pub section_within : (f : Formula) (kind : Kind) (i : ℕ) (t : StepSection) (k : ℕ) (s : Sizes) → s ≡ sizes_of f kind → k < section_size s.kind s i t
     → k < length (section_clauses f kind i t)
 section_within f kind i t k s is lt =
     let within : k < section_size kind (sizes_of f kind) i t = subst (λ z. k < section_size z.kind z i t) is lt in
@@ -95,7 +95,7 @@ section_within f kind i t k s is lt =
 
 -- the clause at a place is that of its number
 pub list_row : (layout : LayoutValue) (c : ClosureValue) → layout ≡ layout_of c → (s : Sizes) → s ≡ sizes_of c.formula c.kind
-    → (d i : ℕ) (t : Section) (k number : ℕ) → 1 ≤ number → i ≤ d → k < section_size s.kind s i t
+    → (d i : ℕ) (t : StepSection) (k number : ℕ) → 1 ≤ number → i ≤ d → k < section_size s.kind s i t
     → before_step s.kind s i + (before_section s.kind s i t + k) ≡ number - 1
     → row_at layout (section_clauses c.formula c.kind i t) k ≡ clause_at (clause_list c.formula c.kind d) number
 list_row layout c own s is d i t k number from le lt at =
@@ -112,7 +112,7 @@ list_row layout c own s is d i t k number from le lt at =
     ∙ ap (clause_at (clause_list f kind d)) here
 
 -- the numbers of a section
-pub section_numbers_are : (c : ClosureValue) (s : Sizes) → s ≡ sizes_of c.formula c.kind → (d i : ℕ) (t : Section) (n : Numbers) → i ≤ d
+pub section_numbers_are : (c : ClosureValue) (s : Sizes) → s ≡ sizes_of c.formula c.kind → (d i : ℕ) (t : StepSection) (n : Numbers) → i ≤ d
     → n.first ≡ 1 + (before_step s.kind s i + before_section s.kind s i t) → n.count ≡ section_size s.kind s i t
     → AreNumbersOf (record { formula = c.formula; kind = c.kind; depth = d }) n (section_clauses c.formula c.kind i t)
 section_numbers_are c s is d i t n le first count =

@@ -11,7 +11,7 @@ use Rattle.enc_layout.specs.Letters.{Unpruned, Equal, LoopTo, Differs, below}
 use Rattle.enc_layout.specs.Clauses.{Clause, Plus, Minus, counts, carried, place_clauses, equal_clause, fulfilled_clauses, loop_clause, closing_clauses}
 use Rattle.enc_layout.specs.Clauses.{pair_clauses, seen_clauses, new_clauses, pruned_clause, pruning_part, signed_clauses, clause_list}
 use Rattle.clause_index.specs.declared.sizes.Sizes.{Sizes}
-use Rattle.clause_index.specs.declared.place.Section.TheVariants as sections
+use Rattle.clause_index.specs.declared.place.StepSection.TheVariants as sections
 use Rattle.clause_index.specs.declared.numbers.Numbers.{Numbers}
 use Rattle.clause_index.specs.declared.numbers.PairPart.{PairPart}
 use Rattle.clause_index.specs.declared.numbers.PairPart.TheVariants as parts

@@ -8,7 +8,7 @@ use Rattle.enc_layout.specs.Letters.{Unpruned, Equal, LoopTo, below}
 use Rattle.enc_layout.specs.Clauses.{Clause, Plus, Minus, carried, place_clauses, equal_clause, fulfilled_clauses, loop_clause, seen_clauses, new_clauses}
 use Rattle.enc_layout.specs.Clauses.{pruned_clause}
 use Rattle.clause_index.specs.declared.sizes.Sizes.{Sizes}
-use Rattle.clause_index.specs.declared.place.Section.TheVariants as sections
+use Rattle.clause_index.specs.declared.place.StepSection.TheVariants as sections
 use Rattle.clause_index.specs.declared.numbers.PairPart.{PairPart}
 use Rattle.clause_index.specs.declared.numbers.PairPart.TheVariants as parts
 use Rattle.clause_index.specs.Counts.{place_count, state_size, pair_size, fulfilled_size}

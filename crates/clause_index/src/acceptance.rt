@@ -4,7 +4,8 @@ ghost use Rattle.std.specs.Prelude.{◌≡◌, ◌+◌, ◌<◌, ◌≤◌, [], 
 ghost use Rattle.ltl_syntax.specs.declared.node.Kind.TheVariants as Kinds;
 ghost use Rattle.ltl_closure.specs.Closure.{nexts};
 ghost use Rattle.enc_layout.specs.Letters.{LoopTo, EmptyAt, Fits, below};
-ghost use Rattle.enc_layout.specs.Clauses.{Plus, Minus, letter_of, layout_of, literal_in, accepted_clause, acceptance_part};
+ghost use Rattle.enc_layout.specs.Clauses.{Plus, Minus, letter_of, layout_of, literal_in, accepted_clause};
+ghost use Rattle.enc_layout.specs.Clauses.{acceptance_part};
 ghost use Rattle.clause_index.specs.Literals.{literals};
 ghost use Rattle.clause_index.specs.Rows.{row_at};
 ghost use Rattle.clause_index.specs.ByNumber.{weak_at, strong_before};

@@ -8,7 +8,7 @@ ghost use Rattle.clause_index.specs.Sections.{section_clauses};
 
 use crate::found::Found;
 use crate::indexed::Indexed;
-use crate::place::Section;
+use crate::place::StepSection;
 use cnf_base::{ClauseList, Clauses};
 use std::alloc::AllocError;
 
@@ -28,7 +28,7 @@ pub fn push(clause: &Found, list: &mut ClauseList) -> Result<(), AllocError>
 fn push_section(
     indexed: &Indexed<'_>,
     step: u32,
-    section: Section,
+    section: StepSection,
     list: &mut ClauseList,
 ) -> Result<(), AllocError>
     requires { step ≤ indexed.now.depth }
@@ -49,7 +49,7 @@ impl<'c> Indexed<'c> {
     pub fn append(
         &self,
         step: u32,
-        section: Section,
+        section: StepSection,
         list: &mut ClauseList,
     ) -> Result<(), AllocError>
         requires { step ≤ self.now.depth }

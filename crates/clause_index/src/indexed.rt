@@ -17,7 +17,7 @@ use crate::acceptance::acceptance;
 use crate::found::Found;
 use crate::numbers::{Numbers, PairPart, part_numbers, section_numbers};
 use crate::pair::pairs;
-use crate::place::{Place, Section, place_of};
+use crate::place::{Place, StepSection, place_of};
 use crate::pruning::pruning;
 use crate::samples::Samples;
 use crate::sizes::Sizes;
@@ -74,10 +74,10 @@ fn find(
 {
     let (step, index) = (place.step, place.index);
     match place.section {
-        Section::States => states(closure, layout, sizes, samples, step, index),
-        Section::Pairs => pairs(closure, layout, sizes, step, index),
-        Section::Acceptance => acceptance(closure, layout, step, index),
-        Section::Pruning => pruning(closure, layout, step, index),
+        StepSection::States => states(closure, layout, sizes, samples, step, index),
+        StepSection::Pairs => pairs(closure, layout, sizes, step, index),
+        StepSection::Acceptance => acceptance(closure, layout, step, index),
+        StepSection::Pruning => pruning(closure, layout, step, index),
     }
 }
 
@@ -111,7 +111,7 @@ impl<'c> Indexed<'c> {
     }
 
     /// The numbers of the clauses of a section of the step.
-    pub fn numbers(&self, step: u32, section: Section) -> Numbers
+    pub fn numbers(&self, step: u32, section: StepSection) -> Numbers
         requires { step ≤ self.now.depth }
         ensures clauses { AreNumbersOf self.now result
             (section_clauses self.now.formula self.now.kind step section) }

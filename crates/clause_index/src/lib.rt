@@ -25,6 +25,6 @@ pub use gate::{GateLiterals, push_gate};
 pub use indexed::Indexed;
 pub use numbers::{Numbers, PairPart};
 pub use operands::{Operands, operands_of};
-pub use place::Section;
+pub use place::StepSection;
 pub use run::Run;
 pub use storing::stored;

@@ -6,7 +6,7 @@ ghost use Rattle.clause_index.specs.Sections.{section_size, before_section};
 ghost use Rattle.clause_index.specs.PairParts.{part_size, before_pair, before_part};
 
 use crate::pair::fulfilled_size;
-use crate::place::Section;
+use crate::place::StepSection;
 use crate::sizes::Sizes;
 use ltl_syntax::Kind;
 
@@ -30,8 +30,8 @@ pub enum PairPart {
     /// A run may loop where the carries are equal, the first clause, and each eventuality that is asked for
     /// is fulfilled, one clause each. Infinite traces only.
     Loop,
-    /// Equal carries make the later step one that repeats, the first clause, and what is fulfilled between the
-    /// two is seen there, one clause each. Infinite traces only.
+    /// Equal carries make the later step one that repeats, the first clause, and what is fulfilled between
+    /// the two is seen there, one clause each. Infinite traces only.
     Seen,
     /// What is new of each eventuality, three clauses each, and behind them that the pair prunes, which on
     /// finite traces is the only one.
@@ -39,35 +39,35 @@ pub enum PairPart {
 }
 
 /// How many clauses the section has.
-fn section_size(sizes: Sizes, step: u32, section: Section) -> u64
+fn section_size(sizes: Sizes, step: u32, section: StepSection) -> u64
     requires { step ≤ 1000 }
     ensures size { result ≡ section_size sizes.kind sizes step section }
     ensures small { result < 2 ^ 47 }
 {
     match section {
-        Section::States => sizes.states(step),
-        Section::Pairs => sizes.pairs(step),
-        Section::Acceptance => sizes.acceptance(),
-        Section::Pruning => step as u64 * sizes.pruning(),
+        StepSection::States => sizes.states(step),
+        StepSection::Pairs => sizes.pairs(step),
+        StepSection::Acceptance => sizes.acceptance(),
+        StepSection::Pruning => step as u64 * sizes.pruning(),
     }
 }
 
 /// How many clauses of the step stand before those of the section.
-fn before_section(sizes: Sizes, step: u32, section: Section) -> u64
+fn before_section(sizes: Sizes, step: u32, section: StepSection) -> u64
     requires { step ≤ 1000 }
     ensures size { result ≡ before_section sizes.kind sizes step section }
     ensures small { result < 2 ^ 49 }
 {
     match section {
-        Section::States => 0,
-        Section::Pairs => sizes.states(step),
-        Section::Acceptance => sizes.states(step) + sizes.pairs(step),
-        Section::Pruning => sizes.states(step) + sizes.pairs(step) + sizes.acceptance(),
+        StepSection::States => 0,
+        StepSection::Pairs => sizes.states(step),
+        StepSection::Acceptance => sizes.states(step) + sizes.pairs(step),
+        StepSection::Pruning => sizes.states(step) + sizes.pairs(step) + sizes.acceptance(),
     }
 }
 
 /// The numbers of the clauses of a section of the step.
-pub fn section_numbers(sizes: Sizes, step: u32, section: Section) -> Numbers
+pub fn section_numbers(sizes: Sizes, step: u32, section: StepSection) -> Numbers
     requires { step ≤ 1000 }
     ensures first { result.first ≡ 1 + (before_step sizes.kind sizes step
         + before_section sizes.kind sizes step section) }
@@ -112,7 +112,7 @@ fn before_part(sizes: Sizes, step: u32, earlier: u32, part: PairPart) -> u64
         }
         PairPart::Seen => {
             let before = earlier as u64 * (1 + eventualities);
-            before_section(sizes, step, Section::Pruning) + before
+            before_section(sizes, step, StepSection::Pruning) + before
         }
         PairPart::Prune => before_prune(sizes, step, earlier),
     }
@@ -124,7 +124,7 @@ fn before_prune(sizes: Sizes, step: u32, earlier: u32) -> u64
     ensures size { result ≡ before_part sizes.kind sizes step earlier parts.Prune }
     ensures small { result < 2 ^ 50 }
 {
-    let before = before_section(sizes, step, Section::Pruning);
+    let before = before_section(sizes, step, StepSection::Pruning);
     match sizes.kind {
         Kind::Infinite => {
             let seen = step as u64 * (1 + sizes.eventualities as u64);

@@ -8,7 +8,7 @@ use crate::sizes::Sizes;
 
 /// The sections of a step's clauses, in their order.
 #[derive(Clone, Copy, PartialEq, Eq, Debug, Drop)]
-pub enum Section {
+pub enum StepSection {
     /// The state is there only where the one before it is, the gates of its entries, and its requests.
     States,
     /// The pairs that the step makes with the earlier ones.
@@ -22,7 +22,7 @@ pub enum Section {
 /// A section, and the index of a clause in it.
 #[derive(Clone, Copy, Drop)]
 pub struct Spot {
-    pub section: Section,
+    pub section: StepSection,
     pub index: u64,
 }
 
@@ -30,7 +30,7 @@ pub struct Spot {
 #[derive(Clone, Copy, Drop)]
 pub struct Place {
     pub step: u32,
-    pub section: Section,
+    pub section: StepSection,
     pub index: u64,
 }
 
@@ -43,26 +43,26 @@ fn spot_of(sizes: Sizes, step: u32, index: u64) -> Spot
     let states = sizes.states(step);
     if index < states {
         return Spot {
-            section: Section::States,
+            section: StepSection::States,
             index,
         };
     }
     let pairs = states + sizes.pairs(step);
     if index < pairs {
         return Spot {
-            section: Section::Pairs,
+            section: StepSection::Pairs,
             index: index - states,
         };
     }
     let acceptance = pairs + sizes.acceptance();
     if index < acceptance {
         return Spot {
-            section: Section::Acceptance,
+            section: StepSection::Acceptance,
             index: index - pairs,
         };
     }
     Spot {
-        section: Section::Pruning,
+        section: StepSection::Pruning,
         index: index - acceptance,
     }
 }

@@ -4,7 +4,8 @@ ghost use Rattle.std.specs.Prelude.{◌≡◌, ◌<◌, length};
 ghost use Rattle.ltl_closure.specs.Closure.{nexts, yesterdays, eventualities};
 ghost use Rattle.ltl_closure.specs.Entries.{IsNumber};
 ghost use Rattle.enc_layout.specs.Clauses.{carried};
-ghost use Rattle.clause_index.specs.ByNumber.{entry_count, argument_by, weak_by, number_at, argument_at, right_number, request_number, weak_at};
+ghost use Rattle.clause_index.specs.ByNumber.{entry_count, argument_by, weak_by, number_at, argument_at};
+ghost use Rattle.clause_index.specs.ByNumber.{right_number, request_number, weak_at};
 
 use crate::operands::operands_of;
 use ltl_closure::{Closure, Entry};

@@ -2,7 +2,9 @@
 // where it stands.
 ghost use Rattle.std.specs.Prelude.{◌≡◌, length, ◌-◌, ◌*◌, ◌/◌, ◌<◌, ◌≤◌, ◌^◌};
 ghost use Rattle.ltl_closure.specs.Closure.{nexts, eventualities};
-ghost use Rattle.clause_index.specs.Counts.{sizes_of, chain_size, link_size, state_size, place_count, pair_size, near_size, pairs_size, accept_size, prune_size, before_step};
+ghost use Rattle.clause_index.specs.Counts.{sizes_of, chain_size, link_size, state_size, place_count};
+ghost use Rattle.clause_index.specs.Counts.{pair_size, near_size, pairs_size, accept_size, prune_size};
+ghost use Rattle.clause_index.specs.Counts.{before_step};
 
 use crate::acceptance::strong_count;
 use crate::gate::gates_count;

@@ -3,7 +3,8 @@
 // for CNF formulas); `derive` asks for it, so what a log says can be trusted whatever search produced it.
 ghost use Rattle.std.specs.Prelude.{◌≡◌, ◌≤◌, [], length, IfOk, OnErr};
 ghost use Rattle.cnf_base.specs.Step.{IsHintedStep, clause_at};
-ghost use Rattle.clause_log.specs.LogValue.{LogValue, IsLog, IsInputAdded, IsLineAdded, with_input, with_line, greatest_u32, hints_at};
+ghost use Rattle.clause_log.specs.LogValue.{LogValue, IsLog, IsInputAdded, IsLineAdded, with_input};
+ghost use Rattle.clause_log.specs.LogValue.{with_line, greatest_u32, hints_at};
 
 use cnf_base::{Hint, Literal, Rows};
 use std::alloc::{AllocError, Global};

@@ -1,5 +1,6 @@
 // Clauses that are stored, their literals one after another in one buffer.
-ghost use Rattle.std.specs.Prelude.{◌≡◌, ◌<◌, ◌≤◌, ◌-◌, ◌^◌, [], ◌∷◌, ◌++◌, length, take, if◌then◌else◌, is_ok, slice_index_or};
+ghost use Rattle.std.specs.Prelude.{◌≡◌, ◌<◌, ◌≤◌, ◌-◌, ◌^◌, [], ◌∷◌, ◌++◌, length, take, if◌then◌else◌};
+ghost use Rattle.std.specs.Prelude.{is_ok, slice_index_or};
 ghost use Rattle.cnf_base.specs.RowPieces.{lengthened};
 ghost use Rattle.cnf_base.specs.Step.{clause_at};
 

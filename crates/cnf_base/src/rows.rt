@@ -1,7 +1,8 @@
 // Lists of rows of any length over two buffers: the items of all rows one after another, and where each row
-// ends, by four bytes a row. A row begins where the one before it ends, costs no allocation of its own, and is
-// lent as a slice. Clause lists and logs stand on it.
-ghost use Rattle.std.specs.Prelude.{◌≡◌, ◌<◌, ◌≤◌, [], ◌∷◌, ◌++◌, length, take, if◌then◌else◌, is_ok, slice_index_or};
+// ends, by four bytes a row. A row begins where the one before it ends, costs no allocation of its own, and
+// is lent as a slice. Clause lists and logs stand on it.
+ghost use Rattle.std.specs.Prelude.{◌≡◌, ◌<◌, ◌≤◌, [], ◌∷◌, ◌++◌, length, take, if◌then◌else◌, is_ok};
+ghost use Rattle.std.specs.Prelude.{slice_index_or};
 ghost use Rattle.cnf_base.specs.RowPieces.{lengthened, start_of};
 
 use std::alloc::{AllocError, Global};
@@ -98,8 +99,8 @@ impl<T: Copy + Drop> Rows<T> {
         }
     }
 
-    /// Puts the item behind the others of the last row. After want of memory or of room, which is told as want
-    /// of memory, the rows are as before.
+    /// Puts the item behind the others of the last row. After want of memory or of room, which is told as
+    /// want of memory, the rows are as before.
     pub fn lengthen(&mut self, item: T) -> Result<(), AllocError>
         requires { 0 < length self.old }
         ensures { self.new ≡ (if is_ok result then lengthened self.old item else self.old) }

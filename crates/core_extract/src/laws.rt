@@ -1,5 +1,6 @@
 //! Laws of cores. Each function is empty: its contract is the law, and a proof cites it by a call.
-ghost use Rattle.core_extract.specs.Laws.{TestsAreOne, CoreIsOne, LimitIsThere, TestsDecide, CoreIsThere, CoreIsRefuted, CoreHasNoTrace, CoreIsLeast, CoreIsApart};
+ghost use Rattle.core_extract.specs.Laws.{TestsAreOne, CoreIsOne, LimitIsThere, TestsDecide, CoreIsThere};
+ghost use Rattle.core_extract.specs.Laws.{CoreIsRefuted, CoreHasNoTrace, CoreIsLeast, CoreIsApart};
 
 /// A formula has one core at most.
 pub fn core_is_one()

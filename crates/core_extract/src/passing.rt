@@ -6,7 +6,8 @@
 ghost use Rattle.std.specs.Prelude.{◌≡◌, ◌<◌, ◌≤◌, length, IfOk, IfSome, OnOk};
 ghost use Rattle.ltl_syntax.specs.Replacement.{IsClear};
 ghost use Rattle.core_extract.specs.Core.{IsReached};
-ghost use Rattle.core_extract.specs.Testing.{IsTask, AreMarks, AreNext, IsStep, IsSettled, IsPassed, formula_of, test_of, marked};
+ghost use Rattle.core_extract.specs.Testing.{IsTask, AreMarks, AreNext, IsStep, IsSettled, IsPassed};
+ghost use Rattle.core_extract.specs.Testing.{formula_of, test_of, marked};
 
 use crate::presenting::mark;
 use crate::task::Task;

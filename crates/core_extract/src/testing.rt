@@ -4,7 +4,8 @@ ghost use Rattle.std.specs.Prelude.{◌≡◌, ℕ, ◌<◌, ◌≤◌, ◌↔�
 ghost use Rattle.ltl_syntax.specs.Table.{tree_at};
 ghost use Rattle.ltl_syntax.specs.Replacement.{IsKept};
 ghost use Rattle.core_extract.specs.Core.{IsRefuted, tableau};
-ghost use Rattle.core_extract.specs.Testing.{IsTask, AreMarks, IsGroup, IsTold, IsTested, AreTested, IsFirstClosed, formula_of, marked};
+ghost use Rattle.core_extract.specs.Testing.{IsTask, AreMarks, IsGroup, IsTold, IsTested, AreTested};
+ghost use Rattle.core_extract.specs.Testing.{IsFirstClosed, formula_of, marked};
 
 use crate::presenting::{mark, present};
 use crate::task::Task;

@@ -1,7 +1,13 @@
 //! Laws of clauses on demand: a part of the clause list is enough, and an assignment is looked at as a run.
 //! Each function is empty: its contract is the law, and a proof cites it by a call.
 ghost use Rattle.demand.specs.Worked.{WorkedLooks};
-ghost use Rattle.demand.specs.Laws.{StatesRun, InputsRun, StatesBegin, StatesGrow, RowsAreRead, CloseAccepts, NoCloseRejects, AcceptedCloses, PruningPrunes, NoPruningIsUnpruned, NoPruningsIsUnpruned, PruningsAreFound, RowsDecide, DoneIsLast, DifferencesTell, DifferencesAre, LookingAccepts, LookingUnpruned, NoRunByPart, NoAcceptedByPart, NoUnprunedByPart, OfListsGrow, WholeIsOfList, FirstStateNumbers, StateNumbers, PartsFollow, InputsAreKnown};
+ghost use Rattle.demand.specs.Laws.{StatesRun, InputsRun, StatesBegin, StatesGrow, RowsAreRead, CloseAccepts};
+ghost use Rattle.demand.specs.Laws.{NoCloseRejects, AcceptedCloses, PruningPrunes, NoPruningIsUnpruned};
+ghost use Rattle.demand.specs.Laws.{NoPruningsIsUnpruned, PruningsAreFound, RowsDecide, DoneIsLast};
+ghost use Rattle.demand.specs.Laws.{DifferencesTell, DifferencesAre, LookingAccepts, LookingUnpruned};
+ghost use Rattle.demand.specs.Laws.{NoRunByPart, NoAcceptedByPart, NoUnprunedByPart, OfListsGrow};
+ghost use Rattle.demand.specs.Laws.{WholeIsOfList, FirstStateNumbers, StateNumbers, PartsFollow};
+ghost use Rattle.demand.specs.Laws.{InputsAreKnown};
 
 /// The clauses of the states give a run.
 pub fn states_run()

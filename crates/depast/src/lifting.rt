@@ -11,7 +11,7 @@ ghost use Rattle.depast.specs.Sources.{AreReadable, IsLiftedState, AreLiftedStat
 use crate::lowering::{new_names, others};
 use crate::removal::Removed;
 use crate::sources::{Source, sources};
-use lasso_eval::{EvalRefused, Values, values};
+use lasso_eval::{EvalRefused, TruthRows, values};
 use ltl_syntax::FormulaTable;
 use ltl_word::{Name, StateSet, States, Trace};
 use std::alloc::{AllocError, Global};
@@ -22,7 +22,7 @@ use std::alloc::{AllocError, Global};
 pub struct Meanings {
     pub new: StateSet,
     pub sources: Vec<Source>,
-    pub values: Values,
+    pub values: TruthRows,
 }
 
 /// The trace with each new name where its past formula holds, and with no new name elsewhere. Its
@@ -134,7 +134,7 @@ fn state_of(trace: &Trace, position: usize) -> &StateSet
 }
 
 /// Whether what is read from a source is true at a position.
-fn shows(values: &Values, source: Source, position: u32) -> bool
+fn shows(values: &TruthRows, source: Source, position: u32) -> bool
     requires { position < length (row_at values.now source.node) }
     ensures { result ≡ shown values.now source position }
 {

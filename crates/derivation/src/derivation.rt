@@ -1,5 +1,5 @@
-// Lines that follow from a list of clauses, each with the hints that show it. A hint names a clause of the list
-// by its number there, so that whoever can find a clause by its number needs no list.
+// Lines that follow from a list of clauses, each with the hints that show it. A hint names a clause of the
+// list by its number there, so that whoever can find a clause by its number needs no list.
 ghost use Rattle.std.specs.Prelude.{◌≡◌, ◌≤◌, length};
 ghost use Rattle.cnf_base.specs.Step.{clause_at};
 ghost use Rattle.clause_log.specs.LogValue.{hints_at};

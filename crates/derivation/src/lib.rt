@@ -1,5 +1,5 @@
-//! Lines with hints that follow one after another from a list of clauses, which is stored nowhere: a clause of
-//! the list is named by its number.
+//! Lines with hints that follow one after another from a list of clauses, which is stored nowhere: a clause
+//! of the list is named by its number.
 #![tactic(auto)]
 
 pub mod derivation;

@@ -1,5 +1,6 @@
-// A log whose inputs are clauses of a list, with the number that each has there. What is derived in it is read
-// as a derivation from the list: a hint that names an input is told as one that names the clause of the list.
+// A log whose inputs are clauses of a list, with the number that each has there. What is derived in it is
+// read as a derivation from the list: a hint that names an input is told as one that names the clause of the
+// list.
 ghost use Rattle.std.specs.Prelude.{◌≡◌, ◌<◌, ◌≤◌, ℕ, List, length, slice_get, Some};
 ghost use Rattle.cnf_base.specs.declared.literal.Literal.{Literal as Signed};
 ghost use Rattle.cnf_base.specs.Step.{clause_at};

@@ -1,7 +1,12 @@
 //! Laws of the letters and the clause list. Each function is empty: its contract is the law, and a proof
 //! cites it by a call.
 ghost use Rattle.enc_layout.specs.Rows.{WorkedLists, WorkedCounts};
-ghost use Rattle.enc_layout.specs.Laws.{NumbersArePlaces, LettersAreCounted, FirstStatesFit, LowerDepthsFit, LettersAreKnown, ListsBegin, ListsGrow, StepsAreParts, AssignmentsRun, AssignmentsAccept, AssignmentsLoop, AssignmentsEmpty, AssignmentsEnd, AssignmentsAreUnpruned, RunsAreAssigned, AcceptedRunsAreAssigned, UnprunedRunsAreAssigned, RunQuestionsAnswer, AcceptedQuestionsAnswer, UnprunedQuestionsAnswer};
+ghost use Rattle.enc_layout.specs.Laws.{NumbersArePlaces, LettersAreCounted, FirstStatesFit, LowerDepthsFit};
+ghost use Rattle.enc_layout.specs.Laws.{LettersAreKnown, ListsBegin, ListsGrow, StepsAreParts};
+ghost use Rattle.enc_layout.specs.Laws.{AssignmentsRun, AssignmentsAccept, AssignmentsLoop, AssignmentsEmpty};
+ghost use Rattle.enc_layout.specs.Laws.{AssignmentsEnd, AssignmentsAreUnpruned, RunsAreAssigned};
+ghost use Rattle.enc_layout.specs.Laws.{AcceptedRunsAreAssigned, UnprunedRunsAreAssigned, RunQuestionsAnswer};
+ghost use Rattle.enc_layout.specs.Laws.{AcceptedQuestionsAnswer, UnprunedQuestionsAnswer};
 
 /// Numbers and letters agree, and each letter of the list is known. Depth 0 is within the limit, and what is
 /// below a depth within it.

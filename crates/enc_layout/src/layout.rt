@@ -3,7 +3,8 @@
 // earlier step, so that the letters through a depth keep their numbers when the next depth is asked.
 ghost use Rattle.std.specs.Prelude.{◌≡◌, ◌↔◌, IsTrue, ℕ, ◌+◌, ◌-◌, ◌*◌, ◌/◌, ◌^◌, ◌<◌, ◌≤◌};
 ghost use Rattle.ltl_closure.specs.Entries.{IsNumber};
-ghost use Rattle.enc_layout.specs.Letters.{own_count, pair_count, count_before, count_before_pair, letters_through, number_of, IsLetter, Fits};
+ghost use Rattle.enc_layout.specs.Letters.{own_count, pair_count, count_before, count_before_pair};
+ghost use Rattle.enc_layout.specs.Letters.{letters_through, number_of, IsLetter, Fits};
 ghost use Rattle.enc_layout.specs.Letters.{Unpruned, EntryAt};
 ghost use Rattle.enc_layout.specs.Clauses.{Plus, Minus, literal_in, layout_of};
 ghost use Rattle.enc_layout.specs.Parts.{meaning_of};

@@ -3,7 +3,7 @@ ghost use Rattle.ltl_syntax.specs.Table.{tree_at};
 ghost use Rattle.lasso_eval.specs.Cells.{positions};
 ghost use Rattle.lasso_eval.specs.Rows.{AreValues};
 
-use lasso_eval::{EvalRefused, Values, holds, values};
+use lasso_eval::{EvalRefused, TruthRows, holds, values};
 use ltl_syntax::{BinaryOp, FormulaTable, Node, UnaryOp};
 use ltl_word::{Name, StateSet, States, Trace};
 use std::alloc::{AllocError, Global};
@@ -266,7 +266,13 @@ fn shown_positions(table: &FormulaTable, root: u32, trace: &Trace) -> u128
     }
 }
 
-fn at_root(values: &Values, table: &FormulaTable, root: u32, trace: &Trace, position: u32) -> bool
+fn at_root(
+    values: &TruthRows,
+    table: &FormulaTable,
+    root: u32,
+    trace: &Trace,
+    position: u32,
+) -> bool
     requires values { AreValues table.now root trace.now values.now }
     requires within { position < positions trace.now (tree_at table.now root) }
 {
@@ -275,7 +281,7 @@ fn at_root(values: &Values, table: &FormulaTable, root: u32, trace: &Trace, posi
 
 // The root's value at a position, where that is one of those shown.
 fn shown_at(
-    values: &Values,
+    values: &TruthRows,
     table: &FormulaTable,
     root: u32,
     trace: &Trace,

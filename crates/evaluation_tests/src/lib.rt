@@ -1,4 +1,5 @@
-//! Tests of what is said of formulas on traces: where they hold, monitors, and formulas without past operators.
+//! Tests of what is said of formulas on traces: where they hold, monitors, and formulas without past
+//! operators.
 #![tactic(auto)]
 
 #[cfg(test)]

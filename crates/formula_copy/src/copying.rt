@@ -3,7 +3,8 @@ ghost use Rattle.std.specs.Prelude.{◌≡◌, ◌+◌, ◌<◌, ◌≤◌, leng
 ghost use Rattle.ltl_syntax.specs.Table.{MayFollow, IsFine, Pushes};
 ghost use Rattle.ltl_syntax.specs.Size.{sizes, node_size, HasOrder};
 ghost use Rattle.formula_copy.specs.Part.{IsPart};
-ghost use Rattle.formula_copy.specs.Copy.{numbers_in, IsMoved, IsCopyOfNode, StandsOnRoots, IsCopyOf, HasGrown};
+ghost use Rattle.formula_copy.specs.Copy.{numbers_in, IsMoved, IsCopyOfNode, StandsOnRoots, IsCopyOf};
+ghost use Rattle.formula_copy.specs.Copy.{HasGrown};
 
 use crate::parts::TablePart;
 use ltl_syntax::{FormulaTable, Node};

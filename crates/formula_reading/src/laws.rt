@@ -1,5 +1,5 @@
-//! What texts read as. The function calls the law that it stands on: its contract is the law, and a proof cites
-//! it by a call.
+//! What texts read as. The function calls the law that it stands on: its contract is the law, and a proof
+//! cites it by a call.
 ghost use Rattle.std.specs.Prelude.{◌≡◌, ◌⊎◌, List, ℕ};
 ghost use Rattle.ltl_syntax.specs.Formula.{Formula};
 ghost use Rattle.ltl_parser.specs.Text.{IsAccepted};

@@ -13,7 +13,7 @@ use crate::EvalRefused;
 use crate::depth::{columns_of, depth_under, loop_start_of};
 use crate::extent::Extent;
 use crate::node_row::node_row;
-use crate::row::{Row, Values};
+use crate::row::{Row, TruthRows};
 use ltl_syntax::{FormulaTable, mark_under};
 use ltl_word::Trace;
 use std::alloc::{AllocError, Global};
@@ -27,7 +27,7 @@ pub fn values(
     table: &FormulaTable,
     root: u32,
     trace: &Trace,
-) -> Result<Values, EvalRefused>
+) -> Result<TruthRows, EvalRefused>
     requires root { root < length table.now.nodes }
     requires trace { IsTrace trace.now }
     ensures ok { IfOk result (AreValues table.now root trace.now) }
@@ -53,7 +53,7 @@ pub fn values(
         loop_start: loop_start_of(trace, depth, columns),
     };
     let rows = filled(alloc, table, root, &under.marks, trace, extent)?;
-    Ok(Values::new(rows))
+    Ok(TruthRows::new(rows))
 }
 
 // The rows up to the root, each filled where its node is marked.

@@ -21,4 +21,4 @@ mod window;
 
 pub use evaluate::{holds, values};
 pub use refused::EvalRefused;
-pub use row::Values;
+pub use row::TruthRows;

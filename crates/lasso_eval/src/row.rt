@@ -45,11 +45,11 @@ impl Row {
 /// Where each formula under a root holds. Contracts see a list of rows, one for each node number
 /// up to the root, and a row as its truth values; a node that is not under the root has no cells.
 #[derive(Drop)]
-pub struct Values {
+pub struct TruthRows {
     rows: Vec<Row>,
 }
 
-impl Model for Values {
+impl Model for TruthRows {
     ghost use Rattle.std.specs.Prelude.{Bool, List};
 
     ghost Value = { List (List Bool) };
@@ -57,11 +57,11 @@ impl Model for Values {
     ghost view = { λ v. v.rows.items };
 }
 
-impl Values {
-    pub(crate) fn new(rows: Vec<Row>) -> Values
+impl TruthRows {
+    pub(crate) fn new(rows: Vec<Row>) -> TruthRows
         ensures { result ≡ rows.items }
     {
-        Values { rows }
+        TruthRows { rows }
     }
 
     /// At how many positions, from 0, the formula under the node has a value: at none where it is

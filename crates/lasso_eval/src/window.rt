@@ -5,7 +5,8 @@
 // end on is not beyond its far end. That place is kept while one pass goes along the row, so the
 // numbers of the operator cost nothing. On a loop the pass begins one round before, since what is
 // not found within one round is never found. What is n positions on is the window from n to n.
-ghost use Rattle.std.specs.Prelude.{◌≡◌, ◌+◌, ◌-◌, ◌<◌, ◌≤◌, ◌↔◌, ℕ, length, if◌then◌else◌, Some, IfOk, IsTrue};
+ghost use Rattle.std.specs.Prelude.{◌≡◌, ◌+◌, ◌-◌, ◌<◌, ◌≤◌, ◌↔◌, ℕ, length, if◌then◌else◌, Some, IfOk};
+ghost use Rattle.std.specs.Prelude.{IsTrue};
 ghost use Rattle.ltl_syntax.specs.Shape.{Future, Past, Between};
 ghost use Rattle.ltl_word.specs.Claims.{Always', IsSomewhere};
 ghost use Rattle.lasso_eval.specs.Cells.{max_cells};

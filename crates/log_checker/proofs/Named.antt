@@ -10,8 +10,8 @@ use Rattle.cnf_base.specs.Step.{clause_at}
 use Rattle.log_checker.specs.Values.{letters_in}
 use Rattle.log_checker.specs.Judging.{IsOutcome, IsLineOutcome}
 use Rattle.log_checker.specs.declared.assignment.Truth.{Truth}
-use Rattle.log_checker.specs.declared.outcome.Outcome.{Outcome}
-use Rattle.log_checker.specs.declared.outcome.Outcome.TheVariants.{AllFalse, Forces, Neither}
+use Rattle.log_checker.specs.declared.outcome.ClauseStatus.{ClauseStatus}
+use Rattle.log_checker.specs.declared.outcome.ClauseStatus.TheVariants.{AllFalse, Forces, Neither}
 use Rattle.log_checker.proofs.Outcomes.{neither_more}
 
 -- a known letter has a value or may have one
@@ -19,7 +19,7 @@ pub known_within : (values : List Truth) (l : Literal) → IsKnown (letters_in v
 known_within values l known = omega (arith, known.from_one, known.within)
 
 -- a line is read up to here: the rest is still to come
-pub record IsRead (greatest : ℕ) (falses whole rest : List Literal) (outcome : Outcome) : Type 0 where
+pub record IsRead (greatest : ℕ) (falses whole rest : List Literal) (outcome : ClauseStatus) : Type 0 where
   pub done : List Literal
   pub cut : whole ≡ done ++ rest
   pub known : All (IsKnown greatest) done
@@ -36,7 +36,7 @@ pub first_there : (whole done old : List Literal) (l : Literal) (new : List Lite
 first_there whole done old l new cut e =
     subst (λ xs. Contains xs l) (sym (cut ∙ ap (λ xs. done ++ xs) e)) (Contains-append_right done (l ∷ new) l (0, omega arith, refl))
 
-pub read_more : (greatest : ℕ) (falses whole old : List Literal) (l : Literal) (new : List Literal) (o p : Outcome) → IsRead greatest falses whole old o
+pub read_more : (greatest : ℕ) (falses whole old : List Literal) (l : Literal) (new : List Literal) (o p : ClauseStatus) → IsRead greatest falses whole old o
     → old ≡ l ∷ new → IsKnown greatest l
     → ((clause : List Literal) → IsOutcome falses clause o → IsOutcome falses (clause ++ l ∷ []) p) → IsRead greatest falses whole new p
 read_more greatest falses whole old l new o p is e known step = record {
@@ -46,25 +46,25 @@ read_more greatest falses whole old l new o p is e known step = record {
   is = step is.done is.is;
 }
 
-pub read_unknown : (greatest : ℕ) (falses whole old : List Literal) (l : Literal) (new : List Literal) (o : Outcome) → IsRead greatest falses whole old o
+pub read_unknown : (greatest : ℕ) (falses whole old : List Literal) (l : Literal) (new : List Literal) (o : ClauseStatus) → IsRead greatest falses whole old o
     → old ≡ l ∷ new → ¬ IsKnown greatest l
     → IsLineOutcome greatest falses whole Neither
 read_unknown greatest falses whole old l new o is e unknown =
     λ all. absurd (unknown (All-contains (IsKnown greatest) whole l all (first_there whole is.done old l new is.cut e)))
 
-pub read_neither : (greatest : ℕ) (falses whole rest : List Literal) (o : Outcome) → IsRead greatest falses whole rest o
+pub read_neither : (greatest : ℕ) (falses whole rest : List Literal) (o : ClauseStatus) → IsRead greatest falses whole rest o
     → o ≡ Neither → IsLineOutcome greatest falses whole Neither
 read_neither greatest falses whole rest o is e =
     (λ all. subst (λ xs. IsOutcome falses xs Neither) (sym is.cut) (neither_more falses is.done rest (subst (IsOutcome falses is.done) e is.is)))
 
-pub read_all : (greatest : ℕ) (falses whole rest : List Literal) (o : Outcome) → IsRead greatest falses whole rest o
+pub read_all : (greatest : ℕ) (falses whole rest : List Literal) (o : ClauseStatus) → IsRead greatest falses whole rest o
     → rest ≡ [] → IsLineOutcome greatest falses whole o
 read_all greatest falses whole rest o is e = go o is.is
   where
     same : whole ≡ is.done
     same = is.cut ∙ ap (λ xs. is.done ++ xs) e ∙ append-nil is.done
 
-    go : (p : Outcome) → IsOutcome falses is.done p → IsLineOutcome greatest falses whole p
+    go : (p : ClauseStatus) → IsOutcome falses is.done p → IsLineOutcome greatest falses whole p
     go AllFalse h = subst (λ xs. IsLineOutcome greatest falses xs AllFalse) (sym same) (is.known, h)
     go (Forces u) h = subst (λ xs. IsLineOutcome greatest falses xs (Forces u)) (sym same) (is.known, h)
     go Neither h = subst (λ xs. IsLineOutcome greatest falses xs Neither) (sym same) (λ all. h)
@@ -74,18 +74,18 @@ read_place : (clause : List Literal) (place : ℕ) (l : Literal) → place < len
     → take (place + 1) clause ≡ take place clause ++ l ∷ []
 read_place clause place l low at = take_more clause place l low ∙ ap (λ x. take place clause ++ x ∷ []) (get_or_from_slice_get clause place l l at)
 
-pub place_more : (falses clause : List Literal) (place : ℕ) (l : Literal) (o p : Outcome) → place < length clause → slice_get clause place ≡ Some l
+pub place_more : (falses clause : List Literal) (place : ℕ) (l : Literal) (o p : ClauseStatus) → place < length clause → slice_get clause place ≡ Some l
     → IsOutcome falses (take place clause) o
     → ((xs : List Literal) → IsOutcome falses xs o → IsOutcome falses (xs ++ l ∷ []) p) → IsOutcome falses (take (place + 1) clause) p
 place_more falses clause place l o p low at is step = subst (λ xs. IsOutcome falses xs p) (sym (read_place clause place l low at)) (step (take place clause) is)
 
-pub place_neither : (falses clause : List Literal) (place : ℕ) (o : Outcome) → IsOutcome falses (take place clause) o
+pub place_neither : (falses clause : List Literal) (place : ℕ) (o : ClauseStatus) → IsOutcome falses (take place clause) o
     → o ≡ Neither → IsOutcome falses clause Neither
 place_neither falses clause place o is e =
     (subst (λ xs. IsOutcome falses xs Neither) (take-append-drop place clause)
     (neither_more falses (take place clause) (drop place clause) (subst (IsOutcome falses (take place clause)) e is)))
 
-pub place_all : (falses clause : List Literal) (place : ℕ) (o : Outcome) → length clause ≤ place → IsOutcome falses (take place clause) o
+pub place_all : (falses clause : List Literal) (place : ℕ) (o : ClauseStatus) → length clause ≤ place → IsOutcome falses (take place clause) o
     → IsOutcome falses clause o
 place_all falses clause place o high is = subst (λ xs. IsOutcome falses xs o) (take_all place clause high) is
 

@@ -6,8 +6,8 @@ use Rattle.cnf_base.specs.declared.literal.Hint.{Hint}
 use Rattle.cnf_base.specs.Literal.{opposite}
 use Rattle.cnf_base.specs.Step.{IsFalse, IsUnit}
 use Rattle.cnf_base.specs.Among.{NamesAmong, RefutesAmong, conflict, propagate}
-use Rattle.log_checker.specs.declared.outcome.Outcome.{Outcome}
-use Rattle.log_checker.specs.declared.outcome.Outcome.TheVariants.{AllFalse, Forces, Neither}
+use Rattle.log_checker.specs.declared.outcome.ClauseStatus.{ClauseStatus}
+use Rattle.log_checker.specs.declared.outcome.ClauseStatus.TheVariants.{AllFalse, Forces, Neither}
 use Rattle.log_checker.specs.Judging.{IsOutcome, Goes}
 use Rattle.log_checker.specs.Laws.{HintsGoOn, NoHintsRefute, UnnamedRefuteNothing}
 
@@ -44,7 +44,7 @@ module _ (clauses : List (List Literal)) (lines : ℕ → Option (List Literal))
   same_clause : (hint : Hint) (a b : List Literal) → NamesAmong clauses lines greatest hint a → NamesAmong clauses lines greatest hint b → b ≡ a
   same_clause hint a b one two = let e : Some a ≡ Some b = sym one.is ∙ two.is in let f : a ≡ b = cc in sym f
 
-  goes_on : (falses : List Literal) (hint : Hint) (hints : List Hint) (clause : List Literal) (outcome : Outcome)
+  goes_on : (falses : List Literal) (hint : Hint) (hints : List Hint) (clause : List Literal) (outcome : ClauseStatus)
       → NamesAmong clauses lines greatest hint clause → IsOutcome falses clause outcome
       → Begins falses hint hints → Goes clauses lines greatest falses hints outcome
   goes_on falses hint hints clause AllFalse names is b = elim b.2 [
@@ -66,7 +66,7 @@ module _ (clauses : List (List Literal)) (lines : ℕ → Option (List Literal))
         | inr more ↦ is.1 more.0 (subst (λ c. IsUnit falses c more.0) same more.1)
       ]
 
-  goes_back : (falses : List Literal) (hint : Hint) (hints : List Hint) (clause : List Literal) (outcome : Outcome)
+  goes_back : (falses : List Literal) (hint : Hint) (hints : List Hint) (clause : List Literal) (outcome : ClauseStatus)
       → NamesAmong clauses lines greatest hint clause → IsOutcome falses clause outcome
       → Goes clauses lines greatest falses hints outcome → RefutesAmong clauses lines greatest falses (hint ∷ hints)
   goes_back falses hint hints clause AllFalse names is none =

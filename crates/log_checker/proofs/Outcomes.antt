@@ -8,8 +8,8 @@ use Rattle.cnf_base.specs.declared.literal.Literal.{Literal}
 use Rattle.cnf_base.specs.Literal.{opposite}
 use Rattle.cnf_base.specs.Step.{IsFalse, IsUnit}
 use Rattle.log_checker.specs.Judging.{IsOutcome}
-use Rattle.log_checker.specs.declared.outcome.Outcome.{Outcome}
-use Rattle.log_checker.specs.declared.outcome.Outcome.TheVariants.{AllFalse, Forces, Neither}
+use Rattle.log_checker.specs.declared.outcome.ClauseStatus.{ClauseStatus}
+use Rattle.log_checker.specs.declared.outcome.ClauseStatus.TheVariants.{AllFalse, Forces, Neither}
 
 All-front : {X : Type 0} (P : X → Type 0) (xs ys : List X) → All P (xs ++ ys) → All P xs
 All-front P [] ys all = All-nil P
@@ -40,7 +40,7 @@ module _ (falses : List Literal) where
   )
 
   -- one more literal is false
-  pub false_more : (xs : List Literal) (l : Literal) (o : Outcome) → Contains falses l → IsOutcome falses xs o → IsOutcome falses (xs ++ l ∷ []) o
+  pub false_more : (xs : List Literal) (l : Literal) (o : ClauseStatus) → Contains falses l → IsOutcome falses xs o → IsOutcome falses (xs ++ l ∷ []) o
   false_more xs l AllFalse here is = All-push (λ x. Contains falses x) xs l is here
   false_more xs l (Forces u) here is = record {
     there = Contains-append_left xs (l ∷ []) u is.there;

@@ -15,8 +15,8 @@ use Rattle.log_checker.specs.Values.{letters_in, false_of, falses_in}
 use Rattle.log_checker.specs.Judging.{IsOutcome, IsLineOutcome, IsHintOutcome}
 use Rattle.log_checker.specs.declared.assignment.Truth.{Truth}
 use Rattle.log_checker.specs.declared.assignment.Truth.TheVariants.{Unset}
-use Rattle.log_checker.specs.declared.outcome.Outcome.{Outcome}
-use Rattle.log_checker.specs.declared.outcome.Outcome.TheVariants.{AllFalse, Forces, Neither}
+use Rattle.log_checker.specs.declared.outcome.ClauseStatus.{ClauseStatus}
+use Rattle.log_checker.specs.declared.outcome.ClauseStatus.TheVariants.{AllFalse, Forces, Neither}
 use Rattle.log_checker.proofs.Falses.{unset_from, falses_more}
 use Rattle.log_checker.proofs.OneHint.{hints_go_on, Begins, begins, no_refutes}
 
@@ -54,7 +54,7 @@ module _ (clauses : List (List Literal)) (lines : ℕ → Option (List Literal))
   abbrev pub Remain : List Literal → List Hint → List Literal → List Hint → Type 0
   Remain F hs G all = RefutesAmong clauses lines greatest F hs ↔ RefutesAmong clauses lines greatest G all
 
-  pub remain_neither : (F G : List Literal) (old : List Hint) (hint : Hint) (new all : List Hint) (o : Outcome) → Remain F old G all
+  pub remain_neither : (F G : List Literal) (old : List Hint) (hint : Hint) (new all : List Hint) (o : ClauseStatus) → Remain F old G all
       → old ≡ hint ∷ new → IsHintOutcome clauses lines greatest F hint o → o ≡ Neither
       → ¬ RefutesAmong clauses lines greatest G all
   remain_neither F G old hint new all o remain e is at refutes =
@@ -63,7 +63,7 @@ module _ (clauses : List (List Literal)) (lines : ℕ → Option (List Literal))
       let both = none b.0 b.1 in
       elim b.2 [ inl end ↦ both.0 end.1 | inr more ↦ both.1 more.0 more.1 ]
 
-  pub remain_false : (F G : List Literal) (old : List Hint) (hint : Hint) (new all : List Hint) (o : Outcome) → Remain F old G all
+  pub remain_false : (F G : List Literal) (old : List Hint) (hint : Hint) (new all : List Hint) (o : ClauseStatus) → Remain F old G all
       → old ≡ hint ∷ new → IsHintOutcome clauses lines greatest F hint o → o ≡ AllFalse
       → (new ≡ []) ↔ RefutesAmong clauses lines greatest G all
   remain_false F G old hint new all o remain e is at =
@@ -73,7 +73,7 @@ module _ (clauses : List (List Literal)) (lines : ℕ → Option (List Literal))
         λ refutes. law.0 (subst (RefutesAmong clauses lines greatest F) e (remain.1 refutes)),
       )
 
-  pub remain_forces : (values : List Truth) (G : List Literal) (old : List Hint) (hint : Hint) (new all : List Hint) (o : Outcome) (u : Literal)
+  pub remain_forces : (values : List Truth) (G : List Literal) (old : List Hint) (hint : Hint) (new all : List Hint) (o : ClauseStatus) (u : Literal)
       → Remain (falses_in values) old G all → old ≡ hint ∷ new
       → IsHintOutcome clauses lines greatest (falses_in values) hint o → o ≡ Forces u → u.letter.0 < length values → get_or values u.letter.0 Unset ≡ Unset
       → Remain (falses_in (set values (opposite u).letter.0 (false_of (opposite u).negated))) new G all
@@ -118,7 +118,7 @@ module _ (clauses : List (List Literal)) (lines : ℕ → Option (List Literal))
   forced_unset values hint u is = unset_from values u is.2.not_false is.2.not_true
 
   -- what a clause of the list or a line is, is what the hint's clause is
-  pub named_clause : (F : List Literal) (n : ℕ) (o : Outcome) → 1 ≤ n → n ≤ length clauses → IsOutcome F (clause_at clauses n) o
+  pub named_clause : (F : List Literal) (n : ℕ) (o : ClauseStatus) → 1 ≤ n → n ≤ length clauses → IsOutcome F (clause_at clauses n) o
       → IsHintOutcome clauses lines greatest F (hints.Clause n) o
   named_clause F zero o low high is = absurd (omega (arith, low))
   named_clause F (suc n) o low high is = go o is
@@ -130,7 +130,7 @@ module _ (clauses : List (List Literal)) (lines : ℕ → Option (List Literal))
       names : NamesAmong clauses lines greatest (hints.Clause (suc n)) (clause_at clauses (suc n))
       names = record { is = there; within = λ m e. cc }
 
-      go : (p : Outcome) → IsOutcome F (clause_at clauses (suc n)) p → IsHintOutcome clauses lines greatest F (hints.Clause (suc n)) p
+      go : (p : ClauseStatus) → IsOutcome F (clause_at clauses (suc n)) p → IsHintOutcome clauses lines greatest F (hints.Clause (suc n)) p
       go AllFalse h = (clause_at clauses (suc n), names, h)
       go (Forces u) h = (clause_at clauses (suc n), names, h)
       go Neither h = λ clause other. subst (λ c. IsOutcome F c Neither) (one clause other) h
@@ -150,14 +150,14 @@ module _ (clauses : List (List Literal)) (lines : ℕ → Option (List Literal))
       past (c ∷ cs) zero high e = omega (arith, high)
       past (c ∷ cs) (suc k) high e = past cs k (omega (arith, high)) e
 
-  pub named_line : (F : List Literal) (n : ℕ) (line : List Literal) (o : Outcome) → lines n ≡ Some line → IsLineOutcome greatest F line o
+  pub named_line : (F : List Literal) (n : ℕ) (line : List Literal) (o : ClauseStatus) → lines n ≡ Some line → IsLineOutcome greatest F line o
       → IsHintOutcome clauses lines greatest F (hints.Line n) o
   named_line F n line o there is = go o is
     where
       one : (clause : List Literal) → NamesAmong clauses lines greatest (hints.Line n) clause → line ≡ clause
       one clause other = let e : Some line ≡ Some clause = sym there ∙ other.is in cc
 
-      go : (p : Outcome) → IsLineOutcome greatest F line p → IsHintOutcome clauses lines greatest F (hints.Line n) p
+      go : (p : ClauseStatus) → IsLineOutcome greatest F line p → IsHintOutcome clauses lines greatest F (hints.Line n) p
       go AllFalse h = (line, record { is = there; within = λ m e. h.0 }, h.1)
       go (Forces u) h = (line, record { is = there; within = λ m e. h.0 }, h.1)
       go Neither h = λ clause other. subst (λ c. IsOutcome F c Neither) (one clause other)

@@ -11,7 +11,7 @@ use Rattle.log_checker.specs.Values.{letters_in}
 use Rattle.log_checker.specs.Judging.{IsOutcome}
 use Rattle.log_checker.specs.Shorts.{literal_of, IsShort, AreShorts}
 use Rattle.log_checker.specs.declared.assignment.Truth.{Truth}
-use Rattle.log_checker.specs.declared.outcome.Outcome.TheVariants.{AllFalse}
+use Rattle.log_checker.specs.declared.outcome.ClauseStatus.TheVariants.{AllFalse}
 use Rattle.log_checker.specs.declared.stored.Short.{Short}
 use Rattle.log_checker.proofs.Named.{known_within, clause_known}
 

@@ -10,12 +10,12 @@ use Rattle.cnf_base.specs.Among.{NamesAmong, RefutesAmong, IsStepAmong}
 use Rattle.cnf_base.specs.Known.{IsKnown}
 use Rattle.cert_text.specs.Text.{Part, Line, Delete}
 use Rattle.cert_text.specs.Live.{lines_of, IsGoodLine}
-use Rattle.cert_text.specs.declared.item.Item.{Item}
-use Rattle.cert_text.specs.declared.item.Item.TheVariants as items
+use Rattle.cert_text.specs.declared.item.CertItem.{CertItem}
+use Rattle.cert_text.specs.declared.item.CertItem.TheVariants as items
 use Rattle.log_checker.specs.declared.lines.Lines.{Lines}
 use Rattle.log_checker.specs.declared.lines.Lines.TheVariants.{AllGood, FirstBad}
-use Rattle.log_checker.specs.declared.outcome.Outcome.{Outcome}
-use Rattle.log_checker.specs.declared.outcome.Outcome.TheVariants.{AllFalse, Forces, Neither}
+use Rattle.log_checker.specs.declared.outcome.ClauseStatus.{ClauseStatus}
+use Rattle.log_checker.specs.declared.outcome.ClauseStatus.TheVariants.{AllFalse, Forces, Neither}
 
 -- the first of the places of a range that is not good; none where all are
 abbrev pub IsFirstBad : (ℕ → Type 0) → ℕ → ℕ → Option ℕ → Type 0
@@ -87,13 +87,13 @@ found [] m = None
 found (l ∷ ls) m = if l.number == m then Some l.literals else found ls m
 
 -- an item is taken: the close leaves the checker as it is
-abbrev pub with_item : Checker → Item → Checker
+abbrev pub with_item : Checker → CertItem → Checker
 with_item c (items.Line literals hints) = with_part c (Line literals hints)
 with_item c (items.Delete ns) = with_part c (Delete ns)
 with_item c (items.Close ns) = c
 
 -- the answer to an item: a line is good where it is a hinted step over the live lines, and the others are
-abbrev pub IsGoodItem : List (List Literal) → Checker → Item → Bool → Type 0
+abbrev pub IsGoodItem : List (List Literal) → Checker → CertItem → Bool → Type 0
 IsGoodItem clauses c (items.Line literals hints) good = IsTrue good ↔ IsStepAmong clauses (found c.live) c.letters literals hints
 IsGoodItem clauses c (items.Delete ns) good = good ≡ true
 IsGoodItem clauses c (items.Close ns) good = good ≡ true
@@ -119,26 +119,26 @@ IsLinesAnswer clauses letters parts AllGood = IsFirstBadLine clauses letters par
 IsLinesAnswer clauses letters parts (FirstBad n) = (k : ℕ) × (n ≡ suc k) × IsFirstBadLine clauses letters parts (Some k)
 
 -- what a named clause is where some literals are false: each of its literals is, or all but one that has no value, or neither
-abbrev pub IsOutcome : List Literal → List Literal → Outcome → Type 0
+abbrev pub IsOutcome : List Literal → List Literal → ClauseStatus → Type 0
 IsOutcome falses clause AllFalse = IsFalse falses clause
 IsOutcome falses clause (Forces u) = IsUnit falses clause u
 IsOutcome falses clause Neither = (¬ IsFalse falses clause) × ((u : Literal) → ¬ IsUnit falses clause u)
 
 -- what the other hints have to do behind a hint whose clause has this outcome
-abbrev pub Goes : List (List Literal) → (ℕ → Option (List Literal)) → ℕ → List Literal → List Hint → Outcome → Type 0
+abbrev pub Goes : List (List Literal) → (ℕ → Option (List Literal)) → ℕ → List Literal → List Hint → ClauseStatus → Type 0
 Goes clauses lines greatest falses hints AllFalse = hints ≡ []
 Goes clauses lines greatest falses hints (Forces u) = RefutesAmong clauses lines greatest (opposite u ∷ falses) hints
 Goes clauses lines greatest falses hints Neither = ⊥
 
 -- what the clause that a hint names is; Neither also where it names none
-abbrev pub IsHintOutcome : List (List Literal) → (ℕ → Option (List Literal)) → ℕ → List Literal → Hint → Outcome → Type 0
+abbrev pub IsHintOutcome : List (List Literal) → (ℕ → Option (List Literal)) → ℕ → List Literal → Hint → ClauseStatus → Type 0
 IsHintOutcome clauses lines greatest falses hint AllFalse = (clause : List Literal) × NamesAmong clauses lines greatest hint clause × IsFalse falses clause
 IsHintOutcome clauses lines greatest falses hint (Forces u) = (clause : List Literal) × NamesAmong clauses lines greatest hint clause × IsUnit falses clause u
 IsHintOutcome clauses lines greatest falses hint Neither =
     (clause : List Literal) → NamesAmong clauses lines greatest hint clause → IsOutcome falses clause Neither
 
 -- what a line is that may have letters that are not known; Neither also where it has some
-abbrev pub IsLineOutcome : ℕ → List Literal → List Literal → Outcome → Type 0
+abbrev pub IsLineOutcome : ℕ → List Literal → List Literal → ClauseStatus → Type 0
 IsLineOutcome greatest falses line AllFalse = All (IsKnown greatest) line × IsFalse falses line
 IsLineOutcome greatest falses line (Forces u) = All (IsKnown greatest) line × IsUnit falses line u
 IsLineOutcome greatest falses line Neither = All (IsKnown greatest) line → IsOutcome falses line Neither

@@ -5,7 +5,7 @@ use Rattle.cnf_base.specs.declared.literal.Hint.{Hint}
 use Rattle.cnf_base.specs.Among.{NamesAmong, RefutesAmong}
 use Rattle.cert_text.specs.Text.{Part}
 use Rattle.cert_text.specs.Live.{lines_of, live_line, IsGoodLine}
-use Rattle.log_checker.specs.declared.outcome.Outcome.{Outcome}
+use Rattle.log_checker.specs.declared.outcome.ClauseStatus.{ClauseStatus}
 use Rattle.log_checker.specs.Judging.{IsOutcome, Goes, Piece, AreAnswered, end_of, first_answer, IsFirstBadLine, fresh, after, found}
 
 -- there is a first bad line, or none
@@ -25,7 +25,7 @@ CheckersKeepLive = (letters : ℕ) (parts : List Part) (m : ℕ) → found (afte
 -- hints refute by one hint after another: the first one names a clause, and by what that clause is it is clear what the others have to do
 abbrev pub HintsGoOn : Type 0
 HintsGoOn = (clauses : List (List Literal)) (lines : ℕ → Option (List Literal)) (greatest : ℕ) (falses : List Literal) (hint : Hint) (hints : List Hint)
-    (clause : List Literal) (outcome : Outcome)
+    (clause : List Literal) (outcome : ClauseStatus)
     → NamesAmong clauses lines greatest hint clause → IsOutcome falses clause outcome
     → RefutesAmong clauses lines greatest falses (hint ∷ hints) ↔ Goes clauses lines greatest falses hints outcome
 

@@ -9,7 +9,7 @@ ghost use Rattle.cnf_base.specs.Among.{RefutesAmong, IsStepAmong};
 ghost use Rattle.log_checker.specs.Values.{letters_in, falses_in};
 ghost use Rattle.log_checker.specs.Judging.{IsOutcome, IsLineOutcome, IsHintOutcome, IsAssumed};
 
-use crate::Outcome;
+use crate::ClauseStatus;
 use crate::assignment::{Assignment, Truth};
 use crate::listed::Listed;
 use cnf_base::{Clauses, Hint, Literal};
@@ -31,7 +31,7 @@ pub trait NamedClauses {
         ensures { result ≡ length (clauses self.now) };
 
     /// What the clause of this number is under these values.
-    fn outcome(&self, assignment: &Assignment, number: u64) -> Outcome
+    fn outcome(&self, assignment: &Assignment, number: u64) -> ClauseStatus
         requires from_one { 1 ≤ number }
         requires in_list { number ≤ length (clauses self.now) }
         requires known { AreKnown (letters_in assignment.now) (clauses self.now) }
@@ -45,7 +45,7 @@ impl<C: Clauses> NamedClauses for C {
         self.count()
     }
 
-    fn outcome(&self, assignment: &Assignment, number: u64) -> Outcome {
+    fn outcome(&self, assignment: &Assignment, number: u64) -> ClauseStatus {
         of_clause(assignment, self, number)
     }
 }
@@ -122,9 +122,9 @@ fn refute<C: NamedClauses, L: NamedLines, H: Listed<Hint> + Drop>(
     let mut rest = hints;
     'hints: while let Some(hint) = rest.take() {
         match of_hint(assignment, clauses, lines, hint) {
-            Outcome::AllFalse => return rest.take().is_none(),
-            Outcome::Forces(literal) => assignment.falsify(literal.opposite()),
-            Outcome::Neither => return false,
+            ClauseStatus::AllFalse => return rest.take().is_none(),
+            ClauseStatus::Forces(literal) => assignment.falsify(literal.opposite()),
+            ClauseStatus::Neither => return false,
         }
     }
     false
@@ -136,7 +136,7 @@ fn of_hint<C: NamedClauses, L: NamedLines>(
     clauses: &C,
     lines: &L,
     hint: Hint,
-) -> Outcome
+) -> ClauseStatus
     requires { AreKnown (letters_in assignment.now) (C.clauses clauses.now) }
     ensures { IsHintOutcome (C.clauses clauses.now) (L.lines lines.now) (letters_in assignment.now)
         (falses_in assignment.now) hint result }
@@ -144,72 +144,80 @@ fn of_hint<C: NamedClauses, L: NamedLines>(
     match hint {
         Hint::Clause(number) => {
             if number < 1 || number > clauses.last_number() {
-                return Outcome::Neither;
+                return ClauseStatus::Neither;
             }
             clauses.outcome(assignment, number)
         }
         Hint::Line(number) => match lines.find(number) {
-            None => Outcome::Neither,
+            None => ClauseStatus::Neither,
             Some(literals) => of_line(assignment, literals),
         },
     }
 }
 
 /// What the clause of this number is.
-pub(crate) fn of_clause<C: Clauses>(assignment: &Assignment, clauses: &C, number: u64) -> Outcome
+pub(crate) fn of_clause<C: Clauses>(
+    assignment: &Assignment,
+    clauses: &C,
+    number: u64,
+) -> ClauseStatus
     requires from_one { 1 ≤ number }
     requires in_list { number ≤ length (C.clauses clauses.now) }
     requires known { AreKnown (letters_in assignment.now) (C.clauses clauses.now) }
     ensures { IsOutcome (falses_in assignment.now) (clause_at (C.clauses clauses.now) number) result }
 {
-    let mut outcome = Outcome::AllFalse;
+    let mut outcome = ClauseStatus::AllFalse;
     'places: for place in 0..clauses.len(number) {
         outcome = with_literal(assignment, outcome, clauses.literal(number, place));
-        if let Outcome::Neither = outcome {
-            return Outcome::Neither;
+        if let ClauseStatus::Neither = outcome {
+            return ClauseStatus::Neither;
         }
     }
     outcome
 }
 
 /// What a named line is, whose letters are not known yet to be within the greatest.
-fn of_line<I: Listed<Literal> + Drop>(assignment: &Assignment, literals: I) -> Outcome
+fn of_line<I: Listed<Literal> + Drop>(assignment: &Assignment, literals: I) -> ClauseStatus
     ensures { IsLineOutcome (letters_in assignment.now) (falses_in assignment.now)
         (I.items literals) result }
 {
-    let mut outcome = Outcome::AllFalse;
+    let mut outcome = ClauseStatus::AllFalse;
     let mut rest = literals;
     'literals: while let Some(literal) = rest.take() {
         if !assignment.knows(literal) {
-            return Outcome::Neither;
+            return ClauseStatus::Neither;
         }
         outcome = with_literal(assignment, outcome, literal);
-        if let Outcome::Neither = outcome {
-            return Outcome::Neither;
+        if let ClauseStatus::Neither = outcome {
+            return ClauseStatus::Neither;
         }
     }
     outcome
 }
 
 /// What a clause is with one more literal.
-pub fn with_literal(assignment: &Assignment, outcome: Outcome, literal: Literal) -> Outcome
+pub fn with_literal(
+    assignment: &Assignment,
+    outcome: ClauseStatus,
+    literal: Literal,
+) -> ClauseStatus
     requires { literal.letter.0 < length assignment.now }
     ensures { (clause : List Literal) → IsOutcome (falses_in assignment.now) clause outcome →
         IsOutcome (falses_in assignment.now) (clause ++ literal ∷ []) result }
 {
     match assignment.value(literal) {
         Truth::False => outcome,
-        Truth::True => Outcome::Neither,
+        Truth::True => ClauseStatus::Neither,
         Truth::Unset => match outcome {
-            Outcome::AllFalse => Outcome::Forces(literal),
-            Outcome::Forces(other) => {
+            ClauseStatus::AllFalse => ClauseStatus::Forces(literal),
+            ClauseStatus::Forces(other) => {
                 if other == literal {
                     outcome
                 } else {
-                    Outcome::Neither
+                    ClauseStatus::Neither
                 }
             }
-            Outcome::Neither => outcome,
+            ClauseStatus::Neither => outcome,
         },
     }
 }

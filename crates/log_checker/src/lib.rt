@@ -19,5 +19,5 @@ pub use judge::{NamedClauses, NamedLines, with_literal};
 pub use lines::{Lines, Scratch, check_lines};
 pub use listed::{Listed, Rest};
 pub use live::LiveChecker;
-pub use outcome::Outcome;
+pub use outcome::ClauseStatus;
 pub use stored::StoredClauses;

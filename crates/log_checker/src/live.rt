@@ -8,7 +8,7 @@ ghost use Rattle.log_checker.specs.Judging.{fresh, found, with_item, IsGoodItem,
 use crate::assignment::Assignment;
 use crate::judge::{NamedClauses, judge};
 use crate::kept::Kept;
-use cert_text::{Item, Literals};
+use cert_text::{CertItem, Literals};
 use std::alloc::{AllocError, Global};
 use std::marker::Model;
 
@@ -48,24 +48,28 @@ impl<'t> LiveChecker<'t> {
     /// Takes the next item of the text. A line is kept, whether it is a hinted step over the live lines or
     /// not, and the answer is whether it is one; a delete drops the lines that it names. The answer to a
     /// delete and to the close is true. After want of memory the checker is as before.
-    pub fn take<C: NamedClauses>(&mut self, item: Item<'t>, clauses: &C) -> Result<bool, AllocError>
+    pub fn take<C: NamedClauses>(
+        &mut self,
+        item: CertItem<'t>,
+        clauses: &C,
+    ) -> Result<bool, AllocError>
         requires { AreKnown self.old.letters (C.clauses clauses.now) }
         ensures taken { OnOk result (self.new ≡ with_item self.old item.entry) }
         ensures judged { IfOk result (λ good. IsGoodItem (C.clauses clauses.now) self.old item.entry good) }
         ensures refused { OnErr result (self.new ≡ self.old) }
     {
         match item {
-            Item::Line { literals, hints } => {
+            CertItem::Line { literals, hints } => {
                 let again = literals.again();
                 let good = judge(&mut self.assignment, clauses, &self.kept, again, hints);
                 self.kept.push(literals)?;
                 Ok(good)
             }
-            Item::Delete { lines } => {
+            CertItem::Delete { lines } => {
                 self.kept.delete(lines);
                 Ok(true)
             }
-            Item::Close { .. } => Ok(true),
+            CertItem::Close { .. } => Ok(true),
         }
     }
 

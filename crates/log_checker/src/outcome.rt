@@ -3,7 +3,7 @@ use cnf_base::Literal;
 
 /// What a named clause is under the literals that are false so far.
 #[derive(Clone, Copy, Debug, Drop)]
-pub enum Outcome {
+pub enum ClauseStatus {
     /// Each of its literals is false.
     AllFalse,
     /// All are false but this one, which has no value.

@@ -1,7 +1,7 @@
 // Checkers and what workers work in may stand in any thread. These calls stand only where the types are
 // Send and Sync.
 
-use crate::{Lines, LiveChecker, Outcome, Scratch, StoredClauses};
+use crate::{ClauseStatus, Lines, LiveChecker, Scratch, StoredClauses};
 
 fn is_shared<T: Send + Sync>(_value: &T) {}
 
@@ -9,7 +9,7 @@ fn are_shared(
     checker: &LiveChecker<'_>,
     scratch: &Scratch,
     lines: &Lines,
-    outcome: &Outcome,
+    outcome: &ClauseStatus,
     stored: &StoredClauses,
 ) {
     is_shared(checker);

@@ -6,7 +6,7 @@ ghost use Rattle.log_checker.specs.Values.{falses_in};
 ghost use Rattle.log_checker.specs.Judging.{IsOutcome};
 ghost use Rattle.log_checker.specs.Shorts.{literal_of, IsShort};
 
-use crate::Outcome;
+use crate::ClauseStatus;
 use crate::assignment::Assignment;
 use crate::judge::{NamedClauses, of_clause, with_literal};
 use cnf_base::{ClauseList, Clauses, Letter, Literal};
@@ -111,7 +111,7 @@ fn short_of(clause: &[Literal]) -> Short
 
 /// What a clause is with one more literal, that of this number.
 #[inline(always)]
-fn with_number(assignment: &Assignment, outcome: Outcome, number: u32) -> Outcome
+fn with_number(assignment: &Assignment, outcome: ClauseStatus, number: u32) -> ClauseStatus
     requires { number / 2 < length assignment.now }
     ensures { (clause : List Literal) → IsOutcome (falses_in assignment.now) clause outcome →
         IsOutcome (falses_in assignment.now) (clause ++ literal_of number ∷ []) result }
@@ -123,14 +123,14 @@ fn with_number(assignment: &Assignment, outcome: Outcome, number: u32) -> Outcom
     with_literal(assignment, outcome, literal)
 }
 
-fn of_one(assignment: &Assignment, a: u32) -> Outcome
+fn of_one(assignment: &Assignment, a: u32) -> ClauseStatus
     requires { a / 2 < length assignment.now }
     ensures { IsOutcome (falses_in assignment.now) (literal_of a ∷ []) result }
 {
-    with_number(assignment, Outcome::AllFalse, a)
+    with_number(assignment, ClauseStatus::AllFalse, a)
 }
 
-fn of_two(assignment: &Assignment, a: u32, b: u32) -> Outcome
+fn of_two(assignment: &Assignment, a: u32, b: u32) -> ClauseStatus
     requires first { a / 2 < length assignment.now }
     requires second { b / 2 < length assignment.now }
     ensures { IsOutcome (falses_in assignment.now) (literal_of a ∷ literal_of b ∷ []) result }
@@ -138,7 +138,7 @@ fn of_two(assignment: &Assignment, a: u32, b: u32) -> Outcome
     with_number(assignment, of_one(assignment, a), b)
 }
 
-fn of_three(assignment: &Assignment, a: u32, b: u32, c: u32) -> Outcome
+fn of_three(assignment: &Assignment, a: u32, b: u32, c: u32) -> ClauseStatus
     requires first { a / 2 < length assignment.now }
     requires second { b / 2 < length assignment.now }
     requires third { c / 2 < length assignment.now }
@@ -154,7 +154,7 @@ impl NamedClauses for StoredClauses {
         self.list.count()
     }
 
-    fn outcome(&self, assignment: &Assignment, number: u64) -> Outcome {
+    fn outcome(&self, assignment: &Assignment, number: u64) -> ClauseStatus {
         match self.shorts[(number - 1) as usize] {
             Short::One(a) => of_one(assignment, a),
             Short::Two(a, b) => of_two(assignment, a, b),

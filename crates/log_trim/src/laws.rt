@@ -1,7 +1,12 @@
 //! Laws of the lines that some lines of a derivation stand on. Each function is empty: its contract is
 //! the law, and a proof cites it by a call.
 ghost use Rattle.log_trim.specs.Examples.{WorkedTrimming};
-ghost use Rattle.log_trim.specs.Laws.{TrimmedAreSteps, TrimmedKeeps, TargetsKeep, TrimmedIsKnown, TrimmedAreLines, TrimmedIsShorter, PushingStarts, PushingMay, PushingGoesOn, PushingSkips, PushingEnds, TableGoesOn, TableHas, SettingMarks, TargetIsMarked, MarkingStarts, NoHintsAdd, HintIsMarked, ClauseIsPassed, LineIsVisited, LineIsPassed, MarkingEnds, HintIsThere, NeededAreLines};
+ghost use Rattle.log_trim.specs.Laws.{TrimmedAreSteps, TrimmedKeeps, TargetsKeep, TrimmedIsKnown};
+ghost use Rattle.log_trim.specs.Laws.{TrimmedAreLines, TrimmedIsShorter, PushingStarts, PushingMay};
+ghost use Rattle.log_trim.specs.Laws.{PushingGoesOn, PushingSkips, PushingEnds, TableGoesOn, TableHas};
+ghost use Rattle.log_trim.specs.Laws.{SettingMarks, TargetIsMarked, MarkingStarts, NoHintsAdd, HintIsMarked};
+ghost use Rattle.log_trim.specs.Laws.{ClauseIsPassed, LineIsVisited, LineIsPassed, MarkingEnds, HintIsThere};
+ghost use Rattle.log_trim.specs.Laws.{NeededAreLines};
 
 /// The marked lines are steps over the same list, where what they name is marked.
 pub fn trimming()

@@ -2,7 +2,8 @@
 // A hint names an earlier line, so one walk from the last line back marks all of them: whatever needs a
 // line was visited before it. A walk forwards then keeps the marked ones, and in a table how many there
 // were up to each line, which is the new number of a marked line.
-ghost use Rattle.std.specs.Prelude.{◌≡◌, ℕ, ◌<◌, ◌≤◌, ◌+◌, ◌*◌, [], length, map, slice_index_or, IfOk, OnOk, Contains};
+ghost use Rattle.std.specs.Prelude.{◌≡◌, ℕ, ◌<◌, ◌≤◌, ◌+◌, ◌*◌, [], length, map, slice_index_or, IfOk, OnOk};
+ghost use Rattle.std.specs.Prelude.{Contains};
 ghost use Rattle.cnf_base.specs.declared.literal.Hint.TheVariants.{Line};
 ghost use Rattle.clause_log.specs.LogValue.{hints_at};
 ghost use Rattle.log_trim.specs.Kept.{Marks, IsClosed, AreNumbers, AreKept, renumbered};

@@ -6,7 +6,7 @@ ghost use Rattle.std.specs.Prelude.{◌≡◌, ◌≤◌, ◌++◌, OnOk, OnErr}
 ghost use Rattle.enc_layout.specs.Letters.{Fits};
 ghost use Rattle.enc_layout.specs.Clauses.{layout_of, loop_clauses, signed_clauses};
 
-use clause_index::{Indexed, Section};
+use clause_index::{Indexed, StepSection};
 use cnf_base::{ClauseList, Clauses};
 use enc_layout::Layout;
 use ltl_closure::Closure;
@@ -29,8 +29,8 @@ pub fn append(
 {
     let indexed = Indexed::of(closure, step);
     let count = out.count();
-    indexed.append(step, Section::Pairs, out)?;
-    match indexed.append(step, Section::Acceptance, out) {
+    indexed.append(step, StepSection::Pairs, out)?;
+    match indexed.append(step, StepSection::Acceptance, out) {
         Ok(()) => Ok(()),
         Err(_) => {
             // The pairs are there already.

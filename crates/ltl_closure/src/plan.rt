@@ -1,7 +1,8 @@
 // What there is to do for a node: its operands from left to right, and then the entry of its own operator.
 ghost use Rattle.std.specs.Prelude.{◌≡◌, ◌++◌, reverse, OnOk};
 ghost use Rattle.ltl_syntax.specs.Shape.{Future, Past};
-ghost use Rattle.ltl_closure.specs.Plan.{request_key, until_key, request_plan, span_plan, times_plan, window_plan, range_plan, unary_plan, connective_of, binary_plan};
+ghost use Rattle.ltl_closure.specs.Plan.{request_key, until_key, request_plan, span_plan, times_plan};
+ghost use Rattle.ltl_closure.specs.Plan.{window_plan, range_plan, unary_plan, connective_of, binary_plan};
 
 use crate::key::{Connective, Request};
 use ltl_syntax::{BinaryOp, UnaryOp};

@@ -1,5 +1,6 @@
 // A sink over memory, whose writes can be short, run out of room, and be made to fail.
-ghost use Rattle.std.specs.Prelude.{◌≡◌, ◌<◌, ◌≤◌, ◌↔◌, Some, [], take, length, vec_capacity, IfOk, OnOk, OnErr, IsErr, IsTrue};
+ghost use Rattle.std.specs.Prelude.{◌≡◌, ◌<◌, ◌≤◌, ◌↔◌, Some, [], take, length, vec_capacity, IfOk, OnOk};
+ghost use Rattle.std.specs.Prelude.{OnErr, IsErr, IsTrue};
 ghost use Rattle.ltl_io.specs.Count.{next_count, Rose, Counts};
 ghost use Rattle.ltl_io.specs.Outside.{Grows, GrowsByFront};
 ghost use Rattle.ltl_io.specs.Memory.{MemoryOutput, refuses_write, amount_taken};

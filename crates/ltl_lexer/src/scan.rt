@@ -1,10 +1,12 @@
 // What stands at the front of a text: white space, a sign, a bounded operator, or a word. No sign begins as a
 // word does, and a bounded operator goes on behind its word, so the longest token is the longest sign where
 // there is one, else the bounded operator where there is one, and else the longest word.
-ghost use Rattle.std.specs.Prelude.{◌≡◌, ◌<◌, ◌≤◌, ◌||◌, ◌==◌, length, take, slice_index, Some, None, false, drop, IfSome, IfNone};
+ghost use Rattle.std.specs.Prelude.{◌≡◌, ◌<◌, ◌≤◌, ◌||◌, ◌==◌, length, take, slice_index, Some, None, false};
+ghost use Rattle.std.specs.Prelude.{drop, IfSome, IfNone};
 ghost use Rattle.unicode_ident.specs.Ident.{is_xid_start, is_xid_continue};
 ghost use Rattle.ltl_lexer.specs.Tokens.{is_white, AreWhite, word_kind, IsLongest, BeginsNone};
-ghost use Rattle.ltl_lexer.specs.Scanning.{begins, begins_second, front_sign, passes, FrontChar, FrontWord, digit_at, front_number, front_times, front_range, front_bounded};
+ghost use Rattle.ltl_lexer.specs.Scanning.{begins, begins_second, front_sign, passes, FrontChar, FrontWord};
+ghost use Rattle.ltl_lexer.specs.Scanning.{digit_at, front_number, front_times, front_range, front_bounded};
 
 use crate::token::{BinaryWord, TokenKind, UnaryWord};
 

@@ -8,7 +8,8 @@ ghost use Rattle.ltl_syntax.specs.Table.{IsRoot, tree_at};
 ghost use Rattle.ltl_syntax.specs.Size.{sizes};
 ghost use Rattle.ltl_parser.specs.Grammar.{Reads, fault, node_count, weight};
 ghost use Rattle.ltl_parser.specs.Text.{symbols, symbol_of, names_of};
-ghost use Rattle.ltl_parser.specs.Standing.{AreReady, IsTaken, Steps, frames, parens, to_weigh, units, wanted};
+ghost use Rattle.ltl_parser.specs.Standing.{AreReady, IsTaken, Steps, frames, parens, to_weigh, units};
+ghost use Rattle.ltl_parser.specs.Standing.{wanted};
 
 use crate::reduce::reduce;
 use crate::stack::Stack;

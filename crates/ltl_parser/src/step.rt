@@ -6,7 +6,8 @@ ghost use Rattle.ltl_syntax.specs.Formula.{Const, Name, Letter};
 ghost use Rattle.ltl_syntax.specs.Size.{sizes};
 ghost use Rattle.ltl_parser.specs.Text.{symbol_of};
 ghost use Rattle.ltl_parser.specs.Grammar.{Operand, Operator, weight};
-ghost use Rattle.ltl_parser.specs.Standing.{ArePending, AddsLeaf, AreReady, IsTaken, Steps, frames, parens, to_weigh};
+ghost use Rattle.ltl_parser.specs.Standing.{ArePending, AddsLeaf, AreReady, IsTaken, Steps, frames, parens};
+ghost use Rattle.ltl_parser.specs.Standing.{to_weigh};
 
 use crate::meaning::{Meaning, meant};
 use crate::reduce::reduce;

@@ -1,6 +1,7 @@
 // The walk over the tokens, which finds a grammar fault and adds up the sizes. It keeps only whether an
 // operand is wanted next, and how many parentheses are open.
-ghost use Rattle.std.specs.Prelude.{◌≡◌, ◌+◌, ◌<◌, ◌≤◌, ◌^◌, ◌∷◌, ℕ, List, length, MatchOption, MatchResult, None, Some};
+ghost use Rattle.std.specs.Prelude.{◌≡◌, ◌+◌, ◌<◌, ◌≤◌, ◌^◌, ◌∷◌, ℕ, List, length, MatchOption, MatchResult};
+ghost use Rattle.std.specs.Prelude.{None, Some};
 ghost use Rattle.ltl_parser.specs.Grammar.{Symbol, fault, walk, later, node_count, weight};
 ghost use Rattle.ltl_parser.specs.Text.{symbols};
 ghost use Rattle.ltl_parser.specs.Standing.{symbol_meant, want};

@@ -2,7 +2,13 @@
 //!
 //! The tableau is Reynolds' one-pass tree-shaped one (2016), as Geatti, Gigante and Montanari (2019) ask a
 //! solver for its branches.
-ghost use Rattle.ltl_run.specs.Laws.{NormalFormAgrees, NegationAgrees, RangesAreIterated, RunsSatisfy, RulesAccept, LassosRun, TracesRun, RunsAreCut, RunsAreRotated, PrunedRunsShorten, LeastRunsAreUnpruned, HaveUnpruned, UnsatIsSound, BoundSettles, BoundFinds, VerdictIsOne, TreesHavePlainNames, AcceptedRunsHaveTraces, SatIsSound, SatIsExact, CarriesAreFew, CarriesComeOnce, TracesExtend, ExtensionsAgree, ReplacingRefutes, TreesAreGiven};
+ghost use Rattle.ltl_run.specs.Laws.{NormalFormAgrees, NegationAgrees, RangesAreIterated, RunsSatisfy};
+ghost use Rattle.ltl_run.specs.Laws.{RulesAccept, LassosRun, TracesRun, RunsAreCut, RunsAreRotated};
+ghost use Rattle.ltl_run.specs.Laws.{PrunedRunsShorten, LeastRunsAreUnpruned, HaveUnpruned, UnsatIsSound};
+ghost use Rattle.ltl_run.specs.Laws.{BoundSettles, BoundFinds, VerdictIsOne, TreesHavePlainNames};
+ghost use Rattle.ltl_run.specs.Laws.{AcceptedRunsHaveTraces, SatIsSound, SatIsExact, CarriesAreFew};
+ghost use Rattle.ltl_run.specs.Laws.{CarriesComeOnce, TracesExtend, ExtensionsAgree, ReplacingRefutes};
+ghost use Rattle.ltl_run.specs.Laws.{TreesAreGiven};
 
 /// At each position the normal form holds where the formula does, and that of its negation where the formula
 /// does not. That of a bounded operator is a request several times over.

@@ -1,6 +1,7 @@
 // The states of a trace from the states of a run: in each the names of the letters that are true there.
 ghost use Rattle.std.specs.Prelude.{◌≡◌, All, length, IfOk, OnOk, Some, None};
-ghost use Rattle.ltl_run.specs.Shown.{HaveFormula, HasRoom, entry_name, entry_names, IsSmall, HasChosen, HaveChosen};
+ghost use Rattle.ltl_run.specs.Shown.{HaveFormula, HasRoom, entry_name, entry_names, IsSmall, HasChosen};
+ghost use Rattle.ltl_run.specs.Shown.{HaveChosen};
 ghost use Rattle.ltl_run.specs.declared.run_state.RunState.{RunState as Values};
 
 use crate::RunState;

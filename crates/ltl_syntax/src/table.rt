@@ -3,10 +3,12 @@
 // A node is added only on top of roots, so each node belongs to one tree at most, and a number stands for the
 // tree under it. Names are kept in the order of first appearance in a hash table, and a flag beside each node
 // tells whether it is still a root, so that a text is read in time near to linear whatever it contains.
-ghost use Rattle.std.specs.Prelude.{◌≡◌, ◌≢◌, ℕ, ◌+◌, ◌<◌, ◌≤◌, ◌↔◌, ◌&&◌, not, false, [], Some, length, map, slice_get, slice_index_or, string_bytes, IfOk, OnOk, OnErr, IsTrue};
+ghost use Rattle.std.specs.Prelude.{◌≡◌, ◌≢◌, ℕ, ◌+◌, ◌<◌, ◌≤◌, ◌↔◌, ◌&&◌, not, false, [], Some, length, map};
+ghost use Rattle.std.specs.Prelude.{slice_get, slice_index_or, string_bytes, IfOk, OnOk, OnErr, IsTrue};
 ghost use Rattle.std.specs.List.{count_by};
 ghost use Rattle.ltl_syntax.specs.declared.table.PushRefused.TheVariants.{NoMemory};
-ghost use Rattle.ltl_syntax.specs.Table.{Table, IsTable, IsRoot, MayFollow, IsFine, IsPlain, Pushes, Names, tree_at, trees_of, made, has_child};
+ghost use Rattle.ltl_syntax.specs.Table.{Table, IsTable, IsRoot, MayFollow, IsFine, IsPlain, Pushes, Names};
+ghost use Rattle.ltl_syntax.specs.Table.{tree_at, trees_of, made, has_child};
 ghost use Rattle.ltl_syntax.specs.Size.{sizes, node_size, HasOrder};
 ghost use Rattle.ltl_syntax.specs.Roots.{HasChildrenBelow};
 

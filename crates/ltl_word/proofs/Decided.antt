@@ -66,8 +66,8 @@ module _ (t : Trace) (a : Formula) (d : Direction) (r : Range) (i : ℕ) where
   no_everywhere good = (
     λ h. elim (Somewhere_decided (IsPosition t) (Holds t (Unary Not a)) (Position_decided t) (Holds_decided t good (Unary Not a))
         (near t good (Unary Not a)) d r i) [
-      | yes w ↦ w
-      | no none ↦ absurd (h (Everywhere-from_none (IsPosition t) (Holds t a) (Position_decided t) (Holds_decided t good a) d r i none))
-    ],
+          | yes w ↦ w
+          | no none ↦ absurd (h (Everywhere-from_none (IsPosition t) (Holds t a) (Position_decided t) (Holds_decided t good a) d r i none))
+        ],
     λ w f. w.2 (f w.0 w.1),
   )

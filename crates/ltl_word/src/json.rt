@@ -6,7 +6,8 @@ ghost use Rattle.serde_json.specs.View.{view, members_view};
 ghost use Rattle.ltl_word.specs.declared.json.TraceFault.TheVariants.{NoMemory};
 ghost use Rattle.ltl_word.specs.State.{IsAscending};
 ghost use Rattle.ltl_word.specs.Trace.{IsTrace};
-ghost use Rattle.ltl_word.specs.Json.{state_data, states_data, trace_data, trace_text, AreSetsOf, IsTraceOf, IsReading, IsTraceReading, IsStatesReading, IsStateReading};
+ghost use Rattle.ltl_word.specs.Json.{state_data, states_data, trace_data, trace_text, AreSetsOf, IsTraceOf};
+ghost use Rattle.ltl_word.specs.Json.{IsReading, IsTraceReading, IsStatesReading, IsStateReading};
 
 use crate::{Name, StateSet, States, Trace};
 use serde_json::{Value, json};

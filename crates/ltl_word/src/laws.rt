@@ -2,9 +2,16 @@
 //! call.
 ghost use Rattle.std.specs.Prelude.{ℕ, suc, Bool, true, false, not};
 ghost use Rattle.ltl_syntax.specs.Formula.{Formula, Const, Unary, Binary};
-ghost use Rattle.ltl_syntax.specs.declared.node.UnaryOp.TheVariants.{Always, AlwaysIn, Eventually, EventuallyIn, Historically, HistoricallyIn, Next, NextTimes, Not, Once, OnceIn, WeakNext, WeakYesterday, Yesterday, YesterdayTimes};
-ghost use Rattle.ltl_syntax.specs.declared.node.BinaryOp.TheVariants.{And, Iff, Implies, Or, Release, Since, StrongRelease, Trigger, Until, WeakUntil};
-ghost use Rattle.ltl_word.specs.Laws.{IsPeriodic, EachIsDecided, AreEquivalent, AreEquivalentAtPositions, DependsOnState, DependsOnLetters, IsOneReading, EachIsRead};
+ghost use Rattle.ltl_syntax.specs.declared.node.UnaryOp.TheVariants.{Always, AlwaysIn, Eventually};
+ghost use Rattle.ltl_syntax.specs.declared.node.UnaryOp.TheVariants.{EventuallyIn, Historically};
+ghost use Rattle.ltl_syntax.specs.declared.node.UnaryOp.TheVariants.{HistoricallyIn, Next, NextTimes, Not};
+ghost use Rattle.ltl_syntax.specs.declared.node.UnaryOp.TheVariants.{Once, OnceIn, WeakNext, WeakYesterday};
+ghost use Rattle.ltl_syntax.specs.declared.node.UnaryOp.TheVariants.{Yesterday, YesterdayTimes};
+ghost use Rattle.ltl_syntax.specs.declared.node.BinaryOp.TheVariants.{And, Iff, Implies, Or, Release, Since};
+ghost use Rattle.ltl_syntax.specs.declared.node.BinaryOp.TheVariants.{StrongRelease, Trigger, Until};
+ghost use Rattle.ltl_syntax.specs.declared.node.BinaryOp.TheVariants.{WeakUntil};
+ghost use Rattle.ltl_word.specs.Laws.{IsPeriodic, EachIsDecided, AreEquivalent, AreEquivalentAtPositions};
+ghost use Rattle.ltl_word.specs.Laws.{DependsOnState, DependsOnLetters, IsOneReading, EachIsRead};
 
 /// On an infinite trace a formula repeats with the loop from some position on.
 pub fn periodic()

@@ -2,8 +2,9 @@
 //! the last one so far.
 //!
 //! Whether such a formula holds at a position depends on the states up to it alone, so a few earlier values
-//! for each operator are all that is kept. A step takes no memory. Its time grows with the formula and with the
-//! names in the state, and neither with how many states came before nor with the numbers of a bounded operator.
+//! for each operator are all that is kept. A step takes no memory. Its time grows with the formula and with
+//! the names in the state, and neither with how many states came before nor with the numbers of a bounded
+//! operator.
 #![tactic(auto)]
 
 pub mod laws;

@@ -4,7 +4,8 @@ ghost use Rattle.ltl_syntax.specs.Size.{HasOrder, IsInOrder};
 ghost use Rattle.ltl_syntax.specs.Roots.{HasChildrenBelow};
 ghost use Rattle.past_monitor.specs.Ring.{taken};
 ghost use Rattle.past_monitor.specs.Past.{IsPast₁, IsPast₂};
-ghost use Rattle.past_monitor.specs.Part.{ring_of, ring₁, value₁, value₂, IsValue, joining, IsPastNode, IsNamed, HasName};
+ghost use Rattle.past_monitor.specs.Part.{ring_of, ring₁, value₁, value₂, IsValue, joining, IsPastNode};
+ghost use Rattle.past_monitor.specs.Part.{IsNamed, HasName};
 
 use crate::ring::Ring;
 use ltl_syntax::{BinaryOp, FormulaTable, Node, UnaryOp};

@@ -3,7 +3,8 @@ ghost use Rattle.std.specs.Prelude.{◌≡◌, ℕ, ◌+◌, ◌<◌, ◌≤◌,
 ghost use Rattle.std.specs.Option.{option_copied};
 ghost use Rattle.ltl_syntax.specs.Table.{tree_at};
 ghost use Rattle.past_monitor.specs.declared.refused.WatchRefused.TheVariants as refusals;
-ghost use Rattle.past_monitor.specs.Text.{IsWatched, IsBad, is_blank, lines_of, lines_left, bytes_left, TakesLine};
+ghost use Rattle.past_monitor.specs.Text.{IsWatched, IsBad, is_blank, lines_of, lines_left, bytes_left};
+ghost use Rattle.past_monitor.specs.Text.{TakesLine};
 
 use crate::{Monitor, MonitorRefused, WatchRefused, state_of};
 use ltl_syntax::FormulaTable;

@@ -10,8 +10,8 @@ use Rattle.formula_reading.specs.declared.reading.FormulaFault.TheVariants as wr
 use Rattle.formula_reading.specs.Reading.{HasManyNodes}
 use Rattle.report.specs.declared.fault.Fault.{Fault}
 use Rattle.report.specs.declared.fault.Fault.TheVariants as faults
-use Rattle.program_input.specs.declared.reading.Reading.{Reading}
-use Rattle.program_input.specs.declared.reading.Reading.TheVariants as readings
+use Rattle.program_input.specs.declared.reading.PartReading.{PartReading}
+use Rattle.program_input.specs.declared.reading.PartReading.TheVariants as readings
 use Rattle.program_input.specs.Parts.{IsCut, HasNoSeparator}
 
 -- how a part is refused whose text has this fault
@@ -29,7 +29,7 @@ pub data RefusesPart (part : List ℕ) : Fault → Type 0 where
   many_nodes : (count : ℕ) → length part ≤ 1048576 → HasManyNodes part count → RefusesPart part (faults.Nodes count)
 
 -- the text is read as a formula, of which the table has the nodes and no others, or refused
-abbrev pub IsPartReading : List ℕ → Reading → Type 0
+abbrev pub IsPartReading : List ℕ → PartReading → Type 0
 IsPartReading text (readings.Formula table root) =
     (root < length table.nodes) × IsAccepted text (tree_at table root) × (length table.nodes ≡ nodes_in (tree_at table root))
     × (sizes table.nodes ≡ formula_size (tree_at table root))

@@ -6,4 +6,4 @@ mod reading;
 
 pub use formula_reading::MAX_TEXT;
 pub use parts::{Parts, cut};
-pub use reading::{Reading, read_formula};
+pub use reading::{PartReading, read_formula};

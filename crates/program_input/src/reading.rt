@@ -9,19 +9,22 @@ use std::alloc::{AllocError, Global};
 
 /// What a text is read as.
 #[derive(Drop)]
-pub enum Reading {
+pub enum PartReading {
     /// The formula is the tree under the root.
     Formula { table: FormulaTable, root: u32 },
     Refused(Fault),
 }
 
 /// Reads the text of a formula.
-pub fn read_formula(alloc: Global, text: &[u8]) -> Result<Reading, AllocError>
+pub fn read_formula(alloc: Global, text: &[u8]) -> Result<PartReading, AllocError>
     ensures { IfOk result (IsPartReading text.now) }
 {
     match formula_reading::read_formula(alloc, text)? {
-        formula_reading::Reading::Formula { table, root } => Ok(Reading::Formula { table, root }),
-        formula_reading::Reading::Refused(fault) => Ok(Reading::Refused(refusal_of(fault))),
+        formula_reading::Reading::Formula { table, root } => Ok(PartReading::Formula {
+            table,
+            root,
+        }),
+        formula_reading::Reading::Refused(fault) => Ok(PartReading::Refused(refusal_of(fault))),
     }
 }
 

@@ -5,7 +5,7 @@ ghost use Rattle.std.specs.Prelude.{◌≡◌, ◌≤◌, ◌++◌, OnOk, OnErr}
 ghost use Rattle.enc_layout.specs.Letters.{Fits};
 ghost use Rattle.enc_layout.specs.Clauses.{layout_of, prune_clauses, signed_clauses};
 
-use clause_index::{Indexed, Section};
+use clause_index::{Indexed, StepSection};
 use cnf_base::ClauseList;
 use enc_layout::Layout;
 use ltl_closure::Closure;
@@ -26,5 +26,5 @@ pub fn append(
         (prune_clauses closure.now.formula closure.now.kind step)) }
     ensures err { OnErr result (out.new ≡ out.old) }
 {
-    Indexed::of(closure, step).append(step, Section::Pruning, out)
+    Indexed::of(closure, step).append(step, StepSection::Pruning, out)
 }

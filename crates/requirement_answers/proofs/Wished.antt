@@ -10,8 +10,8 @@ use Rattle.ltl_word.specs.declared.trace.Trace.{Trace}
 use Rattle.ltl_word.specs.Holds.{Satisfies}
 use Rattle.ltl_word.specs.Laws.{EachIsDecided}
 use Rattle.requirement_questions.specs.declared.leaving.Because.{Because}
-use Rattle.requirement_questions.specs.declared.answering.Answer.{Answer}
-use Rattle.requirement_questions.specs.declared.answering.Answer.TheVariants as answers
+use Rattle.requirement_questions.specs.declared.answering.QuestionAnswer.{QuestionAnswer}
+use Rattle.requirement_questions.specs.declared.answering.QuestionAnswer.TheVariants as answers
 use Rattle.requirement_questions.specs.Members.{places}
 use Rattle.requirement_document.specs.declared.document.Role.{Role}
 use Rattle.requirement_document.specs.declared.document.Role.TheVariants as roles
@@ -21,7 +21,7 @@ use Rattle.requirement_answers.specs.declared.asking.Asking.TheVariants as askin
 use Rattle.requirement_answers.specs.declared.findings.Break.{Break}
 use Rattle.requirement_answers.specs.declared.findings.Report.{Report}
 use Rattle.requirement_answers.specs.declared.findings.Scope.TheVariants as scopes
-use Rattle.requirement_answers.specs.declared.judging.Verdict.TheVariants as verdicts
+use Rattle.requirement_answers.specs.declared.judging.ReportVerdict.TheVariants as verdicts
 use Rattle.requirement_answers.specs.Items.{numbers_of, role_of, formula_of, formulas_of, given_numbers}
 use Rattle.requirement_answers.specs.Asking.{asked_of, given_for, asks_of, asks_about, covers_item, covers_behaviour, questions_of}
 use Rattle.requirement_answers.specs.Answers.{CanBe, IsReason, IsAnswerTo, IsReply, AreConflicts, IsOpen}
@@ -85,17 +85,17 @@ is_asked d left n role a there is here =
 
 -- ---- what answers say
 
-can_be : (d : DocumentValue) (given : List ℕ) (asked : List Formula) (a : Answer) → IsAnswerTo d given asked a
+can_be : (d : DocumentValue) (given : List ℕ) (asked : List Formula) (a : QuestionAnswer) → IsAnswerTo d given asked a
     → is_cannot a ≡ false → is_undecided a ≡ false → (t : Trace) × CanBe d given asked t
 can_be d given asked (answers.Can t) h can decided = (t, h)
 can_be d given asked other h can decided = absurd (cc)
 
-cannot_be : (d : DocumentValue) (given : List ℕ) (asked : List Formula) (a : Answer) → IsAnswerTo d given asked a
+cannot_be : (d : DocumentValue) (given : List ℕ) (asked : List Formula) (a : QuestionAnswer) → IsAnswerTo d given asked a
     → is_can a ≡ false → is_undecided a ≡ false → (b : Because) × IsReason d given asked b
 cannot_be d given asked (answers.Cannot b) h cannot decided = (b.value, h)
 cannot_be d given asked other h cannot decided = absurd (cc)
 
-not_cannot : (a : Answer) → IsOpen a → is_cannot a ≡ false
+not_cannot : (a : QuestionAnswer) → IsOpen a → is_cannot a ≡ false
 not_cannot (answers.Cannot b) h = absurd h
 not_cannot other h = refl
 
@@ -153,7 +153,7 @@ module _ (law : EachIsDecided) (d : DocumentValue) (r : Report) (w : IsReport d 
 
   -- the answer to a question that is asked
   record Answered (a : Asking) : Type 0 where
-    answer : Answer
+    answer : QuestionAnswer
     right : IsAnswerTo d (given_for (given_numbers d) a) (asked_of d a) answer
     good : wrong_reply (record { asking = a; answer = answer }) ≡ false
     decided : is_undecided answer ≡ false

@@ -11,8 +11,8 @@ use Rattle.claim_check.specs.Data.{certificate_in}
 use Rattle.requirement_questions.specs.declared.members.Member.{Member}
 use Rattle.requirement_questions.specs.declared.leaving.Because.{Because}
 use Rattle.requirement_questions.specs.declared.parting.Core.{Core}
-use Rattle.requirement_questions.specs.declared.answering.Answer.{Answer}
-use Rattle.requirement_questions.specs.declared.answering.Answer.TheVariants as answers
+use Rattle.requirement_questions.specs.declared.answering.QuestionAnswer.{QuestionAnswer}
+use Rattle.requirement_questions.specs.declared.answering.QuestionAnswer.TheVariants as answers
 use Rattle.requirement_questions.specs.Formulas.{all_of, SatisfiesEach, NoneSatisfies}
 use Rattle.requirement_questions.specs.Core.{IsCoreOf}
 use Rattle.requirement_questions.specs.Members as members
@@ -43,7 +43,7 @@ pub record IsReason (d : DocumentValue) (given : List ℕ) (asked : List Formula
 
 -- a trace that satisfies the given items and what is asked; some of them that cannot be with it; or the formula that says all of it has this size, which is
 -- above the limit. It may be open for each question whose formula is within the limit
-abbrev pub IsAnswerTo : DocumentValue → List ℕ → List Formula → Answer → Type 0
+abbrev pub IsAnswerTo : DocumentValue → List ℕ → List Formula → QuestionAnswer → Type 0
 IsAnswerTo d given asked (answers.Can t) = CanBe d given asked t
 IsAnswerTo d given asked (answers.Cannot b) = IsReason d given asked b.value
 IsAnswerTo d given asked answers.Undecided = formula_size (all_of (formulas_of d given ++ asked)) ≤ 16384
@@ -67,7 +67,7 @@ AreCores d (b ∷ conflicts) [] = ⊥
 AreCores d (b ∷ conflicts) (c ∷ cores) = IfSome c (λ c. IsCoreOf d.kind (formulas_of d (places b.value.members.items)) c.value) × AreCores d conflicts cores
 
 -- it is not known that these items cannot be met together
-abbrev pub IsOpen : Answer → Type 0
+abbrev pub IsOpen : QuestionAnswer → Type 0
 IsOpen (answers.Can t) = ⊤
 IsOpen (answers.Cannot b) = ⊥
 IsOpen answers.Undecided = ⊤

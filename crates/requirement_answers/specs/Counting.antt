@@ -1,7 +1,7 @@
 -- How many questions were answered as one may hope.
 use Rattle.std.specs.Prelude.{◌≡◌, ℕ, Bool, true, false, not, ◌&&◌, List, length, if◌then◌else◌}
 use Rattle.std.specs.List.{count_by}
-use Rattle.requirement_questions.specs.declared.answering.Answer.{Answer}
+use Rattle.requirement_questions.specs.declared.answering.QuestionAnswer.{QuestionAnswer}
 use Rattle.requirement_document.specs.Values.{DocumentValue}
 use Rattle.requirement_answers.specs.declared.asking.Asking.{Asking}
 use Rattle.requirement_answers.specs.declared.asking.Asking.TheVariants as askings
@@ -23,7 +23,7 @@ is_of further.Follows (askings.Follows n) = true
 is_of sort asking = false
 
 -- what one hopes for: that it can be, but of what is to follow that it cannot fail
-abbrev pub is_hoped : Further → Answer → Bool
+abbrev pub is_hoped : Further → QuestionAnswer → Bool
 is_hoped further.Triggered a = is_can a
 is_hoped further.New a = is_can a
 is_hoped further.Possible a = is_can a

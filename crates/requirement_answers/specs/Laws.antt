@@ -6,7 +6,7 @@ use Rattle.requirement_document.specs.declared.document.Role.TheVariants as role
 use Rattle.requirement_document.specs.Values.{DocumentValue}
 use Rattle.requirement_answers.specs.declared.findings.Report.{Report}
 use Rattle.requirement_answers.specs.declared.findings.Scope.TheVariants as scopes
-use Rattle.requirement_answers.specs.declared.judging.Verdict.TheVariants as verdicts
+use Rattle.requirement_answers.specs.declared.judging.ReportVerdict.TheVariants as verdicts
 use Rattle.requirement_answers.specs.Items.{numbers_of, role_of, formula_of, given_numbers}
 use Rattle.requirement_answers.specs.Answers.{CanBe}
 use Rattle.requirement_answers.specs.Checks.{trace_of}

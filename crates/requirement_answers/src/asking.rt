@@ -1,5 +1,5 @@
 // What is asked of a document, and what is answered.
-use requirement_questions::Answer;
+use requirement_questions::QuestionAnswer;
 
 /// A question about a document. Items are counted from 0 in the document's order.
 #[derive(Clone, Copy, Debug, PartialEq, Eq)]
@@ -20,5 +20,5 @@ pub enum Asking {
 #[derive(Drop)]
 pub struct Reply {
     pub asking: Asking,
-    pub answer: Answer,
+    pub answer: QuestionAnswer,
 }

@@ -11,13 +11,13 @@ use crate::effort::Watch;
 use crate::numbers::{given_numbers, without};
 use crate::replying::answer_given;
 use requirement_document::Document;
-use requirement_questions::{Answer, Asked, Because, Limits, Member};
+use requirement_questions::{Because, Limits, Member, QuestionAnswer, Wanted};
 use std::alloc::{AllocError, Global};
 
 /// What is found of items that are asked together.
 #[derive(Drop)]
 pub enum Met {
-    Open(Answer),
+    Open(QuestionAnswer),
     Conflict(Box<Because>),
 }
 
@@ -26,7 +26,7 @@ pub enum Met {
 pub struct Together {
     pub conflicts: Vec<Box<Because>>,
     pub left: Vec<u32>,
-    pub answer: Answer,
+    pub answer: QuestionAnswer,
 }
 
 /// Sets aside what cannot be met together. `watch` is told each time before it is asked.
@@ -70,11 +70,11 @@ fn met_together(
     requires { AreItems (document_in document.now) left.now }
     ensures { IfOk result (IsMet (document_in document.now) left.now) }
 {
-    match answer_given(alloc, document, left, Asked::Nothing, limits)? {
-        Answer::Can(trace) => Ok(Met::Open(Answer::Can(trace))),
-        Answer::Cannot(because) => Ok(Met::Conflict(because)),
-        Answer::Undecided => Ok(Met::Open(Answer::Undecided)),
-        Answer::TooLarge(size) => Ok(Met::Open(Answer::TooLarge(size))),
+    match answer_given(alloc, document, left, Wanted::Nothing, limits)? {
+        QuestionAnswer::Can(trace) => Ok(Met::Open(QuestionAnswer::Can(trace))),
+        QuestionAnswer::Cannot(because) => Ok(Met::Conflict(because)),
+        QuestionAnswer::Undecided => Ok(Met::Open(QuestionAnswer::Undecided)),
+        QuestionAnswer::TooLarge(size) => Ok(Met::Open(QuestionAnswer::TooLarge(size))),
     }
 }
 

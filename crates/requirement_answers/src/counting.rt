@@ -4,14 +4,15 @@ ghost use Rattle.std.specs.List.{count_by};
 ghost use Rattle.requirement_document.specs.Values.{document_in};
 ghost use Rattle.requirement_answers.specs.Items.{given_numbers};
 ghost use Rattle.requirement_answers.specs.Verdicts.{is_can, has_break};
-ghost use Rattle.requirement_answers.specs.Counting.{is_of, is_hoped, asked_so, good_so, tally, AreCounts, one_if};
+ghost use Rattle.requirement_answers.specs.Counting.{is_of, is_hoped, asked_so, good_so, tally, AreCounts};
+ghost use Rattle.requirement_answers.specs.Counting.{one_if};
 
 use crate::asking::{Asking, Reply};
 use crate::findings::{Check, Report};
 use crate::judging::{has_break, is_can, is_cannot};
 use crate::numbers::is_given;
 use requirement_document::Document;
-use requirement_questions::Answer;
+use requirement_questions::QuestionAnswer;
 
 /// How many of how many.
 #[derive(Clone, Copy, Debug, PartialEq, Eq)]
@@ -20,8 +21,8 @@ pub struct Tally {
     pub all: usize,
 }
 
-/// The items that are met together of those assumed and required, none where that is not known; of each sort of
-/// further question those with the answer that one hopes for; and the behaviours that keep all.
+/// The items that are met together of those assumed and required, none where that is not known; of each sort
+/// of further question those with the answer that one hopes for; and the behaviours that keep all.
 #[derive(Clone, Copy, Debug, PartialEq, Eq)]
 pub struct Counts {
     pub met: Tally,
@@ -174,7 +175,7 @@ fn is_of(sort: Further, asking: Asking) -> bool
 }
 
 /// Whether one hopes for the answer to a question of the sort.
-fn is_hoped(sort: Further, answer: &Answer) -> bool
+fn is_hoped(sort: Further, answer: &QuestionAnswer) -> bool
     ensures { result ≡ is_hoped sort answer.now }
 {
     match sort {

@@ -3,7 +3,7 @@ ghost use Rattle.std.specs.Prelude.{◌≡◌};
 ghost use Rattle.requirement_answers.specs.declared.findings.ReportRefused.TheVariants.{NoMemory};
 
 use crate::asking::Reply;
-use requirement_questions::{Answer, Because, Core};
+use requirement_questions::{Because, Core, QuestionAnswer};
 use std::alloc::{AllocError, AllocFailed};
 
 /// An item that a behaviour does not keep, and where it fails first.
@@ -39,7 +39,7 @@ pub struct Report {
     /// The assumed and required items that are in no conflict, ascending.
     pub left: Vec<u32>,
     /// Whether these can be met together. It is never `Cannot`.
-    pub together: Answer,
+    pub together: QuestionAnswer,
     /// The further questions, in the document's order.
     pub replies: Vec<Reply>,
     /// Each behaviour against each assumed and required item, those set aside too.

@@ -1,34 +1,35 @@
 // Whether all is as the document wishes.
 ghost use Rattle.std.specs.Prelude.{◌≡◌};
 ghost use Rattle.std.specs.List.{list_any};
-ghost use Rattle.requirement_answers.specs.Verdicts.{is_can, is_cannot, is_undecided, is_wrong, wrong_reply, open_reply, has_break, has_wrong, has_open, verdict};
+ghost use Rattle.requirement_answers.specs.Verdicts.{is_can, is_cannot, is_undecided, is_wrong, wrong_reply};
+ghost use Rattle.requirement_answers.specs.Verdicts.{open_reply, has_break, has_wrong, has_open, verdict};
 
 use crate::asking::{Asking, Reply};
 use crate::findings::{Check, Report};
-use requirement_questions::Answer;
+use requirement_questions::QuestionAnswer;
 
 /// What a report comes to.
 #[derive(Clone, Copy, Debug, PartialEq, Eq)]
-pub enum Verdict {
+pub enum ReportVerdict {
     AsWished,
-    /// There is a conflict, or something that may happen cannot, or something that should follow does not, or a
-    /// behaviour breaks an item.
+    /// There is a conflict, or something that may happen cannot, or something that should follow does not, or
+    /// a behaviour breaks an item.
     NotAsWished,
     /// None of these, but a question is undecided.
     Undecided,
 }
 
 /// What a report comes to.
-pub fn verdict_of(report: &Report) -> Verdict
+pub fn verdict_of(report: &Report) -> ReportVerdict
     ensures { result ≡ verdict report.now }
 {
     if has_wrong(report) {
-        return Verdict::NotAsWished;
+        return ReportVerdict::NotAsWished;
     }
     if has_open(report) {
-        return Verdict::Undecided;
+        return ReportVerdict::Undecided;
     }
-    Verdict::AsWished
+    ReportVerdict::AsWished
 }
 
 /// Whether something is not as wished.
@@ -101,7 +102,7 @@ pub fn has_break(check: &Check) -> bool
 }
 
 /// Whether the answer to a question is not as wished.
-fn is_wrong(asking: Asking, answer: &Answer) -> bool
+fn is_wrong(asking: Asking, answer: &QuestionAnswer) -> bool
     ensures { result ≡ is_wrong asking answer.now }
 {
     match asking {
@@ -114,37 +115,37 @@ fn is_wrong(asking: Asking, answer: &Answer) -> bool
 }
 
 /// Whether it is found that it can be.
-pub fn is_can(answer: &Answer) -> bool
+pub fn is_can(answer: &QuestionAnswer) -> bool
     ensures { result ≡ is_can answer.now }
 {
     match answer {
-        Answer::Can(_) => true,
-        Answer::Cannot(_) => false,
-        Answer::Undecided => false,
-        Answer::TooLarge(_) => false,
+        QuestionAnswer::Can(_) => true,
+        QuestionAnswer::Cannot(_) => false,
+        QuestionAnswer::Undecided => false,
+        QuestionAnswer::TooLarge(_) => false,
     }
 }
 
 /// Whether it is shown that it cannot be.
-pub fn is_cannot(answer: &Answer) -> bool
+pub fn is_cannot(answer: &QuestionAnswer) -> bool
     ensures { result ≡ is_cannot answer.now }
 {
     match answer {
-        Answer::Can(_) => false,
-        Answer::Cannot(_) => true,
-        Answer::Undecided => false,
-        Answer::TooLarge(_) => false,
+        QuestionAnswer::Can(_) => false,
+        QuestionAnswer::Cannot(_) => true,
+        QuestionAnswer::Undecided => false,
+        QuestionAnswer::TooLarge(_) => false,
     }
 }
 
 /// Whether nothing was found.
-fn is_undecided(answer: &Answer) -> bool
+fn is_undecided(answer: &QuestionAnswer) -> bool
     ensures { result ≡ is_undecided answer.now }
 {
     match answer {
-        Answer::Can(_) => false,
-        Answer::Cannot(_) => false,
-        Answer::Undecided => true,
-        Answer::TooLarge(_) => true,
+        QuestionAnswer::Can(_) => false,
+        QuestionAnswer::Cannot(_) => false,
+        QuestionAnswer::Undecided => true,
+        QuestionAnswer::TooLarge(_) => true,
     }
 }

@@ -4,7 +4,8 @@ ghost use Rattle.requirement_document.specs.Values.{document_in};
 ghost use Rattle.requirement_document.specs.declared.document.Role.TheVariants.{Require};
 ghost use Rattle.requirement_questions.specs.Trigger.{trigger_of};
 ghost use Rattle.requirement_answers.specs.Items.{formula_of};
-ghost use Rattle.requirement_answers.specs.Asking.{questions_of, asks_about, asks_of, asks_trigger, covers_item};
+ghost use Rattle.requirement_answers.specs.Asking.{questions_of, asks_about, asks_of, asks_trigger};
+ghost use Rattle.requirement_answers.specs.Asking.{covers_item};
 ghost use Rattle.requirement_answers.specs.Inner.{asks_covered};
 
 use crate::asking::Asking;

@@ -11,7 +11,9 @@ use crate::asking::{Asking, Reply};
 use crate::numbers::without;
 use crate::renumbering::renumber;
 use requirement_document::Document;
-use requirement_questions::{Answer, Asked, Given, Limits, Question, answer_question, trigger};
+use requirement_questions::{
+    Given, Limits, Question, QuestionAnswer, Wanted, answer_question, trigger,
+};
 use std::alloc::{AllocError, Global};
 
 /// The answer to a question about a document where these items are left.
@@ -38,22 +40,22 @@ fn answer_of(
     left: &[u32],
     asking: Asking,
     limits: Limits,
-) -> Result<Answer, AllocError>
+) -> Result<QuestionAnswer, AllocError>
     requires left { AreItems (document_in document.now) left.now }
     requires about { IsAbout (document_in document.now) asking }
     ensures { IfOk result (IsAnswerTo (document_in document.now) (given_for left.now asking)
         (asked_of (document_in document.now) asking)) }
 {
     match asking {
-        Asking::Together => answer_given(alloc, document, left, Asked::Nothing, limits),
+        Asking::Together => answer_given(alloc, document, left, Wanted::Nothing, limits),
         Asking::Triggered(number) => triggered(alloc, document, left, number, limits),
         Asking::New(number) => says_new(alloc, document, left, number, limits),
         Asking::Possible(number) => {
-            let asked = Asked::Holds(item_at(document, number));
+            let asked = Wanted::Holds(item_at(document, number));
             answer_given(alloc, document, left, asked, limits)
         }
         Asking::Follows(number) => {
-            let asked = Asked::Fails(item_at(document, number));
+            let asked = Wanted::Fails(item_at(document, number));
             answer_given(alloc, document, left, asked, limits)
         }
     }
@@ -66,7 +68,7 @@ fn triggered(
     left: &[u32],
     number: u32,
     limits: Limits,
-) -> Result<Answer, AllocError>
+) -> Result<QuestionAnswer, AllocError>
     requires left { AreItems (document_in document.now) left.now }
     requires about { number < length document.now.items.items }
     ensures { IfOk result (IsAnswerTo (document_in document.now) left.now
@@ -74,9 +76,9 @@ fn triggered(
 {
     let item = item_at(document, number);
     match trigger(alloc, item.table, item.root)? {
-        None => answer_given(alloc, document, left, Asked::Nothing, limits),
+        None => answer_given(alloc, document, left, Wanted::Nothing, limits),
         Some((table, root)) => {
-            let asked = Asked::Holds(Given {
+            let asked = Wanted::Holds(Given {
                 table: &table,
                 root,
             });
@@ -92,14 +94,14 @@ fn says_new(
     left: &[u32],
     number: u32,
     limits: Limits,
-) -> Result<Answer, AllocError>
+) -> Result<QuestionAnswer, AllocError>
     requires left { AreItems (document_in document.now) left.now }
     requires about { number < length document.now.items.items }
     ensures { IfOk result (IsAnswerTo (document_in document.now) (given_for left.now (Asking.New number))
         (asked_of (document_in document.now) (Asking.New number))) }
 {
     let others = without(alloc, &[number], left)?;
-    let asked = Asked::Fails(item_at(document, number));
+    let asked = Wanted::Fails(item_at(document, number));
     answer_given(alloc, document, &others, asked, limits)
 }
 
@@ -108,9 +110,9 @@ pub fn answer_given(
     alloc: Global,
     document: &Document,
     numbers: &[u32],
-    asked: Asked<'_>,
+    asked: Wanted<'_>,
     limits: Limits,
-) -> Result<Answer, AllocError>
+) -> Result<QuestionAnswer, AllocError>
     requires numbers { AreItems (document_in document.now) numbers.now }
     requires asked { AskedIsThere asked }
     ensures { IfOk result (IsAnswerTo (document_in document.now) numbers.now (asked_formulas asked.entry)) }
@@ -122,13 +124,13 @@ pub fn answer_given(
         asked,
     };
     match answer_question(alloc, &question, limits)? {
-        Answer::Can(trace) => Ok(Answer::Can(trace)),
-        Answer::Cannot(because) => {
+        QuestionAnswer::Can(trace) => Ok(QuestionAnswer::Can(trace)),
+        QuestionAnswer::Cannot(because) => {
             let because = renumber(alloc, numbers, because)?;
-            Ok(Answer::Cannot(because))
+            Ok(QuestionAnswer::Cannot(because))
         }
-        Answer::Undecided => Ok(Answer::Undecided),
-        Answer::TooLarge(size) => Ok(Answer::TooLarge(size)),
+        QuestionAnswer::Undecided => Ok(QuestionAnswer::Undecided),
+        QuestionAnswer::TooLarge(size) => Ok(QuestionAnswer::TooLarge(size)),
     }
 }
 

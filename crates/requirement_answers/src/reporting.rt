@@ -26,9 +26,9 @@ use std::thread::Threads;
 /// How many items, and how many behaviours, there may be: their numbers are of 32 bits.
 const MOST: usize = 4_294_967_295;
 
-/// All that is asked of a document, or of what the scope names, answered. The further questions are shared out
-/// among the workers, each in a thread of its own where one can be made; with one worker there is none. `watch`
-/// is told of questions before they are asked.
+/// All that is asked of a document, or of what the scope names, answered. The further questions are shared
+/// out among the workers, each in a thread of its own where one can be made; with one worker there is none.
+/// `watch` is told of questions before they are asked.
 pub fn report_on<R: Threads + Sync, W: Watch>(
     rt: &R,
     alloc: Global,

@@ -1,7 +1,7 @@
 // The further questions, shared out among workers. They are taken in rounds, a few for each worker, so that
-// what is told of them before they are asked keeps up with the work. A round is cut into consecutive pieces, a
-// worker answers its piece in order, and the pieces' answers are joined in order: so the answers do not depend
-// on how many workers there are.
+// what is told of them before they are asked keeps up with the work. A round is cut into consecutive pieces,
+// a worker answers its piece in order, and the pieces' answers are joined in order: so the answers do not
+// depend on how many workers there are.
 ghost use Rattle.std.specs.Prelude.{◌+◌, ◌≤◌, length, All, IfOk};
 ghost use Rattle.requirement_document.specs.Values.{document_in};
 ghost use Rattle.requirement_answers.specs.Inner.{AreItems, IsAbout, AreReplies, AreJoined};

@@ -3,8 +3,8 @@ use Rattle.std.proofs.Common.{◌≡◌, ℕ, zero, suc, ◌+◌, ◌<◌, ◌�
 use Rattle.std.proofs.lemmas.List.Elements.{All-get_or}
 use Rattle.std.proofs.lemmas.Option.{slice_get_within, get_or_from_slice_get}
 use Rattle.requirement_questions.specs.declared.leaving.Because.{Because}
-use Rattle.requirement_questions.specs.declared.answering.Answer.{Answer}
-use Rattle.requirement_questions.specs.declared.answering.Answer.TheVariants as answers
+use Rattle.requirement_questions.specs.declared.answering.QuestionAnswer.{QuestionAnswer}
+use Rattle.requirement_questions.specs.declared.answering.QuestionAnswer.TheVariants as answers
 use Rattle.requirement_answers.specs.declared.asking.Asking.{Asking}
 use Rattle.requirement_answers.specs.declared.findings.Report.{Report}
 use Rattle.requirement_answers.specs.declared.findings.Scope.{Scope}
@@ -35,7 +35,7 @@ before_more P xs k x there holds before j y lt e = elim (before_or_at j k lt) [
 ]
 
 -- an answer that is no `cannot` says something else
-pub other_than : (a : Answer) → ((b : _) → a ≡ answers.Cannot b → ⊥) → IsOther a
+pub other_than : (a : QuestionAnswer) → ((b : _) → a ≡ answers.Cannot b → ⊥) → IsOther a
 other_than (answers.Cannot b) not = absurd (not b refl)
 other_than other not = tt
 
@@ -51,7 +51,7 @@ module _ (r : Report) where
   pub conflict_has : (scope : Scope) (b : Because) → HaveFormulas r → IsFirstConflict r scope b → HasFormula b
   conflict_has scope b have h = subst HasFormula h.same (one_of (λ c. HasFormula c.value) r.conflicts.items h.place h.conflict have.conflicts h.there)
 
-  answer_formula : (a : Answer) (b : Because) → AnswerHasFormula a → IsCannot a b → HasFormula b
+  answer_formula : (a : QuestionAnswer) (b : Because) → AnswerHasFormula a → IsCannot a b → HasFormula b
   answer_formula (answers.Cannot c) b has cannot = subst HasFormula cannot has
   answer_formula other b has cannot = absurd cannot
 

@@ -4,8 +4,8 @@ use Rattle.std.specs.Global.{Box}
 use Rattle.std.proofs.lemmas.List.Elements.{All-nil, All-cons, All-head, All-tail}
 use Rattle.ltl_syntax.specs.Formula.{Formula}
 use Rattle.requirement_questions.specs.declared.leaving.Because.{Because}
-use Rattle.requirement_questions.specs.declared.answering.Answer.{Answer}
-use Rattle.requirement_questions.specs.declared.answering.Answer.TheVariants as answers
+use Rattle.requirement_questions.specs.declared.answering.QuestionAnswer.{QuestionAnswer}
+use Rattle.requirement_questions.specs.declared.answering.QuestionAnswer.TheVariants as answers
 use Rattle.requirement_questions.specs.Members.{places}
 use Rattle.requirement_document.specs.Values.{DocumentValue}
 use Rattle.requirement_answers.specs.declared.asking.Asking.{Asking}
@@ -31,7 +31,7 @@ conflict_reasons d given [] left are = All-nil (λ c. IsReasonFor d askings.Toge
 conflict_reasons d given (b ∷ bs) left (is, some, rest) =
     All-cons (λ c. IsReasonFor d askings.Together c.value) b bs (given, is) (conflict_reasons d (without (places b.value.members.items) given) bs left rest)
 
-answer_reason : (d : DocumentValue) (given : List ℕ) (asked : List Formula) (a : Answer) (b : Because) → IsAnswerTo d given asked a → IsCannot a b
+answer_reason : (d : DocumentValue) (given : List ℕ) (asked : List Formula) (a : QuestionAnswer) (b : Because) → IsAnswerTo d given asked a → IsCannot a b
     → IsReason d given asked b
 answer_reason d given asked (answers.Cannot c) b is cannot = subst (IsReason d given asked) cannot is
 answer_reason d given asked other b is cannot = absurd cannot
@@ -62,7 +62,7 @@ conflicts_have d given [] left are = All-nil (λ c. HasFormula c.value)
 conflicts_have d given (b ∷ bs) left (is, some, rest) =
     All-cons (λ c. HasFormula c.value) b bs is.there (conflicts_have d (without (places b.value.members.items) given) bs left rest)
 
-answer_has : (d : DocumentValue) (given : List ℕ) (asked : List Formula) (a : Answer) → IsAnswerTo d given asked a → AnswerHasFormula a
+answer_has : (d : DocumentValue) (given : List ℕ) (asked : List Formula) (a : QuestionAnswer) → IsAnswerTo d given asked a → AnswerHasFormula a
 answer_has d given asked (answers.Cannot b) is = is.there
 answer_has d given asked other is = tt
 

@@ -3,8 +3,8 @@ use Rattle.std.specs.Prelude.{◌≡◌, ◌<◌, ℕ, List, slice_get, Contains
 use Rattle.std.specs.Global.{Box}
 use Rattle.requirement_questions.specs.declared.members.Member.{Member}
 use Rattle.requirement_questions.specs.declared.leaving.Because.{Because}
-use Rattle.requirement_questions.specs.declared.answering.Answer.{Answer}
-use Rattle.requirement_questions.specs.declared.answering.Answer.TheVariants as answers
+use Rattle.requirement_questions.specs.declared.answering.QuestionAnswer.{QuestionAnswer}
+use Rattle.requirement_questions.specs.declared.answering.QuestionAnswer.TheVariants as answers
 use Rattle.requirement_questions.specs.Members.{places}
 use Rattle.requirement_answers.specs.declared.asking.Asking.{Asking}
 use Rattle.requirement_answers.specs.declared.asking.Asking.TheVariants as askings
@@ -32,14 +32,14 @@ abbrev pub HasNoConflict : Report → Scope → Type 0
 HasNoConflict r scope = (j : ℕ) (c : Box Because) → slice_get r.conflicts.items j ≡ Some c → ¬ IsAbout scope c.value.members.items
 
 -- the answer says that there is no trace, because of this
-abbrev pub IsCannot : Answer → Because → Type 0
+abbrev pub IsCannot : QuestionAnswer → Because → Type 0
 IsCannot (answers.Can t) b = ⊥
 IsCannot (answers.Cannot c) b = c.value ≡ b
 IsCannot answers.Undecided b = ⊥
 IsCannot (answers.TooLarge size) b = ⊥
 
 -- it does not say so
-abbrev pub IsOther : Answer → Type 0
+abbrev pub IsOther : QuestionAnswer → Type 0
 IsOther (answers.Can t) = ⊤
 IsOther (answers.Cannot c) = ⊥
 IsOther answers.Undecided = ⊤

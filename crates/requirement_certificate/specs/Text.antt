@@ -5,8 +5,8 @@ use Rattle.ltl_syntax.specs.Print as print
 use Rattle.claim_check.specs.Data.{certificate_in}
 use Rattle.claim_text.specs.Text as claims
 use Rattle.requirement_questions.specs.declared.leaving.Because.{Because}
-use Rattle.requirement_questions.specs.declared.answering.Answer.{Answer}
-use Rattle.requirement_questions.specs.declared.answering.Answer.TheVariants as answers
+use Rattle.requirement_questions.specs.declared.answering.QuestionAnswer.{QuestionAnswer}
+use Rattle.requirement_questions.specs.declared.answering.QuestionAnswer.TheVariants as answers
 use Rattle.requirement_answers.specs.declared.findings.Report.{Report}
 
 -- the text of the formula that says that the members hold, and what is asked
@@ -25,7 +25,7 @@ certificate_text b = formula_text b ++ codes "\n---\n" ++ claims_text b
 abbrev pub HasFormula : Because → Type 0
 HasFormula b = b.root < length b.table.nodes
 
-abbrev pub AnswerHasFormula : Answer → Type 0
+abbrev pub AnswerHasFormula : QuestionAnswer → Type 0
 AnswerHasFormula (answers.Can t) = ⊤
 AnswerHasFormula (answers.Cannot b) = HasFormula b.value
 AnswerHasFormula answers.Undecided = ⊤

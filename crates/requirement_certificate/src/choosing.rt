@@ -1,13 +1,14 @@
-// The answer whose certificate is asked for: the first one that says that there is no trace. A conflict is about
-// its members.
+// The answer whose certificate is asked for: the first one that says that there is no trace. A conflict is
+// about its members.
 ghost use Rattle.std.specs.Prelude.{◌≡◌, ◌↔◌, true, MatchOption, Contains};
 ghost use Rattle.requirement_questions.specs.Members.{places};
 ghost use Rattle.requirement_answers.specs.declared.asking.Asking.{Asking};
-ghost use Rattle.requirement_certificate.specs.Chosen.{IsAbout, IsFirstConflict, HasNoConflict, IsFirstReply, HasNoReply, IsFirstBecause, HasNoBecause};
+ghost use Rattle.requirement_certificate.specs.Chosen.{IsAbout, IsFirstConflict, HasNoConflict, IsFirstReply};
+ghost use Rattle.requirement_certificate.specs.Chosen.{HasNoReply, IsFirstBecause, HasNoBecause};
 ghost use Rattle.requirement_certificate.specs.Text.{HasFormula, HaveFormulas};
 
 use requirement_answers::{Report, Scope};
-use requirement_questions::{Answer, Because, Member};
+use requirement_questions::{Because, Member, QuestionAnswer};
 
 /// The first answer of the report that says that there is no trace.
 pub fn first_because(report: &Report, scope: Scope) -> Option<&Because>
@@ -65,7 +66,7 @@ fn first_reply(report: &Report) -> Option<&Because>
         (λ b. (asking : Asking) × IsFirstReply report.now asking b.now) }
 {
     'replies: for place in 0..report.replies.len() {
-        if let Answer::Cannot(because) = &report.replies[place].answer {
+        if let QuestionAnswer::Cannot(because) = &report.replies[place].answer {
             return Some(&**because);
         }
     }

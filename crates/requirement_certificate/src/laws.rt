@@ -2,8 +2,9 @@
 //! cites it by a call.
 ghost use Rattle.requirement_certificate.specs.Laws.{CertificatesAreTaken, ReportsHaveFormulas};
 
-/// What is written of the first answer of a right report that says that there is no trace reads as its formula
-/// and as a certificate that is lawful for it, and is verified, where both are within the limits of texts.
+/// What is written of the first answer of a right report that says that there is no trace reads as its
+/// formula and as a certificate that is lawful for it, and is verified, where both are within the limits of
+/// texts.
 pub fn certificates_are_taken()
     ensures { CertificatesAreTaken }
 {

@@ -1,5 +1,5 @@
-//! The certificate of an answer that says that there is no trace, with the formula that it refutes: a text that
-//! can be checked elsewhere.
+//! The certificate of an answer that says that there is no trace, with the formula that it refutes: a text
+//! that can be checked elsewhere.
 #![tactic(auto)]
 
 mod choosing;

@@ -4,15 +4,15 @@ ghost use Rattle.std.specs.Prelude.{◌<◌, ◌↔◌, length, IfOk, IsTrue};
 ghost use Rattle.ltl_syntax.specs.Table.{tree_at};
 ghost use Rattle.requirement_certificate.specs.Verified.{IsLawfulText, IsVerified};
 
-use claim_check::{Verdict, check};
+use claim_check::{ClaimVerdict, check};
 use claim_text::{TextRefused, read};
 use ltl_closure::Closure;
 use ltl_syntax::{FormulaTable, Kind};
-use program_input::{Reading, cut, read_formula};
+use program_input::{PartReading, cut, read_formula};
 use std::alloc::{AllocError, Global};
 
-/// Whether the text is that of a formula, a separator line, and a certificate that is lawful for the formula and
-/// the kind.
+/// Whether the text is that of a formula, a separator line, and a certificate that is lawful for the formula
+/// and the kind.
 pub fn is_verified(alloc: Global, kind: Kind, text: &[u8]) -> Result<bool, AllocError>
     ensures { IfOk result (λ verified. IsTrue verified ↔ IsVerified kind text.now) }
 {
@@ -21,8 +21,8 @@ pub fn is_verified(alloc: Global, kind: Kind, text: &[u8]) -> Result<bool, Alloc
         return Ok(false);
     };
     match read_formula(alloc, parts.formula)? {
-        Reading::Refused(_) => Ok(false),
-        Reading::Formula { table, root } => is_lawful(alloc, &table, root, kind, parts.second),
+        PartReading::Refused(_) => Ok(false),
+        PartReading::Formula { table, root } => is_lawful(alloc, &table, root, kind, parts.second),
     }
 }
 
@@ -45,7 +45,7 @@ fn is_lawful(
     };
     let closure = Closure::of(alloc, table, root, kind)?;
     match check(alloc, &closure, kind, &certificate)? {
-        Verdict::Verified => Ok(true),
-        Verdict::Refused(_) => Ok(false),
+        ClaimVerdict::Verified => Ok(true),
+        ClaimVerdict::Refused(_) => Ok(false),
     }
 }

@@ -1,5 +1,6 @@
 // Behaviours: their traces, and the names that they take.
-ghost use Rattle.std.specs.Prelude.{◌≡◌, ◌∷◌, ◌++◌, [], None, Some, IfOk, IfErr, OnOk, ℕ, List, codes, map, string_bytes};
+ghost use Rattle.std.specs.Prelude.{◌≡◌, ◌∷◌, ◌++◌, [], None, Some, IfOk, IfErr, OnOk, ℕ, List, codes, map};
+ghost use Rattle.std.specs.Prelude.{string_bytes};
 ghost use Rattle.toml.specs.Data.{get};
 ghost use Rattle.toml.specs.View.{view};
 ghost use Rattle.ltl_word.specs.declared.trace.Trace.{Trace};
@@ -11,7 +12,8 @@ ghost use Rattle.requirement_document.specs.Keys.{key_word};
 ghost use Rattle.requirement_document.specs.Substitution.{Definitions};
 ghost use Rattle.requirement_document.specs.Values.{BehaviourValue, behaviour_in};
 ghost use Rattle.requirement_document.specs.Entry.{IsBehaviour, states_data};
-ghost use Rattle.requirement_document.specs.Document.{taken_before, name_at, in_list, HasBehaviours, HasDefinitions, IsRefusedOf};
+ghost use Rattle.requirement_document.specs.Document.{taken_before, name_at, in_list, HasBehaviours};
+ghost use Rattle.requirement_document.specs.Document.{HasDefinitions, IsRefusedOf};
 ghost use Rattle.requirement_document.specs.Inner.{IsRefusedAt, IsTraceAt, IsStateKey};
 
 use crate::entries::entries_of;

@@ -1,5 +1,6 @@
 // Definitions: a map of names to formulas, in which each is put in into those behind it.
-ghost use Rattle.std.specs.Prelude.{◌≡◌, ◌∷◌, ◌++◌, [], false, None, Some, IfOk, IfErr, OnOk, MatchOption, ℕ, List, string_bytes};
+ghost use Rattle.std.specs.Prelude.{◌≡◌, ◌∷◌, ◌++◌, [], false, None, Some, IfOk, IfErr, OnOk, MatchOption, ℕ};
+ghost use Rattle.std.specs.Prelude.{List, string_bytes};
 ghost use Rattle.toml.specs.View.{view};
 ghost use Rattle.requirement_document.specs.declared.fault.Section.TheVariants as sections;
 ghost use Rattle.ltl_syntax.specs.Formula.{Formula};

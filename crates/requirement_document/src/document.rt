@@ -4,8 +4,8 @@ ghost use Rattle.std.specs.Prelude.{◌<◌, length};
 use ltl_syntax::{FormulaTable, Kind};
 use ltl_word::Trace;
 
-/// What an item is: what may be taken for granted, what is to hold, what has to stay possible, and what has to
-/// follow.
+/// What an item is: what may be taken for granted, what is to hold, what has to stay possible, and what has
+/// to follow.
 #[derive(Clone, Copy, Debug, PartialEq, Eq)]
 pub enum Role {
     Assume,
@@ -28,7 +28,8 @@ pub struct Item {
     pub ghost rooted: { root < length table.nodes },
 }
 
-/// A trace with a name, of either kind. Its states list letters: a name that is defined has no part in a formula.
+/// A trace with a name, of either kind. Its states list letters: a name that is defined has no part in a
+/// formula.
 #[derive(Drop)]
 pub struct Behaviour {
     pub name: String,

@@ -46,8 +46,8 @@ pub enum Cause {
     UnknownKey(String),
     /// The value of the key is not of the form that the key wants.
     Unfit(Key),
-    /// The section has more than 1,024 entries. A short entry may be a large formula by what is defined, so without
-    /// this limit a document could take all memory.
+    /// The section has more than 1,024 entries. A short entry may be a large formula by what is defined, so
+    /// without this limit a document could take all memory.
     TooMany(Section),
     /// The entry is no table.
     NotTable,
@@ -75,7 +75,8 @@ pub enum Cause {
 }
 
 /// The whole document, or an entry of a section: its number from 1, and its name and its formula as they are
-/// written, each where the entry has a text for it. The bytes of `Lexical` and `Grammar` count in that formula.
+/// written, each where the entry has a text for it. The bytes of `Lexical` and `Grammar` count in that
+/// formula.
 #[derive(Debug, Drop)]
 pub enum Place {
     Document,

@@ -3,7 +3,8 @@ ghost use Rattle.std.specs.Prelude.{◌≡◌, ◌∷◌, ◌++◌, [], IfOk, If
 ghost use Rattle.toml.specs.View.{view};
 ghost use Rattle.requirement_document.specs.Values.{ItemValue, item_in};
 ghost use Rattle.requirement_document.specs.Entry.{IsItem};
-ghost use Rattle.requirement_document.specs.Document.{section_of, name_at, in_list, names_in, taken_before, HasDefinitions, HasItems, IsRefusedOf};
+ghost use Rattle.requirement_document.specs.Document.{section_of, name_at, in_list, names_in, taken_before};
+ghost use Rattle.requirement_document.specs.Document.{HasDefinitions, HasItems, IsRefusedOf};
 ghost use Rattle.requirement_document.specs.Inner.{defined_in, IsRefusedAt};
 
 use crate::accepting::{formula_of, formula_text};

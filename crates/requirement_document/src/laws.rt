@@ -1,5 +1,5 @@
-//! Laws of documents. Each function is empty or calls the laws that it stands on: its contract is the law, and a
-//! proof cites it by a call.
+//! Laws of documents. Each function is empty or calls the laws that it stands on: its contract is the law,
+//! and a proof cites it by a call.
 ghost use Rattle.std.specs.Prelude.{◌≡◌, List, ℕ};
 ghost use Rattle.requirement_document.specs.declared.fault.DocumentFault.{DocumentFault};
 ghost use Rattle.requirement_document.specs.Values.{DocumentValue};

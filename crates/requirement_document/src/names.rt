@@ -1,5 +1,6 @@
 // Names: the name of an entry, and the set of those that are taken.
-ghost use Rattle.std.specs.Prelude.{◌≡◌, ◌≢◌, ◌∷◌, ◌++◌, [], false, IfOk, IfErr, OnOk, ℕ, List, map, option_map, string_bytes};
+ghost use Rattle.std.specs.Prelude.{◌≡◌, ◌≢◌, ◌∷◌, ◌++◌, [], false, IfOk, IfErr, OnOk, ℕ, List, map};
+ghost use Rattle.std.specs.Prelude.{option_map, string_bytes};
 ghost use Rattle.toml.specs.View.{view};
 ghost use Rattle.requirement_document.specs.declared.fault.Key.TheVariants as keys;
 ghost use Rattle.requirement_document.specs.Substitution.{Definitions};

@@ -1,5 +1,6 @@
 // What a table has at a key, where a value of a type is wanted.
-ghost use Rattle.std.specs.Prelude.{◌≡◌, None, Some, IfOk, MatchOption, option_map, option_and_then, string_bytes};
+ghost use Rattle.std.specs.Prelude.{◌≡◌, None, Some, IfOk, MatchOption, option_map, option_and_then};
+ghost use Rattle.std.specs.Prelude.{string_bytes};
 ghost use Rattle.toml.specs.Data.{get, as_str};
 ghost use Rattle.toml.specs.View.{view};
 ghost use Rattle.requirement_document.specs.Keys.{key_word};

@@ -1,6 +1,7 @@
 // The words of sections and keys, and which of them may stand where.
 ghost use Rattle.std.specs.Prelude.{◌≡◌};
-ghost use Rattle.requirement_document.specs.Keys.{section_word, key_word, knows_document, knows_formula, knows_behaviour, knows_at};
+ghost use Rattle.requirement_document.specs.Keys.{section_word, key_word, knows_document, knows_formula};
+ghost use Rattle.requirement_document.specs.Keys.{knows_behaviour, knows_at};
 ghost use Rattle.requirement_document.specs.Document.{section_of};
 
 use crate::{Key, Role, Section};

@@ -12,14 +12,14 @@ use Rattle.requirement_document.specs.Values.{ItemValue, BehaviourValue, Documen
 use Rattle.requirement_questions.specs.declared.members.Member.{Member}
 use Rattle.requirement_questions.specs.declared.leaving.Because.{Because}
 use Rattle.requirement_questions.specs.declared.parting.Core.{Core}
-use Rattle.requirement_questions.specs.declared.answering.Answer.{Answer}
-use Rattle.requirement_questions.specs.declared.answering.Answer.TheVariants as answers
+use Rattle.requirement_questions.specs.declared.answering.QuestionAnswer.{QuestionAnswer}
+use Rattle.requirement_questions.specs.declared.answering.QuestionAnswer.TheVariants as answers
 use Rattle.requirement_answers.specs.declared.asking.Asking.{Asking}
 use Rattle.requirement_answers.specs.declared.asking.Asking.TheVariants as askings
 use Rattle.requirement_answers.specs.declared.findings.Break.{Break}
 use Rattle.requirement_answers.specs.declared.findings.Check.{Check}
 use Rattle.requirement_answers.specs.declared.findings.Report.{Report}
-use Rattle.requirement_answers.specs.declared.judging.Verdict.{Verdict}
+use Rattle.requirement_answers.specs.declared.judging.ReportVerdict.{ReportVerdict}
 use Rattle.requirement_answers.specs.Verdicts.{verdict}
 use Rattle.requirement_report.specs.Letters.{UseValue, uses_of}
 use Rattle.requirement_report.specs.Parts.{part_of, core_at}
@@ -91,7 +91,7 @@ because_plain d parts members nevers ms h =
     put_plain (codes "because") (members_data d parts members) (put (codes "claims") (claims_data nevers) ms) (members_plain d parts 0 members)
     (put_plain (codes "claims") (claims_data nevers) ms (map_plain claim_data (λ line. refl) (lines_behind [] nevers)) h)
 
-found_plain : (d : DocumentValue) (steps : ℕ) (a : Answer) (ms : Members) → members_have_float ms ≡ false → members_have_float (with_found d steps a ms) ≡ false
+found_plain : (d : DocumentValue) (steps : ℕ) (a : QuestionAnswer) (ms : Members) → members_have_float ms ≡ false → members_have_float (with_found d steps a ms) ≡ false
 found_plain d steps (answers.Can t) ms h = put_plain (codes "trace") (trace_data t) ms (trace_plain t) h
 found_plain d steps (answers.Cannot b) ms h = because_plain d (part_of None) b.value.members.items (nevers_of b.value) ms h
 found_plain d steps answers.Undecided ms h = put_plain (codes "steps") (number (unsigned steps)) ms refl h
@@ -104,7 +104,7 @@ name_plain d (askings.New n) ms h = put_plain (codes "name") (name_data d n) ms 
 name_plain d (askings.Possible n) ms h = put_plain (codes "name") (name_data d n) ms refl h
 name_plain d (askings.Follows n) ms h = put_plain (codes "name") (name_data d n) ms refl h
 
-answer_plain : (d : DocumentValue) (steps : ℕ) (a : Asking) (answer : Answer) → has_float (answer_data d steps a answer) ≡ false
+answer_plain : (d : DocumentValue) (steps : ℕ) (a : Asking) (answer : QuestionAnswer) → has_float (answer_data d steps a answer) ≡ false
 answer_plain d steps a answer =
     let words = said (word_of a answer) (question_text a) in
     name_plain d a (with_found d steps answer words) (found_plain d steps answer words refl)
@@ -168,7 +168,7 @@ document_plain d ms h =
     put_plain (codes "items") (items_data d.items) (with_letters d (put (codes "traces") traces ms)) (map_plain item_data item_plain d.items)
     (letters_plain d (put (codes "traces") traces ms) (put_plain (codes "traces") traces ms refl h))
 
-told_plain : (d : DocumentValue) (answers : List Data) (aside : List Member) (v : Verdict) → items_have_float (items_of answers) ≡ false
+told_plain : (d : DocumentValue) (answers : List Data) (aside : List Member) (v : ReportVerdict) → items_have_float (items_of answers) ≡ false
     → members_have_float (told d answers aside v) ≡ false
 told_plain d answers aside v h = rw (h, map_plain (λ (m : Member). name_data d m.given) (λ m. refl) aside) refl
 

@@ -3,8 +3,8 @@ use Rattle.std.specs.Prelude.{ℕ, ◌+◌, List, [], ◌∷◌, codes, Option, 
 use Rattle.std.specs.Global.{Box}
 use Rattle.ltl_word.specs.Json.{trace_data}
 use Rattle.requirement_document.specs.Values.{DocumentValue}
-use Rattle.requirement_questions.specs.declared.answering.Answer.{Answer}
-use Rattle.requirement_questions.specs.declared.answering.Answer.TheVariants as answers
+use Rattle.requirement_questions.specs.declared.answering.QuestionAnswer.{QuestionAnswer}
+use Rattle.requirement_questions.specs.declared.answering.QuestionAnswer.TheVariants as answers
 use Rattle.requirement_questions.specs.declared.leaving.Because.{Because}
 use Rattle.requirement_questions.specs.declared.parting.Core.{Core}
 use Rattle.requirement_answers.specs.declared.asking.Asking.{Asking}
@@ -32,7 +32,7 @@ abbrev pub with_reason : DocumentValue → Option Core → Because → Members �
 with_reason d core b ms = with_because d (part_of core) b.members.items (nevers_of b) ms
 
 -- with a trace; with the reason that there is none; with the steps within which neither was found; or with the size of a formula that is too large
-abbrev pub with_found : DocumentValue → ℕ → Answer → Members → Members
+abbrev pub with_found : DocumentValue → ℕ → QuestionAnswer → Members → Members
 with_found d steps (answers.Can t) ms = put (codes "trace") (trace_data t) ms
 with_found d steps (answers.Cannot b) ms = with_reason d None b.value ms
 with_found d steps answers.Undecided ms = put (codes "steps") (number (unsigned steps)) ms
@@ -46,7 +46,7 @@ with_name d (askings.New n) ms = put (codes "name") (name_data d n) ms
 with_name d (askings.Possible n) ms = put (codes "name") (name_data d n) ms
 with_name d (askings.Follows n) ms = put (codes "name") (name_data d n) ms
 
-abbrev pub answer_data : DocumentValue → ℕ → Asking → Answer → Data
+abbrev pub answer_data : DocumentValue → ℕ → Asking → QuestionAnswer → Data
 answer_data d steps a answer = object (with_name d a (with_found d steps answer (said (word_of a answer) (question_text a))))
 
 abbrev pub reply_data : DocumentValue → ℕ → Reply → Data

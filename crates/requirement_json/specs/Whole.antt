@@ -4,7 +4,7 @@ use Rattle.requirement_document.specs.Values.{DocumentValue}
 use Rattle.requirement_questions.specs.declared.members.Member.{Member}
 use Rattle.requirement_answers.specs.declared.asking.Asking.TheVariants as askings
 use Rattle.requirement_answers.specs.declared.findings.Report.{Report}
-use Rattle.requirement_answers.specs.declared.judging.Verdict.{Verdict}
+use Rattle.requirement_answers.specs.declared.judging.ReportVerdict.{ReportVerdict}
 use Rattle.requirement_answers.specs.Verdicts.{verdict}
 use Rattle.requirement_report.specs.Letters.{uses_of}
 use Rattle.requirement_report.specs.Slips.{slips_of}
@@ -28,7 +28,7 @@ abbrev pub aside_data : DocumentValue → List Member → Data
 aside_data d members = array (items_of (map (λ m. name_data d m.given) members))
 
 -- what is said of a report: its answers, what is set aside, and the verdict
-abbrev pub told : DocumentValue → List Data → List Member → Verdict → Members
+abbrev pub told : DocumentValue → List Data → List Member → ReportVerdict → Members
 told d answers aside v =
     member (codes "answers") (array (items_of answers))
     (member (codes "aside") (aside_data d aside) (member (codes "verdict") (string (verdict_text v)) no_members))
@@ -41,7 +41,7 @@ with_letters d ms = put (codes "letters") (letters_data d (uses_of d)) (put (cod
 abbrev pub with_document : DocumentValue → Members → Members
 with_document d ms = put (codes "items") (items_data d.items) (with_letters d (put (codes "traces") (string (kind_text d.kind)) ms))
 
-abbrev pub whole_data : DocumentValue → List Data → List Member → Verdict → Data
+abbrev pub whole_data : DocumentValue → List Data → List Member → ReportVerdict → Data
 whole_data d answers aside v = object (with_document d (told d answers aside v))
 
 abbrev pub json_of : DocumentValue → Report → ℕ → Data

@@ -8,9 +8,9 @@ use Rattle.ltl_word.specs.declared.trace.Trace.TheVariants.{Infinite, Finite}
 use Rattle.requirement_document.specs.declared.document.Role.TheVariants as roles
 use Rattle.requirement_document.specs.Values.{ItemValue, DocumentValue}
 use Rattle.requirement_questions.specs.declared.members.Member.{Member}
-use Rattle.requirement_questions.specs.declared.answering.Answer.TheVariants.{Can, Undecided, TooLarge}
+use Rattle.requirement_questions.specs.declared.answering.QuestionAnswer.TheVariants.{Can, Undecided, TooLarge}
 use Rattle.requirement_answers.specs.declared.asking.Asking.TheVariants.{Together, Triggered, New, Possible, Follows}
-use Rattle.requirement_answers.specs.declared.judging.Verdict.TheVariants.{NotAsWished}
+use Rattle.requirement_answers.specs.declared.judging.ReportVerdict.TheVariants.{NotAsWished}
 use Rattle.requirement_json.specs.Because.{with_because}
 use Rattle.requirement_json.specs.Answers.{said, answer_data}
 use Rattle.requirement_json.specs.Checks.{checked_data}

@@ -14,7 +14,7 @@ use crate::texts::text_value;
 use crate::traces::trace_value;
 use requirement_answers::Asking;
 use requirement_document::Document;
-use requirement_questions::{Answer, Because, Core, Limits};
+use requirement_questions::{Because, Core, Limits, QuestionAnswer};
 use requirement_report::{nevers, word_of};
 use serde_json::{Map, Value, put};
 use std::alloc::{AllocError, Global};
@@ -25,7 +25,7 @@ pub fn answer_value(
     document: &Document,
     limits: Limits,
     asking: Asking,
-    answer: &Answer,
+    answer: &QuestionAnswer,
 ) -> Result<Value, AllocError>
     requires { AnswerCanBeShown answer.now }
     ensures { IfOk result (λ value. view value
@@ -83,7 +83,7 @@ fn put_found(
     alloc: Global,
     document: &Document,
     limits: Limits,
-    answer: &Answer,
+    answer: &QuestionAnswer,
     members: &mut Map<String, Value>,
 ) -> Result<(), AllocError>
     requires { AnswerCanBeShown answer.now }
@@ -91,13 +91,13 @@ fn put_found(
         limits.steps answer.now (members_view members.old.entries)) }
 {
     match answer {
-        Answer::Can(trace) => {
+        QuestionAnswer::Can(trace) => {
             let trace = trace_value(alloc, trace)?;
             put(members, alloc, "trace", trace)
         }
-        Answer::Cannot(because) => put_reason(alloc, document, None, because, members),
-        Answer::Undecided => put(members, alloc, "steps", Value::from(limits.steps)),
-        Answer::TooLarge(size) => {
+        QuestionAnswer::Cannot(because) => put_reason(alloc, document, None, because, members),
+        QuestionAnswer::Undecided => put(members, alloc, "steps", Value::from(limits.steps)),
+        QuestionAnswer::TooLarge(size) => {
             let nodes = size_value(*size)?;
             put(members, alloc, "nodes", nodes)
         }

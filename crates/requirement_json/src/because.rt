@@ -17,8 +17,8 @@ use std::alloc::{AllocError, Global};
 /// How long `never ` is, with which each line of claims begins.
 const NEVER: usize = 6;
 
-/// Puts in the members of a set that no trace satisfies, each with its part where there is a core, and the lines
-/// of claims.
+/// Puts in the members of a set that no trace satisfies, each with its part where there is a core, and the
+/// lines of claims.
 pub fn put_because(
     alloc: Global,
     document: &Document,

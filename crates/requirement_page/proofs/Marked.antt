@@ -17,8 +17,8 @@ use Rattle.requirement_document.specs.Values.{ItemValue, BehaviourValue, Documen
 use Rattle.requirement_questions.specs.declared.members.Member.{Member}
 use Rattle.requirement_questions.specs.declared.leaving.Because.{Because}
 use Rattle.requirement_questions.specs.declared.parting.Core.{Core}
-use Rattle.requirement_questions.specs.declared.answering.Answer.{Answer}
-use Rattle.requirement_questions.specs.declared.answering.Answer.TheVariants as kinds
+use Rattle.requirement_questions.specs.declared.answering.QuestionAnswer.{QuestionAnswer}
+use Rattle.requirement_questions.specs.declared.answering.QuestionAnswer.TheVariants as kinds
 use Rattle.requirement_answers.specs.declared.asking.Asking.{Asking}
 use Rattle.requirement_answers.specs.declared.asking.Asking.TheVariants as askings
 use Rattle.requirement_answers.specs.declared.asking.Reply.{Reply}
@@ -26,8 +26,8 @@ use Rattle.requirement_answers.specs.declared.findings.Break.{Break}
 use Rattle.requirement_answers.specs.declared.findings.Check.{Check}
 use Rattle.requirement_answers.specs.declared.findings.Report.{Report}
 use Rattle.requirement_answers.specs.declared.findings.Scope.{Scope}
-use Rattle.requirement_answers.specs.declared.judging.Verdict.{Verdict}
-use Rattle.requirement_answers.specs.declared.judging.Verdict.TheVariants as verdicts
+use Rattle.requirement_answers.specs.declared.judging.ReportVerdict.{ReportVerdict}
+use Rattle.requirement_answers.specs.declared.judging.ReportVerdict.TheVariants as verdicts
 use Rattle.requirement_answers.specs.declared.counting.Tally.{Tally}
 use Rattle.requirement_answers.specs.declared.counting.Counts.{Counts}
 use Rattle.requirement_answers.specs.Verdicts.{verdict}
@@ -280,13 +280,13 @@ cannot_word_tame (askings.New n) = word (codes "follows from the others") refl
 cannot_word_tame (askings.Possible n) = word (codes "impossible") refl
 cannot_word_tame (askings.Follows n) = word (codes "follows") refl
 
-sort_tame : (a : Asking) (x : Answer) → Tame (sort_of a x)
+sort_tame : (a : Asking) (x : QuestionAnswer) → Tame (sort_of a x)
 sort_tame a (kinds.Can t) = can_sort_tame a
 sort_tame a (kinds.Cannot b) = cannot_sort_tame a
 sort_tame a kinds.Undecided = word (codes "open") refl
 sort_tame a (kinds.TooLarge size) = word (codes "open") refl
 
-word_tame : (a : Asking) (x : Answer) → Tame (word_of a x)
+word_tame : (a : Asking) (x : QuestionAnswer) → Tame (word_of a x)
 word_tame a (kinds.Can t) = can_word_tame a
 word_tame a (kinds.Cannot b) = cannot_word_tame a
 word_tame a kinds.Undecided = word (codes "undecided") refl
@@ -302,13 +302,13 @@ question_tame (askings.Follows n) = word (codes "does it follow?") refl
 undecided_tame : (a : Asking) (why : List ℕ) → Tame why → Tame (undecided a why)
 undecided_tame a why t = join (paragraph_tame (question_words a) (question_tame a)) (paragraph_tame why t)
 
-answered_tame : (d : DocumentValue) (steps : ℕ) (a : Asking) (x : Answer) → Tame (answered d steps a x)
+answered_tame : (d : DocumentValue) (steps : ℕ) (a : Asking) (x : QuestionAnswer) → Tame (answered d steps a x)
 answered_tame d steps a (kinds.Can t) = picture_tame t
 answered_tame d steps a (kinds.Cannot b) = because_of_tame d b.value.members.items
 answered_tame d steps a kinds.Undecided = undecided_tame a (tried steps) (join (number (codes "tried: ") refl steps) (word (codes " steps") refl))
 answered_tame d steps a (kinds.TooLarge size) = undecided_tame a (large size) (number (codes "limit nodes 16384 have ") refl size)
 
-together_tame : (d : DocumentValue) (steps n left all : ℕ) (aside : List Member) (x : Answer) → Tame (together_article d steps n left all aside x)
+together_tame : (d : DocumentValue) (steps n left all : ℕ) (aside : List Member) (x : QuestionAnswer) → Tame (together_article d steps n left all aside x)
 together_tame d steps n left all aside x =
     join (begun_tame (sort_of askings.Together x) n (word_of askings.Together x) (of_all left all) (sort_tame askings.Together x)
     (word_tame askings.Together x) (of_all_tame left all))
@@ -505,17 +505,17 @@ table_tame c =
     (codes "keeps all") refl)))))))
     (word (codes "</table>\n") refl))
 
-verdict_tame : (v : Verdict) → Tame (verdict_text v)
+verdict_tame : (v : ReportVerdict) → Tame (verdict_text v)
 verdict_tame verdicts.AsWished = word (codes "as wished") refl
 verdict_tame verdicts.NotAsWished = word (codes "not as wished") refl
 verdict_tame verdicts.Undecided = word (codes "undecided") refl
 
-verdict_sort_tame : (v : Verdict) → Tame (verdict_sort v)
+verdict_sort_tame : (v : ReportVerdict) → Tame (verdict_sort v)
 verdict_sort_tame verdicts.AsWished = word (codes "good") refl
 verdict_sort_tame verdicts.NotAsWished = word (codes "bad") refl
 verdict_sort_tame verdicts.Undecided = word (codes "open") refl
 
-head_of_tame : (v : Verdict) → Tame (head v)
+head_of_tame : (v : ReportVerdict) → Tame (head v)
 head_of_tame v =
     join (word declared refl)
     (join (join (word (codes "<title>Requirements: ") refl) (join (verdict_tame v) (word (codes "</title>\n") refl)))

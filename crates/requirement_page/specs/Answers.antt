@@ -2,8 +2,8 @@
 use Rattle.std.specs.Prelude.{ℕ, List, ◌++◌, codes}
 use Rattle.requirement_document.specs.Values.{DocumentValue}
 use Rattle.requirement_questions.specs.declared.members.Member.{Member}
-use Rattle.requirement_questions.specs.declared.answering.Answer.{Answer}
-use Rattle.requirement_questions.specs.declared.answering.Answer.TheVariants as answers
+use Rattle.requirement_questions.specs.declared.answering.QuestionAnswer.{QuestionAnswer}
+use Rattle.requirement_questions.specs.declared.answering.QuestionAnswer.TheVariants as answers
 use Rattle.requirement_answers.specs.declared.asking.Asking.{Asking}
 use Rattle.requirement_answers.specs.declared.asking.Asking.TheVariants as askings
 use Rattle.requirement_answers.specs.declared.asking.Reply.{Reply}
@@ -28,7 +28,7 @@ cannot_sort (askings.New n) = codes "remark"
 cannot_sort (askings.Possible n) = codes "bad"
 cannot_sort (askings.Follows n) = codes "good"
 
-abbrev pub sort_of : Asking → Answer → List ℕ
+abbrev pub sort_of : Asking → QuestionAnswer → List ℕ
 sort_of a (answers.Can t) = can_sort a
 sort_of a (answers.Cannot b) = cannot_sort a
 sort_of a answers.Undecided = codes "open"
@@ -44,14 +44,14 @@ tried steps = worded (codes "tried: ") steps ++ codes " steps"
 abbrev pub large : ℕ → List ℕ
 large size = worded (codes "limit nodes 16384 have ") size
 
-abbrev pub answered : DocumentValue → ℕ → Asking → Answer → List ℕ
+abbrev pub answered : DocumentValue → ℕ → Asking → QuestionAnswer → List ℕ
 answered d steps a (answers.Can t) = picture t
 answered d steps a (answers.Cannot b) = because_of d b.value.members.items
 answered d steps a answers.Undecided = undecided a (tried steps)
 answered d steps a (answers.TooLarge size) = undecided a (large size)
 
 -- how many of all that is given are left
-abbrev pub together_article : DocumentValue → ℕ → ℕ → ℕ → ℕ → List Member → Answer → List ℕ
+abbrev pub together_article : DocumentValue → ℕ → ℕ → ℕ → ℕ → List Member → QuestionAnswer → List ℕ
 together_article d steps number left all aside a =
     begun (sort_of askings.Together a) number (word_of askings.Together a) (of_all left all)
     ++ (without d aside

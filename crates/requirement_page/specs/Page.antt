@@ -8,8 +8,8 @@ use Rattle.requirement_answers.specs.declared.asking.Reply.{Reply}
 use Rattle.requirement_answers.specs.declared.findings.Check.{Check}
 use Rattle.requirement_answers.specs.declared.findings.Report.{Report}
 use Rattle.requirement_answers.specs.declared.findings.Scope.{Scope}
-use Rattle.requirement_answers.specs.declared.judging.Verdict.{Verdict}
-use Rattle.requirement_answers.specs.declared.judging.Verdict.TheVariants as verdicts
+use Rattle.requirement_answers.specs.declared.judging.ReportVerdict.{ReportVerdict}
+use Rattle.requirement_answers.specs.declared.judging.ReportVerdict.TheVariants as verdicts
 use Rattle.requirement_answers.specs.declared.counting.Counts.{Counts}
 use Rattle.requirement_answers.specs.Verdicts.{verdict}
 use Rattle.requirement_answers.specs.Counting.{AreCounts}
@@ -25,7 +25,7 @@ use Rattle.requirement_page.specs.Slips.{slips_part}
 use Rattle.requirement_page.specs.Items.{all_items}
 use Rattle.requirement_page.specs.Counts.{table}
 
-abbrev pub verdict_sort : Verdict → List ℕ
+abbrev pub verdict_sort : ReportVerdict → List ℕ
 verdict_sort verdicts.AsWished = codes "good"
 verdict_sort verdicts.NotAsWished = codes "bad"
 verdict_sort verdicts.Undecided = codes "open"
@@ -37,16 +37,16 @@ declared =
     ++ (codes "<meta name=\"viewport\" content=\"width=device-width, initial-scale=1\">\n"
     ++ codes "<meta http-equiv=\"Content-Security-Policy\" content=\"default-src 'none'; style-src 'unsafe-inline'\">\n")
 
-abbrev pub titled : Verdict → List ℕ
+abbrev pub titled : ReportVerdict → List ℕ
 titled v = codes "<title>Requirements: " ++ (verdict_text v ++ codes "</title>\n")
 
 abbrev pub styled : List ℕ
 styled = codes "<style>" ++ (style ++ codes "</style>\n</head>\n<body>\n")
 
-abbrev pub judged : Verdict → List ℕ
+abbrev pub judged : ReportVerdict → List ℕ
 judged v = codes "<h1>Requirements: " ++ (badge (verdict_sort v) (verdict_text v) ++ codes "</h1>\n")
 
-abbrev pub head : Verdict → List ℕ
+abbrev pub head : ReportVerdict → List ℕ
 head v = declared ++ (titled v ++ (styled ++ judged v))
 
 -- ---- the answers in the order of the questions, where the first of them has a number

@@ -13,7 +13,7 @@ use crate::pictures::put_picture;
 use crate::reasons::{put_because, put_described, put_without};
 use requirement_answers::{Asking, Reply};
 use requirement_document::Document;
-use requirement_questions::{Answer, Limits, Member};
+use requirement_questions::{Limits, Member, QuestionAnswer};
 use requirement_report::{item_asked, put_of_all, put_worded, question_words, word_of};
 use std::alloc::{AllocError, Global};
 
@@ -25,13 +25,13 @@ pub struct Left {
 }
 
 /// The sort of an answer, which is a class of the style.
-fn sort_of(asking: Asking, answer: &Answer) -> &'static [u8]
+fn sort_of(asking: Asking, answer: &QuestionAnswer) -> &'static [u8]
     ensures { result.now ≡ sort_of asking answer.now }
 {
     match answer {
-        Answer::Can(_) => can_sort(asking),
-        Answer::Cannot(_) => cannot_sort(asking),
-        Answer::Undecided | Answer::TooLarge(_) => b"open",
+        QuestionAnswer::Can(_) => can_sort(asking),
+        QuestionAnswer::Cannot(_) => cannot_sort(asking),
+        QuestionAnswer::Undecided | QuestionAnswer::TooLarge(_) => b"open",
     }
 }
 
@@ -62,7 +62,7 @@ pub fn put_together(
     number: u128,
     count: Left,
     aside: &[Member],
-    answer: &Answer,
+    answer: &QuestionAnswer,
     out: &mut Vec<u8>,
 ) -> Result<(), AllocError>
     ensures { OnOk result (out.new.items ≡ out.old.items
@@ -79,7 +79,7 @@ fn put_together_begun(
     alloc: Global,
     number: u128,
     count: Left,
-    answer: &Answer,
+    answer: &QuestionAnswer,
     out: &mut Vec<u8>,
 ) -> Result<(), AllocError>
     ensures { OnOk result (out.new.items ≡ out.old.items ++ begun (sort_of Together answer.now) number
@@ -136,17 +136,17 @@ fn put_answered(
     document: &Document,
     limits: Limits,
     asking: Asking,
-    answer: &Answer,
+    answer: &QuestionAnswer,
     out: &mut Vec<u8>,
 ) -> Result<(), AllocError>
     ensures { OnOk result (out.new.items
         ≡ out.old.items ++ answered (document_in document.now) limits.steps asking answer.now) }
 {
     match answer {
-        Answer::Can(trace) => put_picture(alloc, trace, out),
-        Answer::Cannot(because) => put_because(alloc, document, &because.members, out),
-        Answer::Undecided => put_tried(alloc, asking, limits.steps, out),
-        Answer::TooLarge(size) => put_large(alloc, asking, *size, out),
+        QuestionAnswer::Can(trace) => put_picture(alloc, trace, out),
+        QuestionAnswer::Cannot(because) => put_because(alloc, document, &because.members, out),
+        QuestionAnswer::Undecided => put_tried(alloc, asking, limits.steps, out),
+        QuestionAnswer::TooLarge(size) => put_large(alloc, asking, *size, out),
     }
 }
 

@@ -19,7 +19,9 @@ use crate::places::{first_check, first_reply, next_number, together_number};
 use crate::reasons::put_conflict;
 use crate::slips::put_slips;
 use crate::style::put_style;
-use requirement_answers::{Check, Counts, Reply, Report, Scope, Verdict, counts_of, verdict_of};
+use requirement_answers::{
+    Check, Counts, Reply, Report, ReportVerdict, Scope, counts_of, verdict_of,
+};
 use requirement_document::Document;
 use requirement_questions::{Because, Core, Limits};
 use requirement_report::{core_at, is_hidden, set_aside, verdict_text};
@@ -55,7 +57,7 @@ fn put_head_of(report: &Report, out: &mut Vec<u8>) -> Result<(), AllocError>
     put_head(verdict_of(report), out)
 }
 
-fn put_head(verdict: Verdict, out: &mut Vec<u8>) -> Result<(), AllocError>
+fn put_head(verdict: ReportVerdict, out: &mut Vec<u8>) -> Result<(), AllocError>
     ensures { OnOk result (out.new.items ≡ out.old.items ++ head verdict) }
 {
     put_declared(out)?;
@@ -80,7 +82,7 @@ fn put_declared(out: &mut Vec<u8>) -> Result<(), AllocError>
     )
 }
 
-fn put_titled(verdict: Verdict, out: &mut Vec<u8>) -> Result<(), AllocError>
+fn put_titled(verdict: ReportVerdict, out: &mut Vec<u8>) -> Result<(), AllocError>
     ensures { OnOk result (out.new.items ≡ out.old.items ++ titled verdict) }
 {
     out.extend_from_slice(b"<title>Requirements: ")?;
@@ -96,7 +98,7 @@ fn put_styled(out: &mut Vec<u8>) -> Result<(), AllocError>
     out.extend_from_slice(b"</style>\n</head>\n<body>\n")
 }
 
-fn put_judged(verdict: Verdict, out: &mut Vec<u8>) -> Result<(), AllocError>
+fn put_judged(verdict: ReportVerdict, out: &mut Vec<u8>) -> Result<(), AllocError>
     ensures { OnOk result (out.new.items ≡ out.old.items ++ judged verdict) }
 {
     out.extend_from_slice(b"<h1>Requirements: ")?;
@@ -104,13 +106,13 @@ fn put_judged(verdict: Verdict, out: &mut Vec<u8>) -> Result<(), AllocError>
     out.extend_from_slice(b"</h1>\n")
 }
 
-fn verdict_sort(verdict: Verdict) -> &'static [u8]
+fn verdict_sort(verdict: ReportVerdict) -> &'static [u8]
     ensures { result.now ≡ verdict_sort verdict }
 {
     match verdict {
-        Verdict::AsWished => b"good",
-        Verdict::NotAsWished => b"bad",
-        Verdict::Undecided => b"open",
+        ReportVerdict::AsWished => b"good",
+        ReportVerdict::NotAsWished => b"bad",
+        ReportVerdict::Undecided => b"open",
     }
 }
 

@@ -10,8 +10,8 @@ use Rattle.ltl_syntax.specs.Size.{formula_size}
 use Rattle.ltl_syntax.specs.Table.{Table}
 use Rattle.requirement_questions.specs.declared.questions.Given.{Given}
 use Rattle.requirement_questions.specs.declared.questions.Question.{Question}
-use Rattle.requirement_questions.specs.declared.questions.Asked.{Asked}
-use Rattle.requirement_questions.specs.declared.questions.Asked.TheVariants as asked
+use Rattle.requirement_questions.specs.declared.questions.Wanted.{Wanted}
+use Rattle.requirement_questions.specs.declared.questions.Wanted.TheVariants as asked
 use Rattle.requirement_questions.specs.declared.members.Member.{Member}
 use Rattle.requirement_questions.specs.declared.joining.Joined.{Joined}
 use Rattle.requirement_questions.specs.Formulas.{all_of, formula_in, chosen, given_formulas, asked_formulas}
@@ -81,14 +81,14 @@ module _ (q : Question) (ms : List Member) (k : ℕ) (m : Member) (is : slice_ge
 
 -- ---- what is asked
 
-pub whole_joins : (a : Asked) (fs : List Formula) (before : Option Formula) (j : Joined) → before ≡ some_of fs → IsWhole before a j.table (Some j.root)
+pub whole_joins : (a : Wanted) (fs : List Formula) (before : Option Formula) (j : Joined) → before ≡ some_of fs → IsWhole before a j.table (Some j.root)
     → IsJoining (fs ++ asked_formulas a) (Some j)
 whole_joins asked.Nothing fs before j was h = (h.0, h.1 ∙ (ap or_true was ∙ (all_or_true fs ∙ ap all_of (sym (append-nil fs)))))
 whole_joins (asked.Holds g) fs before j was h = (h.0.there.0, h.1 ∙ (ap (λ b. with_one b (formula_in g)) was ∙ sym (all_more fs (formula_in g))))
 whole_joins (asked.Fails g) fs before j was h =
     (h.0.there.0, h.1 ∙ (ap (λ b. with_one b (Unary Not (formula_in g))) was ∙ sym (all_more fs (Unary Not (formula_in g)))))
 
-pub whole_large : (a : Asked) (fs : List Formula) (before : Option Formula) (t : Table) → before ≡ some_of fs → IsWhole before a t None
+pub whole_large : (a : Wanted) (fs : List Formula) (before : Option Formula) (t : Table) → before ≡ some_of fs → IsWhole before a t None
     → IsJoining (fs ++ asked_formulas a) None
 whole_large asked.Nothing fs before t was h = absurd h
 whole_large (asked.Holds g) fs before t was h =

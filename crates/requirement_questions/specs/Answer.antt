@@ -10,8 +10,8 @@ use Rattle.claims.specs.Lawful.{IsLawful}
 use Rattle.claim_check.specs.Data.{certificate_in}
 use Rattle.requirement_questions.specs.declared.questions.Question.{Question}
 use Rattle.requirement_questions.specs.declared.members.Member.{Member}
-use Rattle.requirement_questions.specs.declared.answering.Answer.{Answer}
-use Rattle.requirement_questions.specs.declared.answering.Answer.TheVariants as answers
+use Rattle.requirement_questions.specs.declared.answering.QuestionAnswer.{QuestionAnswer}
+use Rattle.requirement_questions.specs.declared.answering.QuestionAnswer.TheVariants as answers
 use Rattle.requirement_questions.specs.declared.leaving.Because.{Because}
 use Rattle.requirement_questions.specs.Members.{places}
 use Rattle.requirement_questions.specs.Formulas.{all_of, SatisfiesEach, NoneSatisfies, given_formulas, asked_formulas, some_formulas, all_formulas}
@@ -45,7 +45,7 @@ pub record IsBecause (q : Question) (b : Because) : Type 0 where
 
 -- a trace of the kind that satisfies each formula; some of the given formulas that cannot be with what is asked; or the formula that says all of it has this
 -- size, which is above the limit. It may be open for each question whose formula is within the limit
-abbrev pub IsAnswer : Question → Answer → Type 0
+abbrev pub IsAnswer : Question → QuestionAnswer → Type 0
 IsAnswer q (answers.Can t) = SatisfiesEach q.kind (all_formulas q) t
 IsAnswer q (answers.Cannot b) = IsBecause q b.value
 IsAnswer q answers.Undecided = formula_size (all_of (all_formulas q)) ≤ 16384

@@ -9,8 +9,8 @@ use Rattle.ltl_word.specs.declared.trace.Trace.{Trace}
 use Rattle.ltl_word.specs.Trace.{IsTrace, IsOfKind}
 use Rattle.ltl_word.specs.Holds.{Satisfies}
 use Rattle.requirement_questions.specs.declared.questions.Given.{Given}
-use Rattle.requirement_questions.specs.declared.questions.Asked.{Asked}
-use Rattle.requirement_questions.specs.declared.questions.Asked.TheVariants as asked
+use Rattle.requirement_questions.specs.declared.questions.Wanted.{Wanted}
+use Rattle.requirement_questions.specs.declared.questions.Wanted.TheVariants as asked
 use Rattle.requirement_questions.specs.declared.questions.Question.{Question}
 
 -- a formula, and each of the further ones behind it by `&`
@@ -41,12 +41,12 @@ abbrev pub IsThere : Given → Type 0
 IsThere g = g.root < length g.table.now.nodes
 
 -- what is asked beside the given formulas: nothing, that a formula holds, or that it fails
-abbrev pub asked_formulas : Asked → List Formula
+abbrev pub asked_formulas : Wanted → List Formula
 asked_formulas asked.Nothing = []
 asked_formulas (asked.Holds g) = formula_in g ∷ []
 asked_formulas (asked.Fails g) = Unary Not (formula_in g) ∷ []
 
-abbrev pub AskedIsThere : Asked → Type 0
+abbrev pub AskedIsThere : Wanted → Type 0
 AskedIsThere asked.Nothing = Unit {0}
 AskedIsThere (asked.Holds g) = IsThere g
 AskedIsThere (asked.Fails g) = IsThere g

@@ -6,8 +6,8 @@ use Rattle.ltl_syntax.specs.Formula.{Formula, Const, Unary, Binary}
 use Rattle.ltl_syntax.specs.Size.{formula_size, sizes}
 use Rattle.ltl_syntax.specs.Table.{Table, tree_at, IsRoot}
 use Rattle.requirement_questions.specs.declared.questions.Given.{Given}
-use Rattle.requirement_questions.specs.declared.questions.Asked.{Asked}
-use Rattle.requirement_questions.specs.declared.questions.Asked.TheVariants as asked
+use Rattle.requirement_questions.specs.declared.questions.Wanted.{Wanted}
+use Rattle.requirement_questions.specs.declared.questions.Wanted.TheVariants as asked
 use Rattle.requirement_questions.specs.declared.joining.Joined.{Joined}
 use Rattle.requirement_questions.specs.Formulas.{all_of, formula_in}
 
@@ -81,7 +81,7 @@ IsFinished before t (Some number) = (number < length t.nodes) × (tree_at t numb
 IsFinished before t None = ⊥
 
 -- what is asked is joined as well, if anything is
-abbrev pub IsWhole : Option Formula → Asked → Table → Option ℕ → Type 0
+abbrev pub IsWhole : Option Formula → Wanted → Table → Option ℕ → Type 0
 IsWhole before asked.Nothing t number = IsFinished before t number
 IsWhole before (asked.Holds g) t number = IsAdded before (part_formula g false) t number
 IsWhole before (asked.Fails g) t number = IsAdded before (part_formula g true) t number

@@ -6,13 +6,13 @@ use Rattle.ltl_closure.specs.Entries.{ClosureValue}
 use Rattle.unravel.specs.Decision.{IsModel}
 use Rattle.claims.specs.Lawful.{IsLawful}
 use Rattle.claim_check.specs.Data.{certificate_in}
-use Rattle.requirement_questions.specs.declared.asking.Outcome.{Outcome}
-use Rattle.requirement_questions.specs.declared.asking.Outcome.TheVariants as outcomes
+use Rattle.requirement_questions.specs.declared.asking.SearchOutcome.{SearchOutcome}
+use Rattle.requirement_questions.specs.declared.asking.SearchOutcome.TheVariants as outcomes
 use Rattle.requirement_questions.specs.declared.turns.Attempted.{Attempted}
 use Rattle.requirement_questions.specs.declared.turns.Attempted.TheVariants as attempted
 
 -- a trace of the kind that satisfies the formula, or a certificate that is lawful for it; it may be open for each formula
-abbrev pub IsOutcome : Formula → Kind → Outcome → Type 0
+abbrev pub IsOutcome : Formula → Kind → SearchOutcome → Type 0
 IsOutcome f kind (outcomes.Possible t) = IsModel f kind t
 IsOutcome f kind (outcomes.Impossible c) = IsLawful f kind (certificate_in c)
 IsOutcome f kind outcomes.Undecided = ⊤

@@ -13,7 +13,7 @@ use std::alloc::{AllocError, Global};
 
 /// The answer to a question.
 #[derive(Drop)]
-pub enum Answer {
+pub enum QuestionAnswer {
     /// A trace of the kind that satisfies each given formula, and what is asked.
     Can(Trace),
     /// No trace does.
@@ -30,21 +30,21 @@ pub fn answer_question(
     alloc: Global,
     question: &Question<'_>,
     limits: Limits,
-) -> Result<Answer, AllocError>
+) -> Result<QuestionAnswer, AllocError>
     requires { IsQuestion question.now }
     ensures { IfOk result (IsAnswer question.now) }
 {
     let size = full_size(alloc, question)?;
     if size > 16_384 {
-        return Ok(Answer::TooLarge(size));
+        return Ok(QuestionAnswer::TooLarge(size));
     }
     let members = first_members(alloc, question.given.len())?;
     match settle(alloc, question, &members, limits)? {
-        Settled::Possible(trace) => Ok(Answer::Can(trace)),
+        Settled::Possible(trace) => Ok(QuestionAnswer::Can(trace)),
         Settled::Impossible(refuted) => {
             let because = all_because(alloc, question, members, refuted)?;
-            Ok(Answer::Cannot(fewest(alloc, question, limits, because)?))
+            Ok(QuestionAnswer::Cannot(fewest(alloc, question, limits, because)?))
         }
-        Settled::Undecided | Settled::TooLarge => Ok(Answer::Undecided),
+        Settled::Undecided | Settled::TooLarge => Ok(QuestionAnswer::Undecided),
     }
 }

@@ -13,7 +13,7 @@ use std::alloc::{AllocError, Global};
 
 /// What is found of a formula.
 #[derive(Drop)]
-pub enum Outcome {
+pub enum SearchOutcome {
     /// A trace of the kind that satisfies it.
     Possible(Trace),
     /// A lawful certificate: no trace of the kind satisfies it.
@@ -22,9 +22,13 @@ pub enum Outcome {
     Undecided,
 }
 
-/// Looks for a trace of the closure's kind that satisfies its formula, and for claims that refute it, by turns:
-/// the answer of the first search that has one.
-pub fn ask(alloc: Global, closure: &Closure<'_>, limits: Limits) -> Result<Outcome, AllocError>
+/// Looks for a trace of the closure's kind that satisfies its formula, and for claims that refute it, by
+/// turns: the answer of the first search that has one.
+pub fn ask(
+    alloc: Global,
+    closure: &Closure<'_>,
+    limits: Limits,
+) -> Result<SearchOutcome, AllocError>
     ensures { IfOk result (IsOutcome closure.now.formula closure.now.kind) }
 {
     let steps = limits.steps as u64;
@@ -35,13 +39,13 @@ pub fn ask(alloc: Global, closure: &Closure<'_>, limits: Limits) -> Result<Outco
             break;
         }
         match attempt.turn(steps - asked)? {
-            Attempted::Possible(trace) => return Ok(Outcome::Possible(trace)),
-            Attempted::Impossible(certificate) => return Ok(Outcome::Impossible(certificate)),
+            Attempted::Possible(trace) => return Ok(SearchOutcome::Possible(trace)),
+            Attempted::Impossible(certificate) => return Ok(SearchOutcome::Impossible(certificate)),
             Attempted::Open(next) => attempt = next,
-            Attempted::Ended => return Ok(Outcome::Undecided),
+            Attempted::Ended => return Ok(SearchOutcome::Undecided),
         }
     }
-    Ok(Outcome::Undecided)
+    Ok(SearchOutcome::Undecided)
 }
 
 /// The same for the formula under a node.
@@ -51,7 +55,7 @@ pub fn ask_of(
     root: u32,
     kind: Kind,
     limits: Limits,
-) -> Result<Outcome, AllocError>
+) -> Result<SearchOutcome, AllocError>
     requires { root < length table.now.nodes }
     ensures { IfOk result (IsOutcome (tree_at table.now root) kind) }
 {

@@ -8,7 +8,7 @@ ghost use Rattle.lasso_eval.specs.Rows.{row_at, AreValues};
 ghost use Rattle.requirement_questions.specs.Failure.{IsFirstFailure, FailsFirst, IsFirstFalse};
 
 use crate::triggering::always_child;
-use lasso_eval::{EvalRefused, Values, values};
+use lasso_eval::{EvalRefused, TruthRows, values};
 use ltl_syntax::FormulaTable;
 use ltl_word::Trace;
 use std::alloc::Global;
@@ -36,7 +36,7 @@ pub fn first_failure(
 }
 
 /// Where it fails first, where it does.
-fn failing(table: &FormulaTable, root: u32, trace: &Trace, rows: &Values) -> u32
+fn failing(table: &FormulaTable, root: u32, trace: &Trace, rows: &TruthRows) -> u32
     requires root { root < length table.now.nodes }
     requires trace { IsTrace trace.now }
     requires many { length rows.now ≡ root + 1 }
@@ -52,7 +52,7 @@ fn failing(table: &FormulaTable, root: u32, trace: &Trace, rows: &Values) -> u32
 }
 
 /// The first position at which the node's formula is false, or the end of the row.
-fn first_false(rows: &Values, node: u32) -> u32
+fn first_false(rows: &TruthRows, node: u32) -> u32
     requires there { node < length rows.now }
     requires few { length (row_at rows.now node) < 4294967295 }
     ensures { IsFirstFalse (row_at rows.now node) result }

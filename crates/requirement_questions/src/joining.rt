@@ -1,13 +1,15 @@
-// Formulas of several tables in one, joined by `&` in their order. Letters of one name are one letter, whatever
-// the table.
+// Formulas of several tables in one, joined by `&` in their order. Letters of one name are one letter,
+// whatever the table.
 ghost use Rattle.std.specs.Prelude.{◌≡◌, ◌<◌, ◌≤◌, ◌++◌, List, length, All, IfOk};
 ghost use Rattle.ltl_syntax.specs.Formula.{Formula};
-ghost use Rattle.requirement_questions.specs.Formulas.{IsThere, AskedIsThere, IsQuestion, asked_formulas, some_formulas, formula_in};
+ghost use Rattle.requirement_questions.specs.Formulas.{IsThere, AskedIsThere, IsQuestion, asked_formulas};
+ghost use Rattle.requirement_questions.specs.Formulas.{some_formulas, formula_in};
 ghost use Rattle.requirement_questions.specs.Members.{places};
-ghost use Rattle.requirement_questions.specs.Joining.{part_formula, IsPartPut, joined_at, some_of, IsBuilt, IsAdded, IsFinished, IsWhole, IsJoining};
+ghost use Rattle.requirement_questions.specs.Joining.{part_formula, IsPartPut, joined_at, some_of, IsBuilt};
+ghost use Rattle.requirement_questions.specs.Joining.{IsAdded, IsFinished, IsWhole, IsJoining};
 
 use crate::members::Member;
-use crate::questions::{Asked, Given, Question};
+use crate::questions::{Given, Question, Wanted};
 use formula_copy::{put_node, put_tree};
 use ltl_syntax::{BinaryOp, FormulaTable, Node, UnaryOp};
 use std::alloc::{AllocError, Global};
@@ -45,7 +47,7 @@ pub fn join(
 /// What is asked joined to what is there.
 fn finish(
     alloc: Global,
-    asked: Asked<'_>,
+    asked: Wanted<'_>,
     table: FormulaTable,
     root: Option<u32>,
 ) -> Result<Option<Joined>, AllocError>
@@ -66,16 +68,16 @@ fn add_asked(
     alloc: Global,
     table: &mut FormulaTable,
     root: Option<u32>,
-    asked: Asked<'_>,
+    asked: Wanted<'_>,
 ) -> Result<Option<u32>, AllocError>
     requires asked { AskedIsThere asked }
     requires built { IsBuilt table.old root }
     ensures { IfOk result (IsWhole (joined_at table.old root) asked.entry table.new) }
 {
     match asked {
-        Asked::Nothing => some_root(table, root),
-        Asked::Holds(given) => add(alloc, table, root, given, false),
-        Asked::Fails(given) => add(alloc, table, root, given, true),
+        Wanted::Nothing => some_root(table, root),
+        Wanted::Holds(given) => add(alloc, table, root, given, false),
+        Wanted::Fails(given) => add(alloc, table, root, given, true),
     }
 }
 

@@ -1,6 +1,6 @@
-// Given formulas that cannot be with what is asked: as few as can be shown. They are left out from the last to the
-// first, and one stays out where the rest still cannot be. Several at once are tried where those behind them could
-// be left out, so few questions are asked where most of them stay out.
+// Given formulas that cannot be with what is asked: as few as can be shown. They are left out from the last
+// to the first, and one stays out where the rest still cannot be. Several at once are tried where those
+// behind them could be left out, so few questions are asked where most of them stay out.
 ghost use Rattle.std.specs.Prelude.{◌≡◌, ◌<◌, ◌≤◌, ◌+◌, ◌-◌, ◌*◌, true, length, IfOk};
 ghost use Rattle.requirement_questions.specs.Formulas.{IsQuestion};
 ghost use Rattle.requirement_questions.specs.Members.{places, counted};
@@ -59,8 +59,8 @@ pub fn fewest(
     Ok(because)
 }
 
-/// What is tried behind a stretch: one before it, twice as long, where it was left out, and else half of it, or
-/// what stands before the one.
+/// What is tried behind a stretch: one before it, twice as long, where it was left out, and else half of it,
+/// or what stands before the one.
 fn behind(first: usize, end: usize, is_left_out: bool) -> Stretch
     requires { first < end }
     ensures some { 0 < result.width }

@@ -9,7 +9,8 @@ use std::alloc::{AllocError, Global};
 pub struct Member {
     /// Its place among the given ones, from 0.
     pub given: u32,
-    /// Whether the others can be without it, as a trace shows. Else nothing was found of that within the limits.
+    /// Whether the others can be without it, as a trace shows. Else nothing was found of that within the
+    /// limits.
     pub needed: bool,
 }
 

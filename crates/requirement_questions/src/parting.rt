@@ -20,12 +20,13 @@ use std::alloc::{AllocError, Global};
 #[derive(Drop)]
 pub struct Core {
     pub table: FormulaTable,
-    /// The root of each formula's part, in the order of the formulas. Fresh letters stand where it was replaced.
+    /// The root of each formula's part, in the order of the formulas. Fresh letters stand where it was
+    /// replaced.
     pub parts: Vec<u32>,
 }
 
-/// What matters of members that no trace of the kind satisfies, where nothing else is asked. None where nothing
-/// could be replaced, within the limits of each test.
+/// What matters of members that no trace of the kind satisfies, where nothing else is asked. None where
+/// nothing could be replaced, within the limits of each test.
 pub fn core_of(
     alloc: Global,
     kind: Kind,

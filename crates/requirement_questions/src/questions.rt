@@ -13,7 +13,7 @@ pub struct Given<'d> {
 
 /// What is asked beside the given formulas: nothing, that a formula holds, or that it fails.
 #[derive(Clone, Copy)]
-pub enum Asked<'d> {
+pub enum Wanted<'d> {
     Nothing,
     Holds(Given<'d>),
     Fails(Given<'d>),
@@ -24,7 +24,7 @@ pub enum Asked<'d> {
 pub struct Question<'d> {
     pub kind: Kind,
     pub given: &'d [Given<'d>],
-    pub asked: Asked<'d>,
+    pub asked: Wanted<'d>,
 }
 
 /// How long a question is looked at: how many questions both searches ask of their solvers.

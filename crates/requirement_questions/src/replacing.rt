@@ -8,7 +8,7 @@ ghost use Rattle.ltl_run.specs.Laws.{HasNoTrace};
 ghost use Rattle.core_extract.specs.Testing.{IsTask, AreMarks, formula_of, marked};
 ghost use Rattle.requirement_questions.specs.Replacing.{IsReplaced};
 
-use crate::asking::{Outcome, ask_of};
+use crate::asking::{SearchOutcome, ask_of};
 use crate::questions::Limits;
 use claims::laws;
 use core_extract::{Task, mark, present};
@@ -139,7 +139,7 @@ fn is_refuted(
         steps: limits.steps.min(TEST_STEPS),
     };
     match ask_of(alloc, &formula.table, formula.root, kind, few)? {
-        Outcome::Impossible(_) => Ok(true),
-        Outcome::Possible(_) | Outcome::Undecided => Ok(false),
+        SearchOutcome::Impossible(_) => Ok(true),
+        SearchOutcome::Possible(_) | SearchOutcome::Undecided => Ok(false),
     }
 }

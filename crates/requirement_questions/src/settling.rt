@@ -4,7 +4,7 @@ ghost use Rattle.requirement_questions.specs.Formulas.{IsQuestion};
 ghost use Rattle.requirement_questions.specs.Members.{places};
 ghost use Rattle.requirement_questions.specs.Settling.{IsSettled};
 
-use crate::asking::{Outcome, ask_of};
+use crate::asking::{SearchOutcome, ask_of};
 use crate::joining::join;
 use crate::members::Member;
 use crate::questions::{Limits, Question};
@@ -45,9 +45,9 @@ pub fn settle(
         return Ok(Settled::TooLarge);
     };
     match ask_of(alloc, &joined.table, joined.root, question.kind, limits)? {
-        Outcome::Possible(trace) => Ok(Settled::Possible(trace)),
-        Outcome::Undecided => Ok(Settled::Undecided),
-        Outcome::Impossible(certificate) => {
+        SearchOutcome::Possible(trace) => Ok(Settled::Possible(trace)),
+        SearchOutcome::Undecided => Ok(Settled::Undecided),
+        SearchOutcome::Impossible(certificate) => {
             let refuted = Refuted {
                 certificate,
                 table: joined.table,

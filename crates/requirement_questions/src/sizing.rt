@@ -1,10 +1,11 @@
 // How large the formula is that says all of a question.
 ghost use Rattle.std.specs.Prelude.{◌≡◌, ◌≤◌, length, IfOk};
 ghost use Rattle.ltl_syntax.specs.Size.{formula_size};
-ghost use Rattle.requirement_questions.specs.Formulas.{IsQuestion, AskedIsThere, all_of, all_formulas, asked_formulas};
+ghost use Rattle.requirement_questions.specs.Formulas.{IsQuestion, AskedIsThere, all_of, all_formulas};
+ghost use Rattle.requirement_questions.specs.Formulas.{asked_formulas};
 ghost use Rattle.requirement_questions.specs.Sizing.{steps_of};
 
-use crate::questions::{Asked, Question};
+use crate::questions::{Question, Wanted};
 use formula_copy::tree_size;
 use std::alloc::{AllocError, Global};
 
@@ -27,14 +28,14 @@ pub fn full_size(alloc: Global, question: &Question<'_>) -> Result<u128, AllocEr
 }
 
 /// How much what is asked adds.
-fn asked_steps(alloc: Global, asked: Asked<'_>) -> Result<u128, AllocError>
+fn asked_steps(alloc: Global, asked: Wanted<'_>) -> Result<u128, AllocError>
     requires { AskedIsThere asked }
     ensures steps { IfOk result (λ steps. steps ≡ steps_of (asked_formulas asked.entry)) }
     ensures few { IfOk result (λ steps. steps ≤ 4177922) }
 {
     match asked {
-        Asked::Nothing => Ok(0),
-        Asked::Holds(given) => Ok(tree_size(alloc, given.table, given.root)? as u128 + 1),
-        Asked::Fails(given) => Ok(tree_size(alloc, given.table, given.root)? as u128 + 2),
+        Wanted::Nothing => Ok(0),
+        Wanted::Holds(given) => Ok(tree_size(alloc, given.table, given.root)? as u128 + 1),
+        Wanted::Fails(given) => Ok(tree_size(alloc, given.table, given.root)? as u128 + 2),
     }
 }

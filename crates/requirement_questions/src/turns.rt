@@ -1,14 +1,15 @@
-// The two searches in turns: one for claims that refute the formula, question by question, and one for a trace
-// that satisfies it, depth by depth. A depth is asked once the other search has asked questions enough that
-// the depth has earned its turn, so neither is far behind where the other would have answered. What a depth
-// costs is told by what was learnt at those before it, as a question of the solver cannot be broken off.
+// The two searches in turns: one for claims that refute the formula, question by question, and one for a
+// trace that satisfies it, depth by depth. A depth is asked once the other search has asked questions enough
+// that the depth has earned its turn, so neither is far behind where the other would have answered. What a
+// depth costs is told by what was learnt at those before it, as a question of the solver cannot be broken
+// off.
 ghost use Rattle.std.specs.Prelude.{◌≡◌, IsTrue, IfOk, IfSome};
 ghost use Rattle.unravel.specs.Exploration.{CanGoOn};
 ghost use Rattle.claims.specs.Lawful.{IsLawful};
 ghost use Rattle.claim_check.specs.Data.{certificate_in};
 ghost use Rattle.requirement_questions.specs.Outcome.{IsAttempted};
 
-use claim_check::{Certificate, Verdict, check};
+use claim_check::{Certificate, ClaimVerdict, check};
 use claim_search::{Progress, Search};
 use ltl_closure::Closure;
 use ltl_word::Trace;
@@ -190,8 +191,8 @@ fn judged(
         (certificate_in c))) }
 {
     match check(alloc, closure, closure.kind(), &found)? {
-        Verdict::Verified => Ok(Some(found)),
-        Verdict::Refused(_) => Ok(None),
+        ClaimVerdict::Verified => Ok(Some(found)),
+        ClaimVerdict::Refused(_) => Ok(None),
     }
 }
 

@@ -5,8 +5,8 @@ use Rattle.std.proofs.lemmas.List.Elements.{All-nil, All-cons, All-head, All-tai
 use Rattle.ltl_syntax.specs.Formula.{Formula}
 use Rattle.requirement_document.specs.Values.{DocumentValue}
 use Rattle.requirement_questions.specs.declared.leaving.Because.{Because}
-use Rattle.requirement_questions.specs.declared.answering.Answer.{Answer}
-use Rattle.requirement_questions.specs.declared.answering.Answer.TheVariants as answers
+use Rattle.requirement_questions.specs.declared.answering.QuestionAnswer.{QuestionAnswer}
+use Rattle.requirement_questions.specs.declared.answering.QuestionAnswer.TheVariants as answers
 use Rattle.requirement_answers.specs.declared.asking.Reply.{Reply}
 use Rattle.requirement_answers.specs.declared.findings.Report.{Report}
 use Rattle.requirement_answers.specs.declared.findings.Scope.{Scope}
@@ -27,7 +27,7 @@ conflicts_shown law d given (b ∷ bs) left (is, some, rest) =
     All-cons (λ c. CanBeShown c.value) b bs (because_shown law d given [] b.value is)
     (conflicts_shown law d (without (places b.value.members.items) given) bs left rest)
 
-answer_shown : LawfulCanBeShown → (d : DocumentValue) (given : List ℕ) (asked : List Formula) (a : Answer) → IsAnswerTo d given asked a → AnswerCanBeShown a
+answer_shown : LawfulCanBeShown → (d : DocumentValue) (given : List ℕ) (asked : List Formula) (a : QuestionAnswer) → IsAnswerTo d given asked a → AnswerCanBeShown a
 answer_shown law d given asked (answers.Cannot b) is = because_shown law d given asked b.value is
 answer_shown law d given asked other is = tt
 

@@ -6,8 +6,8 @@ use Rattle.claims.specs.Lawful.{IsLawful}
 use Rattle.claim_check.specs.Data.{certificate_in}
 use Rattle.claim_reading.specs.Never.{AreOfEntries}
 use Rattle.requirement_questions.specs.declared.leaving.Because.{Because}
-use Rattle.requirement_questions.specs.declared.answering.Answer.{Answer}
-use Rattle.requirement_questions.specs.declared.answering.Answer.TheVariants as answers
+use Rattle.requirement_questions.specs.declared.answering.QuestionAnswer.{QuestionAnswer}
+use Rattle.requirement_questions.specs.declared.answering.QuestionAnswer.TheVariants as answers
 use Rattle.requirement_document.specs.Values.{DocumentValue}
 use Rattle.requirement_answers.specs.declared.findings.Report.{Report}
 use Rattle.requirement_answers.specs.declared.findings.Scope.{Scope}
@@ -17,7 +17,7 @@ pub record CanBeShown (b : Because) : Type 0 where
   pub there : b.root < length b.table.nodes
   pub entries : AreOfEntries (tree_at b.table b.root) (certificate_in b.certificate)
 
-abbrev pub AnswerCanBeShown : Answer → Type 0
+abbrev pub AnswerCanBeShown : QuestionAnswer → Type 0
 AnswerCanBeShown (answers.Can t) = ⊤
 AnswerCanBeShown (answers.Cannot b) = CanBeShown b.value
 AnswerCanBeShown answers.Undecided = ⊤

@@ -14,8 +14,8 @@ use Rattle.requirement_document.specs.Values.{ItemValue, BehaviourValue, Documen
 use Rattle.requirement_questions.specs.declared.members.Member.{Member}
 use Rattle.requirement_questions.specs.declared.leaving.Because.{Because}
 use Rattle.requirement_questions.specs.declared.parting.Core.{Core}
-use Rattle.requirement_questions.specs.declared.answering.Answer.{Answer}
-use Rattle.requirement_questions.specs.declared.answering.Answer.TheVariants as answers
+use Rattle.requirement_questions.specs.declared.answering.QuestionAnswer.{QuestionAnswer}
+use Rattle.requirement_questions.specs.declared.answering.QuestionAnswer.TheVariants as answers
 use Rattle.requirement_answers.specs.declared.asking.Asking.{Asking}
 use Rattle.requirement_answers.specs.declared.asking.Asking.TheVariants as askings
 use Rattle.requirement_answers.specs.declared.asking.Reply.{Reply}
@@ -24,8 +24,8 @@ use Rattle.requirement_answers.specs.declared.findings.Check.{Check}
 use Rattle.requirement_answers.specs.declared.findings.Report.{Report}
 use Rattle.requirement_answers.specs.declared.findings.Scope.{Scope}
 use Rattle.requirement_answers.specs.declared.findings.Scope.TheVariants as scopes
-use Rattle.requirement_answers.specs.declared.judging.Verdict.{Verdict}
-use Rattle.requirement_answers.specs.declared.judging.Verdict.TheVariants as verdicts
+use Rattle.requirement_answers.specs.declared.judging.ReportVerdict.{ReportVerdict}
+use Rattle.requirement_answers.specs.declared.judging.ReportVerdict.TheVariants as verdicts
 use Rattle.requirement_answers.specs.declared.counting.Tally.{Tally}
 use Rattle.requirement_answers.specs.declared.counting.Counts.{Counts}
 use Rattle.requirement_answers.specs.Verdicts.{verdict, is_can}
@@ -105,7 +105,7 @@ cannot_word (askings.New n) = codes "follows from the others"
 cannot_word (askings.Possible n) = codes "impossible"
 cannot_word (askings.Follows n) = codes "follows"
 
-abbrev pub word_of : Asking → Answer → List ℕ
+abbrev pub word_of : Asking → QuestionAnswer → List ℕ
 word_of a (answers.Can t) = can_word a
 word_of a (answers.Cannot b) = cannot_word a
 word_of a answers.Undecided = codes "undecided"
@@ -122,7 +122,7 @@ tried_line steps = inner (worded (codes "tried: ") steps ++ codes " steps")
 abbrev pub large_line : ℕ → List ℕ
 large_line size = inner (worded (codes "limit nodes 16384 have ") size)
 
-abbrev pub answer_lines : DocumentValue → ℕ → Asking → Answer → List ℕ
+abbrev pub answer_lines : DocumentValue → ℕ → Asking → QuestionAnswer → List ℕ
 answer_lines d steps a (answers.Can t) = picture t
 answer_lines d steps a (answers.Cannot b) = because_line d b.value.members.items
 answer_lines d steps a answers.Undecided = inner (question_words a) ++ tried_line steps
@@ -136,7 +136,7 @@ without_line d [] = []
 without_line d (m ∷ ms) = inner (codes "without: " ++ members_text d (m ∷ ms))
 
 -- how many of all that is given are left
-abbrev pub together_block : DocumentValue → ℕ → ℕ → ℕ → List Member → Answer → List ℕ
+abbrev pub together_block : DocumentValue → ℕ → ℕ → ℕ → List Member → QuestionAnswer → List ℕ
 together_block d steps left all without answer =
     head (word_of askings.Together answer) (of_all left all) ++ (without_line d without ++ answer_lines d steps askings.Together answer)
 
@@ -161,7 +161,7 @@ is_all scopes.All = true
 is_all (scopes.Item n) = false
 is_all (scopes.Behaviour n) = false
 
-abbrev pub is_hidden : Scope → Asking → Answer → Bool
+abbrev pub is_hidden : Scope → Asking → QuestionAnswer → Bool
 is_hidden scope a answer = is_all scope && (is_remark a && is_can answer)
 
 -- each further block stands behind an empty line
@@ -249,7 +249,7 @@ slips_text d scope = if is_all scope then slips_block d (slips_of d) else []
 
 -- ---- the end
 
-abbrev pub verdict_text : Verdict → List ℕ
+abbrev pub verdict_text : ReportVerdict → List ℕ
 verdict_text verdicts.AsWished = codes "as wished"
 verdict_text verdicts.NotAsWished = codes "not as wished"
 verdict_text verdicts.Undecided = codes "undecided"
@@ -267,7 +267,7 @@ later_counts c = count_line (codes "possible") c.possible ++ (count_line (codes 
 abbrev pub count_lines : Counts → List ℕ
 count_lines c = met_line c.met ++ (count_line (codes "triggered") c.triggered ++ (count_line (codes "says something new") c.new ++ later_counts c))
 
-abbrev pub ending : Verdict → Counts → List ℕ
+abbrev pub ending : ReportVerdict → Counts → List ℕ
 ending v c = codes "\n" ++ (verdict_text v ++ (codes "\n" ++ count_lines c))
 
 -- the items that are set aside, which are none where there is no conflict

@@ -9,17 +9,17 @@ use crate::members::put_members;
 use crate::pictures::put_picture;
 use requirement_answers::Asking;
 use requirement_document::Document;
-use requirement_questions::{Answer, Limits, Member};
+use requirement_questions::{Limits, Member, QuestionAnswer};
 use std::alloc::{AllocError, Global};
 
 /// The word that an answer begins with.
-pub fn word_of(asking: Asking, answer: &Answer) -> &'static [u8]
+pub fn word_of(asking: Asking, answer: &QuestionAnswer) -> &'static [u8]
     ensures { result.now ≡ word_of asking answer.now }
 {
     match answer {
-        Answer::Can(_) => can_word(asking),
-        Answer::Cannot(_) => cannot_word(asking),
-        Answer::Undecided | Answer::TooLarge(_) => b"undecided",
+        QuestionAnswer::Can(_) => can_word(asking),
+        QuestionAnswer::Cannot(_) => cannot_word(asking),
+        QuestionAnswer::Undecided | QuestionAnswer::TooLarge(_) => b"undecided",
     }
 }
 
@@ -66,20 +66,20 @@ pub fn put_answer(
     document: &Document,
     limits: Limits,
     asking: Asking,
-    answer: &Answer,
+    answer: &QuestionAnswer,
     out: &mut Vec<u8>,
 ) -> Result<(), AllocError>
     ensures { OnOk result (out.new.items
         ≡ out.old.items ++ answer_lines (document_in document.now) limits.steps asking answer.now) }
 {
     match answer {
-        Answer::Can(trace) => put_picture(alloc, trace, out),
-        Answer::Cannot(because) => put_because(alloc, document, &because.members, out),
-        Answer::Undecided => {
+        QuestionAnswer::Can(trace) => put_picture(alloc, trace, out),
+        QuestionAnswer::Cannot(because) => put_because(alloc, document, &because.members, out),
+        QuestionAnswer::Undecided => {
             put_inner(question_words(asking), out)?;
             put_tried(alloc, limits.steps, out)
         }
-        Answer::TooLarge(size) => {
+        QuestionAnswer::TooLarge(size) => {
             put_inner(question_words(asking), out)?;
             put_large(alloc, *size, out)
         }

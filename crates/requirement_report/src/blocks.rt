@@ -13,7 +13,7 @@ use crate::members::put_members;
 use crate::subjects::{name_of, sentence_of};
 use requirement_answers::{Asking, Reply, Scope};
 use requirement_document::Document;
-use requirement_questions::{Answer, Limits, Member};
+use requirement_questions::{Limits, Member, QuestionAnswer};
 use std::alloc::{AllocError, Global};
 
 /// How many items, and of how many.
@@ -30,7 +30,7 @@ pub fn put_together(
     limits: Limits,
     count: Left,
     aside: &[Member],
-    answer: &Answer,
+    answer: &QuestionAnswer,
     out: &mut Vec<u8>,
 ) -> Result<(), AllocError>
     ensures { OnOk result (out.new.items ≡ out.old.items
@@ -138,7 +138,7 @@ pub fn item_asked(asking: Asking) -> u32
 }
 
 /// Whether the answer goes without saying where all is asked.
-pub fn is_hidden(scope: Scope, asking: Asking, answer: &Answer) -> bool
+pub fn is_hidden(scope: Scope, asking: Asking, answer: &QuestionAnswer) -> bool
     ensures { result ≡ is_hidden scope asking answer.now }
 {
     is_all(scope) && is_remark(asking) && is_can(answer)
@@ -163,11 +163,12 @@ fn is_remark(asking: Asking) -> bool
     }
 }
 
-fn is_can(answer: &Answer) -> bool
+fn is_can(answer: &QuestionAnswer) -> bool
     ensures { result ≡ is_can answer.now }
 {
     match answer {
-        Answer::Can(_) => true,
-        Answer::Cannot(_) | Answer::Undecided | Answer::TooLarge(_) => false,
+        QuestionAnswer::Can(_) => true,
+        QuestionAnswer::Cannot(_) | QuestionAnswer::Undecided | QuestionAnswer::TooLarge(_) =>
+            false,
     }
 }

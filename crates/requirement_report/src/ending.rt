@@ -4,12 +4,12 @@ ghost use Rattle.requirement_report.specs.Text.{verdict_text, met_line, count_li
 ghost use Rattle.requirement_report.specs.Text.{count_lines, ending};
 
 use crate::lines::{put_inner, put_of_all};
-use requirement_answers::{Counts, Tally, Verdict};
+use requirement_answers::{Counts, ReportVerdict, Tally};
 use std::alloc::{AllocError, Global};
 
 pub fn put_ending(
     alloc: Global,
-    verdict: Verdict,
+    verdict: ReportVerdict,
     counts: Counts,
     out: &mut Vec<u8>,
 ) -> Result<(), AllocError>
@@ -22,13 +22,13 @@ pub fn put_ending(
 }
 
 /// The line of a verdict.
-pub fn verdict_text(verdict: Verdict) -> &'static [u8]
+pub fn verdict_text(verdict: ReportVerdict) -> &'static [u8]
     ensures { result.now ≡ verdict_text verdict }
 {
     match verdict {
-        Verdict::AsWished => b"as wished",
-        Verdict::NotAsWished => b"not as wished",
-        Verdict::Undecided => b"undecided",
+        ReportVerdict::AsWished => b"as wished",
+        ReportVerdict::NotAsWished => b"not as wished",
+        ReportVerdict::Undecided => b"undecided",
     }
 }
 

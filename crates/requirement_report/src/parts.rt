@@ -1,5 +1,5 @@
-// What matters of the members of a conflict. A fresh letter stands where something else may stand as well: it is
-// printed as a number between braces, and shown as `…`.
+// What matters of the members of a conflict. A fresh letter stands where something else may stand as well: it
+// is printed as a number between braces, and shown as `…`.
 ghost use Rattle.std.specs.Prelude.{◌≡◌, ◌++◌, slice_get, IfOk, OnOk};
 ghost use Rattle.std.specs.Option.{option_copied, option_map};
 ghost use Rattle.requirement_report.specs.Parts.{is_inside, elided_byte, elided, part_at, part_under};
@@ -22,8 +22,8 @@ pub fn core_at(cores: &[Option<Box<Core>>], place: usize) -> Option<&Core>
     }
 }
 
-/// The text of the part of a conflict's member, by the member's place. None where there is no core, and where it
-/// has no such part.
+/// The text of the part of a conflict's member, by the member's place. None where there is no core, and where
+/// it has no such part.
 pub fn part_of(
     alloc: Global,
     core: Option<&Core>,

@@ -4,7 +4,7 @@ use crate::reporting::reported;
 use requirement_answers::laws::behaviours_are_traces;
 use requirement_answers::{Effort, NoWatch, Report, ReportRefused, Scope, report_on};
 use requirement_document::read;
-use requirement_questions::{Answer, Because, Limits};
+use requirement_questions::{Because, Limits, QuestionAnswer};
 use std::alloc::Global;
 use std::test::Fail;
 use std::thread::Threads;
@@ -27,12 +27,16 @@ fn tell_because(alloc: Global, line: &mut String, because: &Because) -> Result<(
     Ok(())
 }
 
-pub(crate) fn tell_answer(alloc: Global, line: &mut String, answer: &Answer) -> Result<(), Fail> {
+pub(crate) fn tell_answer(
+    alloc: Global,
+    line: &mut String,
+    answer: &QuestionAnswer,
+) -> Result<(), Fail> {
     match answer {
-        Answer::Can(_) => line.push_str("can")?,
-        Answer::Cannot(because) => tell_because(alloc, line, because)?,
-        Answer::Undecided => line.push_str("undecided")?,
-        Answer::TooLarge(_) => line.push_str("too large")?,
+        QuestionAnswer::Can(_) => line.push_str("can")?,
+        QuestionAnswer::Cannot(because) => tell_because(alloc, line, because)?,
+        QuestionAnswer::Undecided => line.push_str("undecided")?,
+        QuestionAnswer::TooLarge(_) => line.push_str("too large")?,
     }
     Ok(())
 }

@@ -2,7 +2,7 @@
 // shown is right, and not that anything is found.
 use crate::questions::{answer_of, given_of, tables};
 use ltl_syntax::{Kind, print};
-use requirement_questions::{Answer, Asked, Because, Core, Limits, core_of};
+use requirement_questions::{Because, Core, Limits, QuestionAnswer, Wanted, core_of};
 use std::alloc::{AllocError, Global};
 use std::process::Abort;
 use std::test::Fail;
@@ -63,8 +63,8 @@ fn told(rt: &impl Abort, alloc: Global, row: &Row) -> Result<Vec<u8>, AllocError
     let (kind, texts, _) = *row;
     let tables = tables(rt, alloc, texts)?;
     let given = given_of(alloc, &tables)?;
-    match answer_of(alloc, kind, &given, Asked::Nothing)? {
-        Answer::Cannot(because) => tell_core_of(rt, alloc, kind, &because),
+    match answer_of(alloc, kind, &given, Wanted::Nothing)? {
+        QuestionAnswer::Cannot(because) => tell_core_of(rt, alloc, kind, &because),
         _ => panic!(rt; "no conflict was found"),
     }
 }

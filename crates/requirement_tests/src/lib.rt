@@ -1,5 +1,6 @@
 //! Tests of documents of requirements: what a text is read as and how it is refused, questions about several
-//! formulas, what is answered about a document, the text, the JSON and the page of a report, and certificates.
+//! formulas, what is answered about a document, the text, the JSON and the page of a report, and
+//! certificates.
 #![tactic(auto)]
 
 #[cfg(test)]

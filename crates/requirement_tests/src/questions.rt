@@ -5,7 +5,9 @@ ghost use Rattle.requirement_questions.specs.Formulas.{IsThere, AskedIsThere};
 use crate::answers::tell_answer;
 use crate::reading::formula;
 use ltl_syntax::{FormulaTable, Kind, print};
-use requirement_questions::{Answer, Asked, Given, Limits, Question, answer_question, trigger};
+use requirement_questions::{
+    Given, Limits, Question, QuestionAnswer, Wanted, answer_question, trigger,
+};
 use std::alloc::{AllocError, Global};
 use std::process::Abort;
 use std::test::Fail;
@@ -92,14 +94,14 @@ pub(crate) fn given_of<'d>(
 }
 
 /// What is asked of a formula.
-fn asked_of<'d>(ask: Ask, given: Given<'d>) -> Asked<'d>
+fn asked_of<'d>(ask: Ask, given: Given<'d>) -> Wanted<'d>
     requires { IsThere given }
     ensures { AskedIsThere result }
 {
     match ask {
-        Ask::Nothing => Asked::Nothing,
-        Ask::Holds(_) => Asked::Holds(given),
-        Ask::Fails(_) => Asked::Fails(given),
+        Ask::Nothing => Wanted::Nothing,
+        Ask::Holds(_) => Wanted::Holds(given),
+        Ask::Fails(_) => Wanted::Fails(given),
     }
 }
 
@@ -108,8 +110,8 @@ pub(crate) fn answer_of(
     alloc: Global,
     kind: Kind,
     given: &[Given<'_>],
-    asked: Asked<'_>,
-) -> Result<Answer, AllocError>
+    asked: Wanted<'_>,
+) -> Result<QuestionAnswer, AllocError>
     requires given { All IsThere given.now }
     requires asked { AskedIsThere asked }
 {

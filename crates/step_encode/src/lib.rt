@@ -6,7 +6,7 @@ ghost use Rattle.std.specs.Prelude.{◌≡◌, ◌≤◌, ◌++◌, OnOk, OnErr}
 ghost use Rattle.enc_layout.specs.Letters.{Fits};
 ghost use Rattle.enc_layout.specs.Clauses.{layout_of, state_clauses, signed_clauses};
 
-use clause_index::{Indexed, Section};
+use clause_index::{Indexed, StepSection};
 use cnf_base::ClauseList;
 use enc_layout::Layout;
 use ltl_closure::Closure;
@@ -27,5 +27,5 @@ pub fn append(
         (state_clauses closure.now.formula step)) }
     ensures err { OnErr result (out.new ≡ out.old) }
 {
-    Indexed::of(closure, step).append(step, Section::States, out)
+    Indexed::of(closure, step).append(step, StepSection::States, out)
 }

@@ -1,5 +1,8 @@
 //! Laws of finite systems. Each function is empty: its contract is the law, and a proof cites it by a call.
-ghost use Rattle.system_check.specs.Laws.{StartsAreSteps, StepsAreTwo, StartsAreOne, TwoReadsSets, PathsSatisfy, FailingPathsSatisfy, WholeIsLong, SystemIsNoLarger, SystemFits, JoiningIsOne, NoPathIsRight, HoldsIsRight, FailsIsRight, UndecidedIsLow, SystemSettles, AnswerIsOne};
+ghost use Rattle.system_check.specs.Laws.{StartsAreSteps, StepsAreTwo, StartsAreOne, TwoReadsSets};
+ghost use Rattle.system_check.specs.Laws.{PathsSatisfy, FailingPathsSatisfy, WholeIsLong, SystemIsNoLarger};
+ghost use Rattle.system_check.specs.Laws.{SystemFits, JoiningIsOne, NoPathIsRight, HoldsIsRight};
+ghost use Rattle.system_check.specs.Laws.{FailsIsRight, UndecidedIsLow, SystemSettles, AnswerIsOne};
 
 /// A formula of the step's form speaks of a state and the next one, one without temporal operators of one
 /// state.

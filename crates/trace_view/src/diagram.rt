@@ -4,7 +4,8 @@ ghost use Rattle.std.specs.Prelude.{◌≡◌, ◌+◌, ◌*◌, ◌++◌, IfOk,
 ghost use Rattle.trace_view.specs.Text.{below};
 ghost use Rattle.trace_view.specs.Diagram.{x_of, level, bottom, worded, escaped_byte, escaped, style};
 ghost use Rattle.trace_view.specs.Diagram.{opening};
-ghost use Rattle.trace_view.specs.Diagram.{sheet, band, edge, edges, numeral, stroke, wave, title, lanes_from};
+ghost use Rattle.trace_view.specs.Diagram.{sheet, band, edge, edges, numeral, stroke, wave, title};
+ghost use Rattle.trace_view.specs.Diagram.{lanes_from};
 ghost use Rattle.trace_view.specs.Diagram.{arrow, head, band_of, arrow_of, picture, svg};
 
 use crate::Grid;

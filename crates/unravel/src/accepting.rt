@@ -92,8 +92,8 @@ fn end(
     }
 }
 
-/// The rule by which a run of depth + 1 states is accepted, where one is, and the solver's values are those of
-/// this run then.
+/// The rule by which a run of depth + 1 states is accepted, where one is, and the solver's values are those
+/// of this run then.
 pub fn accepting_rule(
     alloc: Global,
     closure: &Closure<'_>,

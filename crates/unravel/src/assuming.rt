@@ -1,7 +1,7 @@
-// How a question is asked, and what it assumes besides its own letter: that the states of some steps are there,
-// the last one at least. That of each step since the search was last hard stays assumed, in order, so that the
-// solver need not go back over the earlier steps. A state is there only after the one before it, so the answer
-// is the same.
+// How a question is asked, and what it assumes besides its own letter: that the states of some steps are
+// there, the last one at least. That of each step since the search was last hard stays assumed, in order, so
+// that the solver need not go back over the earlier steps. A state is there only after the one before it, so
+// the answer is the same.
 ghost use Rattle.std.specs.Prelude.{◌≡◌, ◌≤◌, ◌+◌, ◌++◌, ◌∷◌, ◌⊎◌, [], All, IfOk, OnOk};
 ghost use Rattle.cnf_base.specs.Known.{IsKnown};
 ghost use Rattle.cdcl.specs.Solving.{IsConsistent};
@@ -10,7 +10,8 @@ ghost use Rattle.enc_layout.specs.Letters.{Fits};
 ghost use Rattle.enc_layout.specs.Clauses.{layout_of};
 ghost use Rattle.enc_layout.specs.Assigned.{positive_of};
 ghost use Rattle.unravel.specs.Putting.{IsAsked};
-ghost use Rattle.unravel.specs.Depths.{AreStatesBelow, AreStatesTo, IsReady, IsStillThrough, letter_of, IsFoundOrNever};
+ghost use Rattle.unravel.specs.Depths.{AreStatesBelow, AreStatesTo, IsReady, IsStillThrough, letter_of};
+ghost use Rattle.unravel.specs.Depths.{IsFoundOrNever};
 
 use crate::inputs::Inputs;
 use cdcl::Answer;

@@ -1,6 +1,6 @@
-// The tableau, depth after depth: a depth's clauses are put in as far as its questions ask for them, the solver
-// answers these, and the first depth that settles the formula gives the decision. After Geatti, Gigante and
-// Montanari, A SAT-based encoding of the one-pass and tree-shaped tableau system for LTL (2019).
+// The tableau, depth after depth: a depth's clauses are put in as far as its questions ask for them, the
+// solver answers these, and the first depth that settles the formula gives the decision. After Geatti,
+// Gigante and Montanari, A SAT-based encoding of the one-pass and tree-shaped tableau system for LTL (2019).
 ghost use Rattle.std.specs.Prelude.{◌≤◌, IfOk};
 ghost use Rattle.ltl_closure.specs.Run.{bound};
 ghost use Rattle.enc_layout.specs.Letters.{Fits};

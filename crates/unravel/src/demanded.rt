@@ -93,7 +93,8 @@ fn add_chain(listed: &Listed<'_>, pair: Pair, inputs: &mut Inputs) -> Result<(),
 }
 
 /// Puts in that an eventuality is fulfilled between the two steps where the run closes from the one to the
-/// other and it is pending there: it is fulfilled after the earlier step only where some later one fulfils it.
+/// other and it is pending there: it is fulfilled after the earlier step only where some later one fulfils
+/// it.
 fn add_fulfilment(
     listed: &Listed<'_>,
     pair: Pair,

@@ -1,6 +1,6 @@
-// A depth's clauses of the states and of acceptance, put in behind those of the depths before. What is said of
-// pairs of steps is put in where a run asks for it, but for the first two steps, whose pair is put in whole:
-// with one wide step a run would have to ask for most of it, place by place.
+// A depth's clauses of the states and of acceptance, put in behind those of the depths before. What is said
+// of pairs of steps is put in where a run asks for it, but for the first two steps, whose pair is put in
+// whole: with one wide step a run would have to ask for most of it, place by place.
 ghost use Rattle.std.specs.Prelude.{◌≤◌, All, Contains, OnOk};
 ghost use Rattle.enc_layout.specs.Letters.{Fits};
 ghost use Rattle.enc_layout.specs.Clauses.{layout_of, state_clauses, signed_clauses};
@@ -11,7 +11,7 @@ ghost use Rattle.unravel.specs.Depths.{IsBefore, IsThrough};
 use crate::demanded::add_numbers;
 use crate::inputs::Inputs;
 use crate::listed::Listed;
-use clause_index::Section;
+use clause_index::StepSection;
 use enc_layout::Layout;
 use ltl_closure::Closure;
 use std::alloc::AllocError;
@@ -20,7 +20,7 @@ use std::alloc::AllocError;
 fn add_section(
     listed: &Listed<'_>,
     step: u32,
-    section: Section,
+    section: StepSection,
     inputs: &mut Inputs,
 ) -> Result<(), AllocError>
     requires step { step ≤ listed.now.depth }
@@ -46,8 +46,8 @@ fn add_first_pair(listed: &Listed<'_>, step: u32, inputs: &mut Inputs) -> Result
     if step != 1 {
         return Ok(());
     }
-    add_numbers(listed, listed.section(step, Section::Pairs), inputs)?;
-    add_numbers(listed, listed.section(step, Section::Pruning), inputs)?;
+    add_numbers(listed, listed.section(step, StepSection::Pairs), inputs)?;
+    add_numbers(listed, listed.section(step, StepSection::Pruning), inputs)?;
     Ok(())
 }
 
@@ -59,14 +59,14 @@ fn add_step(listed: &Listed<'_>, step: u32, inputs: &mut Inputs) -> Result<(), A
     ensures states { OnOk result (All (Contains inputs.new.solver.log.inputs)
         (signed_clauses listed.now.formula listed.now.kind (state_clauses listed.now.formula step))) }
 {
-    add_section(listed, step, Section::States, inputs)?;
-    add_section(listed, step, Section::Acceptance, inputs)?;
+    add_section(listed, step, StepSection::States, inputs)?;
+    add_section(listed, step, StepSection::Acceptance, inputs)?;
     add_first_pair(listed, step, inputs)?;
     Ok(())
 }
 
-/// Makes the letters of a step known, where those of the steps before are, and puts the step's clauses in that
-/// no run has to ask for.
+/// Makes the letters of a step known, where those of the steps before are, and puts the step's clauses in
+/// that no run has to ask for.
 pub fn grow(closure: &Closure<'_>, step: u32, inputs: &mut Inputs) -> Result<(), AllocError>
     requires few { step ≤ 1000 }
     requires fits { Fits (layout_of closure.now) step }

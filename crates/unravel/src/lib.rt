@@ -1,5 +1,5 @@
-//! The depths of the tableau, one after another, over one solver, which gets the clauses of the list as the runs
-//! that it finds ask for them: what the tableau says of a formula, with what shows it.
+//! The depths of the tableau, one after another, over one solver, which gets the clauses of the list as the
+//! runs that it finds ask for them: what the tableau says of a formula, with what shows it.
 #![tactic(auto)]
 
 mod accepting;

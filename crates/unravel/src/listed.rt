@@ -11,7 +11,7 @@ ghost use Rattle.clause_index.specs.PairParts.{IsPart};
 ghost use Rattle.clause_index.specs.Numbers.{AreNumbersOf};
 ghost use Rattle.unravel.specs.Putting.{listed_of, list_of, IsNumberIn, AreNumbersIn};
 
-use clause_index::{Found, Indexed, Numbers, PairPart, Section};
+use clause_index::{Found, Indexed, Numbers, PairPart, StepSection};
 use cnf_base::Clauses;
 use ltl_closure::Closure;
 use ltl_syntax::Kind;
@@ -125,7 +125,7 @@ impl<'c> Listed<'c> {
     }
 
     /// The numbers of the clauses of a section of the step.
-    pub fn section(&self, step: u32, section: Section) -> Numbers
+    pub fn section(&self, step: u32, section: StepSection) -> Numbers
         requires { step ≤ self.now.depth }
         ensures clauses { AreNumbersOf self.now result
             (section_clauses self.now.formula self.now.kind step section) }

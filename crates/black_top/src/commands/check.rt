@@ -13,7 +13,7 @@ use cert_check::CheckRefused;
 use command_words::Options;
 use ltl_io::Gate;
 use ltl_syntax::{FormulaTable, Kind};
-use program_input::{Reading, cut, read_formula};
+use program_input::{PartReading, cut, read_formula};
 use report::Fault;
 use std::alloc::{AllocError, Global};
 use std::thread::Threads;
@@ -38,8 +38,8 @@ pub fn check<R: Threads + Sync, G: Gate + Sync>(
     };
     let workers = options.workers.unwrap_or(DEFAULT_WORKERS);
     match read_formula(alloc, parts.formula)? {
-        Reading::Refused(fault) => refusal(alloc, fault),
-        Reading::Formula { table, root } => {
+        PartReading::Refused(fault) => refusal(alloc, fault),
+        PartReading::Formula { table, root } => {
             judge(
                 rt,
                 alloc,

@@ -14,7 +14,7 @@ use crate::ring::demo_text;
 use enc_layout::Layout;
 use ltl_closure::Closure;
 use ltl_syntax::{FormulaTable, Kind};
-use program_input::{Reading, read_formula};
+use program_input::{PartReading, read_formula};
 use report::{Shown, Summary};
 use std::alloc::{AllocError, Global};
 use unravel::{Decision, decide_in_force};
@@ -30,8 +30,8 @@ pub fn demo(alloc: Global, number: u32) -> Result<Output, AllocError>
     let text = demo_text(alloc, number)?;
     match read_formula(alloc, &text)? {
         // Does not come: the ring is accepted.
-        Reading::Refused(fault) => refusal(alloc, fault),
-        Reading::Formula { table, root } => summarize(alloc, &table, root, number),
+        PartReading::Refused(fault) => refusal(alloc, fault),
+        PartReading::Formula { table, root } => summarize(alloc, &table, root, number),
     }
 }
 

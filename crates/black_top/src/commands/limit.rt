@@ -11,8 +11,8 @@ use unravel::limit_in_force;
 /// The depth up to which a command goes where none is asked for.
 pub const DEFAULT_DEPTH: u32 = 64;
 
-/// The limit in force. Where a depth is asked for whose letters are too many, it is an error with the greatest
-/// depth up to it that has few enough.
+/// The limit in force. Where a depth is asked for whose letters are too many, it is an error with the
+/// greatest depth up to it that has few enough.
 pub fn limit_for(closure: &Closure<'_>, wanted: Option<u32>) -> Result<u32, u32>
     requires { IsDepth wanted }
     ensures ok { IfOk result (IsLimit closure.now.formula closure.now.kind wanted) }

@@ -10,7 +10,7 @@ ghost use Rattle.black_top.specs.Inner.{Shows};
 use crate::output::{Output, refusal, watched};
 use ltl_syntax::FormulaTable;
 use past_monitor::WatchRefused;
-use program_input::{Reading, cut, read_formula};
+use program_input::{PartReading, cut, read_formula};
 use report::Fault;
 use std::alloc::{AllocError, Global};
 
@@ -22,8 +22,8 @@ pub fn monitor(alloc: Global, input: &[u8]) -> Result<Output, AllocError>
         return refusal(alloc, Fault::NoSeparator);
     };
     match read_formula(alloc, parts.formula)? {
-        Reading::Refused(fault) => refusal(alloc, fault),
-        Reading::Formula { table, root } => watch(alloc, &table, root, parts.second),
+        PartReading::Refused(fault) => refusal(alloc, fault),
+        PartReading::Formula { table, root } => watch(alloc, &table, root, parts.second),
     }
 }
 

@@ -16,7 +16,7 @@ use depast::{RemoveRefused, Removed, lift, remove};
 use lasso_eval::EvalRefused;
 use ltl_syntax::{FormulaTable, print};
 use ltl_word::{Trace, TraceFault};
-use program_input::{Reading, cut, read_formula};
+use program_input::{PartReading, cut, read_formula};
 use report::Fault;
 use std::alloc::{AllocError, Global};
 
@@ -36,8 +36,8 @@ fn answer_part(alloc: Global, part: &[u8], second: Option<&[u8]>) -> Result<Outp
         × IsPartAnswer part.now (option_copied second.entry) a × Shows out a) }
 {
     match read_formula(alloc, part)? {
-        Reading::Refused(fault) => refusal(alloc, fault),
-        Reading::Formula { table, root } => without_past(alloc, &table, root, second),
+        PartReading::Refused(fault) => refusal(alloc, fault),
+        PartReading::Formula { table, root } => without_past(alloc, &table, root, second),
     }
 }
 

@@ -23,7 +23,7 @@ use log_trim::trim;
 use ltl_closure::Closure;
 use ltl_io::Gate;
 use ltl_syntax::FormulaTable;
-use program_input::{Reading, read_formula};
+use program_input::{PartReading, read_formula};
 use report::Fault;
 use std::alloc::{AllocError, Global};
 use std::thread::Threads;
@@ -44,8 +44,8 @@ pub fn solve<R: Threads + Sync, G: Gate + Sync>(
 {
     ltl_parser::laws::no_fresh();
     match read_formula(alloc, text)? {
-        Reading::Refused(fault) => refusal(alloc, fault),
-        Reading::Formula { table, root } => settle(rt, alloc, &table, root, options, gate),
+        PartReading::Refused(fault) => refusal(alloc, fault),
+        PartReading::Formula { table, root } => settle(rt, alloc, &table, root, options, gate),
     }
 }
 
@@ -141,7 +141,8 @@ fn shown_certificate(
     certificate(alloc, closure, depth, log, targets, out)
 }
 
-/// Adds the text of a certificate of this depth: the lines of the log that its targets stand on, and no others.
+/// Adds the text of a certificate of this depth: the lines of the log that its targets stand on, and no
+/// others.
 pub fn certificate(
     alloc: Global,
     closure: &Closure<'_>,

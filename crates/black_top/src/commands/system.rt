@@ -24,7 +24,7 @@ use command_words::Options;
 use derivation::NamedLog;
 use ltl_closure::Closure;
 use ltl_syntax::{FormulaTable, Kind, print};
-use program_input::{MAX_TEXT, Reading, read_formula};
+use program_input::{MAX_TEXT, PartReading, read_formula};
 use report::Fault;
 use std::alloc::{AllocError, Global};
 use system_check::{JoinRefused, Joined, SystemAnswer, decide_system, join_parts};
@@ -128,11 +128,11 @@ fn read_part(alloc: Global, text: &[u8], place: u32) -> Result<PartRead, AllocEr
     ensures { IfOk result (IsPartRead text.now place) }
 {
     match read_formula(alloc, text)? {
-        Reading::Formula { table, root } => Ok(PartRead::Read(ReadPart {
+        PartReading::Formula { table, root } => Ok(PartRead::Read(ReadPart {
             size: table.size(),
             held: Some(TableRoot { table, root }),
         })),
-        Reading::Refused(fault) => Ok(refused_part(fault, place)),
+        PartReading::Refused(fault) => Ok(refused_part(fault, place)),
     }
 }
 

@@ -10,7 +10,7 @@ use crate::output::{Output, fails, holds, refusal};
 use lasso_eval::EvalRefused;
 use ltl_syntax::FormulaTable;
 use ltl_word::{Trace, TraceFault};
-use program_input::{Reading, cut, read_formula};
+use program_input::{PartReading, cut, read_formula};
 use report::Fault;
 use std::alloc::{AllocError, Global};
 
@@ -22,8 +22,8 @@ pub fn trace(alloc: Global, input: &[u8]) -> Result<Output, AllocError>
         return refusal(alloc, Fault::NoSeparator);
     };
     match read_formula(alloc, parts.formula)? {
-        Reading::Refused(fault) => refusal(alloc, fault),
-        Reading::Formula { table, root } => judge(alloc, &table, root, parts.second),
+        PartReading::Refused(fault) => refusal(alloc, fault),
+        PartReading::Formula { table, root } => judge(alloc, &table, root, parts.second),
     }
 }
 

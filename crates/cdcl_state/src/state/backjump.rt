@@ -1,7 +1,8 @@
 // Going back: the entries above a level come off the trail, and their letters may be decided again. Of the
 // lists that were visited for the entries that stay, those below `lasting` need no new visit. After
 // Marques-Silva and Sakallah, GRASP (1999).
-ghost use Rattle.std.specs.Prelude.{◌≡◌, ◌≢◌, ◌↔◌, ℕ, ◌<◌, ◌≤◌, ◌⊎◌, All, Contains, IsTrue, None, length, slice_index_or};
+ghost use Rattle.std.specs.Prelude.{◌≡◌, ◌≢◌, ◌↔◌, ℕ, ◌<◌, ◌≤◌, ◌⊎◌, All, Contains, IsTrue, None, length};
+ghost use Rattle.std.specs.Prelude.{slice_index_or};
 ghost use Rattle.cdcl_state.specs.StateValue.{IsBack};
 ghost use Rattle.cdcl_trail.specs.Trail.{blank_entry, literal_at, IsDecision};
 ghost use Rattle.cdcl_state.specs.Turns.{IsFront, IsReleased};
@@ -10,7 +11,7 @@ ghost use Rattle.cdcl_activity.specs.Order.{IsWaiting};
 use crate::state::State;
 use crate::store::has;
 use cdcl_activity::Choices;
-use cdcl_trail::{Assigned, Entry};
+use cdcl_trail::{Assigned, TrailEntry};
 use cnf_base::Literal;
 
 impl State {
@@ -38,8 +39,8 @@ impl State {
         }
     }
 
-    /// Goes back to the level of the first entry whose list is not visited yet: what is visited on a level above
-    /// its own would be visited again at each conflict.
+    /// Goes back to the level of the first entry whose list is not visited yet: what is visited on a level
+    /// above its own would be visited again at each conflict.
     fn catch_up(&mut self)
         ensures { IsFront self.old self.new }
     {
@@ -49,8 +50,8 @@ impl State {
         }
     }
 
-    /// Takes back the first decision that is none of these literals, and all that came after it, and of what is
-    /// left the levels above that of an entry whose list is not visited yet.
+    /// Takes back the first decision that is none of these literals, and all that came after it, and of what
+    /// is left the levels above that of an entry whose list is not visited yet.
     pub fn retreat(&mut self, kept: &[Literal])
         ensures front { IsFront self.old self.new }
         ensures decided { All (λ e. e.reason ≡ None → Contains kept.now e.literal) self.new.trail }
@@ -70,7 +71,7 @@ impl State {
 }
 
 /// Whether the entry is a decision, and none of these literals.
-fn is_other(entry: Entry, kept: &[Literal]) -> bool
+fn is_other(entry: TrailEntry, kept: &[Literal]) -> bool
     ensures yes { IsTrue result → entry.reason ≡ None }
     ensures no { ¬ IsTrue result → entry.reason ≡ None → Contains kept.now entry.literal }
 {

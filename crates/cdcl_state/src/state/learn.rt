@@ -1,7 +1,8 @@
 // A learnt clause is put behind the lines and watched, the trail is cut to the second highest of its levels,
 // and its first literal is forced there, without a new visit of what stays below `lasting`. After
 // Marques-Silva and Sakallah, GRASP (1999).
-ghost use Rattle.std.specs.Prelude.{◌≡◌, ◌<◌, ◌≤◌, ◌↔◌, [], ◌∷◌, ◌++◌, All, length, Some, OnErr, OnOk, IsTrue};
+ghost use Rattle.std.specs.Prelude.{◌≡◌, ◌<◌, ◌≤◌, ◌↔◌, [], ◌∷◌, ◌++◌, All, length, Some, OnErr, OnOk};
+ghost use Rattle.std.specs.Prelude.{IsTrue};
 ghost use Rattle.cnf_base.specs.Known.{IsKnown};
 ghost use Rattle.cdcl_state.specs.StateValue.{MayStand, with_log, with_trail};
 ghost use Rattle.clause_log.specs.LogValue.{with_line};
@@ -14,7 +15,7 @@ use crate::state::State;
 use crate::state::backjump::{loosen, release, smaller};
 use crate::store::store;
 use cdcl_analyze::Learnt;
-use cdcl_trail::Entry;
+use cdcl_trail::TrailEntry;
 use cnf_base::{Hint, Literal};
 use std::alloc::AllocError;
 
@@ -45,7 +46,7 @@ impl State {
         loosen(front, &mut self.units_done, &mut self.units_trail);
         self.propagated = 0;
         self.lasting = 0;
-        self.assigned.assign(Entry {
+        self.assigned.assign(TrailEntry {
             literal: learnt.clause[0],
             level,
             reason: Some(Hint::Line(line)),
@@ -68,7 +69,7 @@ impl State {
             (self.old.trail ++ record { literal = literal; level = 0; reason = Some (Line line) } ∷ [])) }
         ensures refused { OnErr result (self.new ≡ self.old) }
     {
-        self.assigned.assign(Entry {
+        self.assigned.assign(TrailEntry {
             literal,
             level: 0,
             reason: Some(Hint::Line(line)),

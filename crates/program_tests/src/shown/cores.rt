@@ -89,8 +89,8 @@ fn tests_meet(rt: HostRuntime) -> Result<(), Fail> {
 }
 
 /// Workers, and how often each number of a test is told for the conflict: its seven occurrences are tested in
-/// turn until the sixth is replaced, and then the five that are kept once more. Each group of as many tests as
-/// there are workers is a phase of its own, numbered from 0.
+/// turn until the sixth is replaced, and then the five that are kept once more. Each group of as many tests
+/// as there are workers is a phase of its own, numbered from 0.
 const TOLD: &[(u32, [u64; 7])] = &[
     (1, [11, 0, 0, 0, 0, 0, 0]),
     (2, [6, 5, 0, 0, 0, 0, 0]),

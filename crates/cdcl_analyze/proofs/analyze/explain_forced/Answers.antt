@@ -5,7 +5,7 @@ use Rattle.cnf_base.specs.Literal.{opposite}
 use Rattle.cnf_base.proofs.SameLiteral.{opposite_opposite}
 use Rattle.cdcl_trail.specs.Trail.{literals_of, blank_entry, literal_at, IsDecision}
 use Rattle.cdcl_analyze.specs.Analysis.{IsWalk, refuted_at}
-use Rattle.cdcl_trail.specs.declared.assigned.Entry.{Entry}
+use Rattle.cdcl_trail.specs.declared.assigned.TrailEntry.{TrailEntry}
 use Rattle.cdcl_analyze.specs.Marks.{IsMarked}
 use Rattle.cdcl_analyze.specs.Reason.{read_literals}
 use Rattle.cdcl_trail.proofs.Standing.{reason_at}
@@ -34,8 +34,8 @@ returns-clause-learnt c =
     let kept = walk_keep log.inputs log.lines t p _ _ _ _
     (subst (λ n. IsWalk log.inputs log.lines t n (IsMarked c.mark.new.marks) [] (c.args.hint ∷ []) []) len start) in
     let literal : c.entry.result.literal ≡ opposite (literal_at t p) =
-    ap (λ (e : Entry). e.literal) (c.entry.ensures ∙ get_or_default trail p _ blank_entry c.requires.place) ∙ sym (opposite_opposite (literal_at trail p))
-    ∙ ap (λ (e : Entry). opposite e.literal) (sym (refuted_last c.args.graph.now c.invariant.ensures p c.requires.place)) in
+    ap (λ (e : TrailEntry). e.literal) (c.entry.ensures ∙ get_or_default trail p _ blank_entry c.requires.place) ∙ sym (opposite_opposite (literal_at trail p))
+    ∙ ap (λ (e : TrailEntry). opposite e.literal) (sym (refuted_last c.args.graph.now c.invariant.ensures p c.requires.place)) in
     let begun : IsWalk log.inputs log.lines t p (IsMarked c.mark.new.marks)
     c.cite.new.learnt.clause.items c.cite.new.learnt.hints.items c.cite.new.learnt.places.items =
     rw (
@@ -71,7 +71,7 @@ returns-clause-decided c =
     let last = refuted_last c.args.graph.now c.invariant.ensures p c.requires.place in
     c.in_ok-walk.ensures.decided t like
     (rw (c.in_ok-cite.ensures.places, c.in_ok-keep.ensures.places, c.in_ok-learnt.ensures.places)
-    (All-cons (IsDecision t) p [] (record { within = omega (arith, len); free = ap (λ (e : Entry). e.reason) last }) (All-nil (IsDecision t))))
+    (All-cons (IsDecision t) p [] (record { within = omega (arith, len); free = ap (λ (e : TrailEntry). e.reason) last }) (All-nil (IsDecision t))))
 
 -- no letter was marked before the clause's letters were
 pub walk-requires : goal.walk-requires

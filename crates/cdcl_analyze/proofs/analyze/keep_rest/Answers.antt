@@ -2,7 +2,7 @@ use Rattle.std.proofs.Common.{◌≡◌, [], ◌∷◌, ◌++◌, ◌<◌, lengt
 use Rattle.std.proofs.lemmas.List.{get_or_default}
 use mathlib.Core.Bool.{false≢true}
 use Rattle.cdcl_trail.specs.Trail.{blank_entry}
-use Rattle.cdcl_trail.specs.declared.assigned.Entry.{Entry}
+use Rattle.cdcl_trail.specs.declared.assigned.TrailEntry.{TrailEntry}
 use Rattle.cdcl_analyze.specs.Marks.{MarksValue}
 use Rattle.cdcl_analyze.proofs.Growth.{consequences_found}
 use Rattle.cdcl_analyze.proofs.Resting.{rest_start, rest_ended, rest_marked, waiting_again, asked_follows, asked_kept}
@@ -27,7 +27,7 @@ mark-requires c =
     let place = c.in-Some.place in
     let low : place < length trail = omega (arith, c.in-Some.ensures.next.low, c.down.invariant.high, c.requires.can_walk.within) in
     let entry : c.entry-entry.result ≡ get_or trail place blank_entry = c.entry-entry.ensures ∙ get_or_default trail place _ blank_entry low in
-    let known = subst (λ (e : Entry). e.literal.letter.0 < length c.args.graph.now.values) (sym entry) (c.invariant.ensures.told.known place blank_entry low) in
+    let known = subst (λ (e : TrailEntry). e.literal.letter.0 < length c.args.graph.now.values) (sym entry) (c.invariant.ensures.told.known place blank_entry low) in
     omega (arith, known, c.requires.can_walk.size, c.down.invariant.size, c.pop.ensures.room)
 
 pub returns-in_err-mark-clause-size : goal.returns-in_err-mark-clause-size
@@ -62,7 +62,7 @@ follows-requires-clause-stands c =
     let place = c.in-Some.place in
     let low : place < length trail = omega (arith, c.in-Some.ensures.next.low, c.down.invariant.high, c.requires.can_walk.within) in
     let entry : c.entry-entry.result ≡ get_or trail place blank_entry = c.entry-entry.ensures ∙ get_or_default trail place _ blank_entry low in
-    (place, low, ap (λ (e : Entry). e.literal.letter.0) (sym entry))
+    (place, low, ap (λ (e : TrailEntry). e.literal.letter.0) (sym entry))
 
 pub follows-requires-clause-can_ask : goal.follows-requires-clause-can_ask
 follows-requires-clause-can_ask c =

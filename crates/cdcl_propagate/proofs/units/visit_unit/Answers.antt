@@ -8,7 +8,7 @@ use Rattle.cdcl_watches.specs.Watching.{blank}
 use Rattle.cdcl_propagate.specs.Visit.{HasTrue}
 use Rattle.cdcl_propagate.specs.Units.{IsOne}
 use Rattle.cdcl_trail.specs.Values.{IsBelow}
-use Rattle.cdcl_trail.specs.declared.assigned.Entry.{Entry}
+use Rattle.cdcl_trail.specs.declared.assigned.TrailEntry.{TrailEntry}
 use Rattle.cdcl_trail.proofs.Assign.{trail_push}
 use Rattle.cdcl_trail.proofs.Bridge.{named_has}
 use Rattle.cdcl_propagate.proofs.Alone.{unit_stands, pushed_true}
@@ -57,7 +57,7 @@ returns-clause-is_trail c =
     let one : IsOne clause = subst IsOne (some_same c.requires.short.1 is) c.requires.short.2 in
     let u = get_or clause 0 blank in
     let there : Contains clause u = Contains-get_or clause 0 blank (omega (arith, c.if-clause-eq0.false)) in
-    let e : Entry = record { literal = u; level = c.last_level-level.result; reason = Some c.args.hint } in
+    let e : TrailEntry = record { literal = u; level = c.last_level-level.result; reason = Some c.args.hint } in
     subst (IsTrail log.inputs log.lines) (sym c.in_ok-assign.ensures.trail)
     (trail_push log.inputs log.lines trail e c.requires.is_trail
     (unit_stands log.inputs log.lines trail c.args.hint clause u c.last_level-level.result c.requires.is_trail is one there c.last_level-level.ensures))
@@ -71,6 +71,6 @@ returns-clause-found c = λ other other_is.
     subst (λ (l : LogValue). named l.inputs l.lines c.args.hint ≡ Some clause) c.view-view.ensures.same c.clause_of-clause.ensures in
     let u = get_or clause 0 blank in
     let there : Contains clause u = Contains-get_or clause 0 blank (omega (arith, c.if-clause-eq0.false)) in
-    let e : Entry = record { literal = u; level = c.last_level-level.result; reason = Some c.args.hint } in
+    let e : TrailEntry = record { literal = u; level = c.last_level-level.result; reason = Some c.args.hint } in
     let told : HasTrue (literals_of (trail ++ e ∷ [])) clause = (u, there, pushed_true trail e) in
     subst (λ t. HasTrue (literals_of t) other) (sym c.in_ok-assign.ensures.trail) (subst (HasTrue (literals_of (trail ++ e ∷ []))) (some_same is other_is) told)

@@ -3,7 +3,7 @@ use Rattle.std.proofs.lemmas.List.{get_or_default}
 use Rattle.cnf_base.specs.declared.literal.Literal.{Literal}
 use Rattle.cdcl_trail.specs.Trail.{literals_of}
 use Rattle.cdcl_trail.specs.Entries.{hint_of}
-use Rattle.cdcl_trail.specs.declared.assigned.Entry.{Entry}
+use Rattle.cdcl_trail.specs.declared.assigned.TrailEntry.{TrailEntry}
 use Rattle.cdcl_watches.specs.Watching.{clause_of, blank}
 use Rattle.cdcl_watches.specs.Heads.{number_of, ArenaValue}
 use Rattle.cdcl_watches.specs.Watchers.{ListWalk, IsWalked, walk_in, walked}
@@ -207,7 +207,7 @@ pub returns-clause-kept : goal.returns-clause-kept
 returns-clause-kept c =
     let p = goal.at.returns-clause-kept c in
     let at = here p.After-face in
-    let e : Entry = record { literal = c.get-other.result; level = c.level-level.result; reason = Some c.decode_hint-hint.result } in
+    let e : TrailEntry = record { literal = c.get-other.result; level = c.level-level.result; reason = Some c.decode_hint-hint.result } in
     let one = first p.After-get-other in
     let stands = at_forced at (rest p.After-decode_hint-hint) one c.level-level.ensures (hint_is p.After-face p.After-decode_hint-hint refl refl) in
     visit_all (ap (λ (a : ArenaValue). walked (walk_in a c.keep-2.new.lists c.args.falsified c.keep-2.new.walk)) c.note.ensures ∙ c.keep-2.ensures.same)
@@ -217,7 +217,7 @@ pub returns-clause-found : goal.returns-clause-found
 returns-clause-found c =
     let p = goal.at.returns-clause-found c in
     let at = here p.After-face in
-    let e : Entry = record { literal = c.get-other.result; level = c.level-level.result; reason = Some c.decode_hint-hint.result } in
+    let e : TrailEntry = record { literal = c.get-other.result; level = c.level-level.result; reason = Some c.decode_hint-hint.result } in
     let one = first p.After-get-other in
     let stands = at_forced at (rest p.After-decode_hint-hint) one c.level-level.ensures (hint_is p.After-face p.After-decode_hint-hint refl refl) in
     kept_passed (before p.After-face) (walk_in c.note.new.self c.keep-2.new.lists c.args.falsified c.keep-2.new.walk) (walked (faced p.After-face))

@@ -3,8 +3,8 @@ use mathlib.Core.Bool.{false≢true}
 use Rattle.cnf_base.specs.Known.{AreKnown}
 use Rattle.enc_layout.specs.Letters.{LayoutValue, letters_through}
 use Rattle.enc_layout.specs.Clauses.{counts, clause_list}
-use Rattle.cert_text.specs.declared.item.Item.{Item}
-use Rattle.cert_text.specs.declared.item.Item.TheVariants as items
+use Rattle.cert_text.specs.declared.item.CertItem.{CertItem}
+use Rattle.cert_text.specs.declared.item.CertItem.TheVariants as items
 use Rattle.cert_text.specs.declared.glance.Form.{Form}
 use Rattle.cert_text.specs.Reading.{certificate_in}
 use Rattle.log_checker.specs.Judging.{Checker, fresh, IsGoodItem}
@@ -40,7 +40,7 @@ take-requires-in-Delete g c =
 
 pub items-preserved : goal.items-preserved
 items-preserved g c =
-    let rest = c.in-Some.ensures.steps ∙ ap (λ (x : Item). x ∷ c.next.new.self) c.in-Delete.is in
+    let rest = c.in-Some.ensures.steps ∙ ap (λ (x : CertItem). x ∷ c.next.new.self) c.in-Delete.is in
     record {
       walked = walk_delete (clause_list c.args.closure.now.formula c.args.closure.now.kind c.args.form.depth)
           (letters_through c.args.closure.now.kind (counts c.args.closure.now.formula) c.args.form.depth) (certificate_in c.args.bytes.now)
@@ -51,7 +51,7 @@ items-preserved g c =
 
 pub items-preserved-else-not-branch : goal.items-preserved-else-not-branch
 items-preserved-else-not-branch g c =
-    let rest = c.in-Some.ensures.steps ∙ ap (λ (x : Item). x ∷ c.next.new.self) c.in-Line.is in
+    let rest = c.in-Some.ensures.steps ∙ ap (λ (x : CertItem). x ∷ c.next.new.self) c.in-Line.is in
     record {
       walked = walk_line (clause_list c.args.closure.now.formula c.args.closure.now.kind c.args.form.depth)
           (letters_through c.args.closure.now.kind (counts c.args.closure.now.formula) c.args.form.depth) (certificate_in c.args.bytes.now)
@@ -63,7 +63,7 @@ items-preserved-else-not-branch g c =
           let low = line_counts (clause_list c.args.closure.now.formula c.args.closure.now.kind c.args.form.depth)
           (letters_through c.args.closure.now.kind (counts c.args.closure.now.formula) c.args.form.depth) (certificate_in c.args.bytes.now)
           c.items.item-iterator c.next.new.self c.items.checker c.items.checker c.items.invariant.walked c.in-Line.literals c.in-Line.hints
-          (c.in-Some.ensures.steps ∙ ap (λ (x : Item). x ∷ c.next.new.self) c.in-Line.is) in
+          (c.in-Some.ensures.steps ∙ ap (λ (x : CertItem). x ∷ c.next.new.self) c.in-Line.is) in
           omega
           (arith, c.items.invariant.line, ap (λ (x : Checker). x.lines) c.in_ok-take-in-Line.ensures.taken, low, ap (λ (x : Form). x.lines) c.requires.says);
     }
@@ -75,7 +75,7 @@ returns g c = absurd (walk_goes_on (clause_list c.args.closure.now.formula c.arg
 
 pub returns-then-not-branch : goal.returns-then-not-branch
 returns-then-not-branch g c =
-    let rest = c.in-Some.ensures.steps ∙ ap (λ (x : Item). x ∷ c.next.new.self) c.in-Line.is in
+    let rest = c.in-Some.ensures.steps ∙ ap (λ (x : CertItem). x ∷ c.next.new.self) c.in-Line.is in
     let bad = walk_bad (clause_list c.args.closure.now.formula c.args.closure.now.kind c.args.form.depth)
     (letters_through c.args.closure.now.kind (counts c.args.closure.now.formula) c.args.form.depth) (certificate_in c.args.bytes.now) c.items.item-iterator
     c.next.new.self c.items.checker c.take.new.self c.items.invariant.walked c.in-Line.literals c.in-Line.hints rest c.in_ok-take-in-Line.field-0
@@ -90,7 +90,7 @@ returns-then-not-branch g c =
 
 pub returns-in-Close : goal.returns-in-Close
 returns-in-Close g c =
-    let rest = c.in-Some.ensures.steps ∙ ap (λ (x : Item). x ∷ c.next.new.self) c.in-Close.is in
+    let rest = c.in-Some.ensures.steps ∙ ap (λ (x : CertItem). x ∷ c.next.new.self) c.in-Close.is in
     let end = walk_closes (clause_list c.args.closure.now.formula c.args.closure.now.kind c.args.form.depth)
     (letters_through c.args.closure.now.kind (counts c.args.closure.now.formula) c.args.form.depth) (certificate_in c.args.bytes.now)
     c.items.item-iterator c.next.new.self c.items.checker c.items.checker c.items.invariant.walked c.in-Close.targets rest in
@@ -113,12 +113,12 @@ overflow_sub-left g c =
     let low = line_counts (clause_list c.args.closure.now.formula c.args.closure.now.kind c.args.form.depth)
     (letters_through c.args.closure.now.kind (counts c.args.closure.now.formula) c.args.form.depth) (certificate_in c.args.bytes.now)
     c.items.item-iterator c.next.new.self c.items.checker c.items.checker c.items.invariant.walked c.in-Line.literals c.in-Line.hints
-    (c.in-Some.ensures.steps ∙ ap (λ (x : Item). x ∷ c.next.new.self) c.in-Line.is) in
+    (c.in-Some.ensures.steps ∙ ap (λ (x : CertItem). x ∷ c.next.new.self) c.in-Line.is) in
     omega (arith, c.items.invariant.line, low, ap (λ (x : Form). x.lines) c.requires.says)
 
 pub first_bad_target-bad-requires-clause-count : goal.first_bad_target-bad-requires-clause-count
 first_bad_target-bad-requires-clause-count g c =
-    let rest = c.in-Some.ensures.steps ∙ ap (λ (x : Item). x ∷ c.next.new.self) c.in-Close.is in
+    let rest = c.in-Some.ensures.steps ∙ ap (λ (x : CertItem). x ∷ c.next.new.self) c.in-Close.is in
     let end = walk_closes (clause_list c.args.closure.now.formula c.args.closure.now.kind c.args.form.depth)
     (letters_through c.args.closure.now.kind (counts c.args.closure.now.formula) c.args.form.depth) (certificate_in c.args.bytes.now)
     c.items.item-iterator c.next.new.self c.items.checker c.items.checker c.items.invariant.walked c.in-Close.targets rest in

@@ -1,6 +1,6 @@
 use Rattle.std.proofs.Common.{rules, ap, sym, ◌∙◌}
 use Rattle.cert_text.specs.Reading.{numbers_in}
-use Rattle.cert_text.specs.declared.item.Item.TheVariants as items
+use Rattle.cert_text.specs.declared.item.CertItem.TheVariants as items
 use Rattle.cert_text.proofs.Slices.{numbers_are}
 use Rattle.cert_text.proofs.ItemLines.{close_line, delete_line}
 use Rattle.cert_text.proofs.item.item_in.Goals as goal

@@ -2,8 +2,8 @@ use Rattle.std.proofs.Common.{rules, ◌≡◌, ◌<◌, ◌+◌, ◌-◌, lengt
 use Rattle.cnf_base.specs.Known.{AreKnown}
 use Rattle.log_checker.specs.Values.{letters_in}
 use Rattle.claim_check.specs.Data.{layer_in, certificate_in}
-use Rattle.claim_check.specs.declared.reason.Reason.TheVariants as Reasons
-use Rattle.claim_check.specs.declared.reason.Verdict.TheVariants.{Verified, Refused}
+use Rattle.claim_check.specs.declared.reason.CertificateFault.TheVariants as Reasons
+use Rattle.claim_check.specs.declared.reason.ClaimVerdict.TheVariants.{Verified, Refused}
 use Rattle.claim_check.proofs.Faults.{verified_lawful}
 use Rattle.claim_check.proofs.Checked.{layer_is, layers_long, clauses_known, clauses_more, lines_more, good_more, layer_refused, line_refused, target_refused}
 use Rattle.claim_check.proofs.Checked.{verified}

@@ -1,6 +1,6 @@
 use Rattle.std.proofs.Common.{[], subst}
 use Rattle.requirement_document.specs.Values.{document_in}
-use Rattle.requirement_questions.specs.declared.answering.Answer.TheVariants.{Cannot}
+use Rattle.requirement_questions.specs.declared.answering.QuestionAnswer.TheVariants.{Cannot}
 use Rattle.requirement_answers.specs.Answers.{IsAnswerTo}
 use Rattle.requirement_answers.proofs.Conflict.{has_member}
 use Rattle.requirement_answers.proofs.conflicts.met_together.Goals as goal

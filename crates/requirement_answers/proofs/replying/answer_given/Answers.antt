@@ -1,7 +1,7 @@
 use Rattle.std.proofs.Common.{◌∙◌, map, refl, ap, subst}
 use Rattle.requirement_document.specs.Values.{document_in}
 use Rattle.requirement_questions.specs.declared.questions.Question.{Question}
-use Rattle.requirement_questions.specs.declared.answering.Answer.TheVariants.{Cannot}
+use Rattle.requirement_questions.specs.declared.answering.QuestionAnswer.TheVariants.{Cannot}
 use Rattle.requirement_questions.specs.Formulas.{formula_in}
 use Rattle.requirement_questions.specs.Answer.{IsAnswer}
 use Rattle.requirement_answers.proofs.Renumbered.{reason}

@@ -5,13 +5,13 @@ use Rattle.cdcl_state.specs.StateValue.{StateValue}
 use Rattle.cdcl_trail.specs.Trail.{IsTrail, IsDecision}
 use Rattle.cdcl_analyze.specs.Learnt.{IsLearnt}
 use Rattle.cdcl_state.specs.Turns.{IsAsserting}
-use Rattle.cdcl_trail.specs.declared.assigned.Entry.{Entry}
+use Rattle.cdcl_trail.specs.declared.assigned.TrailEntry.{TrailEntry}
 use Rattle.cdcl_analyze.specs.declared.analyze.Learnt.{Learnt}
 use Rattle.cdcl_analyze.specs.declared.analyze.Cut.TheVariants.{Decisions}
 use Rattle.cdcl_state.proofs.Short.{learnt_asserting}
 use Rattle.cdcl_state.proofs.state.State.analyze.Goals as goal
 
-answer_asserting : (log : LogValue) (trail : List Entry) (r : Result Learnt AllocError) → IsTrail log.inputs log.lines trail → IfOk r (IsLearnt log trail)
+answer_asserting : (log : LogValue) (trail : List TrailEntry) (r : Result Learnt AllocError) → IsTrail log.inputs log.lines trail → IfOk r (IsLearnt log trail)
     → IfOk r (λ learnt. Decisions ≡ Decisions → All (IsDecision trail) learnt.places.items)
     → IfOk r (λ learnt. (learnt.clause.items ≡ []) ⊎ IsAsserting trail learnt.places.items)
 answer_asserting log trail (Ok learnt) is_trail is decided = learnt_asserting log trail learnt is_trail is (decided refl)

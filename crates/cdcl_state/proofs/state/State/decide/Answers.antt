@@ -1,7 +1,7 @@
 use Rattle.std.proofs.Common.{◌+◌, is_ok, None, sym, ap, subst, arith}
 use Rattle.cnf_base.specs.Known.{IsKnown}
 use Rattle.cdcl_state.specs.StateValue.{StateValue}
-use Rattle.cdcl_trail.specs.declared.assigned.Entry.{Entry}
+use Rattle.cdcl_trail.specs.declared.assigned.TrailEntry.{TrailEntry}
 use Rattle.cdcl_trail.proofs.Bound.{trail_bounded}
 use Rattle.cdcl_state.proofs.States.{state_assigned, decision_stands}
 use Rattle.cdcl_state.proofs.state.State.decide.Goals as goal
@@ -16,7 +16,7 @@ invariant_of-self c =
     let a = c.self.inside.assigned in
     let log = c.self.inside.log in
     let level = c.len-level.result + 1 in
-    let e : Entry = record { literal = c.args.literal; level = level; reason = None } in
+    let e : TrailEntry = record { literal = c.args.literal; level = level; reason = None } in
     let known : IsKnown c.self.inside.letters c.args.literal =
     subst (λ (s : StateValue). IsKnown s.letters c.args.literal) (sym c.self.view_is) c.requires.known in
     state_assigned c.assign.new.self e c.self.invariant c.assign.ensures.letters

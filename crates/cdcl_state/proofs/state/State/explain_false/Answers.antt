@@ -6,7 +6,7 @@ use Rattle.cdcl_analyze.specs.Reason.{IsAnalyzable}
 use Rattle.cdcl_state.specs.StateValue.{StateValue}
 use Rattle.cdcl_trail.specs.Trail.{blank_entry, literal_at, IsDecision}
 use Rattle.cdcl_analyze.specs.Analysis.{AreFromOne, refuted_at}
-use Rattle.cdcl_trail.specs.declared.assigned.Entry.{Entry}
+use Rattle.cdcl_trail.specs.declared.assigned.TrailEntry.{TrailEntry}
 use Rattle.cdcl_state.proofs.States.{analyzable}
 use Rattle.cdcl_state.proofs.Known.{trail_known, known_from_one, learnt_known, refuted_known}
 use Rattle.cdcl_state.proofs.state.State.explain_false.Goals as goal
@@ -47,5 +47,5 @@ unreachable-requires c =
     let within = c.place-place.ensures.within in
     let forced = subst (λ (s : StateValue). (p : ℕ) → IsDecision s.trail p → literal_at s.trail p ≢ opposite c.args.literal) (sym c.self.view_is)
     c.requires.forced in
-    let free = ap (λ (e : Entry). e.reason) (sym (c.entry.ensures ∙ get_or_default trail place _ blank_entry within)) ∙ c.in-None.is in
+    let free = ap (λ (e : TrailEntry). e.reason) (sym (c.entry.ensures ∙ get_or_default trail place _ blank_entry within)) ∙ c.in-None.is in
     forced place (record { within = within; free = free }) (c.place-place.ensures.there ∙ c.opposite.ensures)

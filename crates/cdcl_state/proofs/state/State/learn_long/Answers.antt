@@ -8,7 +8,7 @@ use Rattle.cdcl_analyze.specs.Learnt.{IsLearnt}
 use Rattle.cdcl_state.specs.Turns.{IsAsserting, IsTarget, IsTurn}
 use Rattle.cdcl_state.specs.State.{IsNamed, parts}
 use Rattle.cdcl_watches.specs.Watching.{AreApart, blank}
-use Rattle.cdcl_trail.specs.declared.assigned.Entry.{Entry}
+use Rattle.cdcl_trail.specs.declared.assigned.TrailEntry.{TrailEntry}
 use Rattle.cdcl_state.proofs.Attach.{line_more, known_more}
 use Rattle.cdcl_state.proofs.Learned.{IsCut, learnt_apart, learned_stands, learned_cut, learned}
 use Rattle.cdcl_state.proofs.States.{seen, state_same}
@@ -71,7 +71,7 @@ assign-requires-clause-unset c = (learned_stands (cut (goal.at.assign-requires-c
 pub invariant_of-self-in_err-assign : goal.invariant_of-self-in_err-assign
 invariant_of-self-in_err-assign c =
     let p = (goal.at.invariant_of-self-in_err-assign c).After-index in
-    let e : Entry = record { literal = c.index.result.now; level = c.args.level; reason = Some (Line c.in_ok-line.line) } in
+    let e : TrailEntry = record { literal = c.index.result.now; level = c.args.level; reason = Some (Line c.in_ok-line.line) } in
     rw (next_is p)
     (state_same c.assign.new.self e (learned_cut (cut p) (named p) c.requires.long) c.in_err-assign.ensures.letters (learned_stands (cut p)).0.stands
     (λ free. cc) c.in_err-assign.ensures.trail)
@@ -88,7 +88,7 @@ pub returns-clause-turned : goal.returns-clause-turned
 returns-clause-turned c =
     let p = (goal.at.returns-clause-turned c).After-index in
     let s = parts c.self.inside in
-    let e : Entry = record { literal = c.index.result.now; level = c.args.level; reason = Some (Line c.in_ok-line.line) } in
+    let e : TrailEntry = record { literal = c.index.result.now; level = c.args.level; reason = Some (Line c.in_ok-line.line) } in
     let n = length c.cut.new.self.trail in
     let len : n ≡ c.front-front.result =
     ap length c.cut.ensures.trail ∙ length-take-le c.front-front.result s.assigned.trail c.front-front.ensures.within in

@@ -1,6 +1,6 @@
 use Rattle.std.proofs.Common.{◌≡◌, ◌≤◌, None, All, Contains, length, take, sym, ap, ◌∙◌, subst, arith}
 use Rattle.cdcl_state.specs.StateValue.{StateValue}
-use Rattle.cdcl_trail.specs.declared.assigned.Entry.{Entry}
+use Rattle.cdcl_trail.specs.declared.assigned.TrailEntry.{TrailEntry}
 use Rattle.cdcl_state.proofs.Retreat.{kept_whole, kept_front}
 use Rattle.cdcl_state.proofs.state.State.leave.Goals as goal
 
@@ -20,5 +20,5 @@ pub returns-else-place-len-clause-decided : goal.returns-else-place-len-clause-d
 returns-else-place-len-clause-decided c =
     let trail = c.self.inside.assigned.trail in
     let same : trail ≡ c.args.self.now.trail = ap (λ (s : StateValue). s.trail) c.self.view_is in
-    subst (All (λ (e : Entry). e.reason ≡ None → Contains c.args.kept.now e.literal)) same
+    subst (All (λ (e : TrailEntry). e.reason ≡ None → Contains c.args.kept.now e.literal)) same
     (kept_whole c.args.kept.now trail c.first_other-place.result c.first_other-place.ensures.before (omega (arith, c.if-place-len.false, c.len.ensures)))

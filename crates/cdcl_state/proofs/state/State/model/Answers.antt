@@ -2,7 +2,7 @@ use Rattle.std.proofs.Common.{◌≡◌, ◌↔◌, ◌⊎◌, ◌<◌, ◌+◌,
 use mathlib.Core.Bool.{false}
 use Rattle.std.proofs.lemmas.List.{length-replicate, get_or_default, take_all}
 use Rattle.cdcl_trail.specs.Trail.{literals_of, literal_at, blank_entry}
-use Rattle.cdcl_trail.specs.declared.assigned.Entry.{Entry}
+use Rattle.cdcl_trail.specs.declared.assigned.TrailEntry.{TrailEntry}
 use Rattle.cdcl_state.specs.StateValue.{StateValue, positive}
 use Rattle.cdcl_state.proofs.Room.{model_more, model_none}
 use Rattle.cdcl_state.proofs.state.State.model.Goals as goal
@@ -28,7 +28,7 @@ loop-place-preserved c =
     let inside : place < length trail = omega (arith, below, ap length same) in
     let at : c.entry.result ≡ get_or trail place blank_entry =
     c.entry.ensures ∙ get_or_default c.self.inside.assigned.trail place _ blank_entry below ∙ ap (λ t. get_or t place blank_entry) same in
-    let literal_is : c.entry.result.literal ≡ literal_at trail place = ap (λ (e : Entry). e.literal) at in
+    let literal_is : c.entry.result.literal ≡ literal_at trail place = ap (λ (e : TrailEntry). e.literal) at in
     record {
       size = omega (arith, c.set_true.ensures.size, c.loop-place.invariant.size);
       told = model_more trail old new place (c.args.self.now.letters + 1) inside

@@ -2,7 +2,7 @@ use Rattle.std.proofs.Common.{◌≡◌, ℕ, ◌≤◌, ◌⊎◌, Option, Matc
 use Rattle.clause_log.specs.LogValue.{LogValue}
 use Rattle.cdcl_trail.specs.Trail.{literals_of, IsConflict, IsTrail}
 use Rattle.cdcl_trail.specs.Assigned.{AssignedValue}
-use Rattle.cdcl_trail.specs.declared.assigned.Entry.{Entry}
+use Rattle.cdcl_trail.specs.declared.assigned.TrailEntry.{TrailEntry}
 use Rattle.cdcl_watches.specs.Watching.{WatchValue}
 use Rattle.cdcl_propagate.specs.Visit.{IsReady}
 use Rattle.cdcl_state.specs.StateValue.{IsSettled, Propagated}
@@ -13,7 +13,7 @@ use Rattle.cdcl_state.proofs.States.{seen, state_grown, state_visited, state_fir
 use Rattle.cdcl_state.proofs.state.State.propagate.Goals as goal
 use Rattle.cdcl_state.proofs.state.State.propagate.Goals.{After-settle}
 
-trail_of : {old new : LogValue} (trail : List Entry) → old ≡ new → IsTrail old.inputs old.lines trail → IsTrail new.inputs new.lines trail
+trail_of : {old new : LogValue} (trail : List TrailEntry) → old ≡ new → IsTrail old.inputs old.lines trail → IsTrail new.inputs new.lines trail
 trail_of trail is h = subst (λ (l : LogValue). IsTrail l.inputs l.lines trail) is h
 
 ready_of : {old new : LogValue} (propagated : ℕ) (a : AssignedValue) (w : WatchValue) → old ≡ new → IsReady old.inputs old.lines propagated a w

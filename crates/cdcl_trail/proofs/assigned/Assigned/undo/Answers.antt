@@ -3,7 +3,7 @@ use Rattle.std.proofs.lemmas.List.{take_more, take_all}
 use Rattle.cdcl_trail.specs.Trail.{AreValues, blank_entry}
 use Rattle.cdcl_trail.specs.Assigned.{ArePlaces, AssignedValue}
 use Rattle.cdcl_trail.specs.Values.{value_at}
-use Rattle.cdcl_trail.specs.declared.assigned.Entry.{Entry}
+use Rattle.cdcl_trail.specs.declared.assigned.TrailEntry.{TrailEntry}
 use Rattle.cdcl_trail.proofs.Assign.{values_pop}
 use Rattle.cdcl_trail.proofs.Places.{places_pop}
 use Rattle.cdcl_trail.proofs.assigned.Assigned.undo.Goals as goal
@@ -33,5 +33,5 @@ clear-requires-clause-holds c =
     let trail = c.self.inside.trail in
     let n = c.len-count.result - 1 in
     let same : length c.args.self.now.trail ≡ length trail = ap (λ (a : AssignedValue). length a.trail) (sym c.self.view_is) in
-    subst (λ (e : Entry). value_at values e.literal.letter.0 ≡ Some (not e.literal.negated)) (sym c.get.ensures)
+    subst (λ (e : TrailEntry). value_at values e.literal.letter.0 ≡ Some (not e.literal.negated)) (sym c.get.ensures)
     (c.self.invariant.0.true_on n blank_entry (omega (arith, c.requires, same)))

@@ -1,6 +1,6 @@
 use Rattle.std.proofs.Common.{◌↔◌, IsTrue, sym, subst}
 use Rattle.cnf_base.specs.Among.{IsStepAmong}
-use Rattle.cert_text.specs.declared.item.Item.TheVariants as items
+use Rattle.cert_text.specs.declared.item.CertItem.TheVariants as items
 use Rattle.log_checker.specs.Values.{letters_in}
 use Rattle.log_checker.specs.Judging.{found, IsGoodItem}
 use Rattle.log_checker.proofs.live.LiveChecker.take.Goals as goal
