@@ -1,11 +1,11 @@
 // What to decide next: the assumptions in their order, and then whatever the state offers. An assumption that
 // is true already opens no level. After Een and Sorensson, Temporal induction by incremental SAT solving
 // (2003).
-ghost use Rattle.std.specs.Prelude.{◌↔◌, IsTrue, All, Contains, None};
+ghost use Rattle.std.specs.Prelude.{IsTrue, All, None};
 ghost use Rattle.cnf_base.specs.Known.{IsKnown};
 ghost use Rattle.cdcl.specs.Choice.{IsChoice, IsAssumedTop, IsFreeTop};
 
-use cdcl_state::State;
+use cdcl_state::{State, has};
 use cnf_base::Literal;
 
 /// What to do where no clause is false or unit.
@@ -40,18 +40,6 @@ pub fn choose(state: &State, assumptions: &[Literal]) -> Choice
         Some(literal) => Choice::Search(literal),
         None => Choice::Done,
     }
-}
-
-/// Whether the literal is among these.
-pub fn has(literals: &[Literal], wanted: Literal) -> bool
-    ensures { IsTrue result ↔ Contains literals.now wanted }
-{
-    for literal in literals {
-        if *literal == wanted {
-            return true;
-        }
-    }
-    false
 }
 
 /// Whether no decision was made but of assumptions, by the last decision.

@@ -4,7 +4,7 @@ ghost use Rattle.std.specs.Prelude.{IsTrue, All, ◌↔◌};
 ghost use Rattle.cnf_base.specs.Known.{IsKnown};
 ghost use Rattle.cdcl.specs.Solving.{IsConsistent};
 
-use crate::choice::has;
+use cdcl_state::has;
 use cnf_base::Literal;
 
 /// Whether the literals are of letters from 1 to the count.

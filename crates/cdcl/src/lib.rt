@@ -8,7 +8,7 @@ mod retention;
 mod solve;
 mod solver;
 
-pub use choice::has;
+pub use cdcl_state::has;
 pub use known::{are_consistent, are_known};
 pub use solve::Answer;
 pub use solver::Solver;

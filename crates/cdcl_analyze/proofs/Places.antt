@@ -44,5 +44,6 @@ reason_here trail base letter place e hint place_is (p, low, is) high entry reas
       high = omega (arith, high, same);
       inside = low;
       is = is;
-      reason_is = ap (λ (f : TrailEntry). f.reason) (get_or_default trail p blank_entry e low ∙ subst (λ (k : ℕ). get_or trail k e ≡ e) same (sym entry)) ∙ reason;
+      reason_is =
+          ap (λ (f : TrailEntry). f.reason) (get_or_default trail p blank_entry e low ∙ subst (λ (k : ℕ). get_or trail k e ≡ e) same (sym entry)) ∙ reason;
     }

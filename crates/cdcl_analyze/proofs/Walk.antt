@@ -123,7 +123,8 @@ walk_pass inputs lines trail n k marked more clause hints places fits below walk
   within = omega (arith, walk.within, fits);
 }
 
-module _ (inputs lines : List (List Literal)) (trail : List TrailEntry) (k : ℕ) (marked : ℕ → Type 0) (clause : List Literal) (hints : List Hint) (places : List ℕ)
+module _ (inputs lines : List (List Literal)) (trail : List TrailEntry) (k : ℕ) (marked : ℕ → Type 0) (clause : List Literal)
+    (hints : List Hint) (places : List ℕ)
     (walk : IsWalk inputs lines trail (k + 1) marked clause hints places) where
   pub walk_keep : IsWalk inputs lines trail k marked (clause ++ opposite (literal_at trail k) ∷ []) hints (places ++ k ∷ [])
   walk_keep = record {

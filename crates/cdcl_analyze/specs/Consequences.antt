@@ -75,7 +75,8 @@ pub record CanAsk (graph : GraphValue) (base : ℕ) (m : MarksValue) : Type 0 wh
   pub consequences : AreConsequences graph.log.inputs graph.log.lines graph.trail base m
 
 -- of the marked places from `end` up to `from` the clause got those that do not follow, the last first; what follows stands below `from`
-pub record IsRest (inputs lines : List (List Literal)) (trail : List TrailEntry) (base from end : ℕ) (old new : MarksValue) (clause : List Literal) (places : List ℕ)
+pub record IsRest (inputs lines : List (List Literal)) (trail : List TrailEntry) (base from end : ℕ) (old new : MarksValue)
+    (clause : List Literal) (places : List ℕ)
     (more : List Literal) (next : List ℕ) : Type 0 where
   pub consequences : AreConsequences inputs lines trail base new
   pub marked : (x : ℕ) → IsMarked old x → IsMarked new x

@@ -23,7 +23,8 @@ use Rattle.cdcl_state.proofs.States.{lasting_push}
 use Rattle.cdcl_state.proofs.Attach.{lasting_added}
 
 -- the level to go back to is below that of the first literal
-pub target_below : (trail : List TrailEntry) (places : List ℕ) (b : ℕ) → IsAsserting trail places → IsTarget trail places b → b < level_at trail (get_or places 0 0)
+pub target_below : (trail : List TrailEntry) (places : List ℕ) (b : ℕ) → IsAsserting trail places → IsTarget trail places b
+    → b < level_at trail (get_or places 0 0)
 target_below trail places b asserting target = elim (cases_lt 1 (length places)) [
   | inl more ↦ omega (arith, target.second more, asserting.second more)
   | inr lone ↦ omega (arith, target.lone lone, asserting.lone lone)

@@ -15,7 +15,8 @@ module _ (kept : List Literal) (trail : List TrailEntry) (place : ℕ) (before :
   kept_whole all k d below =
       subst (λ (e : TrailEntry). e.reason ≡ None → Contains kept e.literal) (get_or_default trail k blank_entry d below) (before k (omega (arith, below, all)))
 
-  pub kept_front : (inputs lines : List (List Literal)) (new : List TrailEntry) → IsTrail inputs lines trail → IsDecision trail place → new ≡ take (length new) trail
+  pub kept_front : (inputs lines : List (List Literal)) (new : List TrailEntry) → IsTrail inputs lines trail → IsDecision trail place
+      → new ≡ take (length new) trail
       → length new ≤ length trail → All (λ e. e.level ≤ place) new
       → All (λ e. e.reason ≡ None → Contains kept e.literal) new
   kept_front inputs lines new is_trail decision front short low k d below =

@@ -115,14 +115,16 @@ settled {s} state are watching all finished hint heeded = (
         let told = state.are_firm at.0 clause (omega (arith, at.1, finished)) (ap (named s.log.inputs s.log.lines) at.2 ∙ is) in
         (told.0, told.1, front_true s.assigned.trail s.units_trail told.0 state.units_trail_in told.2)
       where
-        front_true : (trail : List TrailEntry) (n : ℕ) (l : Literal) → n ≤ length trail → Contains (literals_of (take n trail)) l → Contains (literals_of trail) l
+        front_true : (trail : List TrailEntry) (n : ℕ) (l : Literal) → n ≤ length trail → Contains (literals_of (take n trail)) l
+            → Contains (literals_of trail) l
         front_true trail n l fits (k, low, is_l) =
             let k_take : k < length (take n trail) = omega (arith, low, length-map (take n trail) (λ (e : TrailEntry). e.literal)) in
             let k_low : k < n = omega (arith, k_take, length-take-le n trail fits) in
             let k_in : k < length trail = omega arith in (
               k,
               omega (arith, k_in, length-map trail (λ (e : TrailEntry). e.literal)),
-              get_or-map (λ (e : TrailEntry). e.literal) trail k blank_entry l k_in ∙ ap (λ (e : TrailEntry). e.literal) (sym (get_or-take n trail k blank_entry k_low))
+              get_or-map (λ (e : TrailEntry). e.literal) trail k blank_entry l k_in
+                  ∙ ap (λ (e : TrailEntry). e.literal) (sym (get_or-take n trail k blank_entry k_low))
                   ∙ sym (get_or-map (λ (e : TrailEntry). e.literal) (take n trail) k blank_entry l k_take) ∙ is_l,
             )
 
@@ -228,7 +230,8 @@ back_of letters a b log all_lines n level is_trail trail_is fits low high =
 pub guarded_push : (clauses : List (List Literal)) (trail more : List TrailEntry) (n : ℕ) → n ≤ length trail → IsGuarded clauses trail n
     → IsGuarded clauses (trail ++ more) n
 guarded_push clauses trail more n fits guarded c k a known watch below is_false =
-    let same : literal_at (trail ++ more) k ≡ literal_at trail k = ap (λ (f : TrailEntry). f.literal) (get_or_append_left trail more blank_entry k (omega arith)) in
+    let same : literal_at (trail ++ more) k ≡ literal_at trail k =
+    ap (λ (f : TrailEntry). f.literal) (get_or_append_left trail more blank_entry k (omega arith)) in
     let told = guarded c k a known watch below (sym same ∙ is_false) in (
       told.0,
       told.1,
@@ -355,7 +358,8 @@ firm_now inputs lines units units_done units_trail trail fits are u clause below
       told.0,
       told.1,
       subst (λ ls. Contains ls told.0) (sym
-          (ap literals_of (sym (take-append-drop units_trail trail)) ∙ map-append (λ (e : TrailEntry). e.literal) (take units_trail trail) (drop units_trail trail)))
+          (ap literals_of (sym (take-append-drop units_trail trail))
+          ∙ map-append (λ (e : TrailEntry). e.literal) (take units_trail trail) (drop units_trail trail)))
           (Contains-append_left (literals_of (take units_trail trail)) (literals_of (drop units_trail trail)) told.0 told.2),
     )
 

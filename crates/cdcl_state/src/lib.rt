@@ -15,3 +15,4 @@ mod widen;
 
 pub use kept::is_marked;
 pub use state::State;
+pub use store::has;

@@ -57,7 +57,8 @@ pub record StandsThere (places : List ℕ) (trail : List TrailEntry) (l : Litera
   pub within : get_or places l.letter.0 0 < length trail
   pub is : literal_at trail (get_or places l.letter.0 0) ≡ l
 
-pub stands_there : (places : List ℕ) (values : List (Option Bool)) (trail : List TrailEntry) (l : Literal) → AreValues values trail → ArePlaces places values trail
+pub stands_there : (places : List ℕ) (values : List (Option Bool)) (trail : List TrailEntry) (l : Literal) → AreValues values trail
+    → ArePlaces places values trail
     → Contains (literals_of trail) l → StandsThere places trail l
 stands_there places values trail l told are there =
     let at = place_of trail l there in

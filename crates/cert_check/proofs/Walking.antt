@@ -113,7 +113,8 @@ module _ (clauses : List (List Signed)) (letters : ℕ) (c : Certificate) where
   next_delete (Line l h ∷ ps) ns more is = absurd (cc)
   next_delete (Delete ms ∷ ps) ns more is = (ps, cc, cc)
 
-  next_close : (coming : List Part) (ts : List ℕ) (more : List CertItem) → items.Close ts ∷ more ≡ items_from coming c.targets → (coming ≡ []) × (ts ≡ c.targets)
+  next_close : (coming : List Part) (ts : List ℕ) (more : List CertItem) → items.Close ts ∷ more ≡ items_from coming c.targets
+      → (coming ≡ []) × (ts ≡ c.targets)
   next_close [] ts more is = (refl, cc)
   next_close (Line l h ∷ ps) ts more is = absurd (cc)
   next_close (Delete ms ∷ ps) ts more is = absurd (cc)

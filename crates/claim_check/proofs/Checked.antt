@@ -61,7 +61,8 @@ module _ (f : Formula) (kind : Kind) (c : Certificate) where
     good_more good answer e said =
         below_more Good j good (subst (IsLayerAnswer f kind (clauses_before f c j) (lines_before c j) (layer_at c j)) e (here answer said))
 
-    pub layer_refused : c.kind ≡ kind → j < length c.layers → ((i : ℕ) → i < j → Good i) → (answer : Option LayerFault) (fault : LayerFault) → answer ≡ Some fault
+    pub layer_refused : c.kind ≡ kind → j < length c.layers → ((i : ℕ) → i < j → Good i) → (answer : Option LayerFault) (fault : LayerFault)
+        → answer ≡ Some fault
         → IsLayerAnswer f kind clauses lines layer answer
         → IsReason f kind c (Reasons.Layer (j + 1) fault)
     layer_refused same lt good answer fault e said = (

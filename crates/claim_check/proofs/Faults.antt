@@ -53,7 +53,8 @@ joined_ok f kind clauses lines final layer (Ok answer) e based is = joined f kin
 joined_ok f kind clauses lines final layer (Err refused) e based is = is
 
 -- a layer with a fault is not lawful
-pub fault_refuses : (f : Formula) (kind : Kind) (clauses lines : List (List Signed)) (layer : Layer) (fault : LayerFault) → IsFault f kind clauses lines layer fault
+pub fault_refuses : (f : Formula) (kind : Kind) (clauses lines : List (List Signed)) (layer : Layer) (fault : LayerFault)
+    → IsFault f kind clauses lines layer fault
     → ¬ IsLawfulLayer f kind clauses lines layer
 fault_refuses f kind clauses lines layer Eventuality is law = is (base_has f kind layer.eventuality (lines ++ clauses_of layer.base_lines) layer law.base)
 fault_refuses f kind clauses lines layer (Claim n) is law =

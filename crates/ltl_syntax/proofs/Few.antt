@@ -1,5 +1,6 @@
 -- The nodes under a root are no more than those of the table, so a tree of a table has no more nodes than the table.
-use Rattle.std.proofs.Common.{◌≡◌, ℕ, zero, suc, ◌+◌, ◌<◌, ◌≤◌, inl, inr, subst, ap, arith, refl, sym, true, false, List, [], ◌∷◌, length, get_or, eqb, Contains}
+use Rattle.std.proofs.Common.{◌≡◌, ℕ, zero, suc, ◌+◌, ◌<◌, ◌≤◌, inl, inr, subst, ap, arith, refl, sym, true, false, List, [], ◌∷◌, length, get_or, eqb}
+use Rattle.std.proofs.Common.{Contains}
 use Rattle.std.specs.List.{IsDistinct, AllByRecursion, list_any}
 use Rattle.std.proofs.lemmas.Bool.{cases_Bool, eqb-true, or_cases}
 use Rattle.std.proofs.lemmas.Map.Steps.{length-le_from_distinct_below}

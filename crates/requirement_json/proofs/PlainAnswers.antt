@@ -91,7 +91,8 @@ because_plain d parts members nevers ms h =
     put_plain (codes "because") (members_data d parts members) (put (codes "claims") (claims_data nevers) ms) (members_plain d parts 0 members)
     (put_plain (codes "claims") (claims_data nevers) ms (map_plain claim_data (λ line. refl) (lines_behind [] nevers)) h)
 
-found_plain : (d : DocumentValue) (steps : ℕ) (a : QuestionAnswer) (ms : Members) → members_have_float ms ≡ false → members_have_float (with_found d steps a ms) ≡ false
+found_plain : (d : DocumentValue) (steps : ℕ) (a : QuestionAnswer) (ms : Members)
+    → members_have_float ms ≡ false → members_have_float (with_found d steps a ms) ≡ false
 found_plain d steps (answers.Can t) ms h = put_plain (codes "trace") (trace_data t) ms (trace_plain t) h
 found_plain d steps (answers.Cannot b) ms h = because_plain d (part_of None) b.value.members.items (nevers_of b.value) ms h
 found_plain d steps answers.Undecided ms h = put_plain (codes "steps") (number (unsigned steps)) ms refl h

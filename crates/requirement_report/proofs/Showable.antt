@@ -27,7 +27,8 @@ conflicts_shown law d given (b ∷ bs) left (is, some, rest) =
     All-cons (λ c. CanBeShown c.value) b bs (because_shown law d given [] b.value is)
     (conflicts_shown law d (without (places b.value.members.items) given) bs left rest)
 
-answer_shown : LawfulCanBeShown → (d : DocumentValue) (given : List ℕ) (asked : List Formula) (a : QuestionAnswer) → IsAnswerTo d given asked a → AnswerCanBeShown a
+answer_shown : LawfulCanBeShown → (d : DocumentValue) (given : List ℕ) (asked : List Formula) (a : QuestionAnswer) → IsAnswerTo d given asked a
+    → AnswerCanBeShown a
 answer_shown law d given asked (answers.Cannot b) is = because_shown law d given asked b.value is
 answer_shown law d given asked other is = tt
 

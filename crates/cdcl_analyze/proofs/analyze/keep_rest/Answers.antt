@@ -27,7 +27,8 @@ mark-requires c =
     let place = c.in-Some.place in
     let low : place < length trail = omega (arith, c.in-Some.ensures.next.low, c.down.invariant.high, c.requires.can_walk.within) in
     let entry : c.entry-entry.result ≡ get_or trail place blank_entry = c.entry-entry.ensures ∙ get_or_default trail place _ blank_entry low in
-    let known = subst (λ (e : TrailEntry). e.literal.letter.0 < length c.args.graph.now.values) (sym entry) (c.invariant.ensures.told.known place blank_entry low) in
+    let known = subst (λ (e : TrailEntry). e.literal.letter.0 < length c.args.graph.now.values) (sym entry)
+    (c.invariant.ensures.told.known place blank_entry low) in
     omega (arith, known, c.requires.can_walk.size, c.down.invariant.size, c.pop.ensures.room)
 
 pub returns-in_err-mark-clause-size : goal.returns-in_err-mark-clause-size
