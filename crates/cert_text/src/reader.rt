@@ -42,7 +42,7 @@ impl<'t> Items<'t> {
 impl<'t> Iterator for Items<'t> {
     ghost use Rattle.std.specs.Iterator.{YieldsFirst, item_count};
 
-    type CertItem = CertItem<'t>;
+    type Item = CertItem<'t>;
 
     ghost next_gives = { YieldsFirst (λ rest. rest) };
 

@@ -152,6 +152,7 @@ joined_key joins.And a b r = refl
 joined_key other a b r = refl
 
 key_entry : (k : Key) (n : ℕ) → key_of (entry_of k n) ≡ k
+key_entry (keys.Const true) n = refl
 key_entry (keys.Asks r m) n = asking_key r m
 key_entry (keys.Joins op a b) n = joined_key op a b (n + 1)
 key_entry other n = refl

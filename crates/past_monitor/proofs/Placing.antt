@@ -1,6 +1,7 @@
 -- The walk that makes a part of each marked node.
 use Rattle.std.proofs.Common.{◌≡◌, ℕ, zero, suc, ◌+◌, ◌-◌, ◌<◌, ◌≤◌, Bool, true, false, ◌==◌, List, [], ◌∷◌, ◌++◌, length, length-append, take, cond}
 use Rattle.std.proofs.Common.{slice_index_or, refl, sym, ◌∙◌, ap, ap₂, subst, arith, eq-eqb, true≢false, inl, inr}
+use Rattle.std.proofs.Common.{Result, Ok, Err, IsErr, IsErrAnd}
 use Rattle.std.proofs.Math.ListN.{get_or-append}
 use Rattle.std.proofs.Math.Seq.{get_or-append_seam}
 use Rattle.std.specs.List.{count_by}
@@ -16,6 +17,7 @@ use Rattle.ltl_syntax.proofs.Trees.{node_tree, node_fine}
 use Rattle.ltl_syntax.proofs.Under.{under_has}
 use Rattle.ltl_syntax.specs.Roots.{HasChildrenBelow}
 use Rattle.past_monitor.specs.declared.part.Part.{Part}
+use Rattle.past_monitor.specs.declared.refused.MonitorRefused.{MonitorRefused}
 use Rattle.past_monitor.specs.Past.{IsPast}
 use Rattle.past_monitor.specs.Ring.{RingValue}
 use Rattle.past_monitor.specs.Monitor.{formula_at, AreUnder}
@@ -200,6 +202,11 @@ past_node : (names : List (List ℕ)) (trees : List Formula) (node : Node) → I
 past_node names trees (nodes.Unary op a) p = p.0
 past_node names trees (nodes.Binary op a b) p = p.0
 past_node names trees other p = tt
+
+-- an error that is passed on
+pub passed_on : {A : Type 0} (e f : MonitorRefused) (r : Result A MonitorRefused) → IsErr r × IsErrAnd r (λ x. x ≡ e) → r ≡ Err f → e ≡ f
+passed_on e f (Ok x) w is = let ok = w.0 in cc
+passed_on e f (Err x) w is = let same : x ≡ f = cc in sym w.1 ∙ same
 
 pub refused : (t : Table) → IsTable t.nodes t.names → (root number : ℕ) → IsUnder t root number → LooksAhead t number → IsPast (tree_at t root) → ⊥
 refused t table root number under (node, at, ahead) past =

@@ -1,7 +1,8 @@
-use Rattle.std.proofs.Common.{◌≡◌, suc, ◌+◌, ◌++◌, ◌∷◌, [], length, Vec, Global, sym, ◌∙◌, ap, subst, arith}
+use Rattle.std.proofs.Common.{◌≡◌, Err, suc, ◌+◌, ◌++◌, ◌∷◌, [], length, Vec, Global, sym, ◌∙◌, ap, subst, arith}
 use Rattle.past_monitor.specs.declared.part.Part.{Part}
+use Rattle.past_monitor.specs.declared.refused.MonitorRefused.TheVariants.{Future}
 use Rattle.past_monitor.specs.Part.{IsPartOf}
-use Rattle.past_monitor.proofs.Placing.{ArePlaced, passed, added, some_parts, root_last, all_under}
+use Rattle.past_monitor.proofs.Placing.{ArePlaced, passed, added, passed_on, refused, some_parts, root_last, all_under}
 use Rattle.past_monitor.proofs.under.parts_of.Goals.{then-marks-number+in_ok-part_of+in_ok-push-2, else-marks-number}
 use Rattle.past_monitor.proofs.under.parts_of.Goals as goal
 
@@ -47,3 +48,9 @@ returns-clause-formula c =
     let end : c.loop-number.number ≡ c.args.root + 1 = omega (arith, c.loop-number-test.false, c.loop-number.auto.number-end) in
     root_last c.args.table.now c.args.root c.args.marks.now c.loop-number.places.items c.loop-number.parts.items c.loop-number.number end c.requires.length
     c.requires.marks c.loop-number.invariant
+
+pub returns-in_err-part_of-clause-future : goal.returns-in_err-part_of-clause-future
+returns-in_err-part_of-clause-future c e =
+    let out = c.from_residual-in_err-part_of in
+    refused c.args.table.now c.invariant.ensures c.args.root c.loop-number.number ((c.requires.marks c.loop-number.number).0 c.if-marks-number.true)
+    (c.in_err-part_of.ensures.future (ap Err (passed_on c.in_err-part_of.field-0.0 Future out.result out.ensures e)))
