@@ -3,8 +3,9 @@ ghost use Rattle.ltl_syntax.specs.Table.{tree_at};
 ghost use Rattle.lasso_eval.specs.Cells.{positions};
 ghost use Rattle.lasso_eval.specs.Rows.{AreValues};
 
+use crate::formulas::{formula, push};
 use lasso_eval::{EvalRefused, TruthRows, holds, values};
-use ltl_syntax::{BinaryOp, FormulaTable, Node, UnaryOp};
+use ltl_syntax::{FormulaTable, Node, UnaryOp};
 use ltl_word::{Name, StateSet, States, Trace};
 use std::alloc::{AllocError, Global};
 use std::process::Abort;
@@ -25,126 +26,8 @@ fn states(alloc: Global, text: Option<&str>) -> Result<States, AllocError> {
     Ok(States::new(states))
 }
 
-fn push(rt: &impl Abort, table: &mut FormulaTable, node: Node) -> Result<u32, Fail> {
-    match node {
-        Node::Const(_) | Node::Fresh(_) => {}
-        Node::Letter(letter) => assert!(rt; letter < table.letters()),
-        Node::Unary(op, a) => assert!(rt; table.is_root(a) && op.is_in_order()),
-        Node::Binary(_, a, b) => assert!(rt; table.is_root(a) && table.is_root(b) && a != b),
-    }
-    Ok(table.push(node)?)
-}
-
-// The operators that the rows below use.
-const UNARY: &[(&str, UnaryOp)] = &[
-    ("!", UnaryOp::Not),
-    ("X", UnaryOp::Next),
-    ("wX", UnaryOp::WeakNext),
-    ("F", UnaryOp::Eventually),
-    ("G", UnaryOp::Always),
-    ("Y", UnaryOp::Yesterday),
-    ("Z", UnaryOp::WeakYesterday),
-    ("O", UnaryOp::Once),
-    ("H", UnaryOp::Historically),
-    ("X[0]", UnaryOp::NextTimes(0)),
-    ("X[1]", UnaryOp::NextTimes(1)),
-    ("X[2]", UnaryOp::NextTimes(2)),
-    ("X[4]", UnaryOp::NextTimes(4)),
-    ("X[5]", UnaryOp::NextTimes(5)),
-    ("X[7]", UnaryOp::NextTimes(7)),
-    ("X[255]", UnaryOp::NextTimes(255)),
-    ("Y[0]", UnaryOp::YesterdayTimes(0)),
-    ("Y[2]", UnaryOp::YesterdayTimes(2)),
-    ("Y[4]", UnaryOp::YesterdayTimes(4)),
-    ("F[0,2]", UnaryOp::EventuallyIn(0, 2)),
-    ("F[0,3]", UnaryOp::EventuallyIn(0, 3)),
-    ("F[1,2]", UnaryOp::EventuallyIn(1, 2)),
-    ("F[2,9]", UnaryOp::EventuallyIn(2, 9)),
-    ("F[4,6]", UnaryOp::EventuallyIn(4, 6)),
-    ("F[4,7]", UnaryOp::EventuallyIn(4, 7)),
-    ("F[7,255]", UnaryOp::EventuallyIn(7, 255)),
-    ("G[0,2]", UnaryOp::AlwaysIn(0, 2)),
-    ("G[0,3]", UnaryOp::AlwaysIn(0, 3)),
-    ("G[1,9]", UnaryOp::AlwaysIn(1, 9)),
-    ("G[4,6]", UnaryOp::AlwaysIn(4, 6)),
-    ("O[0,2]", UnaryOp::OnceIn(0, 2)),
-    ("O[0,3]", UnaryOp::OnceIn(0, 3)),
-    ("O[2,2]", UnaryOp::OnceIn(2, 2)),
-    ("O[2,3]", UnaryOp::OnceIn(2, 3)),
-    ("O[4,9]", UnaryOp::OnceIn(4, 9)),
-    ("H[0,3]", UnaryOp::HistoricallyIn(0, 3)),
-    ("H[1,2]", UnaryOp::HistoricallyIn(1, 2)),
-    ("H[1,3]", UnaryOp::HistoricallyIn(1, 3)),
-    ("H[4,9]", UnaryOp::HistoricallyIn(4, 9)),
-];
-
-const BINARY: &[(&str, BinaryOp)] = &[
-    ("&", BinaryOp::And),
-    ("|", BinaryOp::Or),
-    ("->", BinaryOp::Implies),
-    ("<->", BinaryOp::Iff),
-    ("U", BinaryOp::Until),
-    ("R", BinaryOp::Release),
-    ("W", BinaryOp::WeakUntil),
-    ("M", BinaryOp::StrongRelease),
-    ("S", BinaryOp::Since),
-    ("T", BinaryOp::Trigger),
-];
-
-fn unary_of(word: &str) -> Option<UnaryOp> {
-    for (text, op) in UNARY {
-        if *text == word {
-            return Some(*op);
-        }
-    }
-    None
-}
-
-fn binary_of(word: &str) -> Option<BinaryOp> {
-    for (text, op) in BINARY {
-        if *text == word {
-            return Some(*op);
-        }
-    }
-    None
-}
-
-fn operand_of(rt: &impl Abort, table: &mut FormulaTable, word: &str) -> Result<Node, Fail> {
-    assert!(rt; table.letters() < 100);
-    match word {
-        "true" => Ok(Node::Const(true)),
-        "false" => Ok(Node::Const(false)),
-        "{7}" => Ok(Node::Fresh(7)),
-        "p" => Ok(Node::Letter(table.name("p")?)),
-        _ => Ok(Node::Letter(table.name("q")?)),
-    }
-}
-
-// Pushes a formula whose operators stand behind their operands, and answers its number.
-fn formula(
-    rt: &impl Abort,
-    table: &mut FormulaTable,
-    alloc: Global,
-    text: &str,
-) -> Result<u32, Fail> {
-    let mut stack: Vec<u32> = Vec::new(alloc);
-    for word in text.split_whitespace() {
-        let node = if let Some(op) = unary_of(word) {
-            Node::Unary(op, stack.pop().expect(rt, "an operand"))
-        } else if let Some(op) = binary_of(word) {
-            let right = stack.pop().expect(rt, "a right operand");
-            Node::Binary(op, stack.pop().expect(rt, "a left operand"), right)
-        } else {
-            operand_of(rt, table, word)?
-        };
-        stack.push(push(rt, table, node)?)?;
-    }
-    Ok(stack.pop().expect(rt, "a formula"))
-}
-
 fn holds_on(rt: &impl Abort, alloc: Global, text: &str, trace: &Trace) -> Result<bool, Fail> {
-    let mut table = FormulaTable::new(alloc);
-    let root = formula(rt, &mut table, alloc, text)?;
+    let (table, root) = formula(rt, alloc, text)?;
     assert!(rt; root < table.len());
     match trace {
         Trace::Infinite { stem: _, loop_part } => assert!(rt; loop_part.as_slice().len() > 0),
@@ -154,56 +37,55 @@ fn holds_on(rt: &impl Abort, alloc: Global, text: &str, trace: &Trace) -> Result
 }
 
 const ON_INFINITE: &[(&str, Option<&str>, &str, bool)] = &[
-    ("p p Y Y Y Y & F", None, "p|", true),
-    ("p p Y & F", None, "p|", false),
-    ("p q U", Some("p"), "p|q", true),
-    ("p q U", None, "p", false),
-    ("p q U F", Some("q"), "p", true),
-    ("p q U X F", Some("q"), "p", false),
-    ("p q W", None, "p", true),
-    ("q p R", None, "p", true),
-    ("q p R", None, "p|", false),
-    ("q p M", None, "p", false),
-    ("p F G", None, "p|", true),
-    ("p G F", Some("p"), "", false),
-    ("p X X X", None, "|p", true),
-    ("false Z", None, "p", true),
-    ("{7} O X", Some("{7}"), "", true),
-    ("p H G", None, "p", true),
-    ("p q T X", Some("q"), "p", false),
-    ("p q S G", Some("q"), "p", true),
-    ("p q <-> X", None, "p|", true),
-    ("p q -> q | !", None, "p|q", true),
-    ("p F[0,2]", None, "|||p", false),
-    ("p F[0,3]", None, "|||p", true),
-    ("p F[4,6]", None, "|||p", false),
-    ("p F[4,7]", None, "|||p", true),
-    ("p F[2,9]", Some("p"), "|p", true),
-    ("p F[7,255]", Some("p"), "", false),
-    ("p G[0,2]", None, "p|p|p|", true),
-    ("p G[0,3]", None, "p|p|p|", false),
-    ("p G[4,6]", None, "p|p|p|", true),
-    ("p G[1,9]", Some(""), "p|p", true),
-    ("p G[1,9]", None, "p|p|", false),
-    ("p X[0]", None, "|p|", false),
-    ("p X[5]", None, "|p|", false),
-    ("p X[7]", None, "|p|", true),
-    ("p X[255]", Some(""), "p", true),
-    ("true Y[0]", None, "p", true),
-    ("true Y[2]", None, "p", false),
-    ("true Y[2] X", None, "p", false),
-    ("true Y[2] X[2]", None, "p", true),
-    ("p Y[2] X[4]", Some("q|q|p"), "", true),
-    ("p p Y[4] & F", None, "p|", true),
-    ("p O[2,2] X[4]", Some("q|p"), "", false),
-    ("p O[2,3] X[4]", Some("q|p"), "", true),
-    ("p O[4,9] X[4]", Some("q|p"), "", false),
-    ("p O[0,3] G X[2]", None, "||p|", true),
-    ("p O[0,2] G X[2]", None, "||p|", false),
-    ("false H[1,3]", None, "p", true),
-    ("p H[1,3] X[2]", Some("p|p"), "", true),
-    ("p H[0,3] X[2]", Some("p|p"), "", false),
-    ("p H[4,9] X[5]", Some("p|p"), "", true),
+    ("F (p & Y Y Y Y p)", None, "p|", true),
+    ("F (p & Y p)", None, "p|", false),
+    ("p U q", Some("p"), "p|q", true),
+    ("p U q", None, "p", false),
+    ("F (p U q)", Some("q"), "p", true),
+    ("F X (p U q)", Some("q"), "p", false),
+    ("p W q", None, "p", true),
+    ("q R p", None, "p", true),
+    ("q R p", None, "p|", false),
+    ("q M p", None, "p", false),
+    ("G F p", None, "p|", true),
+    ("F G p", Some("p"), "", false),
+    ("X X X p", None, "|p", true),
+    ("Z false", None, "p", true),
+    ("G H p", None, "p", true),
+    ("X (p T q)", Some("q"), "p", false),
+    ("G (p S q)", Some("q"), "p", true),
+    ("X (p <-> q)", None, "p|", true),
+    ("!((p -> q) | q)", None, "p|q", true),
+    ("F[0,2] p", None, "|||p", false),
+    ("F[0,3] p", None, "|||p", true),
+    ("F[4,6] p", None, "|||p", false),
+    ("F[4,7] p", None, "|||p", true),
+    ("F[2,9] p", Some("p"), "|p", true),
+    ("F[7,255] p", Some("p"), "", false),
+    ("G[0,2] p", None, "p|p|p|", true),
+    ("G[0,3] p", None, "p|p|p|", false),
+    ("G[4,6] p", None, "p|p|p|", true),
+    ("G[1,9] p", Some(""), "p|p", true),
+    ("G[1,9] p", None, "p|p|", false),
+    ("X[0] p", None, "|p|", false),
+    ("X[5] p", None, "|p|", false),
+    ("X[7] p", None, "|p|", true),
+    ("X[255] p", Some(""), "p", true),
+    ("Y[0] true", None, "p", true),
+    ("Y[2] true", None, "p", false),
+    ("X Y[2] true", None, "p", false),
+    ("X[2] Y[2] true", None, "p", true),
+    ("X[4] Y[2] p", Some("q|q|p"), "", true),
+    ("F (p & Y[4] p)", None, "p|", true),
+    ("X[4] O[2,2] p", Some("q|p"), "", false),
+    ("X[4] O[2,3] p", Some("q|p"), "", true),
+    ("X[4] O[4,9] p", Some("q|p"), "", false),
+    ("X[2] G O[0,3] p", None, "||p|", true),
+    ("X[2] G O[0,2] p", None, "||p|", false),
+    ("H[1,3] false", None, "p", true),
+    ("X[2] H[1,3] p", Some("p|p"), "", true),
+    ("X[2] H[0,3] p", Some("p|p"), "", false),
+    ("X[5] H[4,9] p", Some("p|p"), "", true),
 ];
 
 #[test]
@@ -223,22 +105,22 @@ fn holds_on_infinite_traces(rt: HostRuntime) -> Result<(), Fail> {
 }
 
 const ON_FINITE: &[(&str, &str, bool)] = &[
-    ("p false wX & F", "q|p", true),
-    ("true X G", "q|p", false),
-    ("p q Y & F", "q|p", true),
-    ("p q S X", "q|p", true),
-    ("q p S", "q|p", false),
-    ("p G", "p|p", true),
-    ("q p U", "q|q", false),
-    ("true X[1]", "q|p", true),
-    ("true X[2]", "q|p", false),
-    ("p F[2,9]", "q|p", false),
-    ("p F[0,3]", "q|p", true),
-    ("p G[1,9]", "q|p", true),
-    ("p G[1,9]", "q|p|", false),
-    ("false G[4,6]", "q|p", true),
-    ("p H[1,3] X", "p|q", true),
-    ("q O[2,3] X[1]", "q|q", false),
+    ("F (p & wX false)", "q|p", true),
+    ("G X true", "q|p", false),
+    ("F (p & Y q)", "q|p", true),
+    ("X (p S q)", "q|p", true),
+    ("q S p", "q|p", false),
+    ("G p", "p|p", true),
+    ("q U p", "q|q", false),
+    ("X[1] true", "q|p", true),
+    ("X[2] true", "q|p", false),
+    ("F[2,9] p", "q|p", false),
+    ("F[0,3] p", "q|p", true),
+    ("G[1,9] p", "q|p", true),
+    ("G[1,9] p", "q|p|", false),
+    ("G[4,6] false", "q|p", true),
+    ("X H[1,3] p", "p|q", true),
+    ("X[1] O[2,3] q", "q|q", false),
 ];
 
 #[test]
@@ -297,8 +179,7 @@ fn shown_at(
 
 // The root's values at the positions shown, as a word of 0 and 1.
 fn values_on(rt: &impl Abort, alloc: Global, text: &str, trace: &Trace) -> Result<String, Fail> {
-    let mut table = FormulaTable::new(alloc);
-    let root = formula(rt, &mut table, alloc, text)?;
+    let (table, root) = formula(rt, alloc, text)?;
     assert!(rt; root < table.len());
     match trace {
         Trace::Infinite { stem: _, loop_part } => assert!(rt; loop_part.as_slice().len() > 0),
@@ -317,15 +198,15 @@ fn values_on(rt: &impl Abort, alloc: Global, text: &str, trace: &Trace) -> Resul
 }
 
 const FINITE_VALUES: &[(&str, &str, &str)] = &[
-    ("p Y", "p|q|p|", "0101"),
-    ("q F[1,2]", "p|q|p|q|p", "11100"),
-    ("p H[1,2]", "p||p|p|p", "11001"),
+    ("Y p", "p|q|p|", "0101"),
+    ("F[1,2] q", "p|q|p|q|p", "11100"),
+    ("H[1,2] p", "p||p|p|p", "11001"),
 ];
 
 const INFINITE_VALUES: &[(&str, Option<&str>, &str, &str)] = &[
-    ("p Y[2]", Some("p|q"), "|p", "0010"),
-    ("p X[2]", None, "p||", "010"),
-    ("p q U", Some("|p"), "q|", "0110"),
+    ("Y[2] p", Some("p|q"), "|p", "0010"),
+    ("X[2] p", None, "p||", "010"),
+    ("p U q", Some("|p"), "q|", "0110"),
 ];
 
 #[test]
@@ -381,8 +262,7 @@ fn counts_the_cells(rt: HostRuntime) -> Result<(), Fail> {
         loop_part: States::new(empty),
     };
     for (op, times, want) in rows {
-        let mut table = FormulaTable::new(rt.alloc());
-        let mut root = formula(&rt, &mut table, rt.alloc(), "true")?;
+        let (mut table, mut root) = formula(&rt, rt.alloc(), "true")?;
         for _ in 0..times {
             root = push(&rt, &mut table, Node::Unary(op, root))?;
         }
@@ -393,5 +273,25 @@ fn counts_the_cells(rt: HostRuntime) -> Result<(), Fail> {
         }
         assert_eq!(rt; holds(rt.alloc(), &table, root, &trace), want);
     }
+    Ok(())
+}
+
+// A fresh letter is true where a state has its number in braces.
+#[test]
+fn a_fresh_letter(rt: HostRuntime) -> Result<(), Fail> {
+    let mut table = FormulaTable::new(rt.alloc());
+    let mut root = push(&rt, &mut table, Node::Fresh(7))?;
+    for op in [UnaryOp::Once, UnaryOp::Next] {
+        root = push(&rt, &mut table, Node::Unary(op, root))?;
+    }
+    assert!(rt; root < table.len());
+    let trace = Trace::Finite {
+        states: states(rt.alloc(), Some("{7}|"))?,
+    };
+    match &trace {
+        Trace::Infinite { stem: _, loop_part } => assert!(rt; loop_part.as_slice().len() > 0),
+        Trace::Finite { states } => assert!(rt; states.as_slice().len() > 0),
+    }
+    assert!(rt; holds(rt.alloc(), &table, root, &trace)?);
     Ok(())
 }

@@ -5,6 +5,8 @@
 #[cfg(test)]
 mod evaluation;
 #[cfg(test)]
+mod formulas;
+#[cfg(test)]
 mod monitors;
 #[cfg(test)]
 mod past_removed;

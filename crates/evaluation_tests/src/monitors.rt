@@ -1,112 +1,54 @@
-use ltl_syntax::{BinaryOp, FormulaTable, Node, UnaryOp};
+use crate::formulas::formula;
 use past_monitor::{Monitor, MonitorRefused, WatchRefused, state_of, watch};
 use std::alloc::Global;
 use std::process::Abort;
 use std::test::Fail;
 
-// The answers of a monitor of these nodes to the states of the lines, or `future`. The letters 0, 1 and 2 are
-// p, grant and req.
-fn answers(rt: &impl Abort, alloc: Global, nodes: &[Node], lines: &str) -> Result<String, Fail> {
-    let mut table = FormulaTable::new(alloc);
-    for name in ["p", "grant", "req"] {
-        assert!(rt; table.letters() < 100);
-        table.name(name)?;
-    }
-    for node in nodes {
-        assert!(rt; table.may_push(*node));
-        table.push(*node)?;
-    }
-    assert!(rt; table.len() > 0);
-    let mut monitor = match Monitor::new(alloc, &table, table.len() - 1) {
+// The answers of a monitor of the formula to the states of the lines, or `future`.
+fn answers(rt: &impl Abort, alloc: Global, text: &str, lines: &str) -> Result<String, Fail> {
+    let (table, root) = formula(rt, alloc, text)?;
+    assert!(rt; root < table.len());
+    let mut monitor = match Monitor::new(alloc, &table, root) {
         Ok(monitor) => monitor,
         Err(MonitorRefused::Future) => return Ok(String::from_str(alloc, "future")?),
         Err(MonitorRefused::NoMemory) => return Err(Fail::from("memory")),
     };
-    let mut text = String::new(alloc);
+    let mut told = String::new(alloc);
     for line in lines.lines() {
         let state = state_of(alloc, line.as_bytes())?.expect(rt, "a state");
-        text.push(if monitor.step(&state) { 'T' } else { 'F' })?;
+        told.push(if monitor.step(&state) { 'T' } else { 'F' })?;
     }
-    Ok(text)
+    Ok(told)
 }
 
 #[test]
 fn answers_each_state(rt: HostRuntime) -> Result<(), Fail> {
-    let grants = [
-        Node::Letter(1),
-        Node::Letter(2),
-        Node::Unary(UnaryOp::Once, 1),
-        Node::Unary(UnaryOp::Yesterday, 2),
-        Node::Binary(BinaryOp::Implies, 0, 3),
-        Node::Unary(UnaryOp::Historically, 4),
-    ];
-    assert_eq!(rt;
-        answers(
-            &rt,
-            rt.alloc(),
-            &grants,
-            "[\"req\"]\n[\"grant\"]\n[\"grant\",\"req\"]"
-        )?
-        .as_str(),
-        "TTT"
-    );
-    assert_eq!(rt;
-        answers(&rt, rt.alloc(), &grants, "[\"grant\"]\n[\"req\"]")?.as_str(),
-        "FF"
-    );
-    Ok(())
-}
-
-#[test]
-fn answers_each_operator(rt: HostRuntime) -> Result<(), Fail> {
     let rows = [
-        (UnaryOp::YesterdayTimes(2), "[\"p\"]\n[]\n[]\n[]", "FFTF"),
-        (UnaryOp::YesterdayTimes(0), "[\"p\"]\n[]", "TF"),
-        (UnaryOp::Yesterday, "[\"p\"]\n[]\n[]", "FTF"),
-        (UnaryOp::WeakYesterday, "[]\n[\"p\"]\n[]", "TFT"),
-        (UnaryOp::OnceIn(1, 2), "[\"p\"]\n[]\n[]\n[]", "FTTF"),
-        (UnaryOp::OnceIn(0, 0), "[\"p\"]\n[]", "TF"),
         (
-            UnaryOp::HistoricallyIn(1, 2),
-            "[\"p\"]\n[]\n[\"p\"]\n[\"p\"]\n[]",
-            "TTFFT",
+            "H (grant -> Y O req)",
+            "[\"req\"]\n[\"grant\"]\n[\"grant\",\"req\"]",
+            "TTT",
         ),
-        (
-            UnaryOp::HistoricallyIn(0, 1),
-            "[\"p\"]\n[]\n[\"p\"]\n[\"p\"]",
-            "TFFT",
-        ),
-        (UnaryOp::Eventually, "", "future"),
-        (UnaryOp::NextTimes(0), "", "future"),
+        ("H (grant -> Y O req)", "[\"grant\"]\n[\"req\"]", "FF"),
+        ("Y[2] p", "[\"p\"]\n[]\n[]\n[]", "FFTF"),
+        ("Y[0] p", "[\"p\"]\n[]", "TF"),
+        ("Y p", "[\"p\"]\n[]\n[]", "FTF"),
+        ("Z p", "[]\n[\"p\"]\n[]", "TFT"),
+        ("O[1,2] p", "[\"p\"]\n[]\n[]\n[]", "FTTF"),
+        ("O[0,0] p", "[\"p\"]\n[]", "TF"),
+        ("H[1,2] p", "[\"p\"]\n[]\n[\"p\"]\n[\"p\"]\n[]", "TTFFT"),
+        ("H[0,1] p", "[\"p\"]\n[]\n[\"p\"]\n[\"p\"]", "TFFT"),
+        ("p S q", "[\"q\"]\n[\"p\"]\n[]\n[\"p\"]", "TTFF"),
+        ("p T q", "[\"q\"]\n[]\n[\"p\",\"q\"]\n[\"q\"]", "TFTT"),
+        ("p R q", "", "future"),
+        ("F p", "", "future"),
+        ("X[0] p", "", "future"),
     ];
-    for (op, lines, want) in rows {
-        let nodes = [Node::Letter(0), Node::Unary(op, 0)];
+    for (text, lines, want) in rows {
         assert_eq!(rt;
-            answers(&rt, rt.alloc(), &nodes, lines)?.as_str(),
+            answers(&rt, rt.alloc(), text, lines)?.as_str(),
             want,
-            "{lines}"
-        );
-    }
-    Ok(())
-}
-
-#[test]
-fn answers_since_and_trigger(rt: HostRuntime) -> Result<(), Fail> {
-    let rows = [
-        (BinaryOp::Since, "[\"{7}\"]\n[\"p\"]\n[]\n[\"p\"]", "TTFF"),
-        (
-            BinaryOp::Trigger,
-            "[\"{7}\"]\n[]\n[\"p\",\"{7}\"]\n[\"{7}\"]",
-            "TFTT",
-        ),
-        (BinaryOp::Release, "", "future"),
-    ];
-    for (op, lines, want) in rows {
-        let nodes = [Node::Letter(0), Node::Fresh(7), Node::Binary(op, 0, 1)];
-        assert_eq!(rt;
-            answers(&rt, rt.alloc(), &nodes, lines)?.as_str(),
-            want,
-            "{lines}"
+            "{text} on {lines}"
         );
     }
     Ok(())
@@ -135,11 +77,7 @@ fn watched(
     alloc: Global,
     text: &str,
 ) -> Result<Result<usize, WatchRefused>, Fail> {
-    let mut table = FormulaTable::new(alloc);
-    table.name("p")?;
-    let node = Node::Letter(0);
-    assert!(rt; table.may_push(node));
-    let root = table.push(node)?;
+    let (table, root) = formula(rt, alloc, "p")?;
     assert!(rt; root < table.len());
     Ok(watch(alloc, &table, root, text.as_bytes()).map(|answers| answers
         .iter()
