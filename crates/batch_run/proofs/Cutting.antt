@@ -1,14 +1,11 @@
 -- How the formula lines of a text are found from its front.
-use Rattle.std.proofs.Common.{◌≡◌, ◌∙◌, ℕ, suc, ◌+◌, true, false, List, [], ◌∷◌, ◌++◌, refl, sym, ap, subst, arith, append_assoc, if◌then◌else◌}
+use Rattle.std.proofs.Common.{◌≡◌, ◌∙◌, ℕ, suc, ◌+◌, true, false, List, ◌∷◌, ◌++◌, refl, sym, ap, subst, arith, append_assoc, if◌then◌else◌, []}
 use Rattle.batch_run.specs.Lines.{IsFrontLine, is_blank, FormulaLine, formula_lines, AreFormulaLines}
 use Rattle.batch_run.specs.Grouping.{Continues}
 
 -- an empty text has none
 pub no_line : (number : ℕ) → AreFormulaLines number [] []
 no_line number = ([], refl, refl)
-
-pub continues_here : (number : ℕ) (text : List ℕ) → Continues number text number text []
-continues_here number text later h = h
 
 -- a text goes on with its rest, and the rest with its own
 pub continues_then : (a : ℕ) (s : List ℕ) (b : ℕ) (t : List ℕ) (c : ℕ) (u : List ℕ) (xs ys : List FormulaLine) → Continues a s b t xs → Continues b t c u ys

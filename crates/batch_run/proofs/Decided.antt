@@ -1,5 +1,5 @@
 -- From the reading of a line and the depths of its tableau to what is said of the line.
-use Rattle.std.proofs.Common.{ℕ, ◌≤◌, List, length, Result, Ok, Err, IfOk, arith}
+use Rattle.std.proofs.Common.{ℕ, ◌≤◌, List, Result, Ok, Err, IfOk, arith}
 use Rattle.ltl_syntax.specs.declared.node.Kind.{Kind}
 use Rattle.ltl_syntax.specs.declared.node.Kind.TheVariants as kinds
 use Rattle.ltl_syntax.specs.Formula.{Formula}
@@ -7,13 +7,10 @@ use Rattle.ltl_parser.specs.Text.{IsAccepted}
 use Rattle.formula_reading.specs.declared.reading.FormulaFault.{FormulaFault}
 use Rattle.formula_reading.specs.declared.reading.FormulaFault.TheVariants as wrong
 use Rattle.formula_reading.specs.Reading.{HasFormulaFault}
-use Rattle.ltl_closure.specs.Closure.{closure}
 use Rattle.enc_layout.specs.Letters.{Counts, letters_through}
-use Rattle.enc_layout.specs.Clauses.{counts}
-use Rattle.enc_layout.proofs.Counting.{counts_few}
 use Rattle.batch_run.specs.declared.answer.LineOutcome.{LineOutcome}
 use Rattle.batch_run.specs.declared.answer.LineOutcome.TheVariants as outcomes
-use Rattle.batch_run.specs.Outcomes.{HasFewLetters, IsOutcome, refusal_of}
+use Rattle.batch_run.specs.Outcomes.{IsOutcome, refusal_of}
 use Rattle.batch_run.specs.Grouping.{ShowsVerdict}
 
 -- a fault of a line is what is said of the line
@@ -39,6 +36,3 @@ shown_outcome line f kind asked (Err e) read h = tt
 few_at_first : (kind : Kind) (c : Counts) → c.entries ≤ 98306 → c.eventualities ≤ 98306 → letters_through kind c 0 ≤ 1048576
 few_at_first kinds.Infinite c few few' = omega (arith, few, few')
 few_at_first kinds.Finite c few few' = omega (arith, few, few')
-
-pub first_is_few : (f : Formula) (kind : Kind) → length (closure f) ≤ 98306 → HasFewLetters f kind 0
-first_is_few f kind few = let c = counts_few f few in few_at_first kind (counts f) c.few_entries c.few_eventualities

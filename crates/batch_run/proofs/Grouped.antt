@@ -27,10 +27,6 @@ taken_more lanes at (m ∷ lines) (y ∷ answers) l x (n, o, h) number has =
     let there : at + suc (length lines) ≡ suc at + length lines = omega arith in
     (n, o, taken_more lanes (suc at) lines answers l x h number (subst (λ k. HasOutcome lanes k x.outcome) there has))
 
--- before the first line
-pub nothing_collected : (lanes : List Lane) (lines : List Line) (before : List LineAnswer) → HasOutcomes lanes (take 0 lines) before before
-nothing_collected lanes lines before = ([], sym (append-nil before), tt)
-
 -- the outcome of one more line
 pub one_collected : (lanes : List Lane) (lines : List Line) (index : ℕ) (l : Line) (before answers : List LineAnswer) (x : LineAnswer) → index < length lines
     → HasOutcomes lanes (take index lines) before answers → l ≡ get_or lines index l

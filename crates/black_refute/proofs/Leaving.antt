@@ -1,20 +1,20 @@
 -- What was taken from a source, and what it had left.
-use Rattle.std.proofs.Common.{◌≡◌, ◌∙◌, ◌⊎◌, ℕ, zero, suc, ◌+◌, ◌<◌, ◌≤◌, List, length, inl, inr, Bool, true, false, Option, IsTrue, refl, sym, ap, subst}
+use Rattle.std.proofs.Common.{◌≡◌, ◌⊎◌, ℕ, zero, suc, ◌+◌, ◌<◌, ◌≤◌, List, length, inl, inr, Bool, true, false, Option, IsTrue, refl, sym, ap, subst}
 use Rattle.std.proofs.Common.{arith}
 use Rattle.ltl_io.specs.Outside.{TakesWhole, LosesAtMost}
 use Rattle.ltl_syntax.specs.declared.node.Kind.{Kind}
 use Rattle.command_words.specs.declared.refutation.Refutation.{Refutation}
 use Rattle.command_words.specs.declared.refutation.Refutation.TheVariants as asked
-use Rattle.command_words.specs.Words.{Setting, kind_of, cert_of, progress_of}
+use Rattle.command_words.specs.Words.{Setting, kind_of, cert_of}
 use Rattle.command_words.specs.Refutation.{RefutationAsked, Refute, Verify, AsksRefutation, IsRefutationAsked}
 use Rattle.program_input.specs.Claims.{IsLeft}
 use Rattle.program_input.proofs.Leaving.{long_left, whole_left, long_refusal, taken_up_to, taken_whole}
 use Rattle.black_refute.specs.Answer.{Answer}
 use Rattle.black_refute.specs.Refuting.{IsSettled, unreadable, settled}
 use Rattle.black_refute.specs.Checking.{IsPartedCheck}
-use Rattle.black_refute.specs.Inner.{Gives, asks_progress, stop_after}
+use Rattle.black_refute.specs.Inner.{Gives, stop_after}
 use Rattle.black_refute.specs.Taking.{Takes, TakesAtMost, TakesBeforeFault}
-use Rattle.black_refute.specs.Run.{IsGiven, AsksNothing, AsksNoProgress, taken}
+use Rattle.black_refute.specs.Run.{IsGiven, AsksNothing, taken}
 use Rattle.black_refute.proofs.Asking.{AskForOne}
 
 -- the answer to a text that is too long is that to each other such text
@@ -101,10 +101,6 @@ lost_before_fault (Verify settings) most rest after stop lost = tt
 not_true : (b : Bool) → ¬ (IsTrue b) → b ≡ false
 not_true true n = absurd (n refl)
 not_true false n = refl
-
-pub no_progress : (words : List (List ℕ)) (what : Refutation) → IsRefutationAsked words what → AsksNoProgress words → asks_progress what ≡ false
-no_progress words (asked.Refute options) (settings, asks, are) none = are.progress ∙ not_true (progress_of settings) (none settings asks)
-no_progress words (asked.Check options) (settings, asks, are) none = refl
 
 -- what words that are taken ask for is something
 pub asks_some : (words : List (List ℕ)) (what : Refutation) → IsRefutationAsked words what → AsksNothing words → ⊥

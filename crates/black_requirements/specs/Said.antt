@@ -73,7 +73,7 @@ is_workless said = not said.progress && (not (is_some said.steps) && not (is_som
 abbrev pub is_bare : words.Said → Bool
 is_bare said = is_formless said && (is_workless said && not (is_some said.cert))
 
--- so many workers are allowed
+-- the number of workers is allowed
 pub record AreFew (work : Work) : Type 0 where
   pub some : 1 ≤ work.effort.workers
   pub few : work.effort.workers ≤ 16

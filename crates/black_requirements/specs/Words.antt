@@ -65,7 +65,7 @@ pub data Face : Type 0 where
   Json : Face
   Page : Face
 
--- each question is tried for so many steps, so many workers answer the questions, and whether a line is written for each
+-- the number of steps for which each question is tried, how many workers answer the questions, and whether a line is written for each
 pub record Work : Type 0 where
   pub steps : ℕ
   pub workers : ℕ

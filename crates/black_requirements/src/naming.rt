@@ -50,7 +50,7 @@ fn behaviour_named(document: &Document, name: &str) -> Result<Option<u32>, Alloc
     Ok(None)
 }
 
-/// The place as a number. No memory has room for so many names that it is none.
+/// The place as a number of 32 bits, which no place is beyond, as memory has no room for that many names.
 fn numbered(place: usize) -> Result<u32, AllocError>
     ensures { IfOk result (λ number. number ≡ place) }
 {

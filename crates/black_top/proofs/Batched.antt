@@ -3,7 +3,7 @@ use Rattle.std.proofs.Common.{◌≡◌, ◌∙◌, ℕ, ◌≤◌, inl, inr, tr
 use Rattle.std.proofs.Common.{if◌then◌else◌}
 use Rattle.ltl_io.specs.Outside.{Grows, LosesAtMost}
 use Rattle.ltl_syntax.specs.declared.node.Kind.{Kind}
-use Rattle.batch_run.specs.declared.answer.LineAnswer.{LineAnswer as LineAnswer}
+use Rattle.batch_run.specs.declared.answer.LineAnswer.{LineAnswer}
 use Rattle.batch_run.specs.Laws.{AnswersAreOne}
 use Rattle.batch_run.specs.Outcomes.{AreAnswers}
 use Rattle.batch_run.specs.Texts.{is_clean}

@@ -14,7 +14,7 @@ use Rattle.enc_layout.proofs.Counting.{counts_few}
 use Rattle.unravel.specs.Laws.{VerdictIsThere}
 use Rattle.batch_run.specs.declared.answer.LineOutcome.{LineOutcome}
 use Rattle.batch_run.specs.declared.answer.LineOutcome.TheVariants as outcomes
-use Rattle.batch_run.specs.declared.answer.LineAnswer.{LineAnswer as LineAnswer}
+use Rattle.batch_run.specs.declared.answer.LineAnswer.{LineAnswer}
 use Rattle.batch_run.specs.Lines.{AreLines, FormulaLine, formula_lines}
 use Rattle.batch_run.specs.Outcomes.{HasFewLetters, IsBatchLimit, IsOutcome, AreAnswered, AreAnswers}
 use Rattle.report.specs.declared.fault.Fault.{Fault}

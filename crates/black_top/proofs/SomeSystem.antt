@@ -61,19 +61,7 @@ step_or_not (Const b) = inl tt
 step_or_not (Letter p) = inl tt
 step_or_not (Unary one.Not a) = step_or_not a
 step_or_not (Unary one.Next a) = propositional_or_not a
-step_or_not (Unary one.WeakNext a) = inr (λ h. h)
-step_or_not (Unary one.Eventually a) = inr (λ h. h)
-step_or_not (Unary one.Always a) = inr (λ h. h)
-step_or_not (Unary one.Yesterday a) = inr (λ h. h)
-step_or_not (Unary one.WeakYesterday a) = inr (λ h. h)
-step_or_not (Unary one.Once a) = inr (λ h. h)
-step_or_not (Unary one.Historically a) = inr (λ h. h)
-step_or_not (Unary (one.NextTimes n) a) = inr (λ h. h)
-step_or_not (Unary (one.YesterdayTimes n) a) = inr (λ h. h)
-step_or_not (Unary (one.EventuallyIn m n) a) = inr (λ h. h)
-step_or_not (Unary (one.AlwaysIn m n) a) = inr (λ h. h)
-step_or_not (Unary (one.OnceIn m n) a) = inr (λ h. h)
-step_or_not (Unary (one.HistoricallyIn m n) a) = inr (λ h. h)
+step_or_not (Unary op a) = inr (λ h. h)
 step_or_not (Binary op a b) = all_three (local_two op) (step_or_not a) (step_or_not b)
 
 -- ---- three formulas

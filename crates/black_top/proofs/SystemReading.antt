@@ -65,8 +65,3 @@ module _ (wanted : Option ℕ) (cert : Bool) (parts : Three) where
       → IfOk r (λ out. (a : Answer) × IsSystemAnswer wanted cert bytes a × Shows out a)
   text_shown (Ok out) bytes h long shows = (refused faults.Text, too_long parts.start.now parts.step.now parts.goal.now (cut_parts bytes parts h) long, shows)
   text_shown (Err e) bytes h long shows = tt
-
-  pub at_bytes : {E : Type 0} (r : Result Output E) (bytes : List ℕ) → AreCut bytes parts → IfOk r (IsShownFor wanted cert parts)
-      → IfOk r (λ out. (a : Answer) × IsSystemAnswer wanted cert bytes a × Shows out a)
-  at_bytes (Ok out) bytes h each = each bytes h
-  at_bytes (Err e) bytes h each = tt

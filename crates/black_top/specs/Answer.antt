@@ -6,7 +6,7 @@ use Rattle.ltl_syntax.specs.Print.{text_of as formula_text}
 use Rattle.ltl_word.specs.declared.trace.Trace.{Trace}
 use Rattle.cert_check.specs.declared.verdict.Verdict.{Verdict}
 use Rattle.cert_check.specs.declared.verdict.Verdict.TheVariants as checks
-use Rattle.batch_run.specs.declared.answer.LineAnswer.{LineAnswer as LineAnswer}
+use Rattle.batch_run.specs.declared.answer.LineAnswer.{LineAnswer}
 use Rattle.batch_run.specs.Texts.{batch_text, is_clean}
 use Rattle.report.specs.declared.fault.Fault.{Fault}
 use Rattle.report.specs.declared.summary.Summary.{Summary}

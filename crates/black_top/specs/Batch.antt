@@ -2,7 +2,7 @@
 use Rattle.std.specs.Prelude.{◌≡◌, ◌⊎◌, ◌<◌, ◌≤◌, ℕ, List, length, Option, Some, IsTrue, IsFalse}
 use Rattle.ltl_io.specs.Outside.{Grows, LosesAtMost}
 use Rattle.ltl_syntax.specs.declared.node.Kind.{Kind}
-use Rattle.batch_run.specs.declared.answer.LineAnswer.{LineAnswer as LineAnswer}
+use Rattle.batch_run.specs.declared.answer.LineAnswer.{LineAnswer}
 use Rattle.batch_run.specs.Outcomes.{AreAnswers}
 use Rattle.batch_run.specs.Texts.{batch_text, is_clean}
 use Rattle.report.specs.declared.fault.Fault.TheVariants as faults

@@ -7,9 +7,9 @@ use Rattle.std.proofs.lemmas.List.Elements.{All-contains}
 use Rattle.cnf_base.specs.declared.literal.Literal.{Literal}
 use Rattle.cnf_base.specs.declared.literal.Hint.{Hint}
 use Rattle.cnf_base.specs.Literal.{opposite}
-use Rattle.cnf_base.specs.Step.{IsHintedStep, clause_at}
+use Rattle.cnf_base.specs.Step.{clause_at}
 use Rattle.cnf_base.proofs.SameLiteral.{opposite_opposite}
-use Rattle.clause_log.specs.LogValue.{greatest_u32, with_line}
+use Rattle.clause_log.specs.LogValue.{with_line}
 use Rattle.cdcl_state.specs.StateValue.{StateValue, with_log, with_all_lines, IsBack, Propagated}
 use Rattle.cdcl_trail.specs.Trail.{literals_of, blank_entry, literal_at, IsDecision}
 use Rattle.cdcl_state.specs.Turns.{IsFront, IsRefuted, IsTurn}
@@ -204,15 +204,6 @@ module _ (old first s : StateValue) (assumptions : List Literal) (search : IsSea
       let derived = ap (λ (x : StateValue). with_log x (with_line x.log clause hints)) is in
       let turned = search_turned old s _ learnt clause hints assumptions (search_propagated old first s assumptions search grown) conflict_none derived turn in
       search_restarted old learnt new assumptions left before conflict_none turned cases
-
--- with one line more, the question added at most one where a clause is near
-pub near_one : (old s new : StateValue) (assumptions : List Literal) → IsSearch old s assumptions → length new.log.lines ≤ length s.log.lines + 1
-    → (clause : List Literal) (hints : List Hint) → IsNegated assumptions clause → IsHintedStep old.log.inputs old.log.lines greatest_u32 clause hints
-    → length new.log.lines ≤ length old.log.lines + 1
-near_one old s new assumptions search few clause hints negated step = elim search.near [
-  | inl quiet ↦ omega (arith, few, ap length quiet.lines)
-  | inr none ↦ absurd (none clause hints negated step)
-]
 
 only_of : (P : Literal → Type 0) (clause literals : List Literal) → All P clause → All (Contains clause) literals → All P literals
 only_of P clause literals each within = λ k d lt. All-contains P clause (get_or literals k d) each (within k d lt)

@@ -1,16 +1,16 @@
 -- What holds from turn to turn of the search.
-use Rattle.std.proofs.Common.{◌≡◌, ◌≢◌, ℕ, zero, suc, ◌<◌, ◌≤◌, ◌+◌, ◌-◌, ◌⊎◌, inl, inr, ◌++◌, [], ◌∷◌, List, All, Any, Contains, take, drop, length, get_or}
+use Rattle.std.proofs.Common.{◌≡◌, ◌≢◌, ℕ, suc, ◌<◌, ◌≤◌, ◌+◌, ◌-◌, ◌⊎◌, inl, inr, ◌++◌, ◌∷◌, List, All, Any, Contains, take, drop, length, get_or, []}
 use Rattle.std.proofs.Common.{add-one, Bool, true, Some, None, refl, sym, ap, ◌∙◌, subst, arith, length-append, length-take}
 use Rattle.std.proofs.lemmas.Bool.{cases_lt}
 use Rattle.std.proofs.lemmas.List.{append-nil, append_assoc, take-take, take-append-le, take_at, take-append-drop, drop_more, get_or-take, get_or_append_left}
 use Rattle.std.proofs.lemmas.List.{get_or_at, get_or-map, length-map, length_push}
-use Rattle.std.proofs.lemmas.Option.{slice_get-get_or, slice_get_within, get_or_from_slice_get}
+use Rattle.std.proofs.lemmas.Option.{slice_get-get_or}
 use Rattle.std.proofs.lemmas.List.Elements.{All-nil, All-cons, All-head, All-tail, All-contains}
 use Rattle.cnf_base.specs.declared.literal.Literal.{Literal}
 use Rattle.cnf_base.specs.declared.literal.Hint.{Hint}
 use Rattle.cnf_base.specs.declared.literal.Hint.TheVariants.{Clause, Line}
 use Rattle.cnf_base.specs.Literal.{opposite}
-use Rattle.cnf_base.specs.Step.{numbered, clause_at, IsHintedStep, Refutes, conflict, propagate}
+use Rattle.cnf_base.specs.Step.{numbered, IsHintedStep, Refutes, conflict, propagate}
 use Rattle.cnf_base.proofs.SameLiteral.{opposite_opposite}
 use Rattle.cnf_base.proofs.MoreClauses.{refutes_more}
 use Rattle.clause_log.specs.LogValue.{LogValue, greatest_u32, with_line}
@@ -223,18 +223,6 @@ pub after_line : (old s new : StateValue) (clause : List Literal) (hints : List 
 after_line old s new clause hints after is =
     subst (IsAfter old) (sym is) (record { letters = after.letters; log = longer_line old.log s.log clause hints after.log })
 
-pub after_both : (old s new : StateValue) → IsAfter old s → IsAfter s new → IsAfter old new
-after_both old s new first second = record {
-  letters = second.letters ∙ first.letters;
-  log = record {
-    inputs = second.log.inputs ∙ first.log.inputs;
-    more = first.log.more ++ second.log.more;
-    lines = second.log.lines ∙ ap (λ ls. ls ++ second.log.more) first.log.lines ∙ append_assoc old.log.lines first.log.more second.log.more;
-    reasons = first.log.reasons ++ second.log.reasons;
-    hints = second.log.hints ∙ ap (λ hs. hs ++ second.log.reasons) first.log.hints ∙ append_assoc old.log.hints first.log.reasons second.log.reasons;
-  };
-}
-
 -- a learnt clause that was not attached
 pub after_unturned : (old s new : StateValue) (learnt : Learnt) → IsAfter old s → IsUnturned s new learnt → IsAfter old new
 after_unturned old s new learnt after un = elim un.log [
@@ -325,13 +313,6 @@ inputs_true s settled set k d below =
       | inl some ↦ some
       | inr none ↦ absurd ((settled (Clause (suc k)) tt).0 (record { clause = clause; is = slice_get-get_or s.log.inputs k d below; all_false = none }))
     ]
-
-pub clause_of_number : (lines : List (List Literal)) (n : ℕ) (clause : List Literal) → numbered lines n ≡ Some clause
-    → (1 ≤ n) × (n ≤ length lines) × (clause_at lines n ≡ clause)
-clause_of_number lines zero clause is = cc
-clause_of_number lines (suc n) clause is =
-    let back : suc n - 1 ≡ n = omega arith in
-    (omega arith, omega (arith, slice_get_within lines n clause is), ap (λ k. get_or lines k []) back ∙ get_or_from_slice_get lines n clause [] is)
 
 -- the measure falls from the turn's beginning to its end
 pub turn_falls : (s t mid new : StateValue) (clause : List Literal) (hints : List Hint) → Propagated s t

@@ -1,12 +1,10 @@
 -- What waits as words come and go, and as a bit is set or goes.
-use Rattle.std.proofs.Common.{◌≡◌, ◌≢◌, ℕ, ◌<◌, ◌≤◌, ◌+◌, ◌-◌, ◌*◌, ◌/◌, ◌%◌, ◌^◌, ◌⊎◌, inl, inr, List, [], ◌∷◌, ◌++◌, take, set, length, get_or, sym, ap, ◌∙◌}
+use Rattle.std.proofs.Common.{◌≡◌, ◌≢◌, ℕ, ◌<◌, ◌≤◌, ◌+◌, ◌-◌, ◌*◌, ◌/◌, ◌%◌, ◌^◌, ◌⊎◌, inl, inr, List, ◌∷◌, ◌++◌, take, set, length, get_or, sym, ap, ◌∙◌, []}
 use Rattle.std.proofs.Common.{subst, arith}
 use Rattle.std.specs.Int.{bit_at}
-use Rattle.std.specs.List.{sum_by}
 use Rattle.std.proofs.lemmas.Bool.{cases_eq, cases_lt}
 use Rattle.std.proofs.lemmas.Nat.Bits.{bit_at-zero, bit_at_above, bit_at_cat_low}
-use Rattle.std.proofs.lemmas.List.{get_or_past, get_or-take, get_or_append_left, get_or-set_other, get_or-set_same, take_more, take_all}
-use Rattle.std.proofs.lemmas.List.Sums.{sum_by-append, sum_by-set}
+use Rattle.std.proofs.lemmas.List.{get_or_past, get_or-take, get_or_append_left, get_or-set_other, get_or-set_same}
 use Rattle.cdcl_analyze.specs.Waiting.{IsWaiting}
 
 -- a place has no bit in a word that is 0
@@ -72,15 +70,3 @@ module _ (words : List ℕ) (last bit word : ℕ) (long : length words ≡ last 
           ]
         ]
   ]
-
-  -- what is left weighs less
-  pub left_less : 0 < 2 ^ bit → sum_by (λ x. x + 1) (set words last (word - 2 ^ bit)) < sum_by (λ x. x + 1) words
-  left_less some = omega (arith, sum_by-set (λ x. x + 1) words last (word - 2 ^ bit) 0 (omega (arith, long)), is_word, low, some)
-
-pub dropped_less : (words : List ℕ) (last : ℕ) → length words ≡ last + 1 → sum_by (λ x. x + 1) (take last words) < sum_by (λ x. x + 1) words
-dropped_less words last long =
-    let all : words ≡ take last words ++ get_or words last 0 ∷ [] =
-    sym (take_all (last + 1) words (omega (arith, long))) ∙ take_more words last 0 (omega (arith, long)) in
-    let sum = ap (sum_by (λ x. x + 1)) all ∙ sum_by-append (λ x. x + 1) (take last words) (get_or words last 0 ∷ []) in
-    let one = sum_by-append (λ x. x + 1) [] (get_or words last 0 ∷ []) in
-    omega (arith, sum, one)

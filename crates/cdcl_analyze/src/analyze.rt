@@ -43,8 +43,8 @@ pub enum Cut {
     FirstUnique(usize),
 }
 
-/// Most clauses have fewer literals: so much room is there beforehand, for a list that grows from nothing
-/// moves again and again.
+/// Most clauses have fewer literals. This room is there beforehand, for a list that grows from nothing moves
+/// again and again.
 const LITERALS: usize = 64;
 
 /// The same for hints.

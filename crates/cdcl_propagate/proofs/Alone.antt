@@ -1,9 +1,9 @@
 -- Clauses of one literal or none.
-use Rattle.std.proofs.Common.{◌≡◌, ◌≢◌, ℕ, ◌<◌, ◌+◌, ◌-◌, ◌⊎◌, inl, inr, List, [], ◌∷◌, ◌++◌, Some, None, Contains, length, get_or, refl, sym, ap, ◌∙◌, subst}
+use Rattle.std.proofs.Common.{◌≡◌, ℕ, ◌<◌, ◌+◌, ◌-◌, ◌⊎◌, inl, inr, List, ◌∷◌, ◌++◌, Some, Contains, length, get_or, sym, ap, ◌∙◌, subst, []}
 use Rattle.std.proofs.Common.{arith}
 use Rattle.std.proofs.lemmas.Bool.{cases_lt}
 use Rattle.std.proofs.lemmas.List.{get_or_default, map-append}
-use Rattle.std.proofs.lemmas.List.Elements.{Contains-get_or, Contains-append_left, Contains-push, All-nil, All-cons}
+use Rattle.std.proofs.lemmas.List.Elements.{Contains-get_or, Contains-append_left, Contains-push}
 use Rattle.cnf_base.specs.declared.literal.Literal.{Literal}
 use Rattle.cnf_base.specs.declared.literal.Hint.{Hint}
 use Rattle.cnf_base.specs.Step.{named}
@@ -53,15 +53,6 @@ unit_stands inputs lines trail hint clause u level is_trail is one there last =
             ];
           }
     ]
-
--- an entry that has a reason more
-pub grown_one : (trail : List TrailEntry) (u : Literal) (level : ℕ) (hint : Hint)
-    → IsGrown trail (trail ++ record { literal = u; level = level; reason = Some hint } ∷ [])
-grown_one trail u level hint = record {
-  more = record { literal = u; level = level; reason = Some hint } ∷ [];
-  trail = refl;
-  forced = All-cons (λ (e : TrailEntry). e.reason ≢ None) _ [] (λ e. cc) (All-nil (λ (e : TrailEntry). e.reason ≢ None));
-}
 
 pub pushed_true : (trail : List TrailEntry) (e : TrailEntry) → Contains (literals_of (trail ++ e ∷ [])) e.literal
 pushed_true trail e =

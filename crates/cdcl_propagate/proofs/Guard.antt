@@ -2,7 +2,7 @@
 use Rattle.std.proofs.Common.{◌≡◌, ◌≢◌, ℕ, ◌<◌, ◌≤◌, ◌+◌, ◌*◌, ◌⊎◌, inl, inr, List, [], ◌∷◌, ◌++◌, map, set, Contains, length, get_or, refl, sym, ap, ◌∙◌}
 use Rattle.std.proofs.Common.{subst, arith, length-set, get_or-set_same, get_or-set_other}
 use Rattle.std.specs.List.{remove, swap}
-use Rattle.std.proofs.lemmas.Bool.{cases_lt, cases_eq}
+use Rattle.std.proofs.lemmas.Bool.{cases_eq}
 use Rattle.std.proofs.lemmas.List.{map-append, get_or_append_left, length_push}
 use Rattle.std.proofs.lemmas.List.Edits.{swapped_from_swap, length-swap}
 use Rattle.std.proofs.lemmas.List.Elements.{All-contains, All-weaker, Contains-get_or, Contains-append_left}
@@ -97,21 +97,6 @@ module _ (inputs lines : List (List Literal)) (k i : ℕ) (a : AssignedValue) (w
     done = λ j from below. elim (cases_eq j i) [
       | inr other ↦ visiting.done j (omega (arith, other)) below
       | inl at ↦ subst (λ n. HasTrue (literals_of a.trail) (watcher_at w (false_at a.trail k) n)) (sym at) told
-    ];
-  }
-
-  -- the clauses from i on are done
-  pub visit_skipped : (m : ℕ) (l : Literal) → l ≡ false_at a.trail k → ((j : ℕ) → i ≤ j → j < m → HasTrue (literals_of a.trail) (watcher_at w l j))
-      → IsVisiting inputs lines k i a w → IsVisiting inputs lines k m a w
-  visit_skipped m l l_is told visiting = record {
-    is_trail = visiting.is_trail;
-    stored = visiting.stored;
-    guarded = visiting.guarded;
-    within = visiting.within;
-    sized = visiting.sized;
-    done = λ j from below. elim (cases_lt j i) [
-      | inl old ↦ visiting.done j old below
-      | inr on ↦ subst (λ f. HasTrue (literals_of a.trail) (watcher_at w f j)) l_is (told j on from)
     ];
   }
 

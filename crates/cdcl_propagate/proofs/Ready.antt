@@ -1,9 +1,9 @@
 -- From one place of the trail to the next.
-use Rattle.std.proofs.Common.{◌≡◌, ◌≢◌, ℕ, ◌<◌, ◌≤◌, ◌+◌, ◌*◌, inl, inr, List, [], ◌++◌, Option, MatchOption, Bool, true, false, None, length, get_or, refl}
-use Rattle.std.proofs.Common.{sym, ap, ◌∙◌, subst, arith, length-append}
+use Rattle.std.proofs.Common.{◌≡◌, ◌≢◌, ℕ, ◌<◌, ◌≤◌, ◌+◌, ◌*◌, inl, inr, List, ◌++◌, Option, MatchOption, Bool, true, false, None, length, get_or, refl}
+use Rattle.std.proofs.Common.{sym, ap, ◌∙◌, subst, arith}
 use Rattle.std.proofs.lemmas.Bool.{cases_lt}
-use Rattle.std.proofs.lemmas.List.{append-nil, append_assoc, get_or_default, get_or_append_left}
-use Rattle.std.proofs.lemmas.List.Elements.{All-nil, All-append}
+use Rattle.std.proofs.lemmas.List.{append_assoc, get_or_default, get_or_append_left}
+use Rattle.std.proofs.lemmas.List.Elements.{All-append}
 use Rattle.cnf_base.specs.declared.literal.Literal.{Literal}
 use Rattle.cnf_base.specs.Literal.{opposite}
 use Rattle.cnf_base.proofs.SameLiteral.{opposite_opposite}
@@ -12,9 +12,6 @@ use Rattle.cdcl_trail.specs.declared.assigned.TrailEntry.{TrailEntry}
 use Rattle.cdcl_watches.specs.Watching.{IsWatch, IsWatching, clause_of, list_of, code, WatchValue}
 use Rattle.cdcl_trail.specs.Assigned.{AssignedValue}
 use Rattle.cdcl_propagate.specs.Visit.{HasTrue, IsVisiting, IsReady, IsGrown, false_at}
-
-pub grown_none : (t : List TrailEntry) → IsGrown t t
-grown_none t = record { more = []; trail = sym (append-nil t); forced = All-nil (λ (e : TrailEntry). e.reason ≢ None) }
 
 pub grown_more : (s t u : List TrailEntry) → IsGrown s t → IsGrown t u → IsGrown s u
 grown_more s t u one two = record {
@@ -25,9 +22,6 @@ grown_more s t u one two = record {
 
 pub grown_at : (s t : List TrailEntry) (k : ℕ) → IsGrown s t → k < length s → false_at t k ≡ false_at s k
 grown_at s t k grown low = ap (λ x. false_at x k) grown.trail ∙ ap (λ (e : TrailEntry). opposite e.literal) (get_or_append_left s grown.more blank_entry k low)
-
-pub grown_longer : (s t : List TrailEntry) → IsGrown s t → length s ≤ length t
-grown_longer s t grown = omega (arith, ap length grown.trail, length-append s grown.more)
 
 module _ (inputs lines : List (List Literal)) (k : ℕ) (a : AssignedValue) (w : WatchValue) where
   -- before the list is visited
@@ -40,9 +34,6 @@ module _ (inputs lines : List (List Literal)) (k : ℕ) (a : AssignedValue) (w :
     sized = r.sized;
     done = λ j from below. absurd (omega (arith, from));
   }
-
-  pub still_ready : (i : ℕ) → IsVisiting inputs lines k i a w → IsReady inputs lines k a w
-  still_ready i v = record { is_trail = v.is_trail; stored = v.stored; guarded = v.guarded; within = omega (arith, v.within); sized = v.sized }
 
   -- the whole list was visited
   pub end_visit : (i : ℕ) → length (list_of w.lists (false_at a.trail k)) ≤ i → IsWatching w.clauses w.lists → IsVisiting inputs lines k i a w

@@ -1,6 +1,6 @@
 -- The clauses of a log that are gathered anew or come from the log, and the state that watches them.
 use Rattle.std.proofs.Common.{◌≡◌, ℕ, zero, suc, ◌<◌, ◌≤◌, ◌+◌, ◌*◌, ◌-◌, ◌⊎◌, inl, inr, Bool, true, false, List, [], ◌∷◌, ◌++◌, Some, All, length, map, get_or}
-use Rattle.std.proofs.Common.{refl, sym, ap, ◌∙◌, subst, arith}
+use Rattle.std.proofs.Common.{sym, ap, ◌∙◌, subst, arith}
 use Rattle.std.proofs.lemmas.Bool.{cases_lt}
 use Rattle.std.proofs.Math.ListN.{get_or-map, get_or-eq_default}
 use Rattle.std.proofs.lemmas.List.{map-append, length-map}
@@ -26,9 +26,6 @@ use Rattle.cdcl_state.proofs.Distinct.{one_short, same_itself, same_again}
 -- a clause that was put is the same whatever it is made of
 pub put_same : (old new : WatchValue) (clause r : List Literal) (hint : Hint) → HaveSame clause r → IsPut old new r hint → IsPut old new clause hint
 put_same old new clause r hint same put = record { stored = put.stored; same = same_again clause r put.stored same put.same; apart = put.apart; is = put.is }
-
-pub put_few : (w : WatchValue) (clause : List Literal) (hint : Hint) → AreApart clause → length clause < 2 → IsPut w w clause hint
-put_few w clause hint apart few = record { stored = clause; same = same_itself clause; apart = apart; is = inl (few, refl) }
 
 pub put_long : (old new : WatchValue) (clause : List Literal) (hint : Hint) → AreApart clause → 2 ≤ length clause → IsNamed old new clause hint
     → IsPut old new clause hint

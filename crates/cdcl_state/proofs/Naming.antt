@@ -1,8 +1,8 @@
 -- The letters that inputs name stay named, and each of them is listed.
-use Rattle.std.proofs.Common.{◌≡◌, ℕ, ◌<◌, ◌+◌, inl, inr, List, [], ◌∷◌, ◌++◌, Bool, true, All, Contains, take, length, get_or, set, sym, ap, ◌∙◌, subst, arith}
+use Rattle.std.proofs.Common.{◌≡◌, ℕ, ◌<◌, ◌+◌, inl, inr, List, ◌∷◌, ◌++◌, Bool, true, All, Contains, take, length, get_or, set, sym, ap, ◌∙◌, subst, arith, []}
 use mathlib.Core.Bool.{false, false≢true}
-use Rattle.std.proofs.lemmas.Bool.{cases_lt, cases_eq}
-use Rattle.std.proofs.lemmas.List.{get_or_past, get_or-set_other, get_or_append_left, get_or_at, length_push}
+use Rattle.std.proofs.lemmas.Bool.{cases_eq}
+use Rattle.std.proofs.lemmas.List.{get_or-set_other, get_or_append_left, length_push}
 use Rattle.std.proofs.lemmas.List.Elements.{All-contains, All-more, All-push, Contains-append_left, Contains-get_or, Contains-push}
 use Rattle.cnf_base.specs.declared.literal.Literal.{Literal}
 use Rattle.cnf_base.proofs.SameLiteral.{opposite_opposite}
@@ -11,24 +11,6 @@ use Rattle.cdcl_trail.specs.declared.assigned.TrailEntry.{TrailEntry}
 use Rattle.cdcl_trail.proofs.Assign.{same_letter}
 use Rattle.cdcl_state.specs.Named.{AreListed, AreOf}
 use Rattle.cdcl_state.specs.StateValue.{IsSet}
-
-pub listed_none : (letters : List ℕ) → AreListed [] letters
-listed_none letters x is = absurd (false≢true (sym (get_or_past [] x false (omega arith)) ∙ is))
-
--- no flag more is set
-pub listed_longer : (old new : List Bool) (letters : List ℕ) → ((x : ℕ) → get_or new x false ≡ true → get_or old x false ≡ true) → AreListed old letters
-    → AreListed new letters
-listed_longer old new letters kept listed x is = listed x (kept x is)
-
--- a flag that is not set came behind the others
-pub flags_push : (flags : List Bool) (x : ℕ) → get_or (flags ++ false ∷ []) x false ≡ true → get_or flags x false ≡ true
-flags_push flags x is = elim (cases_lt x (length flags)) [
-  | inl low ↦ sym (get_or_append_left flags (false ∷ []) false x low) ∙ is
-  | inr high ↦ elim (cases_eq x (length flags)) [
-    | inl last ↦ absurd (false≢true (sym (get_or_at flags false [] false x (sym last)) ∙ is))
-    | inr past ↦ absurd (false≢true (sym (get_or_past (flags ++ false ∷ []) x false (omega (arith, high, past, length_push flags false))) ∙ is))
-  ]
-]
 
 -- a letter came behind the others, with its flag
 pub listed_more : (flags : List Bool) (letters : List ℕ) (letter : ℕ) → AreListed flags letters → AreListed (set flags letter true) (letters ++ letter ∷ [])

@@ -1,5 +1,5 @@
 -- A learnt clause of one literal forces it on level 0; one of decisions forces its first literal, or is empty.
-use Rattle.std.proofs.Common.{◌≡◌, ◌≢◌, ℕ, ◌<◌, ◌⊎◌, inl, inr, List, [], ◌∷◌, ◌++◌, Bool, Option, Some, None, take, map, All, length, get_or, refl, sym, ap}
+use Rattle.std.proofs.Common.{◌≡◌, ◌≢◌, ℕ, ◌<◌, ◌⊎◌, inl, inr, List, [], ◌∷◌, ◌++◌, Bool, Option, Some, None, map, All, length, get_or, refl, sym, ap}
 use Rattle.std.proofs.Common.{◌∙◌, subst, arith}
 use Rattle.std.proofs.lemmas.Bool.{cases_lt}
 use Rattle.std.proofs.lemmas.List.{length-map, length_push, nil_from_length}
@@ -10,7 +10,7 @@ use Rattle.clause_log.specs.LogValue.{LogValue, with_line}
 use Rattle.cdcl_state.specs.StateValue.{StateValue, with_trail, with_log, IsBack, MayStand}
 use Rattle.cdcl_trail.specs.Trail.{IsTrail, AreValues, literal_at, IsDecision}
 use Rattle.cdcl_analyze.specs.Learnt.{IsLearnt}
-use Rattle.cdcl_state.specs.Turns.{IsAsserting, IsTurn, IsUnturned}
+use Rattle.cdcl_state.specs.Turns.{IsAsserting, IsTurn}
 use Rattle.cdcl_trail.specs.declared.assigned.TrailEntry.{TrailEntry}
 use Rattle.cdcl_analyze.specs.declared.analyze.Learnt.{Learnt}
 use Rattle.cdcl_state.proofs.Attach.{line_more, trail_more}
@@ -60,10 +60,3 @@ short_turned mid back new e went decision forced is = record {
   forced = forced;
   after = is ∙ ap (λ (s : StateValue). with_trail s (s.trail ++ e ∷ [])) went.front;
 }
-
-pub short_unturned : (old mid back new : StateValue) (learnt : Learnt) → mid ≡ lined old learnt → IsBack mid back 0 → new ≡ back → IsUnturned old new learnt
-short_unturned old mid back new learnt mid_is went is =
-    let back_is : back ≡ with_trail (lined old learnt) (take (length back.trail) mid.trail) =
-    went.front ∙ ap (λ (s : StateValue). with_trail s (take (length back.trail) mid.trail)) mid_is in
-    let new_is = is ∙ back_is in
-    record { letters = ap (λ (s : StateValue). s.letters) new_is; log = inr (ap (λ (s : StateValue). s.log) new_is) }

@@ -122,11 +122,6 @@ module _ (values : List (Option Bool)) (ys : List TrailEntry) (e : TrailEntry) (
         known = rw (length-set values x None) (λ k d below. rw (← get_or_append_left ys (e ∷ []) d k below) (are.known k d (omega arith)));
       }
 
-pub trail_pop : (inputs lines : List (List Literal)) (ys : List TrailEntry) (e : TrailEntry) → IsTrail inputs lines (ys ++ e ∷ []) → IsTrail inputs lines ys
-trail_pop inputs lines ys e is_trail k d below =
-    subst (λ before. StandsAt inputs lines before (get_or ys k d)) (take-append-le k ys (e ∷ []) (omega arith))
-    (subst (λ f. StandsAt inputs lines (take k (ys ++ e ∷ [])) f) (get_or_append_left ys (e ∷ []) d k below) (is_trail k d (omega (arith, length_push ys e))))
-
 pub trail_take : (inputs lines : List (List Literal)) (trail : List TrailEntry) (n : ℕ) → n ≤ length trail → IsTrail inputs lines trail
     → IsTrail inputs lines (take n trail)
 trail_take inputs lines trail n fits is_trail k d below =

@@ -1,5 +1,5 @@
 -- What the values of the letters say of the trail, and the trail of them.
-use Rattle.std.proofs.Common.{◌≡◌, MatchOption, ℕ, zero, suc, ◌⊎◌, inl, inr, List, [], Bool, true, false, not, Option, Some, None, All, Contains, refl, sym, ap}
+use Rattle.std.proofs.Common.{◌≡◌, MatchOption, ℕ, zero, suc, List, [], Bool, true, false, not, Option, Some, None, All, Contains, refl, sym, ap}
 use Rattle.std.proofs.Common.{◌∙◌, subst}
 use Rattle.std.proofs.lemmas.Option.{get_or_from_slice_get, slice_get_within}
 use Rattle.std.proofs.lemmas.List.Elements.{All-map, All-contains}
@@ -8,11 +8,10 @@ use Rattle.cnf_base.specs.declared.literal.Hint.{Hint}
 use Rattle.cnf_base.specs.declared.literal.Hint.TheVariants.{Clause, Line}
 use Rattle.cnf_base.specs.Literal.{opposite}
 use Rattle.cnf_base.specs.Step.{named, numbered}
-use Rattle.cnf_base.proofs.SameLiteral.{not_not, opposite_opposite}
+use Rattle.cnf_base.proofs.SameLiteral.{not_not}
 use Rattle.cdcl_trail.specs.Values.{value_at, IsFalseLiteral, HasNoValue}
-use mathlib.Core.Bool.{beq, false≢true}
-use Rattle.std.specs.Prelude.{is_none}
-use Rattle.cdcl_trail.specs.Trail.{HasValue, literals_of, IsUnset, AreValues}
+use mathlib.Core.Bool.{false≢true}
+use Rattle.cdcl_trail.specs.Trail.{literals_of, IsUnset, AreValues}
 use Rattle.cdcl_trail.specs.declared.assigned.TrailEntry.{TrailEntry}
 
 -- what holds of each clause holds of the one of a number
@@ -38,12 +37,6 @@ module _ (values : List (Option Bool)) (trail : List TrailEntry) (are : AreValue
   pub false_value : (l : Literal) → Contains (literals_of trail) (opposite l) → IsFalseLiteral values l
   false_value l there = record { is = true_value (opposite l) there ∙ ap Some (not_not l.negated) }
 
-  pub unset_from_none : (l : Literal) → HasNoValue values l → IsUnset (literals_of trail) l
-  unset_from_none l none = record {
-    not_true = λ there. let e = sym none.is ∙ true_value l there in cc;
-    not_false = λ there. let e = sym none.is ∙ (false_value l there).is in cc;
-  }
-
   pub none_from_unset : (l : Literal) → IsUnset (literals_of trail) l → HasNoValue values l
   none_from_unset l unset = go (value_at values l.letter.0) refl l.negated refl
     where
@@ -57,28 +50,3 @@ module _ (values : List (Option Bool)) (trail : List TrailEntry) (are : AreValue
 pub match_weaker : {X : Type 0} (A B : Type 0) (P Q : X → Type 0) (o : Option X) → (A → B) → ((x : X) → P x → Q x) → MatchOption o A P → MatchOption o B Q
 match_weaker A B P Q None f g h = f h
 match_weaker A B P Q (Some x) f g h = g x h
-
-module _ (values : List (Option Bool)) (trail : List TrailEntry) (are : AreValues values trail) where
-  -- what the value of a letter says of its literals
-  pub value_told : (l : Literal) (v : Bool) → value_at values l.letter.0 ≡ Some v → HasValue (literals_of trail) l (not (beq v l.negated))
-  value_told l v is = go v is l.negated refl
-    where
-      go : (a : Bool) → value_at values l.letter.0 ≡ Some a → (n : Bool) → l.negated ≡ n → HasValue (literals_of trail) l (not (beq a n))
-      go true is true neg =
-          record { when_true = λ e. absurd (false≢true e); when_false = λ e. false_on values trail are l (record { is = is ∙ ap Some (sym neg) }) }
-      go false is false neg =
-          record { when_true = λ e. absurd (false≢true e); when_false = λ e. false_on values trail are l (record { is = is ∙ ap Some (sym neg) }) }
-      go true is false neg = record { when_true = λ e. are.on_trail l (is ∙ ap (λ b. Some (not b)) (sym neg)); when_false = λ e. absurd (false≢true (sym e)) }
-      go false is true neg = record { when_true = λ e. are.on_trail l (is ∙ ap (λ b. Some (not b)) (sym neg)); when_false = λ e. absurd (false≢true (sym e)) }
-
--- a literal with a value is set, and so is its letter's other literal
-pub set_from_value : (true_ones : List Literal) (x m : Literal) (o : Option Bool) → MatchOption o (IsUnset true_ones x) (HasValue true_ones x)
-    → is_none o ≡ false → (m ≡ x) ⊎ (m ≡ opposite x) → Contains true_ones m ⊎ Contains true_ones (opposite m)
-set_from_value true_ones x m None h some same = absurd (false≢true (sym some))
-set_from_value true_ones x m (Some true) h some same =
-    let there = h.when_true refl in
-    elim same
-    [ inl e ↦ inl (subst (Contains true_ones) (sym e) there) | inr e ↦ inr (subst (Contains true_ones) (sym (ap opposite e ∙ opposite_opposite x)) there) ]
-set_from_value true_ones x m (Some false) h some same =
-    let there = h.when_false refl in
-    elim same [ inl e ↦ inr (subst (Contains true_ones) (ap opposite (sym e)) there) | inr e ↦ inl (subst (Contains true_ones) (sym e) there) ]

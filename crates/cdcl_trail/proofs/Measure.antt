@@ -9,10 +9,6 @@ use Rattle.cdcl_trail.proofs.Weight.{weight, open_choice}
 abbrev pub measure : ℕ → ℕ → List TrailEntry → ℕ
 measure restarts letters trail = restarts * (3 ^ letters + 1) + weight letters trail
 
-most_one : (n : ℕ) → 1 ≤ 3 ^ n
-most_one zero = omega arith
-most_one (suc n) = omega (arith, pow-suc 3 n, most_one n)
-
 choice_most : (o : Option Hint) (n : ℕ) → open_choice o n ≤ 3 ^ n
 choice_most None n = omega arith
 choice_most (Some h) n = omega arith

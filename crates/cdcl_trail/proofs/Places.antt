@@ -1,5 +1,5 @@
 -- The places at which the letters of the trail stand, as an entry is put on the trail or taken off it.
-use Rattle.std.proofs.Common.{◌≡◌, ◌≢◌, ℕ, ◌<◌, ◌≤◌, ◌+◌, ◌^◌, inl, inr, List, [], ◌∷◌, ◌++◌, Bool, Option, Contains, length, get_or, set, sym, ap, ◌∙◌, subst}
+use Rattle.std.proofs.Common.{◌≡◌, ◌≢◌, ℕ, ◌<◌, ◌+◌, inl, inr, List, [], ◌∷◌, ◌++◌, Bool, Option, Contains, length, get_or, set, sym, ap, ◌∙◌, subst}
 use Rattle.std.proofs.Common.{arith, length-set, get_or-set_same, get_or-set_other}
 use Rattle.std.proofs.lemmas.Bool.{cases_lt}
 use Rattle.std.proofs.lemmas.List.{get_or_append_left, get_or_at, length_push}
@@ -40,15 +40,6 @@ places_pop places values trail e x v are = record {
   few = omega (arith, are.few, length-set values x v);
   at = λ k below. subst (λ (f : TrailEntry). get_or places f.literal.letter.0 0 ≡ k) (get_or_append_left trail (e ∷ []) blank_entry k below)
       (are.at k (omega (arith, below, length_push trail e)));
-}
-
--- a letter more has no place on the trail
-pub places_letter : (places : List ℕ) (values more : List (Option Bool)) (trail : List TrailEntry) → AreValues values trail → ArePlaces places values trail
-    → length more ≤ length values + 1 → length more ≤ 2 ^ 32 → ArePlaces (places ++ 0 ∷ []) more trail
-places_letter places values more trail told are one_more few = record {
-  room = omega (arith, are.room, one_more, length_push places 0);
-  few = few;
-  at = λ k below. get_or_append_left places (0 ∷ []) 0 (literal_at trail k).letter.0 (omega (arith, told.known k blank_entry below, are.room)) ∙ are.at k below;
 }
 
 -- a true literal has a place, and stands at it

@@ -161,8 +161,8 @@ impl Assigned {
         self.values.clear(literal);
     }
 
-    /// One step down from the first `count` entries, the last of which is above the level: those before the
-    /// decision that opened its level, where that one is above the level too; else one fewer.
+    /// A smaller number of first entries, where the last of `count` is above the level. If the level that it is on
+    /// was opened above the level too, all of that level's entries are passed over at once; else this one alone.
     fn passed(&self, count: usize, last: usize, level: usize) -> usize
         requires some { 0 < count }
         requires within { count ≤ length self.now.trail }

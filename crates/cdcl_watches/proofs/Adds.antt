@@ -72,10 +72,6 @@ add_watching clauses lists new r watching apart fits len grown =
           (λ same. absent (subst (Contains xs) same (Contains-get_or xs p e (omega arith))))
     ]
 
--- a clause of fewer than two literals watches nothing
-pub grown_short : (lists : List (List ℕ)) (r : List Literal) (n : ℕ) → length r < 2 → (x : Literal) → IsGrownList lists lists r n x
-grown_short lists r n few x = inl (refl, (λ w. omega (arith, w.1.long, few)))
-
 pub grown_long : (lists : List (List ℕ)) (r : List Literal) (n : ℕ) (a b : Literal) → 2 ≤ length r → AreApart r → a ≡ get_or r 0 blank → b ≡ get_or r 1 blank
     → All (λ l. code l < length lists) r
     → (x : Literal) → IsGrownList lists (set (set lists (code a) (list_of lists a ++ n ∷ [])) (code b) (list_of lists b ++ n ∷ [])) r n x

@@ -8,11 +8,10 @@ use Rattle.std.proofs.lemmas.List.Elements.{All-set, All-push, All-nil, All-head
 use Rattle.cnf_base.specs.declared.literal.Literal.{Literal}
 use Rattle.cdcl_watches.specs.declared.watcher.Watcher.{Watcher}
 use Rattle.cdcl_watches.specs.Watching.{clause_of}
-use Rattle.cdcl_watches.specs.Watchers.{nobody, clause_number, numbers, blocker_of, IsBlocking, AreBlockers}
+use Rattle.cdcl_watches.specs.Watchers.{clause_number, numbers, blocker_of, IsBlocking, AreBlockers}
 use Rattle.cdcl_watches.proofs.HeadNumbers.{number_more}
 use Rattle.cdcl_watches.proofs.Moves.{contains_swapped}
 use Rattle.cdcl_watches.proofs.Removed.{place_before, length-removed}
-use Rattle.cdcl_watches.proofs.Numbers.{number_at, length_at}
 
 -- two numberings that agree on each watcher
 map_same : {X Y : Type 0} (f g : X → Y) (xs : List X) → All (λ x. f x ≡ g x) xs → map f xs ≡ map g xs
@@ -32,13 +31,6 @@ blocking_list heads clauses lists k are = elim (cases_lt k (length lists)) [
   | inl low ↦ are k [] low
   | inr high ↦ subst (All (IsBlocking heads clauses)) (sym (get_or_past lists k [] high)) (All-nil (IsBlocking heads clauses))
 ]
-
-pub blocking_at : (heads : List ℕ) (none : clause_number heads nobody ≡ 0) (clauses : List (List Literal)) (lists : List (List Watcher)) (k i : ℕ)
-    → AreBlockers heads clauses lists → i < length (get_or (numbers heads lists) k [])
-    → Contains (clause_of clauses (get_or (get_or (numbers heads lists) k []) i 0)) (blocker_of (get_or (get_or lists k []) i nobody))
-blocking_at heads none clauses lists k i are low =
-    subst (λ c. Contains (clause_of clauses c) (blocker_of (get_or (get_or lists k []) i nobody))) (sym (number_at heads none lists k i))
-    (blocking_list heads clauses lists k are i nobody (omega (arith, low, length_at heads none lists k))).blocks
 
 module _ (heads : List ℕ) (clauses : List (List Literal)) (lists : List (List Watcher)) (k : ℕ) (are : AreBlockers heads clauses lists) where
   pub blockers_push : (w : Watcher) → IsBlocking heads clauses w → AreBlockers heads clauses (set lists k (get_or lists k [] ++ w ∷ []))

@@ -1,8 +1,7 @@
 -- Literals and their numbers.
-use Rattle.std.proofs.Common.{◌≡◌, ℕ, ◌+◌, ◌*◌, ◌/◌, ◌%◌, nat_eq, ◌<◌, Bool, true, false, inl, inr, if◌then◌else◌, List, [], ◌∷◌, map, Contains, length, get_or}
-use Rattle.std.proofs.Common.{refl, sym, ap, ap₂, ◌∙◌, subst, arith}
+use Rattle.std.proofs.Common.{◌≡◌, ℕ, ◌+◌, ◌*◌, ◌/◌, ◌%◌, nat_eq, Bool, true, false, inl, inr, if◌then◌else◌, List, [], ◌∷◌, map}
+use Rattle.std.proofs.Common.{refl, sym, ap, ap₂, ◌∙◌, arith}
 use Rattle.std.proofs.lemmas.Bool.{cases_eq}
-use Rattle.std.proofs.lemmas.List.Elements.{Contains-get_or}
 use Rattle.cnf_base.specs.declared.literal.Literal.{Literal}
 use Rattle.cdcl_watches.specs.Watching.{code, literal_of}
 
@@ -24,10 +23,6 @@ literal_code l = go l.negated refl
         let half : code l / 2 ≡ l.letter.0 = omega (arith, c) in
         let odd : code l % 2 ≡ 1 = omega (arith, c) in
         ap₂ make half (ap (λ n. nat_eq n 1) odd ∙ sym is)
-
--- the number of a clause's literal is that of a literal of the clause
-pub coded_in : (row : List Literal) (i n : ℕ) (d : Literal) → i < length row → n ≡ code (get_or row i d) → Contains row (literal_of n)
-coded_in row i n d low is = subst (Contains row) (sym (ap literal_of is ∙ literal_code (get_or row i d))) (Contains-get_or row i d low)
 
 -- the numbers of literals give them back
 pub literals_code : (ls : List Literal) → map literal_of (map code ls) ≡ ls

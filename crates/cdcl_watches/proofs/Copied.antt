@@ -46,9 +46,6 @@ module _ (items heads : List ℕ) (are : AreHeads items heads) (h : ℕ) (there 
   count_is : n ≡ get_or items h 0
   count_is = n_is ∙ get_or_default items h n 0 (omega (arith, are.inside (number_of heads h) (number_low heads h there).0, at_head))
 
-  pub items_inside : h + 2 + n ≤ length items
-  items_inside = omega (arith, are.inside (number_of heads h) (number_low heads h there).0, at_head, ap (λ m. get_or items m 0) at_head, count_is)
-
   pub items_at_head : slice_range items h (h + 2 + n)
       ≡ length (clause_of (clauses_at items heads) (number_of heads h)) ∷ get_or (names_at items heads) (number_of heads h) 0 ∷ map code
       (turned (clause_of (clauses_at items heads) (number_of heads h)))

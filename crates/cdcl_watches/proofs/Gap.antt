@@ -2,7 +2,7 @@
 use Rattle.std.proofs.Common.{◌≡◌, ◌≢◌, ℕ, ◌<◌, ◌≤◌, ◌+◌, ◌-◌, List, [], ◌∷◌, ◌++◌, set, take, drop, length, get_or, sym, ap, ap₂, ◌∙◌, arith, append_assoc}
 use Rattle.std.proofs.Common.{get_or-set_same, get_or-set_other}
 use Rattle.std.specs.List.{remove, remove_range}
-use Rattle.std.proofs.lemmas.List.{append-nil, drop_all, length-append, length-drop, take-append-drop, get_or-drop, get_or-append_right, length-take-le}
+use Rattle.std.proofs.lemmas.List.{length-append, length-drop, take-append-drop, get_or-drop, get_or-append_right, length-take-le}
 use Rattle.std.proofs.lemmas.List.{set-append_right, drop-set-lt, take_more_set, drop_more, drop-drop, set-set, set_comm, set-get_or}
 use Rattle.std.proofs.lemmas.List.Edits.{remove-append_right}
 
@@ -37,22 +37,6 @@ module _ {X : Type 0} (xs : List X) (a b : ℕ) (order : a ≤ b) (inside : b �
 -- a gap of no place
 pub no_gap : {X : Type 0} (xs : List X) (a : ℕ) → remove_range xs a a ≡ xs
 no_gap xs a = take-append-drop a xs
-
--- the first behind the gap goes before it
-pub gap_step : {X : Type 0} (xs : List X) (a b i : ℕ) (d : X) → a ≤ b → b + i < length xs
-    → remove_range (set xs (a + i) (get_or xs (b + i) d)) (a + (i + 1)) (b + (i + 1)) ≡ remove_range xs (a + i) (b + i)
-gap_step xs a b i d order low =
-    let one : a + (i + 1) ≡ a + i + 1 = omega arith in
-    let two : b + (i + 1) ≡ b + i + 1 = omega arith in
-    let v = get_or xs (b + i) d in
-    let low_a : a + i ≤ b + i = omega arith in
-    ap₂ (remove_range (set xs (a + i) v)) one two ∙ gap_put xs (a + i) (b + i) low_a (omega arith) v low
-    ∙ ap (set (remove_range xs (a + i) (b + i)) (a + i))
-    (sym (read_behind xs (a + i) (b + i) low_a (omega arith) d)) ∙ set-get_or (remove_range xs (a + i) (b + i)) (a + i) d
-
--- the gap is at the end
-pub gap_last : {X : Type 0} (xs : List X) (a b : ℕ) → length xs ≤ b → take a xs ≡ remove_range xs a b
-gap_last xs a b end = sym (ap (λ ys. take a xs ++ ys) (drop_all b xs end) ∙ append-nil (take a xs))
 
 -- lists of which one has a gap
 module _ {X : Type 0} (lists : List (List X)) (k a b : ℕ) (known : k < length lists) (order : a ≤ b) (inside : b ≤ length (get_or lists k [])) where

@@ -1,5 +1,5 @@
 -- The numbers of clauses by their heads.
-use Rattle.std.proofs.Common.{◌≡◌, ◌≢◌, ℕ, zero, suc, ◌<◌, nat_eq, if◌then◌else◌, Bool, true, false, inl, inr, List, [], ◌∷◌, ◌++◌, length, get_or, Contains}
+use Rattle.std.proofs.Common.{◌≡◌, ◌≢◌, ℕ, zero, suc, ◌<◌, nat_eq, if◌then◌else◌, Bool, true, false, inl, inr, List, ◌∷◌, ◌++◌, length, get_or, Contains, []}
 use Rattle.std.proofs.Common.{refl, sym, ap, ◌∙◌, arith}
 use Rattle.std.proofs.lemmas.Bool.{cases_eq, cases_lt, eq-eqb, eqb-true}
 use Rattle.std.proofs.lemmas.List.{get_or_default, get_or_append_left, get_or_at, length_push}
@@ -47,11 +47,6 @@ pub number_last : (heads : List ℕ) (x : ℕ) → ¬ Contains heads x → numbe
 number_last [] x differ = number_head x [] x refl
 number_last (h ∷ heads) x differ =
     number_tail h (heads ++ x ∷ []) x (λ e. differ (zero, omega arith, e)) ∙ ap suc (number_last heads x (λ there. differ (in_whole h heads x there)))
-
--- where the first head is 0, so is its number
-pub number_none : (heads : List ℕ) → get_or heads 0 0 ≡ 0 → number_of heads 0 ≡ 0
-number_none [] is = refl
-number_none (h ∷ heads) is = number_head h heads 0 is
 
 -- a head that was put behind heads that are apart from it
 pub head_apart : (heads : List ℕ) (x : ℕ) → AreApart (heads ++ x ∷ []) → ¬ Contains heads x

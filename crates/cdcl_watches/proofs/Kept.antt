@@ -5,13 +5,13 @@ use Rattle.std.proofs.lemmas.List.{length_push}
 use Rattle.std.proofs.lemmas.List.Elements.{All-push, All-take, All-nil, Contains-get_or}
 use Rattle.cnf_base.specs.declared.literal.Literal.{Literal}
 use Rattle.cdcl_watches.specs.declared.watcher.Watcher.{Watcher}
-use Rattle.cdcl_watches.specs.Watching.{code, list_of, clause_of, IsWatching, IsWidened, WatchValue, blank}
+use Rattle.cdcl_watches.specs.Watching.{clause_of, IsWatching, IsWidened, WatchValue, blank}
 use Rattle.cdcl_watches.specs.Watchers.{nobody, clause_number, numbers, blocker_of, IsBlocking, AreBlockers, AreWatchers}
 use Rattle.cdcl_watches.specs.Heads.{number_of}
 use Rattle.cdcl_watches.proofs.Moves.{turn_watching}
 use Rattle.cdcl_watches.proofs.Added.{letter_watching, take_back_is}
-use Rattle.cdcl_watches.proofs.Numbers.{clause_read, length_at, length_numbers, numbers_refreshed, numbers_two, numbers_shrink}
-use Rattle.cdcl_watches.proofs.Blockers.{blockers_set, blockers_swapped, blocking_list}
+use Rattle.cdcl_watches.proofs.Numbers.{length_numbers, numbers_refreshed, numbers_two, numbers_shrink}
+use Rattle.cdcl_watches.proofs.Blockers.{blockers_set, blockers_swapped}
 
 -- the first two literals of a clause change places
 pub turned_watchers : (heads : List ℕ) (clauses : List (List Literal)) (lists : List (List Watcher)) (c : ℕ) → c < length clauses
@@ -21,14 +21,6 @@ turned_watchers heads clauses lists c known long are = record {
   watching = turn_watching clauses (numbers heads lists) c are.watching known blank long;
   blockers = blockers_swapped heads clauses lists c 0 1 known (omega arith) (omega arith) are.blockers;
 }
-
--- what is read at a place of a literal's list is a clause
-pub known_read : (heads : List ℕ) (clauses : List (List Literal)) (lists : List (List Watcher)) (l : Literal) (i k : ℕ) (w : Watcher) → k ≡ code l
-    → w ≡ get_or (get_or lists k []) i nobody
-    → AreWatchers heads clauses lists → i < length (list_of (numbers heads lists) l) → clause_number heads w < length clauses
-known_read heads clauses lists l i k w k_is w_is are low =
-    (are.watching.only (clause_number heads w) l (subst (Contains (list_of (numbers heads lists) l)) (sym (clause_read heads are.none lists l i k w k_is w_is))
-    (Contains-get_or (list_of (numbers heads lists) l) i 0 low))).0
 
 -- a watcher of the same clause is put at a place
 pub refreshed_watchers : (heads : List ℕ) (clauses : List (List Literal)) (lists : List (List Watcher)) (k i : ℕ) (w : Watcher)
@@ -74,14 +66,6 @@ module _ (w : WatchValue) (heads names : List ℕ) (none : clause_number heads n
       blockers = subst (AreBlockers heads clauses) (sym second) (All-take (All (IsBlocking heads clauses)) (length mid - 1) mid
           (subst (AreBlockers heads clauses) (sym first) (All-take (All (IsBlocking heads clauses)) (length lists - 1) lists are.blockers)));
     }
-
--- what is read at a place of a literal's list has the head of a clause
-pub standing_read : (heads : List ℕ) (clauses : List (List Literal)) (lists : List (List Watcher)) (l : Literal) (i k : ℕ) (w : Watcher) → k ≡ code l
-    → w ≡ get_or (get_or lists k []) i nobody
-    → AreWatchers heads clauses lists → i < length (list_of (numbers heads lists) l) → Contains heads w.head
-standing_read heads clauses lists l i k w k_is w_is are low =
-    subst (λ (v : Watcher). Contains heads v.head) (sym (w_is ∙ ap (λ n. get_or (get_or lists n []) i nobody) k_is))
-    (blocking_list heads clauses lists (code l) are.blockers i nobody (omega (arith, low, length_at heads are.none lists (code l)))).stands
 
 -- a watcher with a literal of its clause
 pub blocking_from : (heads : List ℕ) (clauses : List (List Literal)) (row : List Literal) (head k : ℕ) (l : Literal) (w : Watcher)

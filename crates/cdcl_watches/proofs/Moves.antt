@@ -130,14 +130,6 @@ list_other lists l m xs differ = get_or-set_other lists (code l) (code m) xs [] 
 pub same_or_not : (a b : Literal) → (a ≡ b) ⊎ (a ≢ b)
 same_or_not a b = elim (cases_eq (code a) (code b)) [ inl e ↦ inl (code_same a b e) | inr f ↦ inr (λ e. f (ap code e)) ]
 
--- a first literal that is not the other one
-pub first_apart : (r : List Literal) (a b : Literal) → AreApart r → AreFirst r a b → a ≢ b
-first_apart r a b apart first same =
-    elim (first_two r a b a first) [
-      | inl h ↦ apart 0 1 a (omega arith) (omega (arith, first.long)) (sym h.0 ∙ same ∙ h.1)
-      | inr h ↦ apart 0 1 a (omega arith) (omega (arith, first.long)) (sym h.1 ∙ sym same ∙ h.0)
-    ]
-
 module _ (clauses : List (List Literal)) (lists : List (List ℕ)) (c : ℕ) (watching : IsWatching clauses lists) (known : c < length clauses) where
   -- the first two change places
   pub turn_watching : (d : Literal) → 2 ≤ length (clause_of clauses c) → IsWatching (set clauses c (swap (clause_of clauses c) 0 1)) lists

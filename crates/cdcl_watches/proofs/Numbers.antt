@@ -4,9 +4,7 @@ use Rattle.std.proofs.Math.ListN.{get_or-map}
 use Rattle.std.proofs.Math.Seq.{map-set_same}
 use Rattle.std.specs.List.{remove}
 use Rattle.std.proofs.lemmas.List.{map-set, map-append, length-map, take-map, drop-map}
-use Rattle.cnf_base.specs.declared.literal.Literal.{Literal}
 use Rattle.cdcl_watches.specs.declared.watcher.Watcher.{Watcher}
-use Rattle.cdcl_watches.specs.Watching.{code, list_of}
 use Rattle.cdcl_watches.specs.Watchers.{nobody, clause_number, numbers}
 
 module _ (heads : List ℕ) (none : clause_number heads nobody ≡ 0) where
@@ -63,8 +61,3 @@ module _ (heads : List ℕ) (none : clause_number heads nobody ≡ 0) where
   numbers_shrink lists new is =
       ap (numbers heads) is ∙ sym (take-map (λ ws. map (clause_number heads) ws) (length lists - 1) lists)
       ∙ ap (λ n. take (n - 1) (numbers heads lists)) (sym (length_numbers lists))
-
-  -- what is read at a place of a literal's list
-  module _ (lists : List (List Watcher)) (l : Literal) (i k : ℕ) (w : Watcher) (k_is : k ≡ code l) (w_is : w ≡ get_or (get_or lists k []) i nobody) where
-    pub clause_read : clause_number heads w ≡ get_or (list_of (numbers heads lists) l) i 0
-    clause_read = ap (clause_number heads) w_is ∙ ap (λ n. clause_number heads (get_or (get_or lists n []) i nobody)) k_is ∙ sym (number_at lists (code l) i)

@@ -97,9 +97,6 @@ room_at spans k p known p_is room = subst (λ (s : Span). s.len < room_of s.clas
 -- a watcher is put behind a list that has room for it
 module _ (pool : List Watcher) (spans : List Span) (spare : List (List ℕ)) (is : IsPool pool spans spare) (k : ℕ) (known : k < length spans)
     (room : (span_at spans k).len < room_of (span_at spans k).class) where
-  pub put_inside : (span_at spans k).from + (span_at spans k).len < length pool
-  put_inside = omega (arith, room, (is.blocks.each k known).inside)
-
   pub put_pool : (w : Watcher)
       → IsPool (set pool ((span_at spans k).from + (span_at spans k).len) w) (set spans k (counted (span_at spans k) ((span_at spans k).len + 1))) spare
   put_pool w =

@@ -83,7 +83,8 @@ impl WatchLists {
         let _ = &self.spans;
     }
 
-    /// Takes the last list off.
+    /// Takes the last list off. Its block stays in the pool: this is done where a letter that was just added could
+    /// not be kept for want of memory, so the list is empty.
     pub fn shrink(&mut self)
         requires { 0 < length self.old }
         ensures { self.new ≡ take (length self.old - 1) self.old }

@@ -1,5 +1,5 @@
 -- From the lines and the targets of a certificate to the answer on its bytes.
-use Rattle.std.proofs.Common.{◌≡◌, ℕ, suc, ◌+◌, ◌-◌, ◌<◌, ◌≤◌, ◌⊎◌, ◌↔◌, inl, inr, Bool, false, IsTrue, is_some, List, [], length, get_or, All, Contains}
+use Rattle.std.proofs.Common.{◌≡◌, ℕ, suc, ◌+◌, ◌-◌, ◌<◌, ◌≤◌, ◌⊎◌, ◌↔◌, inl, inr, Bool, IsTrue, is_some, List, [], length, get_or, All, Contains}
 use Rattle.std.proofs.Common.{Option, Some, None, refl, sym, ap, subst, ◌∙◌, arith}
 use mathlib.Core.Bool.{false≢true}
 use Rattle.std.proofs.lemmas.Bool.{cases_lt}
@@ -72,12 +72,6 @@ module _ (f : Formula) (c : Certificate) (i m : ℕ) (names : m ≡ get_or c.tar
       let w = number_of_line (lines_of c.parts) m line (live_stands c.parts m line (subst (λ n. live_line c.parts n ≡ Some line) (sym names) there)) in
       elim out [ inl low ↦ omega (arith, low, w.0) | inr high ↦ omega (arith, high, w.1) ]
 
-  -- and neither is one of a line that is not live
-  pub dead_line : (IsTrue (is_some (live_line c.parts m)) → ⊥) → ¬ IsGoodTarget f c i
-  dead_line dead (line, there, among) =
-      let e : live_line c.parts m ≡ Some line = subst (λ n. live_line c.parts n ≡ Some line) (sym names) there in
-      dead (ap is_some e)
-
 -- what a view says of a target
 pub seen_target : (f : Formula) (kind : Kind) (depth : ℕ) (c : Certificate) (i m : ℕ) (literals allowed : List Signed) (r : Bool)
     → m ≡ get_or c.targets (i + 1 - 1) 0 → 1 ≤ m → IsTrue (is_some (live_line c.parts m))
@@ -90,16 +84,6 @@ seen_target f kind depth c i m literals allowed r names low live at same_kind sa
     is ∙ (ap (λ k. target_literals f k depth i) (sym same_kind) ∙ ap (λ d. target_literals f c.kind d i) same_depth) in (
       λ yes. good.0 (subst (λ ls. All (Contains ls) literals) own (test.0 yes)),
       λ it. test.1 (subst (λ ls. All (Contains ls) literals) (sym own) (good.1 it)),
-    )
-
--- a target that is tested false by a view is not good
-pub unseen_target : (f : Formula) (c : Certificate) (i m : ℕ) → m ≡ get_or c.targets (i + 1 - 1) 0
-    → ((m < 1) ⊎ (length (lines_of c.parts) < m)) ⊎ (IsTrue (is_some (live_line c.parts m)) → ⊥) → IsTrue false ↔ IsGoodTarget f c i
-unseen_target f c i m names out =
-    let back : i + 1 - 1 ≡ i = omega arith in
-    let at : m ≡ get_or c.targets i 0 = names ∙ ap (λ j. get_or c.targets j 0) back in (
-      (λ yes. absurd (false≢true yes)),
-      λ it. absurd (elim out [ inl away ↦ no_line f c i m at away it | inr dead ↦ dead_line f c i m at dead it ]),
     )
 
 -- the target tested last: no bad one so far, or it is the first

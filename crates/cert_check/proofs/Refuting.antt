@@ -1,5 +1,5 @@
 -- A lawful certificate leaves no trace.
-use Rattle.std.proofs.Common.{◌≡◌, ℕ, suc, ◌+◌, ◌<◌, Bool, true, not, inl, inr, arith, sym, subst, List, [], ◌∷◌, get_or, ltb, Contains, All}
+use Rattle.std.proofs.Common.{◌≡◌, ℕ, suc, ◌+◌, ◌<◌, Bool, true, false, not, inl, inr, arith, sym, subst, List, [], ◌∷◌, get_or, ltb, Contains, All}
 use Rattle.std.proofs.lemmas.Bool.{cases_lt, cond-true, cond-false, lt-ltb, le-ltb}
 use Rattle.std.proofs.lemmas.List.Elements.{All-contains}
 use Rattle.ltl_syntax.specs.declared.node.Kind.{Kind}
@@ -20,6 +20,11 @@ use Rattle.cert_text.specs.Live.{lines_of}
 use Rattle.cert_text.proofs.LiveLines.{good_lines_follow, live_stands}
 use Rattle.cert_check.specs.Lawful.{target_literals, IsLawful, LawfulHasNoTrace}
 
+-- a value and its opposite are not both true
+clash : (a : Bool) → a ≡ true → not a ≡ true → ⊥
+clash true h k = cc
+clash false h k = cc
+
 -- a clause of two letters' negations is false where both letters are true
 no_clause : (f : Formula) (kind : Kind) (v : ℕ → Bool) (p q : Meaning) (line : List Signed)
     → All (Contains (negative_of f kind p ∷ negative_of f kind q ∷ [])) line → clause_value v line ≡ true
@@ -34,9 +39,6 @@ no_clause f kind v p q line only holds yes_p yes_q =
         | inr n ↦ Contains-nil w.0 n
       ]
     ]
-  where
-    clash : (a : Bool) → a ≡ true → not a ≡ true → ⊥
-    clash a h k = cc
 
 module _ (f : Formula) (c : Certificate) (lawful : IsLawful f c.kind c) where
   -- a target with these two letters is false where both are true

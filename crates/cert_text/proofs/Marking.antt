@@ -205,14 +205,6 @@ marking_text bytes at spans ends is m =
     ∙ ap (λ x. header_text c ++ x) (append_assoc (flat_map part_text m.past) (flat_map part_text m.left) (close_text c.targets))
     ∙ sym (append_assoc (header_text c) (flat_map part_text m.past) (flat_map part_text m.left ++ close_text c.targets))
 
-pub marking_within : (bytes : List ℕ) (at : ℕ) (spans : List Span) (ends : List ℕ) → IsTextOf bytes (certificate_in bytes) → IsMarking bytes at spans ends
-    → at < length bytes
-marking_within bytes at spans ends is m =
-    let c = certificate_in bytes in
-    let one = length-append (header_text c ++ flat_map part_text m.past) (flat_map part_text m.left ++ close_text c.targets) in
-    let two = length-append (flat_map part_text m.left) (close_text c.targets) in
-    omega (arith, m.place, one, two, ap length (marking_text bytes at spans ends is m))
-
 -- a part begins here
 pub record PartFront (bytes : List ℕ) (at : ℕ) (past left : List Part) : Type 0 where
   pub part : Part

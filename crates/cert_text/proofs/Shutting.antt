@@ -1,18 +1,10 @@
 -- Lines are shut where deletes name them.
-use Rattle.std.proofs.Common.{◌≡◌, ℕ, suc, ◌<◌, ◌==◌, ◌&&◌, ◌||◌, Bool, true, false, cond, List, [], ◌∷◌, ◌++◌, length, get_or, refl, sym, ap, ◌∙◌, subst}
+use Rattle.std.proofs.Common.{◌≡◌, ℕ, suc, ◌<◌, ◌==◌, ◌&&◌, ◌||◌, Bool, true, false, cond, List, ◌∷◌, ◌++◌, length, get_or, refl, sym, ap, ◌∙◌, []}
 use Rattle.std.proofs.Common.{arith, append_assoc}
 use Rattle.std.specs.List.{list_any}
-use Rattle.std.proofs.lemmas.List.{append-nil}
 use Rattle.std.proofs.lemmas.List.Folds.{list_any-append}
 use Rattle.cert_text.specs.Text.{greatest_u64}
 use Rattle.cert_text.specs.View.{IsShut}
-
-pub shut_none : (count : ℕ) (old : List ℕ) → IsShut [] count old old
-shut_none count old = record { size = refl; each = λ k d low. go (get_or old k d == greatest_u64) (get_or old k d) }
-  where
-    go : (b : Bool) (x : ℕ) → x ≡ cond (b && false) count x
-    go true x = refl
-    go false x = refl
 
 -- the numbers that are gone through
 pub record IsShutUpTo (numbers left : List ℕ) (count : ℕ) (old new : List ℕ) : Type 0 where
@@ -47,9 +39,6 @@ shut_on ns n count a b c one two = record {
         (cond ((x == greatest_u64) && s) count x) ≡ cond ((x == greatest_u64) && (s || t)) count x
     twice x s t = go (x == greatest_u64) x refl s t
 
-pub up_to_none : (numbers : List ℕ) (count : ℕ) (old : List ℕ) → IsShutUpTo numbers numbers count old old
-up_to_none numbers count old = record { past = []; split = refl; shut = shut_none count old }
-
 pub up_to_more : (numbers left rest : List ℕ) (n count : ℕ) (a b c : List ℕ) → IsShutUpTo numbers left count a b → left ≡ n ∷ rest → IsShut (n ∷ []) count b c
     → IsShutUpTo numbers rest count a c
 up_to_more numbers left rest n count a b c one is two = record {
@@ -57,6 +46,3 @@ up_to_more numbers left rest n count a b c one is two = record {
   split = one.split ∙ ap (λ x. one.past ++ x) is ∙ sym (append_assoc one.past (n ∷ []) rest);
   shut = shut_on one.past n count a b c one.shut two;
 }
-
-pub up_to_all : (numbers left : List ℕ) (count : ℕ) (a b : List ℕ) → IsShutUpTo numbers left count a b → left ≡ [] → IsShut numbers count a b
-up_to_all numbers left count a b one none = subst (λ x. IsShut x count a b) (sym (one.split ∙ ap (λ x. one.past ++ x) none ∙ append-nil one.past)) one.shut

@@ -78,9 +78,6 @@ pub record HasPassed (digits : List ℕ) (n len : ℕ) : Type 0 where
   pub value : n ≡ value_on 0 (take len digits)
   pub passed : (k : ℕ) → k < len → get_or digits k 0 ≡ 32 → ⊥
 
-pub passed_none : (digits : List ℕ) → HasPassed digits 0 0
-passed_none digits = record { within = omega arith; value = refl; passed = λ k low. absurd (omega (arith, low)) }
-
 pub passed_more : (digits : List ℕ) (value len : ℕ) → HasPassed digits value len → len < length digits → (get_or digits len 0 ≡ 32 → ⊥)
     → HasPassed digits ((value * 10 % 2 ^ 64 + (get_or digits len 0 + 208) % 2 ^ 8) % 2 ^ 64) (len + 1)
 passed_more digits value len has low other = record {

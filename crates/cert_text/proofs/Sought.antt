@@ -20,21 +20,6 @@ pub record HasSought (bytes : List ℕ) (at byte end : ℕ) : Type 0 where
   pub high : end ≤ length bytes
   pub none : (k : ℕ) → at ≤ k → k < end → get_or bytes k 0 ≡ byte → ⊥
 
-pub sought_none : (bytes : List ℕ) (at byte : ℕ) → at ≤ length bytes → HasSought bytes at byte at
-sought_none bytes at byte within = record { low = omega arith; high = within; none = λ k low below. absurd (omega (arith, low, below)) }
-
-pub sought_more : (bytes : List ℕ) (at byte end : ℕ) → HasSought bytes at byte end → end < length bytes → (get_or bytes end 0 ≡ byte → ⊥)
-    → HasSought bytes at byte (end + 1)
-sought_more bytes at byte end has within other = record {
-  low = omega (arith, has.low);
-  high = omega (arith, within);
-  none = λ k low below. elim (cases_order k end) [
-    | inl e ↦ λ is. other (ap (λ i. get_or bytes i 0) (sym e) ∙ is)
-    | inr (inl less) ↦ has.none k low less
-    | inr (inr more) ↦ absurd (omega (arith, below, more))
-  ];
-}
-
 -- behind a word without the byte it stands first
 pub sought_is : (bytes : List ℕ) (at byte end : ℕ) → HasSought bytes at byte end → (end < length bytes → get_or bytes end 0 ≡ byte)
     → (before word more : List ℕ) → All (λ b. b ≡ byte → ⊥) word → bytes ≡ before ++ (word ++ byte ∷ more) → length before ≡ at → end ≡ at + length word

@@ -52,7 +52,7 @@ fn cut(alloc: Global, bytes: &[u8], start: usize, workers: usize) -> Result<Vec<
     let mut from = start;
     'pieces: for _piece in 0..workers {
         let left = bytes.len() - from;
-        let to = line_end(bytes, from + if size < left { size } else { left });
+        let to = line_end(bytes, from + size.min(left));
         pieces.push(Piece {
             from,
             to,

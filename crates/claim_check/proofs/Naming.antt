@@ -1,7 +1,6 @@
 -- A target that names a line.
 use Rattle.std.proofs.Common.{◌≡◌, ◌↔◌, ◌⊎◌, ℕ, zero, suc, ◌+◌, ◌-◌, ◌<◌, ◌≤◌, Bool, IsTrue, List, [], ◌∷◌, length, get_or, Some, None, slice_get, All}
 use Rattle.std.proofs.Common.{Contains, refl, sym, ap, subst, ◌∙◌, arith}
-use Rattle.std.proofs.lemmas.List.{get_or_past}
 use Rattle.cnf_base.specs.declared.literal.Literal.{Literal}
 use Rattle.cnf_base.specs.Step.{numbered, clause_at}
 use Rattle.enc_layout.specs.Targets.{IsTarget}
@@ -38,10 +37,3 @@ names_target lines targets i literals b one most are =
 -- the clause of number n + 1 is the one at place n
 pub own : (claims : List (List Literal)) (n : ℕ) (claim : List Literal) → claim ≡ clause_at claims (n + 1) → claim ≡ get_or claims n []
 own claims n claim is = let e : n + 1 - 1 ≡ n = omega arith in is ∙ ap (λ k. get_or claims k []) e
-
--- a target behind the last one names no line
-pub none_past : (lines : List (List Literal)) (targets : List ℕ) (i : ℕ) (literals : List Literal) → length targets ≤ i → ¬ IsTarget lines targets i literals
-none_past lines targets i literals past w = clash (subst (λ n. numbered lines n ≡ Some w.0) (get_or_past targets i 0 past) w.1)
-  where
-    clash : None ≡ Some w.0 → ⊥
-    clash e = cc

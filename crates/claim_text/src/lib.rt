@@ -11,4 +11,4 @@ mod writing;
 
 pub use reading::read;
 pub use refused::TextRefused;
-pub use writing::{append, write};
+pub use writing::append;

@@ -1,5 +1,5 @@
 // The text of a certificate, written.
-ghost use Rattle.std.specs.Prelude.{◌≡◌, ◌++◌, IfOk, OnOk, map, decimal, codes};
+ghost use Rattle.std.specs.Prelude.{◌≡◌, ◌++◌, OnOk, map, decimal, codes};
 ghost use Rattle.std.specs.List.{flat_map};
 ghost use Rattle.cert_text.specs.Text.{kind_text, literal_text, hint_text, target_text};
 ghost use Rattle.claim_check.specs.Data.{lines_in, layer_in, certificate_in};
@@ -9,7 +9,7 @@ ghost use Rattle.claim_text.specs.Text.{eventuality_number};
 use cert_text::printing;
 use claim_check::{Certificate, HintedLines, Layer};
 use cnf_base::{ClauseList, Clauses, Literal};
-use std::alloc::{AllocError, Global};
+use std::alloc::AllocError;
 
 fn push_targets(word: &[u8], targets: &[u64], out: &mut Vec<u8>) -> Result<(), AllocError>
     ensures { OnOk result (out.new.items ≡ out.old.items ++ targets_text word.now targets.now) }
@@ -95,13 +95,4 @@ pub fn append(certificate: &Certificate, out: &mut Vec<u8>) -> Result<(), AllocE
     push_lines(&certificate.lines, out)?;
     push_targets(b"close", &[certificate.target], out)?;
     Ok(())
-}
-
-/// The same text alone.
-pub fn write(alloc: Global, certificate: &Certificate) -> Result<Vec<u8>, AllocError>
-    ensures { IfOk result (λ text. text.items ≡ text_of (certificate_in certificate.now)) }
-{
-    let mut text = Vec::new(alloc);
-    append(certificate, &mut text)?;
-    Ok(text)
 }

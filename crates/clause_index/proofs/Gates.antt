@@ -1,6 +1,5 @@
 -- The gates over the numbers of entries are those of the formula, and their counts.
-use Rattle.std.proofs.Common.{◌≡◌, ℕ, zero, suc, ◌+◌, ◌-◌, ◌*◌, ◌<◌, ◌≤◌, arith, refl, true, false, inl, inr, ap, sym, ◌∙◌, List, length, get_or, length-append}
-use Rattle.std.proofs.lemmas.Bool.{cases_lt}
+use Rattle.std.proofs.Common.{◌≡◌, ℕ, zero, suc, ◌+◌, ◌-◌, ◌*◌, ◌<◌, ◌≤◌, arith, refl, true, false, ap, sym, ◌∙◌, List, length, get_or, length-append}
 use Rattle.ltl_syntax.specs.Formula.{Formula, Name, Fresh}
 use Rattle.ltl_closure.specs.Norm.{Norm, NConst, NLetter, NNotLetter, NAnd, NOr, NNext, NWeakNext, NYesterday, NWeakYesterday, NUntil, NRelease, NSince}
 use Rattle.ltl_closure.specs.Norm.{NTrigger}
@@ -61,21 +60,6 @@ gate_few (Is.Yesterday a w) = omega arith
 pub gates_few : (entries : List Entry) (k : ℕ) → gates_before entries k ≤ 4 * k
 gates_few entries zero = omega arith
 gates_few entries (suc k) = let ih = gates_few entries k in let one = gate_few (get_or entries k Is.True) in omega arith
-
-pub gates_less : (entries : List Entry) (k n : ℕ) → k ≤ n → gates_before entries k ≤ gates_before entries n
-gates_less entries k zero le = let e : k ≡ zero = omega arith in rw e (omega arith)
-gates_less entries k (suc n) le = elim (cases_lt k (suc n)) [
-  | inl before ↦ let ih = gates_less entries k n (omega arith) in omega arith
-  | inr here ↦ let e : k ≡ suc n = omega arith in rw e (omega arith)
-]
-
--- what is before all gates is before some entry
-pub walk_within : (entries : List Entry) (k left index : ℕ) → k ≤ length entries
-    → gates_before entries k + left ≡ index → index < gates_before entries (length entries) → k < length entries
-walk_within entries k left index le is lt = elim (cases_lt k (length entries)) [
-  | inl before ↦ before
-  | inr here ↦ let less = gates_less entries (length entries) k here in absurd (omega arith)
-]
 
 module _ (names : List (List ℕ)) (f : Formula) (entries : List Entry) (are : AreEntries names f entries) where
   pub gate_same : (i : ℕ) (e : Norm) (x : Entry) → StandsFor names f e x → entry_gate i (place_in (closure f) e) x ≡ gate (letter_of f i) e

@@ -1,19 +1,17 @@
 -- The numbers that are read from the entries are those of what the formula has there.
-use Rattle.std.proofs.Common.{◌≡◌, ℕ, ◌-◌, ◌<◌, ◌≤◌, arith, refl, false, true, IsTrue, ap, sym, ◌∙◌, subst, List, length, map, get_or, Contains}
-use Rattle.std.proofs.lemmas.List.{get_or-map, get_or-append_right, length-map}
-use Rattle.std.proofs.lemmas.List.{get_or_append_left}
+use Rattle.std.proofs.Common.{◌≡◌, ℕ, ◌-◌, ◌<◌, false, true, IsTrue, ap, sym, ◌∙◌, subst, List, length, get_or, Contains}
+use Rattle.std.proofs.lemmas.List.{get_or-map, length-map}
 use Rattle.std.proofs.lemmas.List.Elements.{Contains-get_or}
 use Rattle.ltl_syntax.specs.Formula.{Formula, Name, Fresh}
 use Rattle.ltl_closure.specs.Norm.{Norm, NConst, NLetter, NNotLetter, NAnd, NOr, NNext, NWeakNext, NYesterday, NWeakYesterday, NUntil, NRelease, NSince}
 use Rattle.ltl_closure.specs.Norm.{NTrigger}
-use Rattle.ltl_closure.specs.Closure.{closure, nexts, yesterdays, eventualities, argument, is_eventuality}
+use Rattle.ltl_closure.specs.Closure.{closure, eventualities, argument, is_eventuality}
 use Rattle.ltl_closure.specs.Entries.{place_in, numbers_of, StandsFor, AreEntries, IsNumber, entry_at}
 use Rattle.ltl_closure.specs.Run.{request_of, right_of}
 use Rattle.ltl_closure.specs.declared.entry.Entry.{Entry}
 use Rattle.ltl_closure.proofs.Lists.{Contains-from_filter}
 use Rattle.ltl_closure.proofs.Known.{known_number, eventuality_in}
-use Rattle.enc_layout.specs.Clauses.{carried, eventuality}
-use Rattle.enc_layout.proofs.Counting.{length-carried}
+use Rattle.enc_layout.specs.Clauses.{eventuality}
 use Rattle.enc_layout.proofs.Carries.{argument_in, right_in}
 use Rattle.enc_layout.proofs.Standing.{stands}
 use Rattle.enc_layout.proofs.Writing.{request_in}
@@ -125,16 +123,3 @@ module _ (f : Formula) (m : ℕ) (lt : m < length (eventualities f)) where
 
   pub request_known : IsNumber (length (closure f)) (request_number f m)
   request_known = known_number f (request_of (eventuality f m)) (request_in f (eventuality f m) (Contains-get_or (eventualities f) m (NConst false) lt))
-
--- places of a carry
-module _ (f : Formula) (q : ℕ) where
-  pub carried_front : q < length (nexts f) → number_at f (nexts f) q ≡ number_at f (carried f) q
-  carried_front lt = ap (place_in (closure f)) (sym (get_or_append_left (nexts f) (map argument (yesterdays f)) (NConst false) q lt))
-
-  pub carried_back : length (nexts f) ≤ q → q < length (carried f) → argument_at f (yesterdays f) (q - length (nexts f)) ≡ number_at f (carried f) q
-  carried_back behind lt =
-      let k = q - length (nexts f) in
-      let inside : q - length (nexts f) < length (yesterdays f) = omega (arith, length-carried f) in
-      ap (place_in (closure f))
-      (sym (get_or-map argument (yesterdays f) k (NConst false) (NConst false) inside)
-      ∙ sym (get_or-append_right (nexts f) (map argument (yesterdays f)) (length (nexts f)) q (NConst false) refl behind))

@@ -1,5 +1,5 @@
 -- The clauses of the links, by their indexes.
-use Rattle.std.proofs.Common.{◌≡◌, ℕ, zero, suc, ◌+◌, ◌-◌, ◌*◌, ◌/◌, ◌%◌, ◌<◌, Bool, false, IsTrue, arith, refl, ap, sym, subst, ◌∙◌, [], ◌∷◌, length}
+use Rattle.std.proofs.Common.{◌≡◌, ℕ, zero, suc, ◌+◌, ◌-◌, ◌*◌, ◌/◌, ◌%◌, ◌<◌, Bool, false, IsTrue, arith, refl, ap, sym, subst, ◌∙◌, ◌∷◌, length, []}
 use Rattle.std.proofs.Common.{length-append, get_or, flat_map}
 use Rattle.std.specs.Prelude.{slice_index_or, if◌then◌else◌}
 use Rattle.ltl_syntax.specs.Formula.{Formula}
@@ -8,9 +8,8 @@ use Rattle.ltl_closure.specs.Norm.{Norm, NConst, NYesterday, NWeakYesterday, pos
 use Rattle.ltl_closure.specs.Closure.{closure, nexts, yesterdays, is_yesterday}
 use Rattle.ltl_closure.specs.Entries.{place_in}
 use Rattle.enc_layout.specs.Letters.{Meaning, LayoutValue, Here, EntryAt}
-use Rattle.enc_layout.specs.Clauses.{Plus, Minus, literal_in, chain_part, links_part, start, next_clauses, before_clauses}
+use Rattle.enc_layout.specs.Clauses.{Plus, Minus, literal_in, links_part, start, next_clauses, before_clauses}
 use Rattle.clause_index.specs.Rows.{row_at, link_rows}
-use Rattle.clause_index.specs.Counts.{chain_size}
 use Rattle.clause_index.specs.ByNumber.{number_at, argument_at, weak_at, is_weak}
 use Rattle.clause_index.proofs.Rows.{row_left, row_right, row_flat}
 use Rattle.clause_index.proofs.Sizing.{is_yesterday_at, start_one, length-starts, length-nexts, length-yesterdays}
@@ -22,17 +21,7 @@ module _ (layout : LayoutValue) where
   abbrev pub minus : Meaning → Signed
   minus p = literal_in layout.kind layout.counts (Minus p)
 
-  pub chain_row : (step index : ℕ) → index < chain_size step → minus (Here step) ∷ plus (Here (step - 1)) ∷ [] ≡ row_at layout (chain_part step) index
-  chain_row zero index lt = absurd (omega arith)
-  chain_row (suc j) index lt =
-      let one : suc j - 1 ≡ j = omega arith in
-      let first : index ≡ 0 = omega arith in
-      rw first (ap (λ n. minus (Here (suc j)) ∷ plus (Here n) ∷ []) one)
-
   module _ (f : Formula) where
-    pub root_row : (root : ℕ) → root ≡ place_in (closure f) (pos_of f) → minus (Here 0) ∷ plus (EntryAt 0 root) ∷ [] ≡ row_at layout (links_part f 0) 0
-    root_row root is = ap (λ n. minus (Here 0) ∷ plus (EntryAt 0 n) ∷ []) is
-
     -- what a yesterday request is at the first state
     start_row : (e : Norm) → IsTrue (is_yesterday e) → minus (Here 0)
         ∷ (if is_weak e then plus (EntryAt 0 (place_in (closure f) e)) else minus (EntryAt 0 (place_in (closure f) e))) ∷ [] ≡ row_at layout (start f e) 0

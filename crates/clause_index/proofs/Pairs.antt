@@ -16,7 +16,7 @@ use Rattle.enc_layout.specs.Clauses.{pair_clauses, pairs_part}
 use Rattle.clause_index.specs.Rows.{row_at}
 use Rattle.clause_index.specs.Counts.{sizes_of, pair_size, near_size, fulfilled_size}
 use Rattle.clause_index.specs.ByNumber.{place_by, fulfilled_by, number_at, right_number, request_number}
-use Rattle.clause_index.proofs.Rows.{row_left, row_right, row_even, row_blocks, block_within}
+use Rattle.clause_index.proofs.Rows.{row_right, row_even, row_blocks, block_within}
 use Rattle.clause_index.proofs.Sizing.{length-even, length-places, length-closing, fulfilled_long, pair_far, pair_near, length-pairs_part}
 use Rattle.clause_index.proofs.Links.{plus, minus}
 
@@ -77,11 +77,6 @@ module _ (layout : LayoutValue) (f : Formula) (i l : ℕ) where
   length-F : l < i → length F ≡ length (eventualities f) * fulfilled_size i l
   length-F lt = length-even (fulfilled_size i l) (length (eventualities f)) (fulfilled_clauses f i l) (λ m some. fulfilled_long f i l m lt)
 
-  pub closing_first : (index : ℕ) → l < i → index < length (eventualities f) * fulfilled_size i l
-      → row_at layout (below (length (eventualities f)) (fulfilled_clauses f i l)) index ≡ row_at layout (closing_clauses f Kinds.Infinite i l) index
-  closing_first index earlier lt =
-      sym (row_left layout.kind layout.counts F ((Minus (LoopTo l i) ∷ Plus (Equal l i) ∷ []) ∷ L) index (omega (arith, length-F earlier)))
-
   pub closing_middle : (index : ℕ) → l < i → index ≡ length (eventualities f) * fulfilled_size i l
       → minus layout (LoopTo l i) ∷ plus layout (Equal l i) ∷ [] ≡ row_at layout (closing_clauses f Kinds.Infinite i l) index
   closing_middle index earlier is =
@@ -104,11 +99,6 @@ module _ (layout : LayoutValue) (f : Formula) (i l : ℕ) where
   module _ (kind : Kind) where
     abbrev P : List Clause
     P = below (length (carried f)) (place_clauses f i l)
-
-    pub pair_first : (index : ℕ) → index < length (carried f) * 4
-        → row_at layout (below (length (carried f)) (place_clauses f i l)) index ≡ row_at layout (pair_clauses f kind i l) index
-    pair_first index lt =
-        sym (row_left layout.kind layout.counts P (equal_clause f i l ∷ closing_clauses f kind i l) index (omega (arith, length-places f i l)))
 
     pub pair_middle : (index : ℕ)
         → index ≡ length (carried f) * 4 → map (literal_in layout.kind layout.counts) (equal_clause f i l) ≡ row_at layout (pair_clauses f kind i l) index

@@ -24,15 +24,6 @@ module _ (layout : LayoutValue) (f : Formula) (i : ℕ) where
   abbrev news_of : ℕ → List Clause
   news_of j = below (length (eventualities f)) (new_clauses f i j) ++ pruned_clause f i j ∷ []
 
-  pub news_first : (j index : ℕ) → index < length (eventualities f) * 3
-      → row_at layout (below (length (eventualities f)) (new_clauses f i j)) index ≡ row_at layout
-      (below (length (eventualities f)) (new_clauses f i j) ++ pruned_clause f i j ∷ []) index
-  news_first j index lt =
-      sym (row_left layout.kind layout.counts (below (length (eventualities f)) (new_clauses f i j)) (pruned_clause f i j ∷ []) index (omega (
-        arith,
-        news_long f i j,
-      )))
-
   pub news_last : (j index n : ℕ) → index ≡ length (eventualities f) * 3 → n ≡ length (eventualities f)
       → map (literal_in layout.kind layout.counts) (pruned_row n i j) ≡ row_at layout
       (below (length (eventualities f)) (new_clauses f i j) ++ pruned_clause f i j ∷ []) index

@@ -62,9 +62,6 @@ module _ (c : Counts) where
   pub loops_next : (i k : ℕ) → number (LoopTo 0 i) + k * (number (LoopTo 1 i) - number (LoopTo 0 i)) ≡ number (LoopTo k i)
   loops_next i k = ap (λ n. number (LoopTo 0 i) + k * n) (loop_apart i) ∙ loop_next i k
 
-  pub loops_less : (i : ℕ) → number (LoopTo 0 i) ≤ number (LoopTo 1 i)
-  loops_less i = let e = loop_next i 1 in omega arith
-
   pub loops_small : (i : ℕ)
       → 0 < i → letters_through Kinds.Infinite c i ≤ 16777216 → number (LoopTo 0 i) + (i - 1) * (number (LoopTo 1 i) - number (LoopTo 0 i)) ≤ 16777216
   loops_small i some fits =

@@ -12,7 +12,7 @@ use Rattle.ltl_closure.specs.Norm.{Norm, NConst, NLetter, NNotLetter, NAnd, NOr,
 use Rattle.ltl_closure.specs.Norm.{NTrigger}
 use Rattle.ltl_closure.specs.Closure.{closure, nexts, yesterdays, eventualities, is_yesterday}
 use Rattle.ltl_closure.proofs.Lists.{Contains-from_filter}
-use Rattle.enc_layout.specs.Letters.{Meaning, Accepted, EmptyAt, LoopTo, Equal, Differs, Fulfilled, Seen, Unpruned, below}
+use Rattle.enc_layout.specs.Letters.{Meaning, Accepted, EmptyAt, LoopTo, Equal, Fulfilled, Seen, Unpruned, below}
 use Rattle.enc_layout.specs.Clauses.{Plus, Minus, letter_of, carried, chain_part, gates_part, gate, start, next_clauses, before_clauses, links_part}
 use Rattle.enc_layout.specs.Clauses.{place_clauses, equal_clause, fulfilled_clauses, loop_clause, closing_clauses, pair_clauses, pairs_part, is_strong_next}
 use Rattle.enc_layout.specs.Clauses.{acceptance_part, seen_clauses, new_clauses, pruned_clause, pruning_part, state_clauses, step_clauses}
@@ -90,9 +90,6 @@ half_more : (n : ℕ) → suc n * (suc n - 1) / 2 ≡ n * (n - 1) / 2 + n
 half_more n = let e = square_more n in omega arith
 
 module _ (f : Formula) where
-  equal_long : (i l : ℕ) → length (equal_clause f i l) ≡ 1 + length (carried f)
-  equal_long i l = let e = length-even 1 (length (carried f)) (λ q. Plus (Differs l i (suc q)) ∷ []) (λ k lt. refl) in omega arith
-
   pub length-places : (i l : ℕ) → length (below (length (carried f)) (place_clauses f i l)) ≡ length (carried f) * 4
   length-places i l = length-even 4 (length (carried f)) (place_clauses f i l) (λ k lt. refl)
 
@@ -246,14 +243,6 @@ length-steps f kind (suc n) =
     let a = length-append (below n (step_clauses f kind)) (step_clauses f kind n) in
     let more = before_more kind (sizes_of f kind) n in
     omega arith
-
--- more steps have no fewer clauses
-pub before_less : (kind : Kind) (s : Sizes) (i k : ℕ) → i ≤ k → before_step kind s i ≤ before_step kind s k
-before_less kind s i zero le = let e : i ≡ zero = omega arith in rw e (omega arith)
-before_less kind s i (suc k) le = elim (cases_lt i (suc k)) [
-  | inl before ↦ let h = before_less kind s i k (omega arith) in let m = before_more kind s k in omega arith
-  | inr here ↦ let e : i ≡ suc k = omega arith in rw e (omega arith)
-]
 
 pub before_next : (kind : Kind) (s : Sizes) (i : ℕ) → before_step kind s (i + 1) ≡ before_step kind s i + step_size kind s i
 before_next kind s i = ap (before_step kind s) (add-one i) ∙ before_more kind s i

@@ -1,8 +1,7 @@
 -- The strong next requests among all, and the clauses of acceptance by their indexes.
-use Rattle.std.proofs.Common.{◌≡◌, ℕ, zero, suc, ◌+◌, ◌<◌, ◌≤◌, Bool, true, false, not, IsTrue, arith, refl, inl, inr, ap, ap₂, sym, ◌∙◌, List, [], ◌∷◌, length}
+use Rattle.std.proofs.Common.{◌≡◌, ℕ, zero, suc, ◌+◌, ◌<◌, ◌≤◌, Bool, true, false, not, IsTrue, arith, refl, ap, ap₂, sym, ◌∙◌, List, [], ◌∷◌, length}
 use Rattle.std.proofs.Common.{get_or, map, take, cond, add-one}
 use Rattle.std.specs.Prelude.{filter}
-use Rattle.std.proofs.lemmas.Bool.{cases_lt}
 use Rattle.std.proofs.lemmas.List.Filters.{length-filter_more}
 use Rattle.std.proofs.Math.Seq.{take-length}
 use Rattle.std.proofs.lemmas.List.Elements.{Contains-get_or}
@@ -13,10 +12,10 @@ use Rattle.ltl_closure.specs.Norm.{NTrigger}
 use Rattle.ltl_closure.specs.Closure.{closure, nexts, is_next}
 use Rattle.ltl_closure.proofs.Lists.{Contains-from_filter}
 use Rattle.enc_layout.specs.Letters.{LayoutValue, Accepted, EmptyAt, EntryAt}
-use Rattle.enc_layout.specs.Clauses.{Minus, literal_in, letter_of, accepted_clause, is_strong_next, acceptance_part}
+use Rattle.enc_layout.specs.Clauses.{Minus, literal_in, letter_of, is_strong_next, acceptance_part}
 use Rattle.clause_index.specs.Rows.{row_at}
 use Rattle.clause_index.specs.ByNumber.{number_at, weak_at, is_weak, strong_before}
-use Rattle.clause_index.proofs.Rows.{row_right, row_map}
+use Rattle.clause_index.proofs.Rows.{row_map}
 use Rattle.clause_index.proofs.Links.{minus}
 
 -- the strong ones among the next requests are those among all entries
@@ -97,26 +96,6 @@ module _ (f : Formula) where
       small true = omega arith
       small false = omega arith
 
-  strong_less : (es : List Norm) (k n : ℕ) → k ≤ n → strong_before es k ≤ strong_before es n
-  strong_less es k zero le = let e : k ≡ zero = omega arith in rw e (omega arith)
-  strong_less es k (suc n) le = elim (cases_lt k (suc n)) [
-    | inl before ↦ let ih = strong_less es k n (omega arith) in omega arith
-    | inr here ↦ let e : k ≡ suc n = omega arith in rw e (omega arith)
-  ]
-
-  -- what is before all strong ones is before some next request
-  pub walk_within : (k left index : ℕ) → k ≤ length (nexts f) → strong_before (nexts f) k + left ≡ index → index < strong_before (nexts f) (length (nexts f))
-      → k < length (nexts f)
-  walk_within k left index le is lt = elim (cases_lt k (length (nexts f))) [
-    | inl before ↦ before
-    | inr here ↦ let less = strong_less (nexts f) (length (nexts f)) k here in absurd (omega arith)
-  ]
-
-  -- where the walk ends, the request is strong, and nothing is left
-  pub walk_ends : (w : Bool) (left size : ℕ) → size ≡ cond w 0 1 → left < size → (left ≡ 0) × (w ≡ false)
-  walk_ends true left size is lt = absurd (omega arith)
-  walk_ends false left size is lt = (omega arith, refl)
-
   module _ (layout : LayoutValue) (i : ℕ) where
     pub end_row : (k number index : ℕ) → k < length (nexts f) → strong_before (nexts f) k ≡ index → weak_at f (nexts f) k ≡ false
         → index < strong_before (nexts f) (length (nexts f)) → number ≡ number_at f (nexts f) k
@@ -136,13 +115,3 @@ module _ (f : Formula) where
     empty_row index number lt n =
         ap (λ m. minus layout (EmptyAt i) ∷ minus layout (EntryAt i m) ∷ []) n
         ∙ sym (row_map layout.kind layout.counts (λ t. Minus (EmptyAt i) ∷ Minus (letter_of f i t) ∷ []) (nexts f) (NConst false) index lt)
-
-    pub accepted_row : (index : ℕ)
-        → index ≡ 0 → map (literal_in layout.kind layout.counts) (accepted_clause i) ≡ row_at layout (acceptance_part f Kinds.Infinite i) index
-    accepted_row index is = rw is refl
-
-    pub behind_accepted : (k index : ℕ) → 1 + k ≡ index
-        → row_at layout (map (λ t. Minus (EmptyAt i) ∷ Minus (letter_of f i t) ∷ []) (nexts f)) k ≡ row_at layout (acceptance_part f Kinds.Infinite i) index
-    behind_accepted k index is =
-        sym (row_right layout.kind layout.counts (accepted_clause i ∷ []) (map (λ t. Minus (EmptyAt i) ∷ Minus (letter_of f i t) ∷ []) (nexts f)) 1 k refl)
-        ∙ ap (row_at layout (acceptance_part f Kinds.Infinite i)) is

@@ -1,6 +1,6 @@
 -- What an edit of the list of items does to the rows.
 use Rattle.std.proofs.Common.{◌≡◌, ℕ, ◌+◌, ◌-◌, ◌<◌, ◌≤◌, List, [], ◌∷◌, ◌++◌, length, take, drop, get_or, All, slice_range, refl, sym, ap, ap₂, ◌∙◌, arith}
-use Rattle.std.proofs.Common.{length-drop, length-take, length-take-le}
+use Rattle.std.proofs.Common.{length-drop, length-take}
 use Rattle.std.proofs.lemmas.List.{map-append, take-map, take-append-le, drop-append-le, take-take, drop-take, take_all, drop_at, get_or-take, get_or_default}
 use Rattle.std.proofs.lemmas.List.Elements.{All-head, All-tail, All-take}
 use Rattle.cnf_base.specs.RowPieces.{Place, row_pieces, IsPlace, AreFlat}
@@ -53,21 +53,3 @@ pub spans_before : {X : Type 0} (xs : List X) (spans : List Place) (n : ℕ) (d 
 spans_before xs spans n d flat in_list k e below =
     let low : k < n = omega (arith, length-take n spans) in
     rw (get_or-take n spans k e low, get_or_default spans n d e in_list) (flat.ordered k n e low in_list)
-
--- what is left by a cut before the n-th place is flat
-pub flat-take : {X : Type 0} (xs : List X) (spans : List Place) (n : ℕ) (d : Place) → AreFlat (length xs) spans → n < length spans
-    → AreFlat (length (take (get_or spans n d).from xs)) (take n spans)
-flat-take xs spans n d flat in_list = record {
-  each = λ k e below.
-      let low : k < n = omega (arith, length-take n spans) in
-      let old = flat.each k e (omega arith) in
-      let end = flat.each n d in_list in
-      let before = spans_before xs spans n d flat in_list k e below in
-      record {
-        forward = rw (get_or-take n spans k e low) old.forward;
-        inside = rw (length-take-le (get_or spans n d).from xs (omega (arith, end.forward, end.inside))) before;
-      };
-  ordered = λ i j e earlier below.
-      let low : j < n = omega (arith, length-take n spans) in
-      rw (get_or-take n spans i e (omega arith), get_or-take n spans j e low) (flat.ordered i j e earlier (omega arith));
-}

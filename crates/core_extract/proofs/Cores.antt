@@ -1,5 +1,5 @@
 -- The core is one, it is Closed where the formula is, and each further replacement of a kept occurrence is Open.
-use Rattle.std.proofs.Common.{◌≡◌, ℕ, zero, suc, ◌+◌, ◌≤◌, inl, inr, subst, ap, arith, sym, refl, ◌∙◌}
+use Rattle.std.proofs.Common.{◌≡◌, ℕ, zero, suc, inl, inr, subst, arith, sym, refl, ◌∙◌}
 use Rattle.ltl_syntax.specs.declared.node.Kind.{Kind}
 use Rattle.ltl_syntax.specs.Formula.{Formula, nodes_in}
 use Rattle.ltl_closure.specs.Run.{IsVerdict, Sat, Unsat, Undecided}
@@ -10,7 +10,6 @@ use Rattle.ltl_syntax.specs.Replacement.{Places, nowhere, AreSame, IsKept, AreAp
 use Rattle.core_extract.specs.Core.{Test, IsExclusive, IsPass, AreChanging, IsReached, IsCore, IsRefuted, tableau}
 use Rattle.enc_layout.specs.Limit.{IsInForce}
 use Rattle.ltl_syntax.proofs.Places.{one_set, same_rep, nothing_replaced}
-use Rattle.core_extract.proofs.Kept.{kept_count, kept_few}
 use Rattle.core_extract.proofs.Walks.{walk_one, walk_same, walk_closed, walk_apart, walk_falls}
 
 -- a formula has one limit in force
@@ -43,19 +42,6 @@ module _ (T : Test) (f : Formula) where
   pub passes_more : (m : ℕ) (S P R : Places) → Passes m S P → Pass P R → (AreSame P R → ⊥) → Passes (suc m) S R
   passes_more zero S P R v w changed = let e = sym (one_set S P v) in (R, subst (λ X. Pass X R) e w, subst (λ X. AreSame X R → ⊥) e changed, λ n. refl)
   passes_more (suc m) S P R v w changed = (v.0, v.1, v.2, passes_more m v.0 P R v.3 w changed)
-
-  -- each changing pass leaves fewer kept
-  pub passes_fall : (m : ℕ) (P Q : Places) → Passes m P Q → m + kept_count f Q ≤ kept_count f P
-  passes_fall zero P Q v = let e = ap (kept_count f) (one_set P Q v) in omega arith
-  passes_fall (suc m) P Q v =
-      let i = passes_fall m v.0 Q v.3 in
-      elim (walk_falls T f (nodes_in f) 0 P v.0 v.1) [
-        | inl x ↦ absurd (v.2 x.0)
-        | inr lt ↦ omega arith
-      ]
-
-  pub passes_few : (m : ℕ) (P Q : Places) → Passes m P Q → m ≤ nodes_in f
-  passes_few m P Q v = let i = passes_fall m P Q v in let j = kept_few f P in omega arith
 
   pub passes_closed : (m : ℕ) (P Q : Places) → Passes m P Q → T.Closed (rep f P) → T.Closed (rep f Q)
   passes_closed zero P Q w c = subst (λ X. T.Closed (rep f X)) (one_set P Q w) c

@@ -293,10 +293,6 @@ module _ {task : Task} {marks : List Bool} {at stop : ℕ} {places : List ℕ} (
     clear_next_to = let one : suc stop ≡ stop + 1 = omega arith in
         subst (IsClear (formula_of task) (marked marks)) one (clear_next (formula_of task) (marked marks) stop clear here)
 
--- a group with an occurrence has gone on
-pub gone_on : (f : Formula) (P : Places) (at stop : ℕ) (places : List ℕ) → AreNext f P at stop places → 1 ≤ length places → at < stop
-gone_on f P at stop places next some = let w = next.each 0 (omega arith) in let a = w.0 in let b = w.1 in omega arith
-
 -- each of the next kept occurrences is kept
 pub all_kept : (f : Formula) (P : Places) (at stop : ℕ) (places : List ℕ) → AreNext f P at stop places → (i : ℕ) → i < length places
     → IsKept f P (get_or places i 0)

@@ -1,5 +1,5 @@
 -- Walks over the places: what one leads to is determined, two in a row are one, and each kept occurrence that is taken leaves fewer kept.
-use Rattle.std.proofs.Common.{◌≡◌, ℕ, zero, suc, ◌+◌, ◌-◌, ◌<◌, ◌≤◌, ◌⊎◌, inl, inr, subst, ap, arith, sym, refl, ◌∙◌, IsTrue, IsFalse}
+use Rattle.std.proofs.Common.{◌≡◌, ℕ, zero, suc, ◌+◌, ◌-◌, ◌<◌, ◌≤◌, ◌⊎◌, inl, inr, subst, ap, arith, sym, refl, ◌∙◌}
 use Rattle.std.proofs.lemmas.Bool.{cases_lt}
 use Rattle.ltl_syntax.specs.Formula.{Formula}
 use Rattle.ltl_syntax.specs.Replacement.{Places, AreSame, AreApart, IsKept, part_at, size_at, added, rep}
@@ -60,22 +60,12 @@ module _ (T : Test) (f : Formula) where
   pub walk_on_past : (at stop : ℕ) (S P : Places) → Walk at 0 S P → at ≤ stop → ((k : ℕ) → at ≤ k → k < stop → IsKept f P k → ⊥) → Walk stop 0 S P
   walk_on_past at stop S P w le none = walk_on_idle at stop S P w le (λ k low high kept. absurd (none k low high kept))
 
-  pub walk_on_left : (at : ℕ) (S P : Places) → Walk at 0 S P → Left P at → Walk (suc at) 0 S P
-  walk_on_left at S P w left = walk_on_idle at (suc at) S P w (omega arith) (λ k low high. let here : at ≡ k = omega arith in subst (Left P) here left)
-
   pub walk_on_taken : (at : ℕ) (S P : Places) → Walk at 0 S P → Taken P at → Walk (suc at) 0 S (added f P at)
   walk_on_taken at S P w taken =
       let here : at ≡ 0 + at = omega arith in
       let all : at + 1 ≡ suc at = omega arith in
       let step : Walk 1 at P (added f P at) = inl (taken, walk_none (suc at) (added f P at)) in
       subst (λ n. Walk n 0 S (added f P at)) all (walk_then at 1 0 S P (added f P at) w (subst (λ n. Walk 1 n P (added f P at)) here step))
-
-  -- the places under a member are not kept
-  pub walk_on_behind : (at : ℕ) (S P : Places) → Walk at 0 S P → IsTrue (P at) → Walk (at + size_at f at) 0 S P
-  walk_on_behind at S P w member = walk_on_past at (at + size_at f at) S P w (omega arith) (λ k low high kept. elim (cases_lt at k) [
-    | inl under ↦ kept.above at member (under, high)
-    | inr here ↦ let same : k ≡ at = omega arith in let x = kept.free in let y = subst (λ n. IsFalse (P n)) same x in cc
-  ])
 
   pub walk_on_taken_behind : (at : ℕ) (S P : Places) → Walk at 0 S P → Taken P at → Walk (at + size_at f at) 0 S (added f P at)
   walk_on_taken_behind at S P w taken =

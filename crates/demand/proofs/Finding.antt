@@ -1,5 +1,5 @@
 -- What is found at the greatest number at which something is.
-use Rattle.std.proofs.Common.{◌≡◌, ℕ, zero, suc, ◌-◌, ◌<◌, Bool, true, false, IsTrue, IsFalse, List, [], ◌∷◌, ◌++◌, Contains, ◌⊎◌, inl, inr, refl, arith, ap}
+use Rattle.std.proofs.Common.{◌≡◌, zero, suc, ◌-◌, ◌<◌, Bool, true, false, IsTrue, IsFalse, List, [], ◌∷◌, ◌++◌, Contains, ◌⊎◌, inl, inr, refl, arith, ap, ℕ}
 use Rattle.std.proofs.Common.{ap₂, subst, sym, ◌∙◌, Option, Some, None, if◌then◌else◌}
 use Rattle.std.proofs.lemmas.Bool.{cases_lt}
 use Rattle.std.proofs.lemmas.List.Elements.{Contains-append_cases}
@@ -41,10 +41,6 @@ module _ {X : Type 0} where
         | inr here ↦ let e : n ≡ i = omega arith in subst (λ j. found j ≡ None) e w.0
       ]
 
-  pub none_nearest : (n : ℕ) (found : ℕ → Option X) → ((i : ℕ) → i < n → found i ≡ None) → nearest n found ≡ None
-  none_nearest zero found h = refl
-  none_nearest (suc n) found h = ap₂ prefer (h n (omega arith)) (none_nearest n found (λ i lt. h i (omega arith)))
-
   pub where_some : (b : Bool) (o : Option X) (x : X) → where_true b o ≡ Some x → IsTrue b × (o ≡ Some x)
   where_some true o x h = (refl, h)
   where_some false o x h = cc
@@ -56,17 +52,6 @@ module _ {X : Type 0} where
   pub if_cases : (b : Bool) (x y z : Option X) → (if b then x else y) ≡ z → (IsTrue b × (x ≡ z)) ⊎ (IsFalse b × (y ≡ z))
   if_cases true x y z h = inl (refl, h)
   if_cases false x y z h = inr (refl, h)
-
-  -- what a walk downward comes to first
-  pub nearest_is : (n : ℕ) (found : ℕ → Option X) (i : ℕ) (x : X) → i < n → found i ≡ Some x → ((j : ℕ) → i < j → j < n → found j ≡ None)
-      → nearest n found ≡ Some x
-  nearest_is zero found i x lt is none = absurd (omega arith)
-  nearest_is (suc n) found i x lt is none = elim (cases_lt i n) [
-    | inl before ↦ ap₂ prefer (none n before (omega arith)) (nearest_is n found i x before is (λ j a b. none j a (omega arith)))
-    | inr here ↦
-        let e : i ≡ n = omega arith in
-        ap₂ prefer (subst (λ j. found j ≡ Some x) e is) (let rest : nearest n found ≡ nearest n found = refl in rest)
-  ]
 
   -- what is found in order
   no_append : (xs : List X) (x : X) → xs ++ x ∷ [] ≡ [] → ⊥

@@ -61,7 +61,3 @@ chain_reads l says k n c f r s xs h =
 pub before_writes : (l : Letters) (k n : ℕ) (c : Formula) → (n ≡ 0 → ⊥) → Writes l (symbols.New (k + (n - 1)) ∷ []) (step_back l.new k c n)
 before_writes l k zero c h = absurd (h refl)
 before_writes l k (suc n) c h = λ s. let e : suc n - 1 ≡ n = omega arith in ap (λ m. l.new (k + m) ∷ s) e
-
-pub first_writes : (l : Letters) (k n : ℕ) (c : Formula) (xs : List Symbol) → n ≡ 0 → Writes l xs c → Writes l xs (step_back l.new k c n)
-first_writes l k zero c xs e w = w
-first_writes l k (suc n) c xs e w = absurd (omega arith)

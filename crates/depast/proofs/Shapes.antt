@@ -21,12 +21,6 @@ module _ (h : ℕ) where
   shaped_trace (Infinite stem loop_part) (Finite states') s good = absurd s
   shaped_trace (Finite states) (Infinite stem' loop_part') s good = absurd s
 
-  pub trace_shaped : (t u : Trace) → HasLiftedShape h t u → IsTrace u → IsTrace t
-  trace_shaped (Infinite stem loop_part) (Infinite stem' loop_part') s good = let e = s.1 in omega arith
-  trace_shaped (Finite states) (Finite states') s good = let e : length states' ≡ length states = s in omega arith
-  trace_shaped (Infinite stem loop_part) (Finite states') s good = absurd s
-  trace_shaped (Finite states) (Infinite stem' loop_part') s good = absurd s
-
   pub same_places : (t u : Trace) → HasLiftedShape h t u → IsPosition u ≡ IsPosition t
   unfolding below
   same_places (Infinite stem loop_part) (Infinite stem' loop_part') s = refl

@@ -4,7 +4,7 @@ use Rattle.std.specs.Prelude.{⊤}
 use Rattle.ltl_syntax.specs.declared.node.Node.{Node}
 use Rattle.ltl_syntax.specs.declared.node.Node.TheVariants as nodes
 use Rattle.ltl_syntax.specs.Formula.{nodes_in}
-use Rattle.ltl_syntax.specs.Table.{Table, tree_at, trees_of, made, IsFine}
+use Rattle.ltl_syntax.specs.Table.{Table, tree_at, trees_of, made}
 use Rattle.depast.specs.Postorder.{operands}
 
 -- how many nodes the trees of these numbers have
@@ -25,9 +25,3 @@ pub fewer : (t : Table) (number : ℕ) (node : Node) (rest : List ℕ) → tree_
     → nodes_on t (operands node ++ rest) < nodes_on t (number ∷ rest)
 fewer t number node rest e = let f = fewer_of t node rest in
     let n : nodes_in (tree_at t number) ≡ nodes_in (made t.names (trees_of t) node) = ap nodes_in e in omega arith
-
-pub still_there : (t : Table) (number : ℕ) (node : Node) (rest : List ℕ) → number < length t.nodes → IsFine (length t.names) number node → AreThere t rest
-    → AreThere t (operands node ++ rest)
-still_there t number (nodes.Unary op a) rest low fine all = (omega arith, all)
-still_there t number (nodes.Binary op a b) rest low fine all = (let h = fine.1 in omega arith, (let h = fine.0 in omega arith, all))
-still_there t number other rest low fine all = all

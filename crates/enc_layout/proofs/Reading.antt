@@ -95,9 +95,6 @@ module _ (f : Formula) (d : ℕ) (v : Meaning → Bool) (holds : Each (IsTrueCla
   run = read f Kinds.Infinite d v holds
 
   module _ (m : ℕ) (some : m < length (eventualities f)) where
-    abbrev ev : Norm
-    ev = eventuality f m
-
     member : Contains (eventualities f) (eventuality f m)
     member = Contains-get_or (eventualities f) m (NConst false) some
 

@@ -76,10 +76,6 @@ module _ (layout : LayoutValue) (c : ClosureValue) (own : layout ≡ layout_of c
   pub all_inside : (entries : List Entry) → AreEntries c.names c.formula entries → All (IsInside layout.counts.entries) entries
   all_inside entries are = subst (λ n. All (IsInside n) entries) (sym entries_count) (entries_inside c.names c.formula entries are)
 
-  -- the number of an entry, and the entry of a number
-  pub one_known : (t : ℕ) → IsNumber (length (closure c.formula)) t → IsNumber layout.counts.entries t
-  one_known t known = subst (λ n. IsNumber n t) (sym entries_count) known
-
   pub one_inside : (entries : List Entry) → AreEntries c.names c.formula entries → (t : ℕ) → IsNumber (length (closure c.formula)) t → (x : Entry)
       → x ≡ entry_at entries t
       → IsInside layout.counts.entries x

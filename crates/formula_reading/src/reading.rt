@@ -20,7 +20,7 @@ pub enum FormulaFault {
     Lexical(u32),
     /// The token at this byte may not stand where it does; the length of the text where it ends too early.
     Grammar(u32),
-    /// The sizes of the formula's nodes add up to so much, which is above 16,384.
+    /// The sum of the sizes of the formula's nodes, which is above 16,384.
     Nodes(u32),
 }
 

@@ -132,9 +132,6 @@ module _ (A : Claim) (a : List Bool) (n : ℕ) (told : IsRow n A a) where
       let l = told.right i (omega arith) in
       (λ t j w. let e : i ≡ j = omega (arith, w) in subst A e (l.0 t), λ f. l.1 (f i refl))
 
-  as_told : Say n (cell a) A
-  as_told i h = told.right i h
-
 pub next_follows : (a row : List Bool) (start : ℕ) → length row ≡ length a → ((i : ℕ) → i < length a → cell row i ≡ later a start false i)
     → FollowsOne Next a start row
 next_follows a row start count each t depth f good at deep told =

@@ -111,7 +111,7 @@ pub fn later_row(
     Ok(Row::new(cells))
 }
 
-// Whether the position so much earlier is there and has the value that is sought.
+// Whether the position that is `first` earlier is there and has the value that is sought.
 fn shows_before(a: &[bool], first: u8, sought: bool, i: usize) -> bool
     requires { i < length a.now }
     ensures { IsTrue result ↔ ((first ≤ i) × IsTrue (same sought (cell a.now (i - first)))) }

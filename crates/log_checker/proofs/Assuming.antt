@@ -1,8 +1,8 @@
 -- The literals of a line are made false, one by one.
-use Rattle.std.proofs.Common.{◌≡◌, ◌↔◌, ℕ, zero, suc, ◌<◌, inl, inr, true, false, List, [], ◌∷◌, ◌++◌, length, set, All, Contains, refl, sym, ap, ◌∙◌, subst}
+use Rattle.std.proofs.Common.{◌≡◌, ◌↔◌, ℕ, zero, suc, ◌<◌, inl, inr, true, false, List, ◌∷◌, ◌++◌, length, set, All, Contains, refl, sym, ap, ◌∙◌, subst, []}
 use Rattle.std.proofs.Common.{arith, append_assoc}
 use Rattle.std.proofs.lemmas.List.{append-nil}
-use Rattle.std.proofs.lemmas.List.Elements.{All-push, All-nil, All-contains, Contains-append_left, Contains-append_right, Contains-push, Contains-push_cases}
+use Rattle.std.proofs.lemmas.List.Elements.{All-push, Contains-append_left, Contains-append_right, Contains-push, Contains-push_cases}
 use Rattle.cnf_base.specs.declared.literal.Literal.{Literal}
 use Rattle.cnf_base.specs.Literal.{opposite}
 use Rattle.cnf_base.specs.Known.{IsKnown}
@@ -19,14 +19,6 @@ pub record IsAssuming (greatest : ℕ) (whole rest : List Literal) (values : Lis
   pub cut : whole ≡ done ++ rest
   pub known : All (IsKnown greatest) done
   pub same : (l : Literal) → Contains (falses_in values) l ↔ Contains done l
-
-pub assumes_none : (greatest : ℕ) (whole : List Literal) (values : List Truth) → falses_in values ≡ [] → IsAssuming greatest whole whole values
-assumes_none greatest whole values none = record {
-  done = [];
-  cut = refl;
-  known = All-nil (IsKnown greatest);
-  same = λ l. (subst (λ xs. Contains xs l) none, subst (λ xs. Contains xs l) (sym none));
-}
 
 moved : (whole done old : List Literal) (l : Literal) (new : List Literal) → whole ≡ done ++ old → old ≡ l ∷ new → whole ≡ (done ++ l ∷ []) ++ new
 moved whole done old l new cut e = cut ∙ ap (λ xs. done ++ xs) e ∙ sym (append_assoc done (l ∷ []) new)
@@ -66,13 +58,6 @@ assumes_more greatest whole old l new values is e known low unset = record {
     cases_cons : (k : Literal) → Contains (l ∷ falses_in values) k → Contains (is.done ++ l ∷ []) k
     cases_cons k (zero, low', at) = subst (λ x. Contains (is.done ++ l ∷ []) x) at (Contains-push is.done l)
     cases_cons k (suc i, low', at) = Contains-append_left is.done (l ∷ []) k ((is.same k).0 (i, omega (arith, low'), at))
-
--- the letter is not known, or the opposite was there
-pub assumes_unknown : (greatest : ℕ) (whole old : List Literal) (l : Literal) (new : List Literal) (values next : List Truth)
-    → IsAssuming greatest whole old values → old ≡ l ∷ new → ¬ IsKnown greatest l
-    → IsAssumed greatest whole (falses_in next) false
-assumes_unknown greatest whole old l new values next is e unknown =
-    λ both. unknown (All-contains (IsKnown greatest) whole l both.0 (first_there whole is.done old l new is.cut e))
 
 pub assumes_pair : (greatest : ℕ) (whole old : List Literal) (l : Literal) (new : List Literal) (values next : List Truth)
     → IsAssuming greatest whole old values → old ≡ l ∷ new → value_of values l ≡ True

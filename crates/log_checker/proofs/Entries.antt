@@ -1,5 +1,5 @@
 -- Lines that are stored ascending, some of them marked.
-use Rattle.std.proofs.Common.{◌≡◌, ℕ, zero, suc, ◌+◌, ◌-◌, ◌<◌, ◌≤◌, ◌==◌, Bool, true, false, not, cond, ◌||◌, inl, inr, List, [], ◌∷◌, ◌++◌, length, get_or}
+use Rattle.std.proofs.Common.{◌≡◌, ℕ, zero, suc, ◌+◌, ◌-◌, ◌<◌, ◌≤◌, ◌==◌, Bool, true, false, not, cond, ◌||◌, inl, inr, List, ◌∷◌, ◌++◌, length, get_or, []}
 use Rattle.std.proofs.Common.{drop, map, set, filter, All, Some, None, refl, sym, ap, ◌∙◌, subst, arith}
 use Rattle.std.proofs.lemmas.Bool.{cond-false, cond-true, cases_order, cases_eq, eq-eqb, ne_eqb}
 use Rattle.std.proofs.lemmas.List.{length-set, length_push, map-append, length-map}
@@ -75,10 +75,6 @@ found_some (e ∷ es) n (suc i) below at is less = go e.live (found_some es n i 
     go true rest =
         cond-false (e.number == n) (Some e.literals) (found (live_of es) n) (ne_eqb e.number n (λ same. omega (arith, same, less 0 (omega arith)))) ∙ rest
     go false rest = rest
-
--- what stands at the place that was sought
-pub others_past : (es : List Entry) (n place : ℕ) → ((i : ℕ) → i < place → number_at es i < n) → length es ≤ place → AreOthers es n
-others_past es n place less high i below at = absurd (omega (arith, at, less i (omega (arith, below, high))))
 
 pub others_there : (es : List Entry) (n place : ℕ) → Ascends 0 es → place < length es → ((i : ℕ) → i < place → number_at es i < n)
     → ((i : ℕ) → place ≤ i → i < length es → n ≤ number_at es i)
@@ -223,18 +219,6 @@ pub record IsLeft (es : List Entry) (place index left : ℕ) : Type 0 where
   pub low : left < length (live_of (drop index es))
   pub same : get_or (live_of (drop index es)) left no_line ≡ get_or (live_of es) place no_line
 
-left_at : (es : List Entry) (index left : ℕ) → left < length (live_of (drop index es)) → index < length es
-left_at [] index left low = absurd (nothing index low)
-  where
-    nothing : (k : ℕ) → left < length (live_of (drop k [])) → ⊥
-    nothing zero l = omega (arith, l)
-    nothing (suc k) l = omega (arith, l)
-left_at (e ∷ es) zero left low = omega arith
-left_at (e ∷ es) (suc index) left low = omega (arith, left_at es index left low)
-
-pub left_within : (es : List Entry) (place index left : ℕ) → IsLeft es place index left → index < length es
-left_within es place index left is = left_at es index left is.low
-
 drop_at : (es : List Entry) (i : ℕ) → i < length es → drop i es ≡ get_or es i blank ∷ drop (i + 1) es
 drop_at [] i below = absurd (omega (arith, below))
 drop_at (e ∷ es) zero below = refl
@@ -247,29 +231,6 @@ split : (es : List Entry) (i : ℕ) (b : Bool) → i < length es → (get_or es 
     → live_of (drop i es) ≡ map line_of (cond b (get_or es i blank ∷ filter (λ x. x.live) (drop (i + 1) es)) (filter (λ x. x.live) (drop (i + 1) es)))
 split es i b below is = ap live_of (drop_at es i below)
     ∙ ap (λ c. map line_of (cond c (get_or es i blank ∷ filter (λ x. x.live) (drop (i + 1) es)) (filter (λ x. x.live) (drop (i + 1) es)))) is
-
-pub left_dead : (es : List Entry) (place index left : ℕ) → IsLeft es place index left → (get_or es index blank).live ≡ false → IsLeft es place (index + 1) left
-left_dead es place index left is dead =
-    let e = split es index false (left_within es place index left is) dead in record {
-      low = subst (λ ls. left < length ls) e is.low;
-      same = ap (λ ls. get_or ls left no_line) (sym e) ∙ is.same;
-    }
-
-pub left_live : (es : List Entry) (place index left : ℕ) → IsLeft es place index left
-    → (get_or es index blank).live ≡ true → 0 < left → IsLeft es place (index + 1) (left - 1)
-left_live es place index left is live some =
-    let e = split es index true (left_within es place index left is) live in
-    let l : left ≡ suc (left - 1) = omega (arith, some) in record {
-      low = omega (arith, some, subst (λ ls. left < length ls) e is.low);
-      same = ap (λ k. get_or (line_of (get_or es index blank) ∷ live_of (drop (index + 1) es)) k no_line) (sym l)
-          ∙ ap (λ ls. get_or ls left no_line) (sym e) ∙ is.same;
-    }
-
-pub left_here : (es : List Entry) (place index left : ℕ) → IsLeft es place index left
-    → (get_or es index blank).live ≡ true → left ≡ 0 → line_of (get_or es index blank) ≡ get_or (live_of es) place no_line
-left_here es place index left is live none =
-    let e = split es index true (left_within es place index left is) live in
-    ap (λ ls. get_or ls 0 no_line) (sym e) ∙ ap (λ k. get_or (live_of (drop index es)) k no_line) (sym none) ∙ is.same
 
 -- an element is read with any default
 pub any_default : (es : List Entry) (i : ℕ) (d e : Entry) → i < length es → get_or es i d ≡ get_or es i e

@@ -2,7 +2,7 @@
 use Rattle.std.proofs.Common.{◌≡◌, ℕ, ◌+◌, ◌-◌, ◌<◌, ◌≤◌, List, [], ◌∷◌, ◌++◌, length, slice_get, take, drop, All, Contains, Some, refl, sym, ap, ◌∙◌, subst}
 use Rattle.std.proofs.Common.{arith, append_assoc}
 use Rattle.std.proofs.lemmas.List.{append-nil, take_more, take_all, take-append-drop}
-use Rattle.std.proofs.lemmas.List.Elements.{All-push, All-nil, All-contains, All-get_or, Contains-append_right}
+use Rattle.std.proofs.lemmas.List.Elements.{All-push, All-contains, All-get_or, Contains-append_right}
 use Rattle.std.proofs.lemmas.Option.{get_or_from_slice_get}
 use Rattle.cnf_base.specs.declared.literal.Literal.{Literal}
 use Rattle.cnf_base.specs.Known.{IsKnown, AreKnown}
@@ -24,9 +24,6 @@ pub record IsRead (greatest : ℕ) (falses whole rest : List Literal) (outcome :
   pub cut : whole ≡ done ++ rest
   pub known : All (IsKnown greatest) done
   pub is : IsOutcome falses done outcome
-
-pub read_none : (greatest : ℕ) (falses whole : List Literal) → IsRead greatest falses whole whole AllFalse
-read_none greatest falses whole = record { done = []; cut = refl; known = All-nil (IsKnown greatest); is = All-nil (λ l. Contains falses l) }
 
 -- the first of what is to come stands behind what is read
 moved : (whole done old : List Literal) (l : Literal) (new : List Literal) → whole ≡ done ++ old → old ≡ l ∷ new → whole ≡ (done ++ l ∷ []) ++ new

@@ -1,5 +1,5 @@
 -- Hints are gone through, one by one.
-use Rattle.std.proofs.Common.{◌≡◌, ◌↔◌, ℕ, zero, suc, Bool, true, false, not, is_some, MatchOption, IsTrue, ◌-◌, ◌<◌, ◌≤◌, ◌⊎◌, inl, inr, List, [], ◌∷◌, length}
+use Rattle.std.proofs.Common.{◌≡◌, ◌↔◌, ℕ, zero, suc, Bool, true, false, not, is_some, MatchOption, IsTrue, ◌-◌, ◌<◌, ◌≤◌, ◌⊎◌, inl, inr, List, ◌∷◌, length, []}
 use Rattle.std.proofs.Common.{get_or, slice_get, set, All, Contains, Option, Some, None, refl, sym, ◌∙◌, subst, arith}
 use mathlib.Core.Bool.{false≢true}
 use Rattle.std.proofs.lemmas.List.Elements.{All-weaker, All-contains, Contains-append_right}
@@ -18,7 +18,7 @@ use Rattle.log_checker.specs.declared.assignment.Truth.TheVariants.{Unset}
 use Rattle.log_checker.specs.declared.outcome.ClauseStatus.{ClauseStatus}
 use Rattle.log_checker.specs.declared.outcome.ClauseStatus.TheVariants.{AllFalse, Forces, Neither}
 use Rattle.log_checker.proofs.Falses.{unset_from, falses_more}
-use Rattle.log_checker.proofs.OneHint.{hints_go_on, Begins, begins, no_refutes}
+use Rattle.log_checker.proofs.OneHint.{hints_go_on, Begins, begins}
 
 -- lists of literals with the same ones
 abbrev pub Same : List Literal → List Literal → Type 0
@@ -87,10 +87,6 @@ module _ (clauses : List (List Literal)) (lines : ℕ → Option (List Literal))
         λ refutes. refutes_same (law.0 (subst (RefutesAmong clauses lines greatest F) e (remain.1 refutes))) next (λ l. ((same l).1, (same l).0)),
       )
 
-  -- no hints refute nothing
-  pub remain_none : (F G : List Literal) (old all : List Hint) → Remain F old G all → old ≡ [] → ¬ RefutesAmong clauses lines greatest G all
-  remain_none F G old all remain e refutes = no_refutes clauses lines greatest (remain.1 refutes) e
-
   -- the letter of what is forced is known
   pub forced_known : (F : List Literal) (hint : Hint) (u : Literal) → AreKnown greatest clauses → IsHintOutcome clauses lines greatest F hint (Forces u)
       → IsKnown greatest u
@@ -138,18 +134,6 @@ module _ (clauses : List (List Literal)) (lines : ℕ → Option (List Literal))
           one : (clause : List Literal) → NamesAmong clauses lines greatest (hints.Clause (suc n)) clause → clause_at clauses (suc n) ≡ clause
           one clause other = let e : Some (clause_at clauses (suc n)) ≡ Some clause = sym there ∙ other.is in cc
 
-  pub unnamed_clause : (F : List Literal) (n : ℕ) → (n < 1) ⊎ (length clauses < n) → IsHintOutcome clauses lines greatest F (hints.Clause n) Neither
-  unnamed_clause F zero out clause names = absurd (none names.is)
-    where
-      none : None ≡ Some clause → ⊥
-      none e = cc
-  unnamed_clause F (suc n) out clause names = absurd (past clauses n (omega (arith, out)) names.is)
-    where
-      past : (cs : List (List Literal)) (k : ℕ) → length cs ≤ k → slice_get cs k ≡ Some clause → ⊥
-      past [] k high e = cc
-      past (c ∷ cs) zero high e = omega (arith, high)
-      past (c ∷ cs) (suc k) high e = past cs k (omega (arith, high)) e
-
   pub named_line : (F : List Literal) (n : ℕ) (line : List Literal) (o : ClauseStatus) → lines n ≡ Some line → IsLineOutcome greatest F line o
       → IsHintOutcome clauses lines greatest F (hints.Line n) o
   named_line F n line o there is = go o is
@@ -162,12 +146,6 @@ module _ (clauses : List (List Literal)) (lines : ℕ → Option (List Literal))
       go (Forces u) h = (line, record { is = there; within = λ m e. h.0 }, h.1)
       go Neither h = λ clause other. subst (λ c. IsOutcome F c Neither) (one clause other)
           (h (subst (All (IsKnown greatest)) (sym (one clause other)) (other.within n refl)))
-
-  pub unnamed_line : (F : List Literal) (n : ℕ) → lines n ≡ None → IsHintOutcome clauses lines greatest F (hints.Line n) Neither
-  unnamed_line F n none clause names = absurd (clash (sym none ∙ names.is))
-    where
-      clash : None ≡ Some clause → ⊥
-      clash e = cc
 
   -- the line is a hinted step exactly where it may be assumed false and the hints refute then
   pub step_is : (line F : List Literal) (hs : List Hint) → All (IsKnown greatest) line × HasNoPair line × Same F line

@@ -2,11 +2,10 @@
 use Rattle.std.proofs.Common.{◌≡◌, ℕ, zero, suc, ◌+◌, ◌-◌, ◌<◌, ◌≤◌, IfSome, Option, Some, None, List, [], ◌∷◌, length, get_or, drop, All, refl, sym, ap, ◌∙◌}
 use Rattle.std.proofs.Common.{subst, arith}
 use Rattle.cnf_base.specs.declared.literal.Literal.{Literal}
-use Rattle.cnf_base.specs.Known.{AreKnown}
 use Rattle.cert_text.specs.Text.{Part}
 use Rattle.cert_text.specs.Live.{lines_of, IsGoodLine}
 use Rattle.log_checker.specs.Judging.{IsFirstBad, IsLinesAnswer, AreAnswered, end_of, prefer, first_answer}
-use Rattle.log_checker.specs.Pieces.{cut_at, AreCuts, IsJudged, KeepSizes, pieces_of, answer_by, IsScratch}
+use Rattle.log_checker.specs.Pieces.{cut_at, AreCuts, IsJudged, KeepSizes, pieces_of, answer_by}
 use Rattle.log_checker.specs.declared.worker.Area.{Area}
 use Rattle.log_checker.specs.declared.lines.Lines.{Lines}
 use Rattle.log_checker.proofs.Ranges.{pieces_answer}
@@ -107,20 +106,3 @@ pub lines_answer : (clauses : List (List Literal)) (parts : List Part) (letters 
     → IsFirstBad (IsGoodLine clauses letters parts) 0 (length (lines_of parts)) bad → IsLinesAnswer clauses letters parts r
 lines_answer clauses parts letters None r at is = subst (IsLinesAnswer clauses letters parts) (sym at) is
 lines_answer clauses parts letters (Some k) r at is = subst (IsLinesAnswer clauses letters parts) (sym at) (k, refl, is)
-
--- a scratch keeps its sizes
-pub scratch_still : (letters : ℕ) (old new : List Area) (before after : List ℕ) → KeepSizes old new → length after ≡ length before
-    → IsScratch letters old before → IsScratch letters new after
-scratch_still letters old new before after keep same scratch = record {
-  some = omega (arith, keep.count, scratch.some);
-  few = omega (arith, keep.count, scratch.few);
-  sizes = λ i d low. let there : i < length old = omega (arith, low, keep.count) in keep.each i d there ∙ scratch.sizes i d there;
-  cut = omega (arith, same, scratch.cut, keep.count);
-}
-
--- in a scratch
-pub scratch_known : (clauses : List (List Literal)) (letters : ℕ) (areas : List Area) (cuts : List ℕ) → IsScratch letters areas cuts → AreKnown letters clauses
-    → All (λ (a : Area). AreKnown (length a.assignment - 1) clauses) areas
-scratch_known clauses letters areas cuts scratch known = λ i d low.
-    let same : length (get_or areas i d).assignment - 1 ≡ letters = omega (arith, scratch.sizes i d low) in
-    subst (λ n. AreKnown n clauses) (sym same) known

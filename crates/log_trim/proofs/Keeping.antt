@@ -1,5 +1,5 @@
 -- What is kept of a list, step by step, and where it stands.
-use Rattle.std.proofs.Common.{◌≡◌, ℕ, zero, suc, ◌+◌, ◌<◌, ◌≤◌, inl, inr, Bool, true, false, IsTrue, IsFalse, List, [], ◌∷◌, ◌++◌, length, take, get_or, Some}
+use Rattle.std.proofs.Common.{◌≡◌, ℕ, zero, suc, ◌+◌, ◌<◌, ◌≤◌, inl, inr, Bool, true, false, IsTrue, IsFalse, List, ◌∷◌, ◌++◌, length, take, get_or, Some, []}
 use Rattle.std.proofs.Common.{slice_get, All, Contains, if◌then◌else◌, refl, sym, ap, subst, ◌∙◌, arith}
 use Rattle.std.proofs.Math.Seq.{take-suc, take-length}
 use Rattle.std.proofs.lemmas.Bool.{cases_lt}
@@ -78,19 +78,6 @@ kept_from_few M n (x ∷ xs) = go (M n) (kept_from_few M (suc n) xs)
     go : (b : Bool) → length (kept_from M (suc n) xs) ≤ length xs → length (if b then x ∷ kept_from M (suc n) xs else kept_from M (suc n) xs) ≤ suc (length xs)
     go true h = omega arith
     go false h = omega arith
-
--- as many of two lists of one length are kept
-pub kept_from_paired : {X Y : Type 0} (M : Marks) (n : ℕ) (xs : List X) (ys : List Y) → length xs ≡ length ys
-    → length (kept_from M n xs) ≡ length (kept_from M n ys)
-kept_from_paired M n [] [] e = refl
-kept_from_paired M n [] (y ∷ ys) e = absurd (omega arith)
-kept_from_paired M n (x ∷ xs) [] e = absurd (omega arith)
-kept_from_paired M n (x ∷ xs) (y ∷ ys) e = go (M n) (kept_from_paired M (suc n) xs ys (omega arith))
-  where
-    go : (b : Bool) → length (kept_from M (suc n) xs) ≡ length (kept_from M (suc n) ys)
-        → length (if b then x ∷ kept_from M (suc n) xs else kept_from M (suc n) xs) ≡ length (if b then y ∷ kept_from M (suc n) ys else kept_from M (suc n) ys)
-    go true h = ap suc h
-    go false h = h
 
 -- what is kept was there
 pub contains_kept : {X : Type 0} (M : Marks) (n : ℕ) (xs : List X) (y : X) → Contains (kept_from M n xs) y → Contains xs y

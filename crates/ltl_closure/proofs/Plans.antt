@@ -193,7 +193,3 @@ module _ (t : Table) where
   -- the plan and the note of its number are less work than the node
   pub unary_less : (s : Bool) (op : UnaryOp) (a : ℕ) → weights t (unary_plan s op a) + 1 < cost (Unary op (tree_at t a))
   unary_less s op a = shape_less s (shape op) a
-
-  pub binary_less : (s : Bool) (op : BinaryOp) (a b : ℕ) → weights t (binary_plan s op a b) + 1 < cost (Binary op (tree_at t a) (tree_at t b))
-  binary_less s two.And a b = omega arith
-  binary_less s op a b = omega arith

@@ -28,11 +28,6 @@ grown_front n l (Some content) y z within g h =
 pub stayed_front : (piece content kept : List ℕ) → kept ≡ content → GrowsByFront piece (Some content) (Some kept)
 stayed_front piece content kept e = (0, omega arith, ap Some (e ∙ sym (append-nil content)))
 
--- what lost some bytes lost a front
-pub lost_front : (lost : List ℕ) (most : ℕ) (x y : Option (List ℕ)) → Loses lost x y → length lost ≤ most → LosesAtMost most x y
-lost_front lost most None y l few = tt
-lost_front lost most (Some rest) y (left, split, told) few = (lost, left, split, few, told)
-
 -- and after some more a longer one
 pub lost_more : (lost into : List ℕ) (n most more : ℕ) (x y z : Option (List ℕ)) → Loses lost x y → Gives n into y z
     → length lost ≤ most → n ≤ more → LosesAtMost (most + more) x z

@@ -1,5 +1,5 @@
 -- What the stack and the table stand for, before and after a node is pushed.
-use Rattle.std.proofs.Common.{◌≡◌, ℕ, ◌<◌, ◌≤◌, Bool, true, false, ◌||◌, ◌==◌, List, [], ◌∷◌, ◌++◌, length, arith, refl, sym, ap, ap₂, ◌∙◌, subst}
+use Rattle.std.proofs.Common.{◌≡◌, ℕ, ◌<◌, ◌≤◌, Bool, true, false, ◌||◌, ◌==◌, List, ◌∷◌, ◌++◌, length, arith, refl, sym, ap, ap₂, ◌∙◌, subst, []}
 use Rattle.std.proofs.Common.{length-append}
 use Rattle.std.specs.Prelude.{Option, Some, None, nat_le, if◌then◌else◌, MatchOption}
 use Rattle.std.specs.List.{list_any}
@@ -14,7 +14,7 @@ use Rattle.ltl_syntax.proofs.Sizes.{sizes-push}
 use Rattle.ltl_parser.specs.declared.stack.Waiting.{Waiting}
 use Rattle.ltl_parser.specs.declared.stack.Waiting.TheVariants as waits
 use Rattle.ltl_parser.specs.Grammar.{strength}
-use Rattle.ltl_parser.specs.Standing.{Paren, Pre, Half, parens, IsHeld, IsStopped, frames, to_make, to_weigh, AreRoots, ArePending, applied, Becomes}
+use Rattle.ltl_parser.specs.Standing.{Paren, Pre, Half, parens, IsHeld, IsStopped, frames, AreRoots, ArePending, applied, Becomes}
 use Rattle.ltl_parser.proofs.Holding.{apply_prefix, apply_infix}
 
 pub frames_kept : (t u : Table) (ws : List Waiting) (high : ℕ) → AreRoots t ws high → ((k : ℕ) → k < length t.nodes → tree_at u k ≡ tree_at t k)
@@ -75,22 +75,6 @@ stopped m t [] a e = tt
 stopped m t (waits.Paren ∷ ws) a e = tt
 stopped m t (waits.Prefix op ∷ ws) a e = absurd (cc)
 stopped m t (waits.Infix left op ∷ ws) a e = level_lt m (strength op) (not_chosen (nat_le m (strength op)) (nodes.Binary op left a) e)
-
-pub some_to_make : (m : ℕ) (ws : List Waiting) (a : ℕ) (node : Node) → applied m ws a ≡ Some node → 0 < to_make ws
-some_to_make m [] a node e = absurd (cc)
-some_to_make m (waits.Paren ∷ ws) a node e = absurd (cc)
-some_to_make m (waits.Prefix op ∷ ws) a node e = omega arith
-some_to_make m (waits.Infix left op ∷ ws) a node e = omega arith
-
-pub enough_to_weigh : (m : ℕ) (ws : List Waiting) (a : ℕ) (node : Node) → applied m ws a ≡ Some node → node_size node ≤ to_weigh ws
-enough_to_weigh m [] a node e = absurd (cc)
-enough_to_weigh m (waits.Paren ∷ ws) a node e = absurd (cc)
-enough_to_weigh m (waits.Prefix op ∷ ws) a node e = let n : nodes.Unary op a ≡ node = cc in omega (arith, ap node_size n)
-enough_to_weigh m (waits.Infix left op ∷ ws) a node e = let n = chosen (nat_le m (strength op)) (nodes.Binary op left a) node e in
-    omega (arith, ap node_size n.1)
-
-pub becomes_itself : (m : ℕ) (t : Table) (ws : List Waiting) (a : ℕ) → ArePending t ws a → Becomes m t ws a t ws a
-becomes_itself m t ws a p = record { held = λ ts h. h; depth = refl; pending = p; room = refl; size = refl; more = omega arith; names = refl }
 
 pub becomes_more : (m : ℕ) (t u v : Table) (ws xs ys : List Waiting) (a b c : ℕ) → Becomes m t ws a u xs b → Becomes m u xs b v ys c → Becomes m t ws a v ys c
 becomes_more m t u v ws xs ys a b c p q = record {

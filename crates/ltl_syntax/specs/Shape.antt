@@ -7,7 +7,7 @@ use Rattle.ltl_syntax.specs.declared.node.UnaryOp.TheVariants as one
 pub data Direction : Type 0 where
   Future Past : Direction
 
--- the positions one step away, so many steps, a number of steps between these two, and all from the position itself on
+-- the positions one step away, exactly n steps, a number of steps between two numbers, and all from the position itself on
 pub data Range : Type 0 where
   Step Ever : Range
   Exactly : ℕ → Range

@@ -1,6 +1,6 @@
 -- Claims that agree at the numbers of a range: the operators keep agreement, and a dual agrees with the negation of its operator.
 use Rattle.std.proofs.Common.{ℕ, ◌⊎◌, inl, inr, ◌↔◌, arith}
-use Rattle.ltl_word.specs.Claims.{Claim, IsUntil, IsReleased, IsSince, IsTriggered, Always', Never}
+use Rattle.ltl_word.specs.Claims.{Claim, IsUntil, IsReleased, IsSince, IsTriggered, Always'}
 use Rattle.ltl_word.proofs.Search.{IsDecided, ¬_decided}
 use Rattle.ltl_word.proofs.Expansion.{IsClosed}
 use Rattle.ltl_word.proofs.Duality.{Negated, HasHorizon, Released-from_no_until, no_release-from_until, no_until-from_release, Released-from_not, Since_decided}
@@ -61,12 +61,6 @@ Same-turned A B f = record { to = f.back; back = f.to }
 -- from agreement number by number, the other way round
 pub Same-back : {Q : Claim} (A B : Claim) → ((i : ℕ) → Q i → B i ↔ A i) → Same Q A B
 Same-back A B f = record { to = λ i q a. (f i q).1 a; back = λ i q b. (f i q).0 b }
-
-pub Same-never : {Q : Claim} → Same Q Never (Negated Always')
-Same-never = record { to = λ i q x. absurd x; back = λ i q h. h tt }
-
-pub Same-always : {Q : Claim} → Same Q Always' (Negated Never)
-Same-always = record { to = λ i q x y. y; back = λ i q h. tt }
 
 pub Same-not : {Q : Claim} (A B : Claim) → Same Q A B → Same Q (Negated A) (Negated B)
 Same-not A B f = record { to = λ i q h b. h (f.back i q b); back = λ i q h a. h (f.to i q a) }

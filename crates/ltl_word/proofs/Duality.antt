@@ -2,7 +2,7 @@
 -- From them each operator on decided claims is decided.
 use Rattle.std.proofs.Common.{ℕ, suc, ◌<◌, ◌≤◌, inl, inr, arith}
 use native.Mathlib.Decide.{dec_le}
-use Rattle.ltl_word.specs.Claims.{Claim, IsUntil, IsReleased, IsSince, IsTriggered, Always', Never}
+use Rattle.ltl_word.specs.Claims.{Claim, IsUntil, IsReleased, IsSince, IsTriggered}
 use Rattle.ltl_word.proofs.Search.{IsDecided, ¬_decided, ×_decided, first_or_none, between_decided, after_decided}
 
 abbrev pub Negated : Claim → Claim
@@ -110,9 +110,3 @@ Triggered_decided A B da db i =
       | yes u ↦ no (no_trigger-from_since A B i u)
       | no n ↦ yes (Triggered-from_no_since A B da db i n)
     ]
-
-pub Always_decided : IsDecided Always'
-Always_decided i = yes tt
-
-pub Never_decided : IsDecided Never
-Never_decided i = no (λ h. h)

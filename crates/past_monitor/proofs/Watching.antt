@@ -1,11 +1,11 @@
 -- The loop over the lines of a text.
 use Rattle.std.proofs.Common.{◌≡◌, inl, inr, ℕ, zero, suc, ◌+◌, ◌-◌, ◌<◌, ◌≤◌, ◌↔◌, Bool, true, false, List, [], ◌∷◌, ◌++◌, length, length-append, take}
-use Rattle.std.proofs.Common.{slice_index_or, Option, Some, None, Result, Ok, Err, IsErr, IfErr, IsTrue, refl, sym, subst, ap, ◌∙◌, arith, true≢false}
+use Rattle.std.proofs.Common.{slice_index_or, Option, Some, Result, Ok, Err, IsErr, IfErr, IsTrue, refl, sym, subst, ap, ◌∙◌, arith, true≢false}
 use Rattle.std.specs.Result.{IsErrAnd}
 use Rattle.std.proofs.Math.ListN.{get_or-append}
 use Rattle.std.proofs.Math.Seq.{get_or-append_seam}
 use Rattle.std.proofs.lemmas.Bool.{cases_lt}
-use Rattle.std.proofs.lemmas.List.{append_assoc, append-nil}
+use Rattle.std.proofs.lemmas.List.{append_assoc}
 use Rattle.ltl_syntax.specs.Formula.{Formula}
 use Rattle.ltl_word.specs.declared.trace.Trace.TheVariants.{Finite}
 use Rattle.ltl_word.specs.Trace.{Names}
@@ -169,14 +169,6 @@ module _ (f : Formula) (text t : List ℕ) (m : MonitorValue) (answers : List Bo
             ap (λ ls. line_at ls n) whole ∙ get_or-append is.done (line ∷ lines_left rest) [] (n - 1) low in
             none_bad is.done is.states is.are (n - 1) low (subst IsBad e worse);
       }
-
--- all lines are done
-pub all_done : (f : Formula) (text : List ℕ) (rest : Option (List ℕ)) (m : MonitorValue) (answers : List Bool) (number : ℕ)
-    → rest ≡ None → IsWatching f text rest m answers number
-    → IsPast f × ((states : List Names) × AreStates (lines_of text) states × AreAnswers f states answers)
-all_done f text rest m answers number e is =
-    let whole : lines_of text ≡ is.done = is.whole ∙ (ap (λ r. is.done ++ lines_left r) e ∙ append-nil is.done) in
-    (is.past, (is.states, subst (λ ls. AreStates ls is.states) (sym whole) is.are, is.answered))
 
 -- a refusal of a line is one of the text
 pub refused_line : {A : Type 0} (f : Formula) (text : List ℕ) (e : WatchRefused) (r : Result A WatchRefused) → ¬ (e ≡ refusals.Future)

@@ -1,11 +1,9 @@
 -- What was taken from a source, and what it had left.
-use Rattle.std.proofs.Common.{◌≡◌, ◌∙◌, ℕ, ◌+◌, ◌<◌, ◌≤◌, List, [], ◌++◌, length, inl, inr, Option, Some, None, refl, ap, arith, length-append, append-nil}
+use Rattle.std.proofs.Common.{◌≡◌, ◌∙◌, ◌+◌, ◌<◌, ◌≤◌, List, [], ◌++◌, length, inl, inr, Option, Some, None, refl, ap, arith, length-append, append-nil, ℕ}
 use Rattle.ltl_io.specs.Outside.{TakesWhole}
-use Rattle.ltl_syntax.specs.Formula.{Formula}
 use Rattle.report.specs.declared.fault.Fault.{Fault}
 use Rattle.program_input.specs.Taking.{AreLeft, IsTakenUpTo, IsTakenWhole}
-use Rattle.program_input.specs.Claims.{IsLeft}
-use Rattle.program_input.specs.Reading.{RefusesPart, too_long, lexical, grammar, many_nodes, IsParted}
+use Rattle.program_input.specs.Reading.{RefusesPart, too_long, lexical, grammar, many_nodes}
 
 pub some_left : (rest : Option (List ℕ)) → (bytes : List ℕ) × AreLeft rest bytes
 some_left (Some told) = (told, refl)
@@ -22,12 +20,6 @@ pub whole_left : (most : ℕ) (text : List ℕ) (rest after : Option (List ℕ))
 whole_left most text (Some told) after (left, whole, is, inl e) h = whole ∙ ap (λ l. text ++ l) e ∙ append-nil text
 whole_left most text (Some told) after (left, whole, is, inr l) h = absurd (omega arith)
 whole_left most text None after t h = tt
-
--- the answer to the parts of what was taken from a source is that to the parts of what it had left
-pub parted_left : (Answer : Type 0) (refused : Fault → Answer) (Claim : Formula → List ℕ → Answer → Type 0) (most : ℕ) (text : List ℕ)
-    (rest after : Option (List ℕ)) (a : Answer)
-    → TakesWhole most text rest after → length text ≤ most → IsParted Answer refused Claim text a → IsLeft Answer (IsParted Answer refused Claim) rest a
-parted_left Answer refused Claim most text rest after a read short h = record { bytes = text; left = whole_left most text rest after read short; lawful = h }
 
 -- a text that is too long is refused as each other such text
 pub long_refusal : (text bytes : List ℕ) (fault : Fault) → 1048576 < length text → 1048576 < length bytes → RefusesPart text fault → RefusesPart bytes fault

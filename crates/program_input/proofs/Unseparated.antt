@@ -20,7 +20,7 @@ use Rattle.ltl_lexer.specs.declared.token.UnaryWord.TheVariants as unary
 use Rattle.ltl_lexer.specs.Tokens.{is_white, AreWhite, sign, IsBounded, Spells, AreTokens}
 use Rattle.ltl_lexer.proofs.Cuts.{cut_within}
 use Rattle.ltl_lexer.proofs.Words.{word_ascii, bounded_front, is_word_byte}
-use Rattle.program_input.specs.Parts.{newline, IsSeparator, EndsLine, IsLine, HasNoSeparator, IsCut}
+use Rattle.program_input.specs.Parts.{newline, IsSeparator, EndsLine, IsLine, IsCut}
 
 -- ---- what the bytes of a token are not
 
@@ -187,12 +187,6 @@ dashes_of bytes before line after h = go h.separator
     go : IsSeparator line → (more : List ℕ) × (bytes ≡ before ++ 45 ∷ 45 ∷ 45 ∷ more)
     go (inl e) = (after, h.whole ∙ ap (λ l. (before ++ l) ++ after) e ∙ append_assoc before (codes "---") after)
     go (inr e) = (13 ∷ after, h.whole ∙ ap (λ l. (before ++ l) ++ after) e ∙ append_assoc before (codes "---" ++ 13 ∷ []) after)
-
--- a text that has tokens has no separator line
-pub unseparated : (text : List ℕ) (ts : List Token) → AreTokens 0 text ts None → HasNoSeparator text
-unseparated text ts lexed before line after h =
-    let d = dashes_of text before line after h in
-    no_dashes ts 0 text before d.0 lexed (starts before h.text h.begins) d.1
 
 -- ---- what stands behind such a text
 

@@ -61,7 +61,7 @@ fn round_size(workers: u32) -> usize
     workers as usize * FOR_EACH
 }
 
-/// Tells of so many questions from this one on, each with how many stand behind it.
+/// Tells of a number of questions from this one on, each with how many stand behind it.
 fn announce<W: Watch>(document: &Document, asks: &[Asking], from: usize, many: usize, watch: &mut W)
     requires { from + many ≤ length asks.now }
 {

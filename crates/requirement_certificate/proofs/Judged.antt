@@ -5,8 +5,8 @@ use Rattle.ltl_syntax.specs.Formula.{Formula}
 use Rattle.ltl_parser.specs.Text.{IsAccepted}
 use Rattle.claims.specs.Certificate.{Certificate}
 use Rattle.claims.specs.Lawful.{IsLawful}
-use Rattle.claim_text.specs.Text.{IsTextOf, IsFault}
-use Rattle.claim_text.specs.Laws.{TextsSayOne, TextsHaveNone}
+use Rattle.claim_text.specs.Text.{IsTextOf}
+use Rattle.claim_text.specs.Laws.{TextsSayOne}
 use Rattle.report.specs.declared.fault.Fault.{Fault}
 use Rattle.program_input.specs.Parts.{HasNoSeparator, IsCut}
 use Rattle.program_input.specs.Reading.{RefusesPart}
@@ -17,10 +17,6 @@ use Rattle.requirement_certificate.specs.Verified.{IsLawfulText, IsVerified}
 -- what is false is so where there is none
 pub none_so : {X : Type 0} → ¬ X → IsTrue false ↔ X
 none_so not = (λ t. let e : false ≡ true = t in absurd (cc), λ x. absurd (not x))
-
--- bytes that are no text of a certificate show nothing
-pub faulty_not_lawful : (kind : Kind) (f : Formula) (text : List ℕ) (byte : ℕ) → TextsHaveNone → IsFault text byte → ¬ IsLawfulText kind f text
-faulty_not_lawful kind f text byte none fault h = none text h.certificate byte h.is fault
 
 -- the text is that of a lawful certificate where the one that it is read as is lawful
 pub read_lawful : (kind : Kind) (f : Formula) (text : List ℕ) (c : Certificate) → TextsSayOne → IsTextOf text c → IsLawfulText kind f text ↔ IsLawful f kind c

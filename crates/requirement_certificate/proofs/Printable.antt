@@ -104,35 +104,14 @@ condition_printable : (f : Formula) → IsPrintable f → All IsPrintable (trigg
 condition_printable (Const b) p = All-nil IsPrintable
 condition_printable (Letter name) p = All-nil IsPrintable
 condition_printable (Unary op a) p = All-nil IsPrintable
-condition_printable (Binary two.And a b) p = All-nil IsPrintable
-condition_printable (Binary two.Or a b) p = All-nil IsPrintable
 condition_printable (Binary two.Implies a b) p = alone (Unary one.Eventually a) (tt, p.0)
-condition_printable (Binary two.Iff a b) p = All-nil IsPrintable
-condition_printable (Binary two.Until a b) p = All-nil IsPrintable
-condition_printable (Binary two.Release a b) p = All-nil IsPrintable
-condition_printable (Binary two.WeakUntil a b) p = All-nil IsPrintable
-condition_printable (Binary two.StrongRelease a b) p = All-nil IsPrintable
-condition_printable (Binary two.Since a b) p = All-nil IsPrintable
-condition_printable (Binary two.Trigger a b) p = All-nil IsPrintable
+condition_printable (Binary op a b) p = All-nil IsPrintable
 
 trigger_printable : (f : Formula) → IsPrintable f → All IsPrintable (trigger_alone (trigger_of f))
 trigger_printable (Const b) p = All-nil IsPrintable
 trigger_printable (Letter name) p = All-nil IsPrintable
-trigger_printable (Unary one.Not a) p = All-nil IsPrintable
-trigger_printable (Unary one.Next a) p = All-nil IsPrintable
-trigger_printable (Unary one.WeakNext a) p = All-nil IsPrintable
-trigger_printable (Unary one.Eventually a) p = All-nil IsPrintable
 trigger_printable (Unary one.Always a) p = condition_printable a p.1
-trigger_printable (Unary one.Yesterday a) p = All-nil IsPrintable
-trigger_printable (Unary one.WeakYesterday a) p = All-nil IsPrintable
-trigger_printable (Unary one.Once a) p = All-nil IsPrintable
-trigger_printable (Unary one.Historically a) p = All-nil IsPrintable
-trigger_printable (Unary (one.NextTimes n) a) p = All-nil IsPrintable
-trigger_printable (Unary (one.YesterdayTimes n) a) p = All-nil IsPrintable
-trigger_printable (Unary (one.EventuallyIn m n) a) p = All-nil IsPrintable
-trigger_printable (Unary (one.AlwaysIn m n) a) p = All-nil IsPrintable
-trigger_printable (Unary (one.OnceIn m n) a) p = All-nil IsPrintable
-trigger_printable (Unary (one.HistoricallyIn m n) a) p = All-nil IsPrintable
+trigger_printable (Unary op a) p = All-nil IsPrintable
 trigger_printable (Binary op a b) p = All-nil IsPrintable
 
 asked_printable : (d : DocumentValue) (asking : Asking) → ItemsArePrintable d.items → All IsPrintable (asked_of d asking)

@@ -2,9 +2,9 @@
 //! cites it by a call.
 ghost use Rattle.requirement_certificate.specs.Laws.{CertificatesAreTaken, ReportsHaveFormulas};
 
-/// What is written of the first answer of a right report that says that there is no trace reads as its
-/// formula and as a certificate that is lawful for it, and is verified, where both are within the limits of
-/// texts.
+/// What is written of a right report is read as what it is: the formula of the first answer that there is no
+/// trace, and a certificate that is lawful for it. The certificate is verified. All this holds where both are
+/// within the limits of texts.
 pub fn certificates_are_taken()
     ensures { CertificatesAreTaken }
 {

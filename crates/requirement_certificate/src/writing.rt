@@ -13,8 +13,8 @@ use requirement_questions::Because;
 use std::alloc::{AllocError, Global};
 
 /// The formula and the certificate of the first answer of the report that says that there is no trace, with a
-/// separator line between: a conflict that is about what the scope names, or else the first such answer to a
-/// further question.
+/// separator line between. That is a conflict that is about what the scope names, or else the first such
+/// answer to a further question.
 pub fn certificate(
     alloc: Global,
     report: &Report,

@@ -1,33 +1,20 @@
 -- What is wrong with a text as a formula, and whether one is a letter.
-use Rattle.std.proofs.Common.{◌≡◌, ℕ, ◌<◌, ◌≤◌, ◌↔◌, inl, inr, List, Bool, IsTrue, sym, ap, subst, ◌∙◌}
+use Rattle.std.proofs.Common.{◌≡◌, ℕ, ◌↔◌, inl, List, Bool, IsTrue, sym, ap, subst, ◌∙◌}
 use Rattle.std.specs.Str.{bytes_eq}
 use Rattle.std.proofs.lemmas.Slice.Eq.{bytes_eq-Decides}
 use Rattle.ltl_parser.specs.Text.{IsAccepted}
 use Rattle.ltl_syntax.specs.Formula.{Formula, Letter, Name}
-use Rattle.ltl_syntax.specs.Size.{formula_size}
 use Rattle.formula_reading.specs.declared.reading.FormulaFault.{FormulaFault}
 use Rattle.formula_reading.specs.declared.reading.FormulaFault.TheVariants as wrong
 use Rattle.formula_reading.specs.Reading.{HasFormulaFault}
-use Rattle.requirement_document.specs.declared.fault.Cause.TheVariants as causes
-use Rattle.requirement_document.specs.Substitution.{Definitions, substituted}
-use Rattle.requirement_document.specs.Entry.{IsFormulaCause, IsLetter, IsPutIn}
+use Rattle.requirement_document.specs.Substitution.{Definitions}
+use Rattle.requirement_document.specs.Entry.{IsFormulaCause, IsLetter}
 use Rattle.requirement_document.specs.Inner.{cause_of}
 
 -- the fault of a text is wrong with it, whatever is put in
 pub fault_is_wrong : (ds : Definitions) (text : List ℕ) (fault : FormulaFault) → HasFormulaFault text fault → IsFormulaCause ds text (cause_of fault)
 fault_is_wrong ds text (wrong.Nodes count) h = (h.1.0, h.0, h.1.1, inl h.1.2, h.1.3)
 fault_is_wrong ds text other h = h
-
--- with what is defined put in it is too large
-pub put_is_large : (ds : Definitions) (text : List ℕ) (f : Formula) (size : ℕ) → IsAccepted text f → size ≡ formula_size (substituted ds f) → 16384 < size
-    → IsFormulaCause ds text (causes.Size size)
-put_is_large ds text f size a e many = (f, a.short, a.reads, inr e, many)
-
--- or within the limit
-pub put_is_small : (ds : Definitions) (text : List ℕ) (f g : Formula) (size : ℕ) → IsAccepted text f → size ≡ formula_size (substituted ds f) → size ≤ 16384
-    → g ≡ substituted ds f → IsPutIn ds text g
-put_is_small ds text f g size a e few same =
-    record { written = f; accepted = a; put = same; few = subst (λ n. n ≤ 16384) (e ∙ sym (ap formula_size same)) few }
 
 -- whether the formula of a text is the letter of the text
 pub letter_if : (name : List ℕ) (f : Formula) (b : Bool) → ((text : List ℕ) (f g : Formula) → IsAccepted text f → IsAccepted text g → f ≡ g)

@@ -1,5 +1,5 @@
 -- One entry more, behind those that are read.
-use Rattle.std.proofs.Common.{◌≡◌, ℕ, ◌+◌, ◌<◌, ◌≤◌, List, [], ◌∷◌, ◌++◌, map, take, length, get_or, Some, refl, sym, ap, subst, ◌∙◌, arith, append_assoc}
+use Rattle.std.proofs.Common.{◌≡◌, ℕ, ◌+◌, ◌<◌, ◌≤◌, List, ◌∷◌, ◌++◌, map, take, length, get_or, Some, refl, sym, ap, subst, ◌∙◌, arith, append_assoc, []}
 use Rattle.std.proofs.Common.{append-nil}
 use Rattle.std.specs.List.{slice_get}
 use Rattle.std.proofs.lemmas.List.{take_all, take_more, get_or-map, length-map, flat_map_more}
@@ -83,9 +83,6 @@ pub record AreAdded (role : Role) (defs : Definitions) (taken : List (List ℕ))
   pub added : List ItemValue
   pub items : AreItems role defs taken ds added
   pub behind : new ≡ old ++ added
-
-pub none_added : (role : Role) (defs : Definitions) (taken : List (List ℕ)) (old : List ItemValue) → AreAdded role defs taken [] old old
-none_added role defs taken old = record { added = []; items = tt; behind = sym (append-nil old) }
 
 pub item_on : (role : Role) (defs : Definitions) (taken names : List (List ℕ)) (vs : List Value) (i : ℕ) (v : Value) (before old new : List ItemValue)
     (x : ItemValue) → i < length vs → v ≡ get_or vs i v

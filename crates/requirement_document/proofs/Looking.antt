@@ -3,7 +3,7 @@ use Rattle.std.proofs.Common.{◌≡◌, ℕ, ◌<◌, ◌≤◌, List, [], ◌�
 use Rattle.std.proofs.Common.{◌∙◌}
 use Rattle.std.specs.Option.{MatchOption}
 use Rattle.std.proofs.lemmas.Bool.{lt-ltb, le-ltb}
-use Rattle.toml.specs.Data.{Data, Items, string, array, as_str, as_array}
+use Rattle.toml.specs.Data.{Data, Items, array, as_array}
 use Rattle.toml.specs.View.{view, items_of}
 use Rattle.toml.specs.declared.value.Value.{Value}
 use Rattle.requirement_document.specs.Document.{listed, entries_at}
@@ -12,11 +12,6 @@ use Rattle.requirement_document.specs.Document.{listed, entries_at}
 pub found_at : (r : Option (Bor Value)) (o : Option Data) → option_map (λ v. view v.now) r ≡ o → MatchOption r (o ≡ None) (λ v. o ≡ Some (view v.now))
 found_at None o e = sym e
 found_at (Some v) o e = sym e
-
--- a value that is a text
-pub text_given : (d : Data) (s : List ℕ) → Some s ≡ as_str d → d ≡ string s
-text_given (string t) s e = let h : t ≡ s = cc in ap string h
-text_given d s e = absurd (cc)
 
 -- a value that is an array
 pub array_given : (d : Data) (ds : Items) → Some ds ≡ as_array d → d ≡ array ds

@@ -1,34 +1,20 @@
 -- A tree that is put together again behind the nodes of a table.
-use Rattle.std.proofs.Common.{◌≡◌, ℕ, zero, suc, ◌<◌, ◌⊎◌, false, inl, inr, List, [], ◌∷◌, ◌++◌, length, get_or, Some, refl, sym, ap, ap₂, subst, ◌∙◌, arith}
-use Rattle.std.proofs.Common.{le_refl}
+use Rattle.std.proofs.Common.{◌≡◌, zero, suc, ◌<◌, ◌⊎◌, false, inl, inr, List, ◌∷◌, ◌++◌, length, get_or, Some, refl, sym, ap, ap₂, subst, ◌∙◌, arith, [], ℕ}
 use Rattle.std.specs.List.{slice_get}
-use Rattle.std.proofs.lemmas.List.{get_or-map, length-append}
+use Rattle.std.proofs.lemmas.List.{get_or-map}
 use Rattle.std.proofs.lemmas.Option.{slice_get-get_or}
 use Rattle.ltl_syntax.specs.declared.node.Node.{Node}
 use Rattle.ltl_syntax.specs.declared.node.Node.TheVariants as nodes
-use Rattle.ltl_syntax.specs.Formula.{Formula, Const, Letter, Name, Unary, Binary}
-use Rattle.ltl_syntax.specs.Size.{formula_size}
-use Rattle.ltl_syntax.specs.Table.{Table, Pushes, Names, IsFine, tree_at, tree_among, trees_of, made}
-use Rattle.requirement_document.specs.Substitution.{Definitions, found, or_letter, substituted}
-use Rattle.requirement_document.specs.Inner.{IsAt, AreAt, Keeps, HasSize, trees_under, put_over}
-
-pub keeps_itself : (t : Table) → Keeps t t
-keeps_itself t = record { longer = le_refl (length t.nodes); others = λ n h. refl }
+use Rattle.ltl_syntax.specs.Formula.{Formula, Const, Unary, Binary}
+use Rattle.ltl_syntax.specs.Table.{Table, IsFine, tree_at, tree_among, trees_of, made}
+use Rattle.requirement_document.specs.Substitution.{Definitions, substituted}
+use Rattle.requirement_document.specs.Inner.{IsAt, AreAt, Keeps, trees_under, put_over}
 
 pub keeps_on : (a b c : Table) → Keeps a b → Keeps b c → Keeps a c
 keeps_on a b c x y = record { longer = omega (arith, x.longer, y.longer); others = λ n h. y.others n (omega (arith, x.longer)) ∙ x.others n h }
 
-pub keeps_pushed : (a b : Table) (node : Node) → Pushes a node b → Keeps a b
-keeps_pushed a b node p = record { longer = omega (arith, ap length p.nodes, length-append a.nodes (node ∷ [])); others = p.others }
-
-pub keeps_named : (a b : Table) (text : List ℕ) (number : ℕ) → Names a text number b → Keeps a b
-keeps_named a b text number p = record { longer = omega (arith, ap length p.nodes); others = λ n h. ap (λ trees. tree_among trees n) p.trees }
-
 pub at_kept : (t u : Table) (f : Formula) (n : ℕ) → Keeps t u → IsAt t f n → IsAt u f n
 at_kept t u f n k a = record { there = omega (arith, k.longer, a.there); tree = k.others n a.there ∙ a.tree }
-
-pub at_pushed : (t u : Table) (node : Node) (n : ℕ) → n ≡ length t.nodes → Pushes t node u → IsAt u (made t.names (trees_of t) node) n
-at_pushed t u node n e p = record { there = omega (arith, e, ap length p.nodes, length-append t.nodes (node ∷ [])); tree = ap (tree_at u) e ∙ p.tree }
 
 -- a formula that is the same
 pub at_same : (t : Table) (f g : Formula) (n : ℕ) → f ≡ g → IsAt t f n → IsAt t g n
@@ -42,9 +28,6 @@ get_more (y ∷ xs) x (suc i) m e = on (get_more xs x i m e) where
   on : (slice_get xs i ≡ Some m) ⊎ ((i ≡ length xs) × (m ≡ x)) → (slice_get (y ∷ xs) (suc i) ≡ Some m) ⊎ ((suc i ≡ length (y ∷ xs)) × (m ≡ x))
   on (inl h) = inl h
   on (inr h) = inr (omega (arith, h.0), h.1)
-
-pub none_yet : (image : ℕ → Formula) (t : Table) → AreAt image t []
-none_yet image t i n e = absurd (cc)
 
 -- one node more, in a table that keeps the others
 pub are_more : (image : ℕ → Formula) (t u : Table) (numbers more : List ℕ) (n : ℕ) → AreAt image t numbers → Keeps t u → IsAt u (image (length numbers)) n
@@ -73,10 +56,6 @@ pub put_same : (ds : Definitions) (names : List (List ℕ)) (xs ys : List Formul
 put_same ds names xs ys count place (nodes.Unary op a) fine each = ap (Unary op) (each a fine)
 put_same ds names xs ys count place (nodes.Binary op a b) fine each = ap₂ (Binary op) (each a fine.0) (each b fine.1)
 put_same ds names xs ys count place other fine each = refl
-
--- the size of a letter that is defined
-pub size_defined : (ds : Definitions) (name : List ℕ) (f : Formula) (n : ℕ) → found ds name ≡ Some f → n ≡ formula_size f → HasSize ds (Letter (Name name)) n
-size_defined ds name f n e s = s ∙ sym (ap (λ o. formula_size (or_letter name o)) e)
 
 -- one node of the source more: copied, or with what is defined put in
 pub copied_on : (source t u : Table) (numbers more : List ℕ) (number : ℕ) (node : Node) (n : ℕ)

@@ -1,5 +1,5 @@
 -- The set of the names that are taken.
-use Rattle.std.proofs.Common.{◌≡◌, ℕ, false, ◌||◌, List, [], ◌∷◌, ◌++◌, map, length, refl, ap, ◌∙◌}
+use Rattle.std.proofs.Common.{◌≡◌, ℕ, false, ◌||◌, List, ◌∷◌, ◌++◌, map, refl, ap, ◌∙◌, []}
 use Rattle.std.specs.List.{list_any}
 use Rattle.std.specs.Str.{bytes_eq}
 use Rattle.std.proofs.lemmas.List.{map-append}
@@ -17,8 +17,3 @@ module _ {X : Type 0} (bytes : X → List ℕ) where
   name_more keys name text e h =
       let none : list_any (λ k. bytes_eq (bytes name) (bytes k)) keys ≡ false = rw e (any_name text keys ∙ h) in
       rw none (map-append bytes keys (name ∷ []) ∙ ap (λ t. map bytes keys ++ t ∷ []) e)
-
--- what has no bytes is empty
-pub no_bytes : (text : List ℕ) → length text ≡ 0 → text ≡ []
-no_bytes [] e = refl
-no_bytes (b ∷ bytes) e = absurd (cc)

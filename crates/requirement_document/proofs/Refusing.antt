@@ -14,7 +14,7 @@ use Rattle.requirement_document.specs.declared.fault.Refused.{Refused}
 use Rattle.requirement_document.specs.declared.fault.Refused.TheVariants as refused
 use Rattle.requirement_document.specs.declared.fault.Refusal.{Refusal}
 use Rattle.requirement_document.specs.declared.fault.Refusal.TheVariants as refusals
-use Rattle.requirement_document.specs.Keys.{knows, knows_formula, HasKeys, HasFormulas}
+use Rattle.requirement_document.specs.Keys.{HasFormulas}
 use Rattle.requirement_document.specs.Substitution.{Definitions}
 use Rattle.requirement_document.specs.Entry.{HasText, HasCause, IsFormulaCause}
 use Rattle.requirement_document.specs.Document.{entries, section_of, AreDefined, defined_before, names_of, taken_before, taken_at, in_entry, IsWritten}
@@ -44,10 +44,6 @@ handed_on P e (Err x) p w = subst P (sym w.1) p
 pub role_has_formulas : (role : Role) → HasFormulas (section_of role)
 role_has_formulas roles.Assume = tt
 role_has_formulas other = tt
-
-pub role_keys : (role : Role) (d : Data) → HasKeys (knows (section_of role)) d → HasKeys knows_formula d
-role_keys roles.Assume d h = h
-role_keys other d h = h
 
 -- an entry that is refused is a fault of the document
 pub refused_at : (root : Data) (s : Section) (index : ℕ) (all : List Data) (d : Data) (define : List Data) (ds : Definitions) (refusal : Refusal) (r : Refused)

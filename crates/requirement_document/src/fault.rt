@@ -88,6 +88,7 @@ pub enum Place {
     },
 }
 
+/// A fault of a document: where it stands, and what it is. Of several the first is told.
 #[derive(Debug, Drop)]
 pub struct DocumentFault {
     pub place: Place,

@@ -1,5 +1,5 @@
 // A formula with definitions put in. Each node is put behind the others, on top of the new nodes of its
-// children; where a letter is defined, the tree of its definition is copied in its place, anew for each
+// children. Where a letter is defined, the tree of its definition is copied in its place, anew for each
 // occurrence, since no node belongs to two trees.
 ghost use Rattle.std.specs.Prelude.{◌≡◌, ◌<◌, IfOk, OnOk, Some, ℕ, length, slice_get};
 ghost use Rattle.ltl_syntax.specs.Formula.{Letter, Name};

@@ -70,9 +70,9 @@ fn parsed(alloc: Global, text: &[u8]) -> Result<Table, Refused>
     }
 }
 
-/// The document that the text is, or the first of its faults in this order: the text as a whole, its keys,
-/// its kind of traces, the definitions, the items in their order, the behaviours; and in an entry its keys,
-/// its name, its sentence, and what else it has.
+/// The document that the text is, or else the first of its faults. They are looked for in this order: the
+/// text as a whole, its keys, its kind of traces, the definitions, the items in their order, the behaviours.
+/// In an entry the order is: its keys, its name, its sentence, and what else it has.
 pub fn read(alloc: Global, text: &[u8]) -> Result<Document, Refused>
     ensures document { IfOk result (λ d. IsDocument text.now (document_in d)) }
     ensures refused { IfErr result (IsRefused text.now) }

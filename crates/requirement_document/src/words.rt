@@ -6,6 +6,7 @@ ghost use Rattle.requirement_document.specs.Document.{section_of};
 
 use crate::{Key, Role, Section};
 
+/// The word of a section, as a document has it between `[[` and `]]`.
 pub fn section_word(section: Section) -> &'static str
     ensures { result.now ≡ section_word section }
 {
@@ -19,6 +20,7 @@ pub fn section_word(section: Section) -> &'static str
     }
 }
 
+/// The word of a key, as a document has it. The sections are keys of the document too.
 pub fn key_word(key: Key) -> &'static str
     ensures { result.now ≡ key_word key }
 {

@@ -1,4 +1,5 @@
-// The answers to questions about formulas as JSON.
+// The answers to questions about formulas as JSON. The text tells them in
+// `requirement_report/src/answers.rt`.
 ghost use Rattle.std.specs.Prelude.{◌≡◌, IfOk, OnOk};
 ghost use Rattle.std.specs.Option.{option_copied};
 ghost use Rattle.serde_json.specs.Data.{number, unsigned};
@@ -19,7 +20,7 @@ use requirement_report::{nevers, word_of};
 use serde_json::{Map, Value, put};
 use std::alloc::{AllocError, Global};
 
-/// A question with its answer.
+/// A question with its answer, and with the name of the item that it is about.
 pub fn answer_value(
     alloc: Global,
     document: &Document,
@@ -37,7 +38,8 @@ pub fn answer_value(
     Ok(Value::Object(members))
 }
 
-/// That what is given cannot be met together.
+/// A conflict: the answer that what is given cannot be met together, with its members and what matters of
+/// each.
 pub fn conflict_value(
     alloc: Global,
     document: &Document,
@@ -53,6 +55,7 @@ pub fn conflict_value(
     Ok(Value::Object(members))
 }
 
+/// The word of a question, which is the same whatever the answer.
 fn question_text(asking: Asking) -> &'static str
     ensures { result.now ≡ question_text asking }
 {
@@ -65,7 +68,7 @@ fn question_text(asking: Asking) -> &'static str
     }
 }
 
-/// The word of an answer, and the question.
+/// What each answer has: its word, and the word of the question.
 fn said(alloc: Global, word: &[u8], question: &str) -> Result<Map<String, Value>, AllocError>
     ensures { IfOk result (λ members.
         members_view members.entries ≡ said word.now question.now) }
@@ -78,7 +81,8 @@ fn said(alloc: Global, word: &[u8], question: &str) -> Result<Map<String, Value>
     Ok(members)
 }
 
-/// Puts in what was found.
+/// Puts in what was found: a trace, or why there is none, or the limit that left the question open. What
+/// matters of the members is told of conflicts only, so there is no core here.
 fn put_found(
     alloc: Global,
     document: &Document,
@@ -115,7 +119,7 @@ fn size_value(size: u128) -> Result<Value, AllocError>
     }
 }
 
-/// Puts in why there is no trace.
+/// Puts in why there is no trace: the members, and all claims of the certificate.
 fn put_reason(
     alloc: Global,
     document: &Document,
@@ -131,7 +135,7 @@ fn put_reason(
     put_because(alloc, document, core, &because.members, &nevers, members)
 }
 
-/// Puts in the name of the item that is asked about.
+/// Puts in the name of the item that is asked about. Whether all can be met together is asked about none.
 fn put_name(
     alloc: Global,
     document: &Document,

@@ -1,4 +1,5 @@
-// Why there is no trace, as JSON: members, and claims.
+// Why there is no trace, as JSON: members, and claims. The text tells them in
+// `requirement_report/src/conflicts.rt`.
 ghost use Rattle.std.specs.Prelude.{◌≡◌, ◌∷◌, ◌++◌, ℕ, List, map, drop, IfOk, OnOk};
 ghost use Rattle.std.specs.Option.{option_copied};
 ghost use Rattle.serde_json.specs.View.{view, members_view};
@@ -14,7 +15,7 @@ use requirement_report::{name_of, part_of};
 use serde_json::{Map, Value, put};
 use std::alloc::{AllocError, Global};
 
-/// How long `never ` is, with which each line of claims begins.
+/// How many bytes `never ` has, with which each line of claims begins.
 const NEVER: usize = 6;
 
 /// Puts in the members of a set that no trace satisfies, each with its part where there is a core, and the
@@ -36,6 +37,7 @@ pub fn put_because(
     put(members, alloc, "because", because)
 }
 
+/// An array of the members, in the order of the items.
 fn members_value(
     alloc: Global,
     document: &Document,
@@ -53,7 +55,8 @@ fn members_value(
     Ok(Value::Array(values))
 }
 
-/// The member at this place.
+/// The member at this place of the set, from 0. The core is found by the place, the item by the member's own
+/// number.
 fn member_value(
     alloc: Global,
     document: &Document,
@@ -69,6 +72,7 @@ fn member_value(
     Ok(Value::Object(members))
 }
 
+/// The name of a member, and whether it is needed. False says that it was not found out.
 fn member_members(
     alloc: Global,
     document: &Document,
@@ -100,7 +104,7 @@ fn put_part(
     }
 }
 
-/// What each line says behind `never `.
+/// An array of the claims: what each line says behind `never `.
 fn claims_value(alloc: Global, nevers: &[u8]) -> Result<Value, AllocError>
     ensures { IfOk result (λ value. view value ≡ claims_data nevers.now) }
 {
@@ -112,7 +116,7 @@ fn claims_value(alloc: Global, nevers: &[u8]) -> Result<Value, AllocError>
     Ok(Value::Array(claims))
 }
 
-/// Adds a byte to the line that has begun. A newline ends it.
+/// Adds a byte to the line that has begun. A newline ends it, and the claim is added.
 fn put_byte(
     alloc: Global,
     byte: u8,
@@ -133,6 +137,7 @@ fn put_byte(
     Ok(())
 }
 
+/// What a line says behind `never `. It would be empty for a shorter line, but no line of claims is.
 fn behind_never(line: &Vec<u8>) -> &[u8]
     ensures { result.now ≡ drop 6 line.now.items }
 {

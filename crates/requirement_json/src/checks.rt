@@ -1,4 +1,5 @@
-// The behaviours, and which items they break, as JSON.
+// The behaviours, and which items they break, as JSON. The text tells them in
+// `requirement_report/src/checks.rt`.
 ghost use Rattle.std.specs.Prelude.{◌≡◌, ◌<◌, length, slice_get, IfOk, OnOk};
 ghost use Rattle.ltl_syntax.specs.Table.{tree_at};
 ghost use Rattle.serde_json.specs.View.{view, members_view};
@@ -16,7 +17,7 @@ use requirement_report::{bare, behaviour_name, name_of};
 use serde_json::{Map, Value, json, put};
 use std::alloc::{AllocError, Global};
 
-/// A behaviour, and the items that it breaks.
+/// A behaviour with its trace, and the items that it breaks. The trace is told also where it keeps all.
 pub fn check_value(alloc: Global, document: &Document, check: &Check) -> Result<Value, AllocError>
     ensures { IfOk result (λ value.
         view value ≡ check_data (document_in document.now) check.now) }
@@ -34,13 +35,14 @@ pub fn check_value(alloc: Global, document: &Document, check: &Check) -> Result<
     })
 }
 
+/// Whether a behaviour keeps all assumed and required items, as the word of its answer.
 fn keeps_word(breaks: &[Break]) -> &'static str
     ensures { result.now ≡ keeps_word breaks.now }
 {
     if breaks.is_empty() { "keeps" } else { "breaks" }
 }
 
-/// The trace of a behaviour.
+/// The trace of the behaviour with this number, from 0.
 fn behaviour_value(alloc: Global, document: &Document, number: u32) -> Result<Value, AllocError>
     ensures { IfOk result (λ value. view value
         ≡ behaviour_data (slice_get (document_in document.now).behaviours number)) }
@@ -51,6 +53,7 @@ fn behaviour_value(alloc: Global, document: &Document, number: u32) -> Result<Va
     }
 }
 
+/// An array of the items that a behaviour breaks, in the order of the items.
 fn breaks_value(alloc: Global, document: &Document, breaks: &[Break]) -> Result<Value, AllocError>
     ensures { IfOk result (λ value.
         view value ≡ breaks_data (document_in document.now) breaks.now) }
@@ -62,7 +65,7 @@ fn breaks_value(alloc: Global, document: &Document, breaks: &[Break]) -> Result<
     Ok(Value::Array(values))
 }
 
-/// An item that is broken.
+/// An item that is broken: where, and what was asked there.
 fn break_value(alloc: Global, document: &Document, broken: Break) -> Result<Value, AllocError>
     ensures { IfOk result (λ value.
         view value ≡ break_data (document_in document.now) broken) }
@@ -72,6 +75,7 @@ fn break_value(alloc: Global, document: &Document, broken: Break) -> Result<Valu
     Ok(Value::Object(members))
 }
 
+/// The name of an item that is broken, and the position at which it first fails, from 0.
 fn place_members(
     alloc: Global,
     document: &Document,
@@ -92,6 +96,7 @@ fn place_members(
     Ok(members)
 }
 
+/// Puts in what asked and what was not answered in the item with this number, from 0.
 fn put_asked_of(
     alloc: Global,
     document: &Document,

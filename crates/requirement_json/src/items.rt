@@ -1,4 +1,5 @@
-// The items of a document, and what it is about, as JSON.
+// The items of a document, and what it is about, as JSON. The page shows the items in
+// `requirement_page/src/items.rt`.
 ghost use Rattle.std.specs.Prelude.{◌≡◌, map, IfOk};
 ghost use Rattle.serde_json.specs.View.{view};
 ghost use Rattle.requirement_document.specs.Values.{item_in, document_in};
@@ -12,6 +13,7 @@ use requirement_report::name_of;
 use serde_json::{Value, json};
 use std::alloc::{AllocError, Global};
 
+/// The word for the kind of traces that a document is about.
 pub fn kind_text(kind: Kind) -> &'static str
     ensures { result.now ≡ kind_text kind }
 {
@@ -21,6 +23,7 @@ pub fn kind_text(kind: Kind) -> &'static str
     }
 }
 
+/// The word for the role of an item: that of the section in which the document has it.
 fn role_text(role: Role) -> &'static str
     ensures { result.now ≡ role_text role }
 {
@@ -32,6 +35,7 @@ fn role_text(role: Role) -> &'static str
     }
 }
 
+/// An array of all items, in the order of the document.
 pub fn items_value(alloc: Global, items: &[Item]) -> Result<Value, AllocError>
     ensures { IfOk result (λ value. view value ≡ items_data (map item_in items.now)) }
 {
@@ -42,6 +46,8 @@ pub fn items_value(alloc: Global, items: &[Item]) -> Result<Value, AllocError>
     Ok(Value::Array(values))
 }
 
+/// An item: its formula, name and sentence as they are written, and its role. A sentence that is missing is
+/// null.
 fn item_value(alloc: Global, item: &Item) -> Result<Value, AllocError>
     ensures { IfOk result (λ value. view value ≡ item_data (item_in item.now)) }
 {
@@ -64,7 +70,7 @@ pub fn names_value(alloc: Global, document: &Document, numbers: &[u32]) -> Resul
     Ok(Value::Array(values))
 }
 
-/// The name of an item.
+/// The name of the item with this number, from 0.
 pub fn name_value(alloc: Global, document: &Document, number: u32) -> Result<Value, AllocError>
     ensures { IfOk result (λ value.
         view value ≡ name_data (document_in document.now) number) }

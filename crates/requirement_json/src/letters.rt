@@ -1,4 +1,5 @@
-// The letters of a document, and those that may be slips, as JSON.
+// The letters of a document, and those that may be slips, as JSON. The text tells them in
+// `requirement_report/src/letters.rt` and in `requirement_report/src/remarks.rt`.
 ghost use Rattle.std.specs.Prelude.{◌≡◌, map, option_map, string_bytes, IfOk};
 ghost use Rattle.serde_json.specs.Data.{array};
 ghost use Rattle.serde_json.specs.View.{view, items_of};
@@ -14,7 +15,7 @@ use requirement_report::{Slip, Use};
 use serde_json::{Value, json};
 use std::alloc::{AllocError, Global};
 
-/// Letters, each with the names of the items that have it.
+/// An array of letters, each with the names of the items that have it.
 pub fn letters_value(alloc: Global, document: &Document, uses: &[Use]) -> Result<Value, AllocError>
     ensures { IfOk result (λ value.
         view value ≡ letters_data (document_in document.now) (map use_in uses.now)) }
@@ -26,6 +27,7 @@ pub fn letters_value(alloc: Global, document: &Document, uses: &[Use]) -> Result
     Ok(Value::Array(values))
 }
 
+/// One letter with the names of the items that have it.
 fn use_value(alloc: Global, document: &Document, letter: &Use) -> Result<Value, AllocError>
     ensures { IfOk result (λ value.
         view value ≡ use_data (document_in document.now) (use_in letter.now)) }
@@ -35,7 +37,7 @@ fn use_value(alloc: Global, document: &Document, letter: &Use) -> Result<Value, 
     json!(in alloc; {"items": items, "letter": letter})
 }
 
-/// Letters that may be slips.
+/// An array of letters that may be slips.
 pub fn slips_value(alloc: Global, document: &Document, slips: &[Slip]) -> Result<Value, AllocError>
     ensures { IfOk result (λ value.
         view value ≡ slips_data (document_in document.now) (map slip_in slips.now)) }
@@ -47,6 +49,7 @@ pub fn slips_value(alloc: Global, document: &Document, slips: &[Slip]) -> Result
     Ok(Value::Array(values))
 }
 
+/// A letter that may be a slip, with the names of the items that have it.
 fn slip_value(alloc: Global, document: &Document, slip: &Slip) -> Result<Value, AllocError>
     ensures { IfOk result (λ value.
         view value ≡ slip_data (document_in document.now) (slip_in slip.now)) }
@@ -57,6 +60,7 @@ fn slip_value(alloc: Global, document: &Document, slip: &Slip) -> Result<Value, 
     json!(in alloc; {"items": items, "letter": letter, "nearly": nearly})
 }
 
+/// An array of the letter that it is nearly, which is empty where there is none.
 fn nearly_value(alloc: Global, nearly: &Option<String>) -> Result<Value, AllocError>
     ensures { IfOk result (λ value. view value
         ≡ array (items_of (nearly_data (option_map string_bytes nearly.now)))) }

@@ -1,4 +1,6 @@
-//! The JSON face of a report about a document of requirements: one object, on one line.
+//! The JSON face of a report about a document of requirements: one object, on one line. It tells the same
+//! report as the text of `requirement_report`, but leaves out no answer and no claim, and gives names,
+//! sentences and formulas as they are written.
 #![tactic(auto)]
 
 mod answers;

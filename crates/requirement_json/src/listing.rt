@@ -1,4 +1,5 @@
-// All answers of a report, in the order of the text.
+// All answers of a report, in the order of the text. None is left out here, not even one that goes without
+// saying.
 ghost use Rattle.std.specs.Prelude.{◌≡◌, [], ◌∷◌, ◌++◌, map, IfOk, OnOk, All};
 ghost use Rattle.serde_json.specs.Data.{array};
 ghost use Rattle.serde_json.specs.View.{view, items_of};
@@ -18,6 +19,7 @@ use requirement_report::core_at;
 use serde_json::Value;
 use std::alloc::{AllocError, Global};
 
+/// An array of all answers: conflicts, what is met together, further answers, behaviours.
 pub fn answers_value(
     alloc: Global,
     document: &Document,
@@ -42,6 +44,7 @@ pub fn answers_value(
     Ok(Value::Array(answers))
 }
 
+/// Adds the conflicts. The core of each stands in the other list at the same place.
 fn push_conflicts(
     alloc: Global,
     document: &Document,
@@ -62,6 +65,7 @@ fn push_conflicts(
     Ok(())
 }
 
+/// Adds the answer whether what is left can be met together.
 fn push_together(
     alloc: Global,
     document: &Document,
@@ -78,6 +82,7 @@ fn push_together(
     Ok(())
 }
 
+/// Adds the answers to the further questions, in the order in which they were asked.
 fn push_replies(
     alloc: Global,
     document: &Document,
@@ -96,6 +101,7 @@ fn push_replies(
     Ok(())
 }
 
+/// Adds what was found of each behaviour.
 fn push_checks(
     alloc: Global,
     document: &Document,

@@ -1,4 +1,5 @@
-// A report about a document as one JSON object.
+// A report about a document as one JSON object: what is said of the report, and what is said of the document.
+// The text of the same report is put together in `requirement_report/src/whole.rt`.
 ghost use Rattle.std.specs.Prelude.{◌≡◌, IfOk, OnOk};
 ghost use Rattle.serde_json.specs.View.{view, members_view};
 ghost use Rattle.requirement_document.specs.Values.{document_in};
@@ -19,6 +20,7 @@ use requirement_report::{set_aside, slips_among, uses_of, verdict_text};
 use serde_json::{Map, Value, put};
 use std::alloc::{AllocError, Global};
 
+/// The whole object. It tells of the document too, so that nothing else is needed to read it.
 pub fn report_value(
     alloc: Global,
     document: &Document,
@@ -34,7 +36,7 @@ pub fn report_value(
     Ok(Value::Object(members))
 }
 
-/// What is said of the report.
+/// What is said of the report: all answers, what is set aside, and the verdict.
 fn told(
     alloc: Global,
     document: &Document,
@@ -61,7 +63,7 @@ fn told(
     Ok(members)
 }
 
-/// Puts in what is said of the document.
+/// Puts in what is said of the document: the kind of its traces, its letters, slips and items.
 fn put_document(
     alloc: Global,
     document: &Document,
@@ -77,6 +79,7 @@ fn put_document(
     put(members, alloc, "items", items)
 }
 
+/// Puts in the letters, and those that may be slips. Here they are told whatever the report is about.
 fn put_letters(
     alloc: Global,
     document: &Document,

@@ -7,7 +7,8 @@ ghost use Rattle.requirement_json.specs.Items.{text_data};
 use serde_json::{Map, Value, put};
 use std::alloc::{AllocError, Global};
 
-/// The words of a report and the formulas that it prints are given as bytes. They are text.
+/// A text that is given as bytes, as the words of a report and its formulas are. They are UTF-8; for bytes
+/// that are not there is no value.
 pub fn text_value(alloc: Global, bytes: &[u8]) -> Result<Value, AllocError>
     ensures { IfOk result (λ value. view value ≡ string bytes.now) }
 {
@@ -27,7 +28,7 @@ pub fn text_or_null(alloc: Global, text: &Option<String>) -> Result<Value, Alloc
     }
 }
 
-/// Puts a text at a key.
+/// Puts a text that is given as bytes at a key.
 pub fn put_text(
     alloc: Global,
     key: &str,

@@ -1,4 +1,5 @@
-// Traces as JSON, as `Trace::to_json` writes them.
+// Traces as JSON, as `Trace::to_json` writes them. The text has pictures in their place:
+// `requirement_report/src/pictures.rt`.
 ghost use Rattle.std.specs.Prelude.{◌≡◌, IfOk};
 ghost use Rattle.serde_json.specs.View.{view};
 ghost use Rattle.ltl_word.specs.Json.{state_data, states_data, trace_data};
@@ -7,6 +8,7 @@ use ltl_word::{StateSet, Trace};
 use serde_json::{Value, json};
 use std::alloc::{AllocError, Global};
 
+/// A trace: its states, or those of its stem and of its loop.
 pub fn trace_value(alloc: Global, trace: &Trace) -> Result<Value, AllocError>
     ensures { IfOk result (λ value. view value ≡ trace_data trace.now) }
 {
@@ -23,6 +25,7 @@ pub fn trace_value(alloc: Global, trace: &Trace) -> Result<Value, AllocError>
     }
 }
 
+/// An array of states, in their order.
 fn states_value(alloc: Global, states: &[StateSet]) -> Result<Value, AllocError>
     ensures { IfOk result (λ value. view value ≡ states_data states.now) }
 {
@@ -33,6 +36,7 @@ fn states_value(alloc: Global, states: &[StateSet]) -> Result<Value, AllocError>
     Ok(Value::Array(values))
 }
 
+/// A state, as an array of the letters that are true in it, in ascending order of their bytes.
 fn state_value(alloc: Global, state: &StateSet) -> Result<Value, AllocError>
     ensures { IfOk result (λ value. view value ≡ state_data state.now) }
 {

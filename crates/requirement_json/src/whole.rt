@@ -1,4 +1,5 @@
-// A report about a document as JSON on one line.
+// A report about a document as JSON on one line. The text of the same report is made in
+// `requirement_report/src/whole.rt`, the page in `requirement_page/src/whole.rt`.
 ghost use Rattle.std.specs.Prelude.{◌≡◌, IfOk};
 ghost use Rattle.requirement_document.specs.Values.{document_in};
 ghost use Rattle.requirement_report.specs.Shown.{ReportCanBeShown};

@@ -3,9 +3,8 @@ use Rattle.std.proofs.Common.{◌≡◌, ℕ, ◌+◌, ◌-◌, ◌*◌, Bool, t
 use Rattle.std.proofs.Common.{subst, append_assoc, nat_le, ◌==◌}
 use Rattle.std.specs.Global.{Box}
 use Rattle.std.specs.Prelude.{slice_index_or}
-use Rattle.ltl_syntax.specs.declared.node.UnaryOp.TheVariants.{Always, AlwaysIn, Eventually, EventuallyIn, Historically, HistoricallyIn, Next, NextTimes, Not}
-use Rattle.ltl_syntax.specs.declared.node.UnaryOp.TheVariants.{Once, OnceIn, WeakNext, WeakYesterday, Yesterday, YesterdayTimes}
-use Rattle.ltl_syntax.specs.declared.node.BinaryOp.TheVariants.{And, Iff, Implies, Or, Release, Since, StrongRelease, Trigger, Until, WeakUntil}
+use Rattle.ltl_syntax.specs.declared.node.UnaryOp.TheVariants.{Always}
+use Rattle.ltl_syntax.specs.declared.node.BinaryOp.TheVariants.{Implies}
 use Rattle.ltl_syntax.specs.Formula.{Formula, Const, Letter, Unary, Binary}
 use Rattle.ltl_word.specs.declared.trace.Trace.{Trace}
 use Rattle.trace_view.specs.Grid.{RowValue, GridValue, cells_for}
@@ -345,29 +344,8 @@ asked_tame (Unary Always (Const b)) = nothing
 asked_tame (Unary Always (Letter p)) = nothing
 asked_tame (Unary Always (Unary op a)) = nothing
 asked_tame (Unary Always (Binary Implies a b)) = implied_tame a b
-asked_tame (Unary Always (Binary And a b)) = nothing
-asked_tame (Unary Always (Binary Or a b)) = nothing
-asked_tame (Unary Always (Binary Iff a b)) = nothing
-asked_tame (Unary Always (Binary Until a b)) = nothing
-asked_tame (Unary Always (Binary Release a b)) = nothing
-asked_tame (Unary Always (Binary WeakUntil a b)) = nothing
-asked_tame (Unary Always (Binary StrongRelease a b)) = nothing
-asked_tame (Unary Always (Binary Since a b)) = nothing
-asked_tame (Unary Always (Binary Trigger a b)) = nothing
-asked_tame (Unary Not f) = nothing
-asked_tame (Unary Next f) = nothing
-asked_tame (Unary WeakNext f) = nothing
-asked_tame (Unary Eventually f) = nothing
-asked_tame (Unary Yesterday f) = nothing
-asked_tame (Unary WeakYesterday f) = nothing
-asked_tame (Unary Once f) = nothing
-asked_tame (Unary Historically f) = nothing
-asked_tame (Unary (NextTimes n) f) = nothing
-asked_tame (Unary (YesterdayTimes n) f) = nothing
-asked_tame (Unary (EventuallyIn m n) f) = nothing
-asked_tame (Unary (AlwaysIn m n) f) = nothing
-asked_tame (Unary (OnceIn m n) f) = nothing
-asked_tame (Unary (HistoricallyIn m n) f) = nothing
+asked_tame (Unary Always (Binary op a b)) = nothing
+asked_tame (Unary op f) = nothing
 
 asked_in_tame : (i : Option ItemValue) → Tame (asked_in i)
 asked_in_tame None = nothing

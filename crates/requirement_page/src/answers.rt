@@ -1,4 +1,6 @@
-// What is met together, and the answers to the further questions.
+// The articles of what is met together, and of the answers to the further questions. The text has a block for
+// each: `requirement_report/src/blocks.rt`, with what stands under its head in
+// `requirement_report/src/answers.rt`.
 ghost use Rattle.std.specs.Prelude.{◌≡◌, ◌++◌, OnOk};
 ghost use Rattle.requirement_document.specs.Values.{document_in};
 ghost use Rattle.requirement_answers.specs.declared.asking.Asking.TheVariants.{Together};
@@ -17,14 +19,16 @@ use requirement_questions::{Limits, Member, QuestionAnswer};
 use requirement_report::{item_asked, put_of_all, put_worded, question_words, word_of};
 use std::alloc::{AllocError, Global};
 
-/// How many items, and of how many.
+/// How many of the assumed and required items are left when those in a conflict are set aside, and of how
+/// many.
 #[derive(Clone, Copy)]
 pub struct Left {
     pub left: usize,
     pub all: usize,
 }
 
-/// The sort of an answer, which is a class of the style.
+/// The sort of an answer, which is a class of the style: good, bad, a remark or open. The article and its
+/// word have the colour of their sort.
 fn sort_of(asking: Asking, answer: &QuestionAnswer) -> &'static [u8]
     ensures { result.now ≡ sort_of asking answer.now }
 {
@@ -35,6 +39,8 @@ fn sort_of(asking: Asking, answer: &QuestionAnswer) -> &'static [u8]
     }
 }
 
+/// The sort where a trace was found. It is bad where it is asked whether an item follows: it fails on this
+/// trace.
 fn can_sort(asking: Asking) -> &'static [u8]
     ensures { result.now ≡ can_sort asking }
 {
@@ -44,6 +50,8 @@ fn can_sort(asking: Asking) -> &'static [u8]
     }
 }
 
+/// The sort where there is no trace. An item that is never triggered, or says nothing new, is no more than
+/// worth a remark.
 fn cannot_sort(asking: Asking) -> &'static [u8]
     ensures { result.now ≡ cannot_sort asking }
 {
@@ -54,7 +62,8 @@ fn cannot_sort(asking: Asking) -> &'static [u8]
     }
 }
 
-/// Adds the article that says whether what is left can be met together.
+/// Adds the article that says whether what is left can be met together. `number` is its place among the
+/// answers on the page, from 1.
 pub fn put_together(
     alloc: Global,
     document: &Document,
@@ -75,6 +84,7 @@ pub fn put_together(
     out.extend_from_slice(ENDED)
 }
 
+/// Adds how that article begins: its word, and how many items are left of how many.
 fn put_together_begun(
     alloc: Global,
     number: u128,
@@ -92,7 +102,8 @@ fn put_together_begun(
     put_begun(sort, number, word, &subject, out)
 }
 
-/// Adds the article of the answer to a further question.
+/// Adds the article of the answer to a further question, with the sentence and the formula of the item.
+/// Whether it is shown at all is decided before.
 pub fn put_reply(
     alloc: Global,
     document: &Document,
@@ -111,6 +122,7 @@ pub fn put_reply(
     out.extend_from_slice(ENDED)
 }
 
+/// Adds how that article begins: its word, and the name of the item as a link.
 fn put_reply_begun(
     alloc: Global,
     document: &Document,
@@ -130,7 +142,8 @@ fn put_reply_begun(
     put_begun(sort, number, word, &subject, out)
 }
 
-/// Adds what an answer says.
+/// Adds what an answer says: the picture of the trace, or the items because of which there is none, or the
+/// question and the limit that left it open.
 fn put_answered(
     alloc: Global,
     document: &Document,
@@ -150,6 +163,7 @@ fn put_answered(
     }
 }
 
+/// Adds the question, and the limit within which neither answer was found. A step is a question to a solver.
 fn put_tried(alloc: Global, asking: Asking, steps: u32, out: &mut Vec<u8>) -> Result<(), AllocError>
     ensures { OnOk result (out.new.items ≡ out.old.items ++ undecided asking (tried steps)) }
 {
@@ -159,6 +173,7 @@ fn put_tried(alloc: Global, asking: Asking, steps: u32, out: &mut Vec<u8>) -> Re
     put_undecided(asking, &line, out)
 }
 
+/// Adds the question, and the number of nodes that its formula would have. It was not tried.
 fn put_large(alloc: Global, asking: Asking, size: u128, out: &mut Vec<u8>) -> Result<(), AllocError>
     ensures { OnOk result (out.new.items ≡ out.old.items ++ undecided asking (large size)) }
 {
@@ -167,6 +182,7 @@ fn put_large(alloc: Global, asking: Asking, size: u128, out: &mut Vec<u8>) -> Re
     put_undecided(asking, &line, out)
 }
 
+/// Adds the question in words, which the word `undecided` does not tell, and why it is open.
 fn put_undecided(asking: Asking, why: &[u8], out: &mut Vec<u8>) -> Result<(), AllocError>
     ensures { OnOk result (out.new.items ≡ out.old.items ++ undecided asking why.now) }
 {

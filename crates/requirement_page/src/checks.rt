@@ -1,4 +1,6 @@
-// Behaviours: which items each of them breaks, and where.
+// The articles of behaviours: which items each of them breaks, and where. The text has a block for each, in
+// `requirement_report/src/checks.rt`, but no picture of a behaviour that keeps all. The picture here has no
+// marks.
 ghost use Rattle.std.specs.Prelude.{◌≡◌, ◌<◌, ◌++◌, length, slice_get, OnOk};
 ghost use Rattle.std.specs.List.{flat_map};
 ghost use Rattle.ltl_syntax.specs.Table.{tree_at};
@@ -18,7 +20,7 @@ use requirement_document::Document;
 use requirement_report::{bare, behaviour_sentence, keeps_word, put_worded};
 use std::alloc::{AllocError, Global};
 
-/// Adds the article of a behaviour, which has this number.
+/// Adds the article of a behaviour. `number` is its place among the answers on the page, from 1.
 pub fn put_check(
     alloc: Global,
     document: &Document,
@@ -36,6 +38,7 @@ pub fn put_check(
     out.extend_from_slice(ENDED)
 }
 
+/// Adds how that article begins: whether the behaviour keeps all, and its name as a link.
 fn put_check_begun(
     alloc: Global,
     document: &Document,
@@ -54,12 +57,14 @@ fn put_check_begun(
     put_begun(sort, number, word, &subject, out)
 }
 
+/// The sort of the article: good where the behaviour keeps all assumed and required items, and else bad.
 fn keeps_sort(breaks: &[Break]) -> &'static [u8]
     ensures { result.now ≡ keeps_sort breaks.now }
 {
     if breaks.is_empty() { b"good" } else { b"bad" }
 }
 
+/// Adds what is said of each item that the behaviour breaks.
 fn put_all_broken(
     alloc: Global,
     document: &Document,
@@ -75,6 +80,7 @@ fn put_all_broken(
     Ok(())
 }
 
+/// Adds an item as a link, with the position at which it first fails, from 0, and what was asked there.
 fn put_broken(
     alloc: Global,
     document: &Document,
@@ -91,6 +97,7 @@ fn put_broken(
     put_asked_in(alloc, document, broken.item, out)
 }
 
+/// Adds what asked and what was not answered in the item with this number, from 0.
 fn put_asked_in(
     alloc: Global,
     document: &Document,
@@ -106,7 +113,8 @@ fn put_asked_in(
     }
 }
 
-/// Adds what asked and what was not answered where the formula is `G (a -> b)`.
+/// Adds what asked and what was not answered where the formula is `G (a -> b)`: a, and b. Of an item of
+/// another form nothing more is told than where it fails.
 fn put_asked(
     alloc: Global,
     table: &FormulaTable,
@@ -126,6 +134,7 @@ fn put_asked(
     put_words(alloc, b"not answered: ", table, answer, out)
 }
 
+/// Adds a paragraph of some words and a formula as code. The formula has no parentheses around the whole.
 fn put_words(
     alloc: Global,
     words: &[u8],
@@ -143,6 +152,7 @@ fn put_words(
     put_paragraph(&line, out)
 }
 
+/// Adds the picture of the behaviour with this number, from 0.
 fn put_behaviour_picture(
     alloc: Global,
     document: &Document,

@@ -1,4 +1,4 @@
-// The table of counts.
+// The table of counts. It has a row for each line of counts in the text: `requirement_report/src/ending.rt`.
 ghost use Rattle.std.specs.Prelude.{◌≡◌, ◌++◌, OnOk};
 ghost use Rattle.requirement_page.specs.Counts.{row, row_if, rows, later_rows, table};
 
@@ -6,6 +6,7 @@ use requirement_answers::{Counts, Tally};
 use requirement_report::put_of_all;
 use std::alloc::AllocError;
 
+/// Adds the table. The counts end the text; here they stand above the answers.
 pub fn put_table(counts: Counts, out: &mut Vec<u8>) -> Result<(), AllocError>
     ensures { OnOk result (out.new.items ≡ out.old.items ++ table counts) }
 {
@@ -14,6 +15,8 @@ pub fn put_table(counts: Counts, out: &mut Vec<u8>) -> Result<(), AllocError>
     out.extend_from_slice(b"</table>\n")
 }
 
+/// Adds the rows in the order in which the questions are asked. What is met together is asked in each report,
+/// so its row is always there.
 fn put_rows(counts: Counts, out: &mut Vec<u8>) -> Result<(), AllocError>
     ensures { OnOk result (out.new.items ≡ out.old.items ++ rows counts) }
 {
@@ -23,6 +26,8 @@ fn put_rows(counts: Counts, out: &mut Vec<u8>) -> Result<(), AllocError>
     put_later_rows(counts, out)
 }
 
+/// Adds the rows of what the document itself asks: what may happen, what should follow, and what its
+/// behaviours keep.
 fn put_later_rows(counts: Counts, out: &mut Vec<u8>) -> Result<(), AllocError>
     ensures { OnOk result (out.new.items ≡ out.old.items ++ later_rows counts) }
 {
@@ -31,7 +36,7 @@ fn put_later_rows(counts: Counts, out: &mut Vec<u8>) -> Result<(), AllocError>
     put_row_if(b"keeps all", counts.keeps, out)
 }
 
-/// Adds the row of a question, where it was asked.
+/// Adds the row of a question, where it was asked of any item.
 fn put_row_if(words: &[u8], tally: Tally, out: &mut Vec<u8>) -> Result<(), AllocError>
     ensures { OnOk result (out.new.items ≡ out.old.items ++ row_if words.now tally) }
 {
@@ -41,6 +46,7 @@ fn put_row_if(words: &[u8], tally: Tally, out: &mut Vec<u8>) -> Result<(), Alloc
     put_row(words, tally, out)
 }
 
+/// Adds a row: how many questions of a sort have the answer that one hopes for, of how many.
 fn put_row(words: &[u8], tally: Tally, out: &mut Vec<u8>) -> Result<(), AllocError>
     ensures { OnOk result (out.new.items ≡ out.old.items ++ row words.now tally) }
 {

@@ -1,4 +1,5 @@
-// The items and the behaviours of the document.
+// The items and the behaviours of the document, with an article for each, to which the names in all answers
+// are links. The text has nothing of the kind; the JSON lists the items in `requirement_json/src/items.rt`.
 ghost use Rattle.std.specs.Prelude.{◌≡◌, ◌+◌, ◌++◌, length, slice_get, codes, OnOk};
 ghost use Rattle.trace_view.specs.Text.{below};
 ghost use Rattle.requirement_document.specs.Values.{document_in};
@@ -30,6 +31,7 @@ pub fn put_all_items(
     put_behaviours(alloc, document, scope, report, out)
 }
 
+/// Adds the articles of all items, in the order of the document.
 #[tactic(auto, using(crate::proofs::Pieces::piece_behind))]
 fn put_items(
     alloc: Global,
@@ -51,6 +53,8 @@ fn put_items(
     Ok(())
 }
 
+/// Adds the article of an item: its role and name, its sentence, its formula as it is written, and the words
+/// of the answers about it. `number` counts the items from 0.
 fn put_item(
     alloc: Global,
     document: &Document,
@@ -68,6 +72,7 @@ fn put_item(
     out.extend_from_slice(ENDED)
 }
 
+/// Adds the articles of all behaviours, behind those of the items.
 #[tactic(auto, using(crate::proofs::Pieces::piece_behind))]
 fn put_behaviours(
     alloc: Global,
@@ -89,6 +94,8 @@ fn put_behaviours(
     Ok(())
 }
 
+/// Adds the article of a behaviour: its name, its sentence, and the words of the answers about it. Its trace
+/// is shown among the answers. `number` counts the behaviours from 0.
 fn put_behaviour(
     alloc: Global,
     document: &Document,
@@ -106,6 +113,7 @@ fn put_behaviour(
     out.extend_from_slice(ENDED)
 }
 
+/// Adds how the article of an item begins. Item 0 of the document is number 1 on the page.
 fn put_named_item(
     alloc: Global,
     document: &Document,
@@ -121,6 +129,8 @@ fn put_named_item(
     put_item_begun(alloc, item_number(number), role, name, out)
 }
 
+/// Adds how the article of a behaviour begins, with the word `behaviour` in place of a role. On the page
+/// behaviours are numbered behind the items, so that no two of these articles have the same number.
 fn put_named_behaviour(
     alloc: Global,
     document: &Document,
@@ -136,7 +146,8 @@ fn put_named_behaviour(
     put_item_begun(alloc, place, b"behaviour", name, out)
 }
 
-/// Adds how the article of an item begins, which has this number on the page.
+/// Adds how such an article begins: its role and its name. Links lead to it by `number`, which counts items
+/// and behaviours of the page from 1.
 fn put_item_begun(
     alloc: Global,
     number: u128,
@@ -155,6 +166,7 @@ fn put_item_begun(
     out.extend_from_slice(b"</h3>\n")
 }
 
+/// The word for the role of the item with this number, from 0. Empty where there is no such item.
 fn role_at(document: &Document, number: u32) -> &'static [u8]
     ensures { result.now ≡ role_in (slice_get (document_in document.now).items number) }
 {
@@ -164,6 +176,7 @@ fn role_at(document: &Document, number: u32) -> &'static [u8]
     }
 }
 
+/// The word for a role. It is that of the section in which the document has the item.
 fn role_word(role: Role) -> &'static [u8]
     ensures { result.now ≡ role_word role }
 {

@@ -1,5 +1,6 @@
 //! A report about a document of requirements as one page of HTML that stands alone: the answers with their
-//! pictures, letters that may be slips, and the items with links between them.
+//! pictures, letters that may be slips, and the items with links between them. It tells the same report as
+//! the text of `requirement_report`: where the text has a block, the page has an article.
 #![tactic(auto)]
 
 mod answers;

@@ -1,4 +1,6 @@
 // Pieces of the page: what somebody wrote, paragraphs, links to items, and words in the colour of their sort.
+// The text has lines in their place: `requirement_report/src/lines.rt`. All that somebody wrote is escaped
+// before it is added, so that it opens no mark of HTML and closes none.
 ghost use Rattle.std.specs.Prelude.{◌≡◌, ◌+◌, ◌++◌, length, OnOk};
 ghost use Rattle.trace_view.specs.Diagram.{escaped_byte, escaped};
 ghost use Rattle.requirement_document.specs.Values.{document_in};
@@ -24,6 +26,8 @@ fn put_escaped(text: &[u8], out: &mut Vec<u8>) -> Result<(), AllocError>
     Ok(())
 }
 
+/// Adds a byte, or an entity where HTML would read it as a mark. Quotes stay as they are, since nothing that
+/// somebody wrote stands within a mark.
 pub fn put_escaped_byte(byte: u8, out: &mut Vec<u8>) -> Result<(), AllocError>
     ensures { OnOk result (out.new.items ≡ out.old.items ++ escaped_byte byte) }
 {
@@ -38,7 +42,8 @@ pub fn put_escaped_byte(byte: u8, out: &mut Vec<u8>) -> Result<(), AllocError>
     }
 }
 
-/// Adds a line, escaped and with a direction of its own.
+/// Adds a line, escaped and with a direction of its own: words that run from right to left do not turn round
+/// what stands beside them.
 fn put_turned(line: &[u8], out: &mut Vec<u8>) -> Result<(), AllocError>
     ensures { OnOk result (out.new.items ≡ out.old.items ++ turned line.now) }
 {
@@ -47,7 +52,7 @@ fn put_turned(line: &[u8], out: &mut Vec<u8>) -> Result<(), AllocError>
     out.extend_from_slice(b"</bdi>")
 }
 
-/// Adds what somebody wrote, on one line.
+/// Adds what somebody wrote, flat and escaped: a name, say.
 pub fn put_said(alloc: Global, text: &str, out: &mut Vec<u8>) -> Result<(), AllocError>
     ensures { OnOk result (out.new.items ≡ out.old.items ++ said text.now) }
 {
@@ -56,7 +61,7 @@ pub fn put_said(alloc: Global, text: &str, out: &mut Vec<u8>) -> Result<(), Allo
     put_turned(&line, out)
 }
 
-/// Adds a line as code.
+/// Adds a line as code. It is escaped here, and has to be on one line already.
 pub fn put_code(line: &[u8], out: &mut Vec<u8>) -> Result<(), AllocError>
     ensures { OnOk result (out.new.items ≡ out.old.items ++ code line.now) }
 {
@@ -65,7 +70,7 @@ pub fn put_code(line: &[u8], out: &mut Vec<u8>) -> Result<(), AllocError>
     out.extend_from_slice(b"</code>")
 }
 
-/// Adds what somebody wrote, on one line, as code.
+/// Adds what somebody wrote as code, flat and escaped: a formula as it is written, or a letter.
 pub fn put_said_code(alloc: Global, text: &str, out: &mut Vec<u8>) -> Result<(), AllocError>
     ensures { OnOk result (out.new.items ≡ out.old.items ++ code (flat text.now)) }
 {
@@ -74,6 +79,7 @@ pub fn put_said_code(alloc: Global, text: &str, out: &mut Vec<u8>) -> Result<(),
     put_code(&line, out)
 }
 
+/// Adds a paragraph. Its content is HTML, and is not escaped here.
 pub fn put_paragraph(content: &[u8], out: &mut Vec<u8>) -> Result<(), AllocError>
     ensures { OnOk result (out.new.items ≡ out.old.items ++ paragraph content.now) }
 {
@@ -82,7 +88,7 @@ pub fn put_paragraph(content: &[u8], out: &mut Vec<u8>) -> Result<(), AllocError
     out.extend_from_slice(b"</p>\n")
 }
 
-/// Adds what somebody wrote as a paragraph, where there is anything.
+/// Adds what somebody wrote as a paragraph, flat and escaped, where there is anything.
 pub fn put_sentence(alloc: Global, text: &str, out: &mut Vec<u8>) -> Result<(), AllocError>
     ensures { OnOk result (out.new.items ≡ out.old.items ++ paragraph_if (flat text.now)) }
 {
@@ -91,6 +97,7 @@ pub fn put_sentence(alloc: Global, text: &str, out: &mut Vec<u8>) -> Result<(), 
     put_paragraph_if(&line, out)
 }
 
+/// Adds a line as a paragraph, escaped, where it is not empty.
 fn put_paragraph_if(line: &[u8], out: &mut Vec<u8>) -> Result<(), AllocError>
     ensures { OnOk result (out.new.items ≡ out.old.items ++ paragraph_if line.now) }
 {
@@ -102,7 +109,7 @@ fn put_paragraph_if(line: &[u8], out: &mut Vec<u8>) -> Result<(), AllocError>
     out.extend_from_slice(b"</p>\n")
 }
 
-/// Adds a link to the item with this number on the page.
+/// Adds a name as a link to the item or behaviour that has this number on the page.
 fn put_link(alloc: Global, number: u128, name: &str, out: &mut Vec<u8>) -> Result<(), AllocError>
     ensures { OnOk result (out.new.items ≡ out.old.items ++ link number name.now) }
 {
@@ -139,21 +146,21 @@ pub fn put_behaviour_link(
     put_link(alloc, number, behaviour_name(document, behaviour), out)
 }
 
-/// The number of an item on the page.
+/// The number of an item on the page, which counts from 1. In the document items count from 0.
 pub fn item_number(item: u32) -> u128
     ensures { result ≡ item + 1 }
 {
     item as u128 + 1
 }
 
-/// The number of a behaviour on the page.
+/// The number of a behaviour on the page, where behaviours are counted behind all items.
 pub fn behaviour_number(document: &Document, behaviour: u32) -> u128
     ensures { result ≡ length (document_in document.now).items + behaviour + 1 }
 {
     document.items.len() as u128 + behaviour as u128 + 1
 }
 
-/// Adds a word with the colour of its sort.
+/// Adds a badge: a word in the colour of its sort, with a border around it.
 pub fn put_badge(sort: &[u8], word: &[u8], out: &mut Vec<u8>) -> Result<(), AllocError>
     ensures { OnOk result (out.new.items ≡ out.old.items ++ badge sort.now word.now) }
 {
@@ -164,7 +171,8 @@ pub fn put_badge(sort: &[u8], word: &[u8], out: &mut Vec<u8>) -> Result<(), Allo
     out.extend_from_slice(b"</span>")
 }
 
-/// Adds how the article of an answer begins.
+/// Adds how the article of an answer begins. `number` is its place among the answers, from 1; the subject is
+/// HTML, and is not escaped here.
 pub fn put_begun(
     sort: &[u8],
     number: u128,
@@ -179,6 +187,7 @@ pub fn put_begun(
     put_heading(sort, word, subject, out)
 }
 
+/// Adds the mark that opens an article, with its sort as a class and the number by which links lead to it.
 fn put_opening(sort: &[u8], number: u128, out: &mut Vec<u8>) -> Result<(), AllocError>
     ensures { OnOk result (out.new.items ≡ out.old.items ++ opening sort.now number) }
 {
@@ -188,6 +197,7 @@ fn put_opening(sort: &[u8], number: u128, out: &mut Vec<u8>) -> Result<(), Alloc
     out.extend_from_slice(b"\">\n")
 }
 
+/// Adds the heading of an article: the badge of its word, and what it is about.
 fn put_heading(
     sort: &[u8],
     word: &[u8],

@@ -1,4 +1,6 @@
-// Notes: the words of the answers about an item, with links to those that are shown.
+// Notes: the words of the answers about an item or a behaviour, each a link to the article of that answer, if
+// it has one. They stand in the article of the item, so that one finds from there all that is said of it.
+// Only the page has them.
 ghost use Rattle.std.specs.Prelude.{◌≡◌, ◌^◌, ◌<◌, ◌++◌, OnOk};
 ghost use Rattle.requirement_page.specs.Items.{answer_link, linked_note, is_member, conflict_note};
 ghost use Rattle.requirement_page.specs.Items.{conflict_notes, answer_note, reply_note, reply_notes};
@@ -11,7 +13,8 @@ use requirement_questions::{Because, Member};
 use requirement_report::{is_hidden, item_asked, keeps_word, put_worded, word_of};
 use std::alloc::{AllocError, Global};
 
-/// Adds a paragraph of the answers about an item, where there are any.
+/// Adds a paragraph of the answers about an item, where there are any: first conflicts of which it is a
+/// member, then further answers. `item` counts from 0.
 pub fn put_item_notes(
     alloc: Global,
     scope: Scope,
@@ -28,7 +31,7 @@ pub fn put_item_notes(
     put_notes(&line, out)
 }
 
-/// The same of a behaviour.
+/// Adds a paragraph of what was found of a behaviour, which counts from 0, where there is anything.
 pub fn put_behaviour_notes(
     alloc: Global,
     scope: Scope,
@@ -49,7 +52,8 @@ pub fn put_behaviour_notes(
     put_notes(&line, out)
 }
 
-/// Adds what is behind the first comma and the blank behind it, as a paragraph.
+/// Adds the notes of a line as a paragraph. Each has a comma and a blank before it; the first two bytes are
+/// those of the first note, and are left out.
 fn put_notes(line: &[u8], out: &mut Vec<u8>) -> Result<(), AllocError>
     ensures { OnOk result (out.new.items ≡ out.old.items ++ notes line.now) }
 {
@@ -59,6 +63,8 @@ fn put_notes(line: &[u8], out: &mut Vec<u8>) -> Result<(), AllocError>
     put_paragraph(&line[2..], out)
 }
 
+/// Adds a note for each conflict of which the item is a member. Conflicts have the first numbers on the page,
+/// from 1.
 fn put_conflict_notes(
     item: u32,
     conflicts: &[Box<Because>],
@@ -74,6 +80,7 @@ fn put_conflict_notes(
     Ok(())
 }
 
+/// Adds a note with the number of a conflict, if the item is a member of it.
 fn put_conflict_note(
     item: u32,
     number: u128,
@@ -95,6 +102,8 @@ fn is_member(item: u32, members: &[Member]) -> bool
     members.iter().any(|member| member.given == item)
 }
 
+/// Adds a note for each further answer about the item. `first` is the number of the first further answer that
+/// is shown; those that are hidden have none.
 fn put_reply_notes(
     scope: Scope,
     item: u32,
@@ -114,6 +123,7 @@ fn put_reply_notes(
     Ok(())
 }
 
+/// Adds the note of a further answer, if it is about the item.
 fn put_reply_note(
     scope: Scope,
     item: u32,
@@ -130,7 +140,8 @@ fn put_reply_note(
     Ok(())
 }
 
-/// Adds the word of an answer, with a link where it is shown.
+/// Adds the word of an answer. It is a link where the answer is shown; else there is no article to which it
+/// could lead.
 fn put_answer_note(
     scope: Scope,
     number: u128,
@@ -148,6 +159,7 @@ fn put_answer_note(
     put_linked_note(number, word, out)
 }
 
+/// Adds a note for each check of the behaviour. `first` is the number of the first check on the page.
 fn put_check_notes(
     behaviour: u32,
     first: u128,
@@ -166,6 +178,7 @@ fn put_check_notes(
     Ok(())
 }
 
+/// Adds the note of a check, if it is one of the behaviour.
 fn put_check_note(
     behaviour: u32,
     number: u128,
@@ -181,6 +194,7 @@ fn put_check_note(
     Ok(())
 }
 
+/// Adds a comma, and a word as a link to the answer with this number on the page.
 fn put_linked_note(number: u128, word: &[u8], out: &mut Vec<u8>) -> Result<(), AllocError>
     ensures { OnOk result (out.new.items ≡ out.old.items ++ linked_note number word.now) }
 {
@@ -188,6 +202,7 @@ fn put_linked_note(number: u128, word: &[u8], out: &mut Vec<u8>) -> Result<(), A
     put_answer_link(number, word, out)
 }
 
+/// Adds a word as a link to the answer with this number on the page, from 1.
 fn put_answer_link(number: u128, word: &[u8], out: &mut Vec<u8>) -> Result<(), AllocError>
     ensures { OnOk result (out.new.items ≡ out.old.items ++ answer_link number word.now) }
 {

@@ -1,4 +1,5 @@
-// The picture of a trace within the page.
+// The picture of a trace within the page, drawn in SVG. The text has it in characters:
+// `requirement_report/src/pictures.rt`.
 ghost use Rattle.std.specs.Prelude.{◌≡◌, ◌==◌, ◌||◌, ◌∷◌, ◌++◌};
 ghost use Rattle.std.specs.Prelude.{ℕ, List, false, IfOk, OnOk};
 ghost use Rattle.requirement_report.specs.Pictures.{letters_in};
@@ -32,7 +33,7 @@ fn letters(alloc: Global, trace: &Trace) -> Result<StateSet, AllocError>
     letters_of(alloc, trace)
 }
 
-/// Adds a picture in SVG without its first line.
+/// Adds a drawing in SVG without its first line, which is for a file of XML and may not stand in a page.
 fn put_framed(drawing: &[u8], out: &mut Vec<u8>) -> Result<(), AllocError>
     ensures { OnOk result (out.new.items ≡ out.old.items ++ framed drawing.now) }
 {
@@ -41,6 +42,7 @@ fn put_framed(drawing: &[u8], out: &mut Vec<u8>) -> Result<(), AllocError>
     out.extend_from_slice(b"</div>\n")
 }
 
+/// Adds a text without its first line.
 fn put_later_lines(text: &[u8], out: &mut Vec<u8>) -> Result<(), AllocError>
     ensures { OnOk result (out.new.items ≡ out.old.items ++ later_lines false text.now) }
 {
@@ -52,6 +54,7 @@ fn put_later_lines(text: &[u8], out: &mut Vec<u8>) -> Result<(), AllocError>
     Ok(())
 }
 
+/// Adds a byte if the first line has ended before it.
 fn put_later_byte(byte: u8, ended: bool, out: &mut Vec<u8>) -> Result<(), AllocError>
     ensures { OnOk result ((rest : List ℕ)
         → out.new.items ++ later_lines (ended || byte == 10) rest

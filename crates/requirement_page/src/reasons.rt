@@ -1,4 +1,5 @@
-// What is said of an item, and of items that cannot be met together.
+// Reasons: what is said of an item, and of items that cannot be met together. The text says the same in
+// `requirement_report/src/conflicts.rt`, the JSON in `requirement_json/src/because.rt`.
 ghost use Rattle.std.specs.Prelude.{◌≡◌, ◌++◌, codes, OnOk};
 ghost use Rattle.std.specs.List.{flat_map};
 ghost use Rattle.std.specs.Option.{option_copied};
@@ -25,13 +26,13 @@ use requirement_report::{
 };
 use std::alloc::{AllocError, Global};
 
-/// The most claims that are printed.
+/// The most claims that are printed, as many as in the text. Those behind them are only counted.
 const MOST_CLAIMS: usize = 12;
 
-/// How many bytes of the line of a claim stand before its formula.
+/// How many bytes of the line of a claim stand before its formula: those of `never` and a blank.
 const BEFORE_FORMULA: usize = 6;
 
-/// Adds the sentence of an item, and its formula as it is written.
+/// Adds the sentence of an item, and its formula as it is written. Items count from 0.
 pub fn put_described(
     alloc: Global,
     document: &Document,
@@ -47,7 +48,8 @@ pub fn put_described(
     out.extend_from_slice(b"</p>\n")
 }
 
-/// Adds the names, joined by commas. One that is not known to be needed is marked.
+/// Adds the names of members as links, joined by commas. One that is not known to be needed has `(perhaps)`
+/// behind it.
 fn put_member_links(
     alloc: Global,
     document: &Document,
@@ -64,6 +66,7 @@ fn put_member_links(
     put_other_links(alloc, document, &members[1..], out)
 }
 
+/// Adds the members behind the first, each behind a comma.
 fn put_other_links(
     alloc: Global,
     document: &Document,
@@ -80,6 +83,7 @@ fn put_other_links(
     Ok(())
 }
 
+/// Adds the name of one member as a link, and whether it is needed.
 fn put_member_link(
     alloc: Global,
     document: &Document,
@@ -93,13 +97,15 @@ fn put_member_link(
     out.extend_from_slice(perhaps(member.needed))
 }
 
+/// What stands behind a name. Nothing does where a trace shows that the others can be met without it.
 fn perhaps(needed: bool) -> &'static [u8]
     ensures { result.now ≡ perhaps needed }
 {
     if needed { b"" } else { b" (perhaps)" }
 }
 
-/// Adds the members because of which there is no trace.
+/// Adds the items because of which there is no trace, or `by itself` where there are none: what is asked
+/// cannot be, whatever else holds.
 pub fn put_because(
     alloc: Global,
     document: &Document,
@@ -117,7 +123,7 @@ pub fn put_because(
     put_paragraph(&line, out)
 }
 
-/// Adds what is set aside, where something is.
+/// Adds the items that are set aside, where there are any.
 pub fn put_without(
     alloc: Global,
     document: &Document,
@@ -135,7 +141,7 @@ pub fn put_without(
     put_paragraph(&line, out)
 }
 
-/// Adds the article of a conflict, which has this number.
+/// Adds the article of a conflict. `number` is its place among the answers on the page, from 1.
 pub fn put_conflict(
     alloc: Global,
     document: &Document,
@@ -154,6 +160,7 @@ pub fn put_conflict(
     out.extend_from_slice(ENDED)
 }
 
+/// Adds how that article begins: the names of the members as links.
 fn put_conflict_begun(
     alloc: Global,
     document: &Document,
@@ -169,6 +176,7 @@ fn put_conflict_begun(
     put_begun(b"bad", number, b"conflict", &names, out)
 }
 
+/// Adds what is said of each member, in the order of the items.
 fn put_each(
     alloc: Global,
     document: &Document,
@@ -185,7 +193,8 @@ fn put_each(
     Ok(())
 }
 
-/// Adds what is said of the member at this place.
+/// Adds what is said of the member at this place of the conflict, from 0. The core is found by the place, the
+/// item by the member's own number.
 fn put_member(
     alloc: Global,
     document: &Document,
@@ -204,7 +213,7 @@ fn put_member(
     put_matters(alloc, core, place, out)
 }
 
-/// Adds what matters of the member at this place, where that is known.
+/// Adds the part of the member's formula that matters for the conflict, where that is known.
 fn put_matters(
     alloc: Global,
     core: Option<&Core>,
@@ -222,6 +231,7 @@ fn put_matters(
     put_paragraph(&line, out)
 }
 
+/// Adds the claims of the conflict's certificate.
 fn put_nevers(
     alloc: Global,
     kind: Kind,
@@ -235,7 +245,7 @@ fn put_nevers(
     put_claims(alloc, &nevers, out)
 }
 
-/// Adds the first claims, and how many more there are.
+/// Adds the first claims, and how many more there are. Where there are none, no state can be the first.
 fn put_claims(alloc: Global, nevers: &[u8], out: &mut Vec<u8>) -> Result<(), AllocError>
     ensures { OnOk result (out.new.items ≡ out.old.items ++ claims nevers.now) }
 {
@@ -247,7 +257,7 @@ fn put_claims(alloc: Global, nevers: &[u8], out: &mut Vec<u8>) -> Result<(), All
     put_more(alloc, lines_in(nevers), out)
 }
 
-/// Adds each line `never F` as a paragraph, with F as code.
+/// Adds each line of claims, which is `never F`, as a paragraph, with F as code.
 fn put_lines(lines: &[u8], out: &mut Vec<u8>) -> Result<(), AllocError>
     ensures { OnOk result (out.new.items ≡ out.old.items ++ claims_from 6 lines.now) }
 {
@@ -259,6 +269,8 @@ fn put_lines(lines: &[u8], out: &mut Vec<u8>) -> Result<(), AllocError>
     Ok(())
 }
 
+/// Adds a byte of such a line. `left` tells how many bytes from this one on stand before the formula; they
+/// are not copied, and the last of them stands for the marks that begin the paragraph.
 fn put_claim_byte(left: usize, byte: u8, out: &mut Vec<u8>) -> Result<(), AllocError>
     ensures { OnOk result (out.new.items ≡ out.old.items ++ claim_byte left byte) }
 {
@@ -271,7 +283,8 @@ fn put_claim_byte(left: usize, byte: u8, out: &mut Vec<u8>) -> Result<(), AllocE
     out.extend_from_slice(claim_begins(left))
 }
 
-/// How the paragraph of a claim begins, at the last byte before the formula.
+/// How the paragraph of a claim begins. It is put at the last byte before the formula, and nothing at those
+/// before it.
 fn claim_begins(left: usize) -> &'static [u8]
     ensures { result.now ≡ claim_begins left }
 {
@@ -282,7 +295,7 @@ fn claim_begins(left: usize) -> &'static [u8]
     }
 }
 
-/// How many bytes of the line are left out behind this byte.
+/// How many bytes behind this one stand before the formula. A newline begins the next line.
 fn left_behind(left: usize, byte: u8) -> usize
     ensures { result ≡ left_behind left byte }
 {
@@ -293,6 +306,7 @@ fn left_behind(left: usize, byte: u8) -> usize
     }
 }
 
+/// Adds how many claims are not printed, where there are any such.
 fn put_more(alloc: Global, count: usize, out: &mut Vec<u8>) -> Result<(), AllocError>
     ensures { OnOk result (out.new.items ≡ out.old.items ++ more count) }
 {

@@ -1,4 +1,5 @@
-// Letters that may be slips.
+// Letters that may be slips, as a list behind the answers. The text has a block for them:
+// `requirement_report/src/remarks.rt`.
 ghost use Rattle.std.specs.Prelude.{◌≡◌, ◌++◌, map, OnOk};
 ghost use Rattle.std.specs.List.{flat_map};
 ghost use Rattle.requirement_document.specs.Values.{document_in};
@@ -11,7 +12,7 @@ use requirement_document::Document;
 use requirement_report::{Slip, slips_of};
 use std::alloc::{AllocError, Global};
 
-/// Adds the letters that may be slips, where all is asked and there are any.
+/// Adds the letters that may be slips, where the whole document is asked and there are any.
 pub fn put_slips(
     alloc: Global,
     document: &Document,
@@ -27,6 +28,7 @@ pub fn put_slips(
     }
 }
 
+/// Adds the list of those of the document, where there are any.
 fn put_all_slips(alloc: Global, document: &Document, out: &mut Vec<u8>) -> Result<(), AllocError>
     ensures { OnOk result (out.new.items
         ≡ out.old.items ++ slip_list (document_in document.now) (slips_of (document_in document.now))) }
@@ -35,6 +37,7 @@ fn put_all_slips(alloc: Global, document: &Document, out: &mut Vec<u8>) -> Resul
     put_slip_list(alloc, document, &slips, out)
 }
 
+/// Adds the heading and the list of some letters, and nothing where there are none.
 fn put_slip_list(
     alloc: Global,
     document: &Document,
@@ -52,6 +55,7 @@ fn put_slip_list(
     out.extend_from_slice(b"</ul>\n")
 }
 
+/// Adds an entry for each letter.
 fn put_each_slip(
     alloc: Global,
     document: &Document,
@@ -67,6 +71,7 @@ fn put_each_slip(
     Ok(())
 }
 
+/// Adds the entry of a letter: the letter as code, and why it may be a slip.
 fn put_slip(
     alloc: Global,
     document: &Document,
@@ -83,6 +88,7 @@ fn put_slip(
     out.extend_from_slice(b"</li>\n")
 }
 
+/// Adds why a letter may be a slip: in which item alone it stands, which letter it is nearly, or both.
 fn put_suspected(
     alloc: Global,
     document: &Document,

@@ -1,9 +1,12 @@
-// The style of the page.
+// The style of the page, which stands in the page itself, so that it needs no other file. Its colours are for
+// light and for dark screens, and for paper. No sort is told by its colour alone, since each answer has a
+// word too.
 ghost use Rattle.std.specs.Prelude.{◌≡◌, ◌++◌, OnOk};
 ghost use Rattle.requirement_page.specs.Style.{colours, elements, articles, parts, printing, style};
 
 use std::alloc::AllocError;
 
+/// The colours by their use, for light screens and then for dark ones.
 const COLOURS: [&[u8]; 4] = [
     b"\n\
       :root{color-scheme:light dark;--ink:#1f2328;--sheet:#ffffff;--line:#8c959f;--soft:#f6f8fa;",
@@ -15,6 +18,7 @@ const COLOURS: [&[u8]; 4] = [
       }\n",
 ];
 
+/// The page as a whole, headings, paragraphs, links and code.
 const ELEMENTS: [&[u8]; 4] = [
     b"body{max-width:60rem;margin:0 auto;padding:1rem;background:var(--sheet);color:var(--ink);",
     b"font:1rem/1.5 system-ui,sans-serif;overflow-wrap:anywhere}\n\
@@ -26,6 +30,7 @@ const ELEMENTS: [&[u8]; 4] = [
     b"code{font-family:'DejaVu Sans Mono',Consolas,monospace;font-size:.9rem}\n",
 ];
 
+/// Articles and badges. Each sort sets `--tone`, the colour of its edge and its word.
 const ARTICLES: [&[u8]; 5] = [
     b"article{margin:1rem 0;padding:.5rem .8rem;border:1px solid var(--line);",
     b"border-left:.4rem solid var(--tone,var(--line));background:var(--soft)}\n",
@@ -40,10 +45,12 @@ const ARTICLES: [&[u8]; 5] = [
       .word.open{border-style:dotted}\n",
 ];
 
+/// The table of counts, and the frame in which a wide picture is moved sideways.
 const PARTS: &[u8] = b".counts{border-collapse:collapse}\n\
     .counts td{padding:.1rem 1rem .1rem 0}\n\
     .picture{overflow-x:auto}\n";
 
+/// What is different on paper: nothing can be moved there, so pictures are made to fit.
 const PRINTING: [&[u8]; 2] = [
     b"@media print{\n\
       body{max-width:none;padding:0}\n\

@@ -1,4 +1,5 @@
-// The page of a report.
+// The page of a report: the verdict, the counts, the answers, letters that may be slips, and the items. The
+// text of the same report is put together in `requirement_report/src/whole.rt`.
 ghost use Rattle.std.specs.Prelude.{◌≡◌, ◌^◌, ◌<◌, ◌++◌, length, All, IfOk, OnOk};
 ghost use Rattle.requirement_document.specs.Values.{document_in};
 ghost use Rattle.requirement_answers.specs.Verdicts.{verdict};
@@ -27,7 +28,8 @@ use requirement_questions::{Because, Core, Limits};
 use requirement_report::{core_at, is_hidden, set_aside, verdict_text};
 use std::alloc::{AllocError, Global};
 
-/// A report as a page of HTML that needs nothing else and runs nothing.
+/// A report as a page of HTML that needs nothing else and runs nothing. `scope` tells what was asked,
+/// `limits` what is said where an answer is open.
 pub fn page(
     alloc: Global,
     document: &Document,
@@ -50,13 +52,14 @@ pub fn page(
     Ok(out)
 }
 
-/// Adds what stands before the counts.
+/// Adds what stands before the counts: the head of the file, and the verdict as the heading of the page.
 fn put_head_of(report: &Report, out: &mut Vec<u8>) -> Result<(), AllocError>
     ensures { OnOk result (out.new.items ≡ out.old.items ++ head (verdict report.now)) }
 {
     put_head(verdict_of(report), out)
 }
 
+/// The same for a verdict.
 fn put_head(verdict: ReportVerdict, out: &mut Vec<u8>) -> Result<(), AllocError>
     ensures { OnOk result (out.new.items ≡ out.old.items ++ head verdict) }
 {
@@ -82,6 +85,7 @@ fn put_declared(out: &mut Vec<u8>) -> Result<(), AllocError>
     )
 }
 
+/// Adds the title, which has the verdict.
 fn put_titled(verdict: ReportVerdict, out: &mut Vec<u8>) -> Result<(), AllocError>
     ensures { OnOk result (out.new.items ≡ out.old.items ++ titled verdict) }
 {
@@ -90,6 +94,7 @@ fn put_titled(verdict: ReportVerdict, out: &mut Vec<u8>) -> Result<(), AllocErro
     out.extend_from_slice(b"</title>\n")
 }
 
+/// Adds the style. With it the head of the file ends.
 fn put_styled(out: &mut Vec<u8>) -> Result<(), AllocError>
     ensures { OnOk result (out.new.items ≡ out.old.items ++ styled) }
 {
@@ -98,6 +103,7 @@ fn put_styled(out: &mut Vec<u8>) -> Result<(), AllocError>
     out.extend_from_slice(b"</style>\n</head>\n<body>\n")
 }
 
+/// Adds the heading of the page: the verdict in the colour of its sort.
 fn put_judged(verdict: ReportVerdict, out: &mut Vec<u8>) -> Result<(), AllocError>
     ensures { OnOk result (out.new.items ≡ out.old.items ++ judged verdict) }
 {
@@ -106,6 +112,7 @@ fn put_judged(verdict: ReportVerdict, out: &mut Vec<u8>) -> Result<(), AllocErro
     out.extend_from_slice(b"</h1>\n")
 }
 
+/// The sort of a verdict. None is a remark, as remarks change no verdict.
 fn verdict_sort(verdict: ReportVerdict) -> &'static [u8]
     ensures { result.now ≡ verdict_sort verdict }
 {
@@ -116,7 +123,7 @@ fn verdict_sort(verdict: ReportVerdict) -> &'static [u8]
     }
 }
 
-/// Adds the articles of all answers.
+/// Adds the heading and the articles of all answers, in the order of the text.
 fn put_answers(
     alloc: Global,
     document: &Document,
@@ -137,7 +144,7 @@ fn put_answers(
     put_all_checks(alloc, document, report, scope, out)
 }
 
-/// Adds the article of what is left, with what is set aside.
+/// Adds the article that says whether what is left can be met together, with what is set aside.
 fn put_left(
     alloc: Global,
     document: &Document,
@@ -169,6 +176,7 @@ fn put_left(
     )
 }
 
+/// Adds the articles of the further answers, numbered behind that of what is met together.
 fn put_all_replies(
     alloc: Global,
     document: &Document,
@@ -191,6 +199,7 @@ fn put_all_replies(
     )
 }
 
+/// Adds the articles of all behaviours, numbered behind the further answers that are shown.
 fn put_all_checks(
     alloc: Global,
     document: &Document,
@@ -210,6 +219,8 @@ fn put_all_checks(
     )
 }
 
+/// Adds the articles of all conflicts, numbered from 1. The core of each stands in the other list at the same
+/// place.
 fn put_conflicts(
     alloc: Global,
     document: &Document,
@@ -231,7 +242,7 @@ fn put_conflicts(
     Ok(())
 }
 
-/// Adds the articles of the further answers that are shown.
+/// Adds the articles of the further answers that are shown. The first of them has the number `first`.
 fn put_replies(
     alloc: Global,
     document: &Document,
@@ -253,7 +264,7 @@ fn put_replies(
     Ok(())
 }
 
-/// Adds the article of an answer, where it is shown.
+/// Adds the article of an answer, if it is shown.
 fn put_reply_if(
     alloc: Global,
     document: &Document,
@@ -272,6 +283,7 @@ fn put_reply_if(
     put_reply(alloc, document, limits, number, reply, out)
 }
 
+/// Adds an article for each behaviour. The first has the number `first`; none is left out.
 fn put_checks(
     alloc: Global,
     document: &Document,

@@ -1,5 +1,5 @@
 -- Members of which some are left out, or one is marked as needed.
-use Rattle.std.proofs.Common.{◌≡◌, ◌≢◌, ◌∙◌, ◌⊎◌, inl, inr, ℕ, zero, suc, ◌+◌, ◌<◌, ◌≤◌, true, false, List, [], ◌∷◌, ◌++◌, length, take, drop, set, get_or}
+use Rattle.std.proofs.Common.{◌≡◌, ◌≢◌, ◌∙◌, ◌⊎◌, inl, inr, ℕ, zero, suc, ◌+◌, ◌<◌, ◌≤◌, true, false, List, ◌∷◌, ◌++◌, length, take, drop, set, get_or, []}
 use Rattle.std.proofs.Common.{slice_get, Some, refl, sym, ap, ap₂, subst, arith, length-append, add-one}
 use Rattle.std.specs.List.{All}
 use Rattle.std.proofs.lemmas.Bool.{cases_lt}
@@ -60,12 +60,6 @@ pub without_length : (k : ℕ) (ms : List Member) → k < length ms → suc (len
 without_length k [] lt = absurd (omega arith)
 without_length zero (m ∷ ms) lt = refl
 without_length (suc k) (m ∷ ms) lt = ap suc (without_length k ms (omega arith))
-
-pub without_is : (k : ℕ) (ms : List Member) → take k ms ++ drop (suc k) ms ≡ without k ms
-without_is zero [] = refl
-without_is (suc k) [] = refl
-without_is zero (m ∷ ms) = refl
-without_is (suc k) (m ∷ ms) = ap (λ xs. m ∷ xs) (without_is k ms)
 
 without_are : (q : Question) (k : ℕ) (ms : List Member) → AreMembers q ms → AreMembers q (without k ms)
 without_are q k ms w = record {
@@ -280,9 +274,6 @@ is_noted q k zero before after t w found noted = same_because q before after w n
 is_noted q k (suc zero) before after t w found noted =
     is_marked q k before after w (shows_needed q k before.members.items t found) noted.members noted.certificate noted.table noted.root
 is_noted q k (suc (suc n)) before after t w found noted = same_because q before after w noted.members noted.certificate noted.table noted.root
-
-pub noted_one : (k count : ℕ) (ms : List Member) → count ≡ 1 → noted k count ms ≡ marked k ms
-noted_one k count ms e = subst (λ n. noted k n ms ≡ marked k ms) (sym e) refl
 
 pub noted_none : (k count : ℕ) (ms : List Member) → ¬ (count ≡ 1) → noted k count ms ≡ ms
 noted_none k zero ms ne = refl

@@ -30,15 +30,7 @@ module _ (t : Table) (number : ℕ) (low : number < length t.nodes) where
   joins (nodes.Fresh n) tree fine = tt
   joins (nodes.Unary op a) tree fine = tt
   joins (nodes.Binary two.And a b) tree fine = record { left_there = let x = fine.0 in omega arith; right_there = let x = fine.1 in omega arith; tree = tree }
-  joins (nodes.Binary two.Or a b) tree fine = tt
-  joins (nodes.Binary two.Implies a b) tree fine = tt
-  joins (nodes.Binary two.Iff a b) tree fine = tt
-  joins (nodes.Binary two.Until a b) tree fine = tt
-  joins (nodes.Binary two.Release a b) tree fine = tt
-  joins (nodes.Binary two.WeakUntil a b) tree fine = tt
-  joins (nodes.Binary two.StrongRelease a b) tree fine = tt
-  joins (nodes.Binary two.Since a b) tree fine = tt
-  joins (nodes.Binary two.Trigger a b) tree fine = tt
+  joins (nodes.Binary op a b) tree fine = tt
 
   pub is_joint : (node : Node) (children : Option (ℕ × ℕ))
       → tree_at t number ≡ made t.names (trees_of t) node → IsFine (length t.names) number node → children ≡ and_children node → Joins children

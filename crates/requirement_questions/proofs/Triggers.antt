@@ -15,21 +15,8 @@ pub is_always : (node : Node) (a : ℕ) → always_child node ≡ Some a → nod
 is_always (nodes.Const b) a e = absurd (cc)
 is_always (nodes.Letter n) a e = absurd (cc)
 is_always (nodes.Fresh n) a e = absurd (cc)
-is_always (nodes.Unary one.Not c) a e = absurd (cc)
-is_always (nodes.Unary one.Next c) a e = absurd (cc)
-is_always (nodes.Unary one.WeakNext c) a e = absurd (cc)
-is_always (nodes.Unary one.Eventually c) a e = absurd (cc)
 is_always (nodes.Unary one.Always c) a e = let is : c ≡ a = cc in ap (nodes.Unary one.Always) is
-is_always (nodes.Unary one.Yesterday c) a e = absurd (cc)
-is_always (nodes.Unary one.WeakYesterday c) a e = absurd (cc)
-is_always (nodes.Unary one.Once c) a e = absurd (cc)
-is_always (nodes.Unary one.Historically c) a e = absurd (cc)
-is_always (nodes.Unary (one.NextTimes n) c) a e = absurd (cc)
-is_always (nodes.Unary (one.YesterdayTimes n) c) a e = absurd (cc)
-is_always (nodes.Unary (one.EventuallyIn m n) c) a e = absurd (cc)
-is_always (nodes.Unary (one.AlwaysIn m n) c) a e = absurd (cc)
-is_always (nodes.Unary (one.OnceIn m n) c) a e = absurd (cc)
-is_always (nodes.Unary (one.HistoricallyIn m n) c) a e = absurd (cc)
+is_always (nodes.Unary op c) a e = absurd (cc)
 is_always (nodes.Binary op b c) a e = absurd (cc)
 
 pub is_condition : (node : Node) (a : ℕ) → condition_child node ≡ Some a → (b : ℕ) × (node ≡ nodes.Binary two.Implies a b)
@@ -37,37 +24,16 @@ is_condition (nodes.Const b) a e = absurd (cc)
 is_condition (nodes.Letter n) a e = absurd (cc)
 is_condition (nodes.Fresh n) a e = absurd (cc)
 is_condition (nodes.Unary op c) a e = absurd (cc)
-is_condition (nodes.Binary two.And c d) a e = absurd (cc)
-is_condition (nodes.Binary two.Or c d) a e = absurd (cc)
 is_condition (nodes.Binary two.Implies c d) a e = let is : c ≡ a = cc in (d, ap (λ x. nodes.Binary two.Implies x d) is)
-is_condition (nodes.Binary two.Iff c d) a e = absurd (cc)
-is_condition (nodes.Binary two.Until c d) a e = absurd (cc)
-is_condition (nodes.Binary two.Release c d) a e = absurd (cc)
-is_condition (nodes.Binary two.WeakUntil c d) a e = absurd (cc)
-is_condition (nodes.Binary two.StrongRelease c d) a e = absurd (cc)
-is_condition (nodes.Binary two.Since c d) a e = absurd (cc)
-is_condition (nodes.Binary two.Trigger c d) a e = absurd (cc)
+is_condition (nodes.Binary op c d) a e = absurd (cc)
 
 module _ (names : List (List ℕ)) (trees : List Formula) where
   pub no_trigger : (node : Node) → always_child node ≡ None → trigger_of (made names trees node) ≡ None
   no_trigger (nodes.Const b) e = refl
   no_trigger (nodes.Letter n) e = refl
   no_trigger (nodes.Fresh n) e = refl
-  no_trigger (nodes.Unary one.Not c) e = refl
-  no_trigger (nodes.Unary one.Next c) e = refl
-  no_trigger (nodes.Unary one.WeakNext c) e = refl
-  no_trigger (nodes.Unary one.Eventually c) e = refl
   no_trigger (nodes.Unary one.Always c) e = absurd (cc)
-  no_trigger (nodes.Unary one.Yesterday c) e = refl
-  no_trigger (nodes.Unary one.WeakYesterday c) e = refl
-  no_trigger (nodes.Unary one.Once c) e = refl
-  no_trigger (nodes.Unary one.Historically c) e = refl
-  no_trigger (nodes.Unary (one.NextTimes n) c) e = refl
-  no_trigger (nodes.Unary (one.YesterdayTimes n) c) e = refl
-  no_trigger (nodes.Unary (one.EventuallyIn m n) c) e = refl
-  no_trigger (nodes.Unary (one.AlwaysIn m n) c) e = refl
-  no_trigger (nodes.Unary (one.OnceIn m n) c) e = refl
-  no_trigger (nodes.Unary (one.HistoricallyIn m n) c) e = refl
+  no_trigger (nodes.Unary op c) e = refl
   no_trigger (nodes.Binary op b c) e = refl
 
   pub no_condition : (node : Node) → condition_child node ≡ None → trigger_of (Unary one.Always (made names trees node)) ≡ None
@@ -75,36 +41,15 @@ module _ (names : List (List ℕ)) (trees : List Formula) where
   no_condition (nodes.Letter n) e = refl
   no_condition (nodes.Fresh n) e = refl
   no_condition (nodes.Unary op c) e = refl
-  no_condition (nodes.Binary two.And b c) e = refl
-  no_condition (nodes.Binary two.Or b c) e = refl
   no_condition (nodes.Binary two.Implies b c) e = absurd (cc)
-  no_condition (nodes.Binary two.Iff b c) e = refl
-  no_condition (nodes.Binary two.Until b c) e = refl
-  no_condition (nodes.Binary two.Release b c) e = refl
-  no_condition (nodes.Binary two.WeakUntil b c) e = refl
-  no_condition (nodes.Binary two.StrongRelease b c) e = refl
-  no_condition (nodes.Binary two.Since b c) e = refl
-  no_condition (nodes.Binary two.Trigger b c) e = refl
+  no_condition (nodes.Binary op b c) e = refl
 
   pub fails_at_once : (t : Trace) (node : Node) → always_child node ≡ None → ¬ Satisfies t (made names trees node) → FailsFirst t (made names trees node) 0
   fails_at_once t (nodes.Const b) e h = (refl, h)
   fails_at_once t (nodes.Letter n) e h = (refl, h)
   fails_at_once t (nodes.Fresh n) e h = (refl, h)
-  fails_at_once t (nodes.Unary one.Not c) e h = (refl, h)
-  fails_at_once t (nodes.Unary one.Next c) e h = (refl, h)
-  fails_at_once t (nodes.Unary one.WeakNext c) e h = (refl, h)
-  fails_at_once t (nodes.Unary one.Eventually c) e h = (refl, h)
   fails_at_once t (nodes.Unary one.Always c) e h = absurd (cc)
-  fails_at_once t (nodes.Unary one.Yesterday c) e h = (refl, h)
-  fails_at_once t (nodes.Unary one.WeakYesterday c) e h = (refl, h)
-  fails_at_once t (nodes.Unary one.Once c) e h = (refl, h)
-  fails_at_once t (nodes.Unary one.Historically c) e h = (refl, h)
-  fails_at_once t (nodes.Unary (one.NextTimes n) c) e h = (refl, h)
-  fails_at_once t (nodes.Unary (one.YesterdayTimes n) c) e h = (refl, h)
-  fails_at_once t (nodes.Unary (one.EventuallyIn m n) c) e h = (refl, h)
-  fails_at_once t (nodes.Unary (one.AlwaysIn m n) c) e h = (refl, h)
-  fails_at_once t (nodes.Unary (one.OnceIn m n) c) e h = (refl, h)
-  fails_at_once t (nodes.Unary (one.HistoricallyIn m n) c) e h = (refl, h)
+  fails_at_once t (nodes.Unary op c) e h = (refl, h)
   fails_at_once t (nodes.Binary op b c) e h = (refl, h)
 
 -- ---- the trigger of a tree of a table

@@ -30,7 +30,7 @@ pub record IsJoint (t : Table) (number left right : ℕ) : Type 0 where
   pub right_there : right < length t.nodes
   pub tree : tree_at t number ≡ Binary And (tree_at t left) (tree_at t right)
 
--- so many trees of the table that the one under the root joins in their order
+-- the trees of the table that the one under the root joins in their order
 pub record ArePartsOf (t : Table) (root count : ℕ) (parts : List ℕ) : Type 0 where
   pub there : All (λ n. n < length t.nodes) parts
   pub many : length parts ≡ count

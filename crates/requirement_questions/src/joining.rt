@@ -44,7 +44,7 @@ pub fn join(
     finish(alloc, question.asked, table, root)
 }
 
-/// What is asked joined to what is there.
+/// The formula of the members, with what is asked joined to it.
 fn finish(
     alloc: Global,
     asked: Wanted<'_>,
@@ -63,7 +63,7 @@ fn finish(
     Ok(Some(Joined { table, root }))
 }
 
-/// What is asked joined to what is there, and `true` where there is nothing at all.
+/// What is asked, joined to the formula of the members. Where there is neither, the formula is `true`.
 fn add_asked(
     alloc: Global,
     table: &mut FormulaTable,
@@ -81,7 +81,7 @@ fn add_asked(
     }
 }
 
-/// The root of what is joined, and `true` where that is nothing.
+/// The root of the formula of the members, or `true` where there are none.
 fn some_root(table: &mut FormulaTable, root: Option<u32>) -> Result<Option<u32>, AllocError>
     requires { IsBuilt table.old root }
     ensures { IfOk result (IsFinished (joined_at table.old root) table.new) }

@@ -34,7 +34,7 @@ struct Stretch {
     width: usize,
 }
 
-/// As few of them as can be shown.
+/// As few of the members as can be shown: each that could be left out is, within the limits.
 pub fn fewest(
     alloc: Global,
     question: &Question<'_>,
@@ -114,7 +114,8 @@ fn tried(
     }
 }
 
-/// The same, and where one was tried, that it is needed.
+/// What is known where a trace satisfies the rest. If one member was left out, that one is needed; of several
+/// it is not known which.
 fn noted(because: Box<Because>, first: usize, end: usize) -> Box<Because>
     requires order { first < end }
     requires there { end ≤ length because.value.members.items }
@@ -144,7 +145,7 @@ pub fn all_because(
     because_of(alloc, members, refuted)
 }
 
-/// Members with what refutes them.
+/// Some members, together with the formula that they make and the certificate that refutes it.
 fn because_of(
     alloc: Global,
     members: Vec<Member>,

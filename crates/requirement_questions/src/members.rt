@@ -4,7 +4,7 @@ ghost use Rattle.requirement_questions.specs.Members.{counted, without_some, mar
 
 use std::alloc::{AllocError, Global};
 
-/// A given formula that is one of some.
+/// A member: one of the given formulas that belongs to a set of them.
 #[derive(Clone, Copy)]
 pub struct Member {
     /// Its place among the given ones, from 0.
@@ -14,7 +14,7 @@ pub struct Member {
     pub needed: bool,
 }
 
-/// This many, from the first given formula on.
+/// All given formulas as members, where this is their number. None is marked as needed.
 pub fn first_members(alloc: Global, count: usize) -> Result<Vec<Member>, AllocError>
     requires { count ≤ 16384 }
     ensures { IfOk result (λ members. members.items ≡ counted count) }
@@ -29,7 +29,7 @@ pub fn first_members(alloc: Global, count: usize) -> Result<Vec<Member>, AllocEr
     Ok(members)
 }
 
-/// All but those from the first place on to before the end.
+/// All members but those from the first place on to before the end.
 pub fn others(
     alloc: Global,
     members: &[Member],
@@ -46,7 +46,7 @@ pub fn others(
     Ok(rest)
 }
 
-/// Marks the one at this place as needed.
+/// Marks the member at this place as needed.
 pub fn mark(members: &mut Vec<Member>, place: usize)
     requires { place < length members.old.items }
     ensures { members.new.items ≡ marked place members.old.items }

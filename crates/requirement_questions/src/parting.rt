@@ -16,12 +16,14 @@ use crate::replacing::{Replaced, replaced_from};
 use ltl_syntax::{BinaryOp, FormulaTable, Kind, Node};
 use std::alloc::{AllocError, Global};
 
-/// What matters of some formulas that no trace satisfies.
+/// The core of a conflict: what matters of some formulas that no trace satisfies. Each formula has a part,
+/// which is the formula with fresh letters in place of what the conflict does not need. No trace satisfies
+/// the parts either, whatever stands in those places.
 #[derive(Drop)]
 pub struct Core {
     pub table: FormulaTable,
-    /// The root of each formula's part, in the order of the formulas. Fresh letters stand where it was
-    /// replaced.
+    /// The root of each formula's part in the table, in the order of the formulas. In place of each piece
+    /// that was replaced stands a fresh letter of its own.
     pub parts: Vec<u32>,
 }
 
@@ -72,7 +74,7 @@ fn core_in(
     Ok(Some(Box::new(alloc, core)?))
 }
 
-/// The numbers of the parts, where there are enough joints.
+/// The roots of the parts, in the order of the members, where there are enough joints.
 fn parts_under(
     alloc: Global,
     table: &FormulaTable,
@@ -97,7 +99,7 @@ fn parts_under(
     Ok(Some(parts))
 }
 
-/// What a joint joins.
+/// The two formulas that a joint joins: those before, and the one behind them.
 fn joint(table: &FormulaTable, number: u32) -> Option<(u32, u32)>
     requires { number < length table.now.nodes }
     ensures { IfSome result (λ r. IsJoint table.now number r.0 r.1) }

@@ -18,7 +18,7 @@ use std::alloc::{AllocError, Global};
 /// How many questions a test asks at most.
 const TEST_STEPS: u32 = 100_000;
 
-/// A formula with some occurrences replaced.
+/// A formula with some occurrences replaced by fresh letters: a table, and the number of its root there.
 #[derive(Drop)]
 pub struct Replaced {
     pub table: FormulaTable,
@@ -74,7 +74,7 @@ fn pass(
     Ok(held)
 }
 
-/// The formula with a kept occurrence replaced as well, where it does without it.
+/// The formula with one more occurrence replaced, where it does without it: no trace satisfies it even then.
 fn with_one(
     alloc: Global,
     task: &Task<'_>,
@@ -98,7 +98,7 @@ fn with_one(
     Ok(Some(formula))
 }
 
-/// The same marks.
+/// A copy of the marks, so that a test that fails leaves them as they were.
 fn copied(alloc: Global, marks: &Vec<bool>) -> Result<Vec<bool>, AllocError>
     ensures { IfOk result (λ copy. copy.items ≡ marks.now.items) }
 {

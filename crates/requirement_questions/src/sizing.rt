@@ -27,7 +27,8 @@ pub fn full_size(alloc: Global, question: &Question<'_>) -> Result<u128, AllocEr
     Ok(steps - 1)
 }
 
-/// How much what is asked adds.
+/// How many nodes what is asked adds: its own, one for the `&` before it, and one for `!` where it is to
+/// fail.
 fn asked_steps(alloc: Global, asked: Wanted<'_>) -> Result<u128, AllocError>
     requires { AskedIsThere asked }
     ensures steps { IfOk result (λ steps. steps ≡ steps_of (asked_formulas asked.entry)) }

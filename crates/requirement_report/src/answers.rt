@@ -1,4 +1,5 @@
-// What is said of an answer.
+// What is said of one answer: the word that begins its block, and the lines under the head of the block. The
+// page says the same in `requirement_page/src/answers.rt`, the JSON in `requirement_json/src/answers.rt`.
 ghost use Rattle.std.specs.Prelude.{◌≡◌, ◌++◌, OnOk};
 ghost use Rattle.requirement_document.specs.Values.{document_in};
 ghost use Rattle.requirement_report.specs.Text.{question_words, can_word, cannot_word, word_of};
@@ -12,7 +13,7 @@ use requirement_document::Document;
 use requirement_questions::{Limits, Member, QuestionAnswer};
 use std::alloc::{AllocError, Global};
 
-/// The word that an answer begins with.
+/// The word that an answer begins with. It tells the question too, but for `undecided`.
 pub fn word_of(asking: Asking, answer: &QuestionAnswer) -> &'static [u8]
     ensures { result.now ≡ word_of asking answer.now }
 {
@@ -23,6 +24,8 @@ pub fn word_of(asking: Asking, answer: &QuestionAnswer) -> &'static [u8]
     }
 }
 
+/// The word where a trace was found. That is what one hopes for, unless it is asked whether an item follows:
+/// then the item fails on this trace.
 fn can_word(asking: Asking) -> &'static [u8]
     ensures { result.now ≡ can_word asking }
 {
@@ -35,6 +38,7 @@ fn can_word(asking: Asking) -> &'static [u8]
     }
 }
 
+/// The word where it is proved that there is no trace.
 fn cannot_word(asking: Asking) -> &'static [u8]
     ensures { result.now ≡ cannot_word asking }
 {
@@ -47,7 +51,7 @@ fn cannot_word(asking: Asking) -> &'static [u8]
     }
 }
 
-/// The question in words.
+/// The question in words. They stand under an undecided answer, whose word does not tell what was asked.
 pub fn question_words(asking: Asking) -> &'static [u8]
     ensures { result.now ≡ question_words asking }
 {
@@ -60,7 +64,8 @@ pub fn question_words(asking: Asking) -> &'static [u8]
     }
 }
 
-/// Adds the lines under the head.
+/// Adds the lines under the head: the picture of the trace, or the items because of which there is none, or
+/// the question and the limit that left it open.
 pub fn put_answer(
     alloc: Global,
     document: &Document,
@@ -86,6 +91,8 @@ pub fn put_answer(
     }
 }
 
+/// Adds the line of the items because of which there is no trace. It is `by itself` where there are none:
+/// what is asked cannot be, whatever else holds.
 fn put_because(
     alloc: Global,
     document: &Document,
@@ -103,6 +110,7 @@ fn put_because(
     put_inner(&line, out)
 }
 
+/// Adds the line of the limit within which neither answer was found. A step is a question to a solver.
 fn put_tried(alloc: Global, steps: u32, out: &mut Vec<u8>) -> Result<(), AllocError>
     ensures { OnOk result (out.new.items ≡ out.old.items ++ tried_line steps) }
 {
@@ -112,6 +120,7 @@ fn put_tried(alloc: Global, steps: u32, out: &mut Vec<u8>) -> Result<(), AllocEr
     put_inner(&line, out)
 }
 
+/// Adds the line of the number of nodes that the formula of the whole question would have. It was not tried.
 fn put_large(alloc: Global, size: u128, out: &mut Vec<u8>) -> Result<(), AllocError>
     ensures { OnOk result (out.new.items ≡ out.old.items ++ large_line size) }
 {

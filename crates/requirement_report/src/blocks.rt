@@ -1,4 +1,5 @@
-// The blocks of what is met together, and of the further questions.
+// The blocks of what is met together and of the further questions. A block is a head, `word: subject`, with
+// the lines under it. The page has an article in place of each: `requirement_page/src/answers.rt`.
 ghost use Rattle.std.specs.Prelude.{◌≡◌, ◌++◌, OnOk};
 ghost use Rattle.std.specs.List.{flat_map};
 ghost use Rattle.requirement_document.specs.Values.{document_in};
@@ -16,14 +17,16 @@ use requirement_document::Document;
 use requirement_questions::{Limits, Member, QuestionAnswer};
 use std::alloc::{AllocError, Global};
 
-/// How many items, and of how many.
+/// How many of the assumed and required items are left when those in a conflict are set aside, and of how
+/// many.
 #[derive(Clone, Copy)]
 pub struct Left {
     pub left: usize,
     pub all: usize,
 }
 
-/// Adds the block that says whether what is left can be met together.
+/// Adds the block that says whether what is left can be met together. Its subject is the number of items that
+/// are left, of all that are given. Those that are set aside are named in its first line, if there are any.
 pub fn put_together(
     alloc: Global,
     document: &Document,
@@ -43,6 +46,7 @@ pub fn put_together(
     put_answer(alloc, document, limits, Asking::Together, answer, out)
 }
 
+/// Adds the line of the items that are set aside. Where there are none there is no line.
 fn put_without(
     alloc: Global,
     document: &Document,
@@ -60,7 +64,7 @@ fn put_without(
     put_inner(&line, out)
 }
 
-/// Adds the blocks of the further questions.
+/// Adds the blocks of the further questions, in the order in which they were asked.
 pub fn put_replies(
     alloc: Global,
     document: &Document,
@@ -78,6 +82,7 @@ pub fn put_replies(
     Ok(())
 }
 
+/// Adds the block of a further question, or nothing where its answer goes without saying.
 fn put_reply(
     alloc: Global,
     document: &Document,
@@ -104,7 +109,8 @@ fn put_reply(
     put_answer(alloc, document, limits, reply.asking, &reply.answer, out)
 }
 
-/// Adds an empty line, a word and a name, and the sentence where there is one.
+/// Adds an empty line, a word and a name, and the sentence where there is one. So begins each block that is
+/// about an item or a behaviour; the empty line parts it from the block before.
 pub fn put_named_head(
     alloc: Global,
     word: &[u8],
@@ -124,7 +130,8 @@ pub fn put_named_head(
     put_inner_if(&line, out)
 }
 
-/// The item that is asked about.
+/// The number of the item that is asked about, from 0. The question whether all can be met together is about
+/// no item; its 0 has no meaning.
 pub fn item_asked(asking: Asking) -> u32
     ensures { result ≡ item_asked asking }
 {
@@ -137,14 +144,15 @@ pub fn item_asked(asking: Asking) -> u32
     }
 }
 
-/// Whether the answer goes without saying where all is asked.
+/// Whether the answer goes without saying, and is not shown. It does where the whole document is asked about
+/// and a required item is triggered, or says something new, as it should.
 pub fn is_hidden(scope: Scope, asking: Asking, answer: &QuestionAnswer) -> bool
     ensures { result ≡ is_hidden scope asking answer.now }
 {
     is_all(scope) && is_remark(asking) && is_can(answer)
 }
 
-/// Whether no item and no behaviour is chosen.
+/// Whether no item and no behaviour is chosen: the report is about the whole document.
 pub fn is_all(scope: Scope) -> bool
     ensures { result ≡ is_all scope }
 {
@@ -154,6 +162,8 @@ pub fn is_all(scope: Scope) -> bool
     }
 }
 
+/// Whether no item of the document asks the question: it is whether a required item is triggered, or says
+/// something new. Where the whole document is asked about, only an answer that one does not hope for is told.
 fn is_remark(asking: Asking) -> bool
     ensures { result ≡ is_remark asking }
 {
@@ -163,6 +173,7 @@ fn is_remark(asking: Asking) -> bool
     }
 }
 
+/// Whether a trace was found. To a question that may be hidden this is the answer that one hopes for.
 fn is_can(answer: &QuestionAnswer) -> bool
     ensures { result ≡ is_can answer.now }
 {

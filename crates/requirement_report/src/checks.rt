@@ -1,4 +1,6 @@
-// The blocks of behaviours: which items each of them breaks, and where.
+// The blocks of behaviours: which items each of them breaks, and where. A behaviour is a trace that the
+// document gives, to be held against its items. The page: `requirement_page/src/checks.rt`; the JSON:
+// `requirement_json/src/checks.rt`.
 ghost use Rattle.std.specs.Prelude.{◌≡◌, ◌<◌, ◌++◌, length, slice_get, IfOk, OnOk};
 ghost use Rattle.std.specs.List.{flat_map};
 ghost use Rattle.ltl_syntax.specs.Table.{tree_at};
@@ -18,6 +20,7 @@ use requirement_answers::{Break, Check};
 use requirement_document::Document;
 use std::alloc::{AllocError, Global};
 
+/// Adds a block for each behaviour. None is left out, not even one that keeps all.
 pub fn put_checks(
     alloc: Global,
     document: &Document,
@@ -33,6 +36,8 @@ pub fn put_checks(
     Ok(())
 }
 
+/// Adds the block of a behaviour: the items that it breaks and then its picture, which it has only if it
+/// breaks any.
 fn put_check(
     alloc: Global,
     document: &Document,
@@ -53,7 +58,7 @@ fn put_check(
     put_broken_picture(alloc, document, check.behaviour, &check.breaks, out)
 }
 
-/// Whether a behaviour keeps all.
+/// Whether a behaviour keeps all assumed and required items, as the word of its block.
 pub fn keeps_word(breaks: &[Break]) -> &'static [u8]
     ensures { result.now ≡ keeps_word breaks.now }
 {
@@ -64,6 +69,7 @@ pub fn keeps_word(breaks: &[Break]) -> &'static [u8]
     }
 }
 
+/// Adds the lines of all items that a behaviour breaks.
 fn put_breaks(
     alloc: Global,
     document: &Document,
@@ -79,6 +85,7 @@ fn put_breaks(
     Ok(())
 }
 
+/// Adds the name of an item with the position at which it first fails, from 0, and what was asked there.
 fn put_break(
     alloc: Global,
     document: &Document,
@@ -95,6 +102,7 @@ fn put_break(
     put_asked_in(alloc, document, broken.item, out)
 }
 
+/// Adds what asked and what was not answered in the item with this number, from 0.
 fn put_asked_in(
     alloc: Global,
     document: &Document,
@@ -110,7 +118,8 @@ fn put_asked_in(
     }
 }
 
-/// Adds what asked and what was not answered where the formula is `G (a -> b)`.
+/// Adds what asked and what was not answered where the formula is `G (a -> b)`: a, and b. Of an item of
+/// another form nothing more is told than where it fails.
 fn put_asked(
     alloc: Global,
     table: &FormulaTable,
@@ -130,6 +139,7 @@ fn put_asked(
     put_words(alloc, b"not answered: ", table, answer, out)
 }
 
+/// Adds a line of some words and a formula, behind eight blanks.
 fn put_words(
     alloc: Global,
     words: &[u8],
@@ -147,7 +157,9 @@ fn put_words(
     put_deeper(&line, out)
 }
 
-/// The text of a formula without parentheses around the whole.
+/// The text of a formula without parentheses around the whole. Printing puts a pair around each operator with
+/// two operands, so that it can stand within another formula. A formula that has a line to itself is shown
+/// bare.
 pub fn bare(alloc: Global, table: &FormulaTable, root: u32) -> Result<Vec<u8>, AllocError>
     requires { root < length table.now.nodes }
     ensures { IfOk result (λ text. text.items ≡ bare (tree_at table.now root)) }
@@ -159,7 +171,7 @@ pub fn bare(alloc: Global, table: &FormulaTable, root: u32) -> Result<Vec<u8>, A
     Vec::from_slice(alloc, &text[1..text.len() - 1])
 }
 
-/// Whether an operator joins two formulas there.
+/// Whether an operator joins two formulas there, which printing puts between parentheses.
 fn is_joined(table: &FormulaTable, root: u32) -> bool
     requires { root < length table.now.nodes }
     ensures { result ≡ is_joined (tree_at table.now root) }
@@ -170,6 +182,8 @@ fn is_joined(table: &FormulaTable, root: u32) -> bool
     }
 }
 
+/// Adds the picture of a behaviour, with a mark wherever an item first fails. One that keeps all has no
+/// picture in the text.
 fn put_broken_picture(
     alloc: Global,
     document: &Document,
@@ -187,6 +201,7 @@ fn put_broken_picture(
     put_behaviour_picture(alloc, document, number, &positions, out)
 }
 
+/// The positions at which the items first fail, from 0, in the order of the items. Two may be the same.
 fn positions_of(alloc: Global, breaks: &[Break]) -> Result<Vec<u32>, AllocError>
     ensures { IfOk result (λ positions. positions.items ≡ positions_of breaks.now) }
 {
@@ -197,6 +212,7 @@ fn positions_of(alloc: Global, breaks: &[Break]) -> Result<Vec<u32>, AllocError>
     Ok(positions)
 }
 
+/// Adds the picture of the behaviour with this number, from 0, with marks at these positions.
 fn put_behaviour_picture(
     alloc: Global,
     document: &Document,

@@ -1,4 +1,6 @@
-// A conflict: its members, and why they cannot be met together.
+// A conflict: its members, and why they cannot be met together. Its members are assumed and required items
+// that no trace satisfies, as few as could be shown. The page says the same in
+// `requirement_page/src/reasons.rt`, the JSON in `requirement_json/src/because.rt`.
 ghost use Rattle.std.specs.Prelude.{◌≡◌, ◌++◌, IfOk, OnOk};
 ghost use Rattle.std.specs.Option.{option_copied};
 ghost use Rattle.requirement_document.specs.Values.{document_in};
@@ -23,9 +25,11 @@ use requirement_document::Document;
 use requirement_questions::{Because, Core, Member};
 use std::alloc::{AllocError, Global};
 
-/// The most claims that are printed.
+/// The most claims that are printed. Those behind them are only counted.
 const MOST_CLAIMS: usize = 12;
 
+/// Adds the block of a conflict: the names of its members, what is said of each, and the claims of its
+/// certificate.
 pub fn put_conflict(
     alloc: Global,
     document: &Document,
@@ -45,6 +49,7 @@ pub fn put_conflict(
     put_claims(alloc, &nevers, out)
 }
 
+/// Adds what is said of each member, in the order of the items.
 fn put_each(
     alloc: Global,
     document: &Document,
@@ -61,7 +66,8 @@ fn put_each(
     Ok(())
 }
 
-/// Adds what is said of the member at this place.
+/// Adds what is said of the member at this place of the conflict, from 0. The core is found by the place, the
+/// item by the member's own number.
 fn put_member(
     alloc: Global,
     document: &Document,
@@ -77,6 +83,7 @@ fn put_member(
     put_matters(alloc, core, place, out)
 }
 
+/// Adds the name of a member and, deeper, its sentence, where it has one, and its formula as it is written.
 fn put_subject(
     alloc: Global,
     document: &Document,
@@ -91,7 +98,7 @@ fn put_subject(
     put_flat_deeper(alloc, written_of(document, member.given), out)
 }
 
-/// Adds what matters of the member at this place, where that is known.
+/// Adds the part of the member's formula that matters for the conflict, where that is known.
 fn put_matters(
     alloc: Global,
     core: Option<&Core>,
@@ -109,6 +116,7 @@ fn put_matters(
     put_deeper(&line, out)
 }
 
+/// Adds a text that somebody wrote, flat, behind four blanks.
 fn put_flat_inner(alloc: Global, text: &str, out: &mut Vec<u8>) -> Result<(), AllocError>
     ensures { OnOk result (out.new.items ≡ out.old.items ++ inner (flat text.now)) }
 {
@@ -117,6 +125,7 @@ fn put_flat_inner(alloc: Global, text: &str, out: &mut Vec<u8>) -> Result<(), Al
     put_inner(&line, out)
 }
 
+/// Adds a text that somebody wrote, flat, behind eight blanks. Where nothing is left of it there is no line.
 fn put_flat_deeper(alloc: Global, text: &str, out: &mut Vec<u8>) -> Result<(), AllocError>
     ensures { OnOk result (out.new.items ≡ out.old.items ++ deeper_if (flat text.now)) }
 {
@@ -125,7 +134,8 @@ fn put_flat_deeper(alloc: Global, text: &str, out: &mut Vec<u8>) -> Result<(), A
     put_deeper_if(&line, out)
 }
 
-/// The lines of its claims.
+/// The claims of a certificate, each as a line `never F`: F is true at no position of any trace of the kind.
+/// There are none where the members fail in each first state already.
 pub fn nevers(alloc: Global, kind: Kind, because: &Because) -> Result<Vec<u8>, AllocError>
     requires { CanBeShown because.now }
     ensures { IfOk result (λ lines. lines.items ≡ nevers_of because.now) }
@@ -146,6 +156,7 @@ fn put_claims(alloc: Global, nevers: &[u8], out: &mut Vec<u8>) -> Result<(), All
     put_more(alloc, lines_in(nevers), out)
 }
 
+/// Adds how many claims are not printed, where there are any such.
 fn put_more(alloc: Global, count: usize, out: &mut Vec<u8>) -> Result<(), AllocError>
     ensures { OnOk result (out.new.items ≡ out.old.items ++ more_lines count) }
 {

@@ -1,4 +1,4 @@
-// The last block: the verdict, and counts.
+// The last block: the verdict, and counts. On the page they come first: `requirement_page/src/counts.rt`.
 ghost use Rattle.std.specs.Prelude.{◌≡◌, ◌++◌, OnOk};
 ghost use Rattle.requirement_report.specs.Text.{verdict_text, met_line, count_line, later_counts};
 ghost use Rattle.requirement_report.specs.Text.{count_lines, ending};
@@ -7,6 +7,7 @@ use crate::lines::{put_inner, put_of_all};
 use requirement_answers::{Counts, ReportVerdict, Tally};
 use std::alloc::{AllocError, Global};
 
+/// Adds an empty line, the verdict and the lines of counts.
 pub fn put_ending(
     alloc: Global,
     verdict: ReportVerdict,
@@ -21,7 +22,7 @@ pub fn put_ending(
     put_counts(alloc, counts, out)
 }
 
-/// The line of a verdict.
+/// The words of a verdict, which the page and the JSON have too.
 pub fn verdict_text(verdict: ReportVerdict) -> &'static [u8]
     ensures { result.now ≡ verdict_text verdict }
 {
@@ -32,6 +33,7 @@ pub fn verdict_text(verdict: ReportVerdict) -> &'static [u8]
     }
 }
 
+/// Adds a line of counts for each sort of question that was asked, in the order in which they are asked.
 fn put_counts(alloc: Global, counts: Counts, out: &mut Vec<u8>) -> Result<(), AllocError>
     ensures { OnOk result (out.new.items ≡ out.old.items ++ count_lines counts) }
 {
@@ -41,6 +43,8 @@ fn put_counts(alloc: Global, counts: Counts, out: &mut Vec<u8>) -> Result<(), Al
     put_later_counts(alloc, counts, out)
 }
 
+/// Adds the counts of what the document itself asks: what may happen, what should follow, and what its
+/// behaviours keep.
 fn put_later_counts(alloc: Global, counts: Counts, out: &mut Vec<u8>) -> Result<(), AllocError>
     ensures { OnOk result (out.new.items ≡ out.old.items ++ later_counts counts) }
 {
@@ -49,6 +53,8 @@ fn put_later_counts(alloc: Global, counts: Counts, out: &mut Vec<u8>) -> Result<
     put_count(alloc, b"keeps all", counts.keeps, out)
 }
 
+/// Adds how many of the assumed and required items are met together. That is asked in each report, so the
+/// line is always there.
 fn put_met(alloc: Global, met: Tally, out: &mut Vec<u8>) -> Result<(), AllocError>
     ensures { OnOk result (out.new.items ≡ out.old.items ++ met_line met) }
 {
@@ -57,6 +63,8 @@ fn put_met(alloc: Global, met: Tally, out: &mut Vec<u8>) -> Result<(), AllocErro
     put_inner(&line, out)
 }
 
+/// Adds how many questions of a sort have the answer that one hopes for, of how many. Where none was asked
+/// there is no line.
 fn put_count(alloc: Global, words: &[u8], tally: Tally, out: &mut Vec<u8>) -> Result<(), AllocError>
     ensures { OnOk result (out.new.items ≡ out.old.items ++ count_line words.now tally) }
 {

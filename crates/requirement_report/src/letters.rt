@@ -1,4 +1,6 @@
-// The letters of a document, and the items that have them.
+// The letters of a document, and the items that have them. The list of letters and the letters that may be
+// slips are made from these. Letters that stand in behaviours alone are not among them. The JSON lists them
+// in `requirement_json/src/letters.rt`.
 ghost use Rattle.std.specs.Prelude.{◌≡◌, ◌<◌, ◌++◌, length, map, IfOk, OnOk};
 ghost use Rattle.std.specs.List.{flat_map};
 ghost use Rattle.requirement_document.specs.Values.{document_in, item_in};
@@ -23,7 +25,7 @@ pub struct Use {
     pub items: Vec<u32>,
 }
 
-/// The letters of all items, in ascending order of their bytes.
+/// The letters of all items with their items, in ascending order of their bytes.
 pub fn uses_of(alloc: Global, document: &Document) -> Result<Vec<Use>, AllocError>
     ensures { IfOk result (λ uses. map use_in uses.items ≡ uses_of (document_in document.now)) }
 {
@@ -32,7 +34,7 @@ pub fn uses_of(alloc: Global, document: &Document) -> Result<Vec<Use>, AllocErro
     uses_among(alloc, &sets, letters.names())
 }
 
-/// The letters of each item.
+/// The letters of each item, in the order of the items.
 fn sets_of(alloc: Global, items: &[Item]) -> Result<Vec<StateSet>, AllocError>
     ensures { IfOk result (λ sets. sets.items ≡ map (λ i. set_of (item_in i)) items.now) }
 {
@@ -43,6 +45,7 @@ fn sets_of(alloc: Global, items: &[Item]) -> Result<Vec<StateSet>, AllocError>
     Ok(sets)
 }
 
+/// The letters of one item, each once.
 fn set_of(alloc: Global, item: &Item) -> Result<StateSet, AllocError>
     ensures { IfOk result (λ set. set ≡ set_of (item_in item.now)) }
 {
@@ -51,7 +54,7 @@ fn set_of(alloc: Global, item: &Item) -> Result<StateSet, AllocError>
     ascending(names)
 }
 
-/// The letters of all items.
+/// The letters of all items, each once and in ascending order of their bytes.
 fn all_letters(alloc: Global, items: &[Item]) -> Result<StateSet, AllocError>
     ensures { IfOk result (λ set. set ≡ ascending (flat_map (λ i. item_letters (item_in i)) items.now)) }
 {
@@ -60,6 +63,7 @@ fn all_letters(alloc: Global, items: &[Item]) -> Result<StateSet, AllocError>
     ascending(names)
 }
 
+/// Adds the letters of all items, one item behind the other. A letter is added wherever it stands.
 fn put_all_letters(alloc: Global, items: &[Item], names: &mut Vec<Name>) -> Result<(), AllocError>
     ensures { OnOk result (names.new.items
         ≡ names.old.items ++ flat_map (λ i. item_letters (item_in i)) items.now) }
@@ -77,7 +81,7 @@ pub fn ascending(names: Vec<Name>) -> Result<StateSet, AllocError>
     StateSet::from_names(names)
 }
 
-/// Each letter with the sets that have it.
+/// Each letter with the numbers of the sets that have it. The set of an item has the number of the item.
 fn uses_among(alloc: Global, sets: &[StateSet], letters: &[Name]) -> Result<Vec<Use>, AllocError>
     ensures { IfOk result (λ uses. map use_in uses.items ≡ map (use_among sets.now) letters.now) }
 {
@@ -88,6 +92,7 @@ fn uses_among(alloc: Global, sets: &[StateSet], letters: &[Name]) -> Result<Vec<
     Ok(uses)
 }
 
+/// One letter with the numbers of the sets that have it.
 fn use_among(alloc: Global, sets: &[StateSet], letter: &str) -> Result<Use, AllocError>
     ensures { IfOk result (λ found. use_in found ≡ use_among sets.now letter.now) }
 {
@@ -98,7 +103,7 @@ fn use_among(alloc: Global, sets: &[StateSet], letter: &str) -> Result<Use, Allo
     })
 }
 
-/// The numbers of the sets that have the letter.
+/// The numbers of the sets that have the letter, from 0 and ascending.
 fn users_among(alloc: Global, sets: &[StateSet], letter: &str) -> Result<Vec<u32>, AllocError>
     ensures { IfOk result (λ users. users.items ≡ users_among sets.now letter.now (length sets.now)) }
 {
@@ -112,6 +117,7 @@ fn users_among(alloc: Global, sets: &[StateSet], letter: &str) -> Result<Vec<u32
     Ok(users)
 }
 
+/// Adds the number of a set, if that has the letter.
 fn put_user(
     sets: &[StateSet],
     letter: &str,
@@ -143,6 +149,7 @@ pub fn letters_text(alloc: Global, document: &Document) -> Result<Vec<u8>, Alloc
     Ok(out)
 }
 
+/// Adds a line for each letter.
 fn put_uses(
     alloc: Global,
     document: &Document,
@@ -158,6 +165,7 @@ fn put_uses(
     Ok(())
 }
 
+/// Adds the line of a letter: the letter, and the names of the items that have it.
 fn put_use(
     alloc: Global,
     document: &Document,
@@ -191,6 +199,7 @@ fn put_names(
     put_names_behind(alloc, document, &items[1..], out)
 }
 
+/// Adds the names of the items behind the first, each behind a comma.
 fn put_names_behind(
     alloc: Global,
     document: &Document,

@@ -1,5 +1,6 @@
-//! What a report about a document of requirements looks like. Each face is a function of the document and the
-//! report.
+//! What a report about a document of requirements says, and its text. A report has three faces: the text
+//! here, the page of `requirement_page` and the JSON of `requirement_json`. Each is a function of the
+//! document and the report, and all three take their words, and what matters of a conflict, from here.
 #![tactic(auto)]
 
 mod answers;

@@ -1,4 +1,5 @@
-// The lines of a report.
+// The lines of a report. A head stands at the margin, what is said under it behind four blanks, and what is
+// said of that behind eight. The page has marks of HTML in their place: `requirement_page/src/marks.rt`.
 ghost use Rattle.std.specs.Prelude.{◌≡◌, ◌≤◌, ◌==◌, ◌∷◌, ◌++◌, ℕ, List, true, IfOk, OnOk};
 ghost use Rattle.requirement_report.specs.Lines.{worded, of_all, inner, deeper, inner_if, deeper_if, head};
 ghost use Rattle.requirement_report.specs.Lines.{indented, first_lines, lines_left, newline_count, lines_in};
@@ -15,7 +16,7 @@ pub fn put_worded(words: &[u8], number: u128, out: &mut Vec<u8>) -> Result<(), A
     out.extend_from_slice(buffer.format(number).as_bytes())
 }
 
-/// Adds how many of how many.
+/// Adds how many of how many, as in `3 of 5`.
 pub fn put_of_all(good: u128, all: u128, out: &mut Vec<u8>) -> Result<(), AllocError>
     ensures { OnOk result (out.new.items ≡ out.old.items ++ of_all good all) }
 {
@@ -41,7 +42,7 @@ pub fn put_deeper(text: &[u8], out: &mut Vec<u8>) -> Result<(), AllocError>
     out.extend_from_slice(b"\n")
 }
 
-/// The same where it is not empty.
+/// Adds the text as a line behind four blanks where it is not empty.
 pub fn put_inner_if(text: &[u8], out: &mut Vec<u8>) -> Result<(), AllocError>
     ensures { OnOk result (out.new.items ≡ out.old.items ++ inner_if text.now) }
 {
@@ -51,6 +52,7 @@ pub fn put_inner_if(text: &[u8], out: &mut Vec<u8>) -> Result<(), AllocError>
     put_inner(text, out)
 }
 
+/// Adds the text as a line behind eight blanks where it is not empty.
 pub fn put_deeper_if(text: &[u8], out: &mut Vec<u8>) -> Result<(), AllocError>
     ensures { OnOk result (out.new.items ≡ out.old.items ++ deeper_if text.now) }
 {
@@ -60,7 +62,7 @@ pub fn put_deeper_if(text: &[u8], out: &mut Vec<u8>) -> Result<(), AllocError>
     put_deeper(text, out)
 }
 
-/// Adds the head of a block.
+/// Adds the head of a block: a word that says what was found, and what it is about.
 pub fn put_head(word: &[u8], subject: &[u8], out: &mut Vec<u8>) -> Result<(), AllocError>
     ensures { OnOk result (out.new.items ≡ out.old.items ++ head word.now subject.now) }
 {
@@ -70,7 +72,8 @@ pub fn put_head(word: &[u8], subject: &[u8], out: &mut Vec<u8>) -> Result<(), Al
     out.extend_from_slice(b"\n")
 }
 
-/// Adds the lines behind four blanks each, but for the empty ones.
+/// Adds lines that are made elsewhere, as those of a picture, each behind four blanks. An empty one stays
+/// empty.
 pub fn put_indented(text: &[u8], out: &mut Vec<u8>) -> Result<(), AllocError>
     ensures { OnOk result (out.new.items ≡ out.old.items ++ indented true text.now) }
 {
@@ -82,6 +85,7 @@ pub fn put_indented(text: &[u8], out: &mut Vec<u8>) -> Result<(), AllocError>
     Ok(())
 }
 
+/// Adds a byte of such lines, behind four blanks where a line begins with it.
 fn put_indented_byte(byte: u8, begins: bool, out: &mut Vec<u8>) -> Result<(), AllocError>
     ensures { OnOk result ((rest : List ℕ)
         → out.new.items ++ indented (byte == 10) rest ≡ out.old.items ++ indented begins (byte ∷ rest)) }
@@ -93,7 +97,7 @@ fn put_indented_byte(byte: u8, begins: bool, out: &mut Vec<u8>) -> Result<(), Al
     Ok(())
 }
 
-/// The first lines of a text.
+/// The first lines of a text, each with the newline that ends it: this many, or all where it has fewer.
 pub fn first_lines(alloc: Global, count: usize, text: &[u8]) -> Result<Vec<u8>, AllocError>
     ensures { IfOk result (λ lines. lines.items ≡ first_lines count text.now) }
 {
@@ -109,6 +113,7 @@ pub fn first_lines(alloc: Global, count: usize, text: &[u8]) -> Result<Vec<u8>, 
     Ok(lines)
 }
 
+/// How many more lines are wanted behind this byte.
 fn lines_left(count: usize, byte: u8) -> usize
     ensures { result ≡ lines_left count byte }
 {
@@ -119,7 +124,7 @@ fn lines_left(count: usize, byte: u8) -> usize
     }
 }
 
-/// How many lines it has.
+/// How many lines it has. Each ends with a newline.
 pub fn lines_in(text: &[u8]) -> usize
     ensures { result ≡ lines_in text.now }
 {
@@ -130,6 +135,7 @@ pub fn lines_in(text: &[u8]) -> usize
     count
 }
 
+/// 1 for a newline, and 0 for each other byte.
 fn newline_count(byte: u8) -> usize
     ensures count { result ≡ newline_count byte }
     ensures one { result ≤ 1 }

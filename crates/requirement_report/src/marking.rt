@@ -1,5 +1,6 @@
 // A trace with the letter `!` in some of its states. A row of a picture is that of a letter, so the row of
-// marks is that of this one.
+// marks is that of this one, which no formula has. A behaviour may have a letter of that name: its own row is
+// marked too.
 ghost use Rattle.std.specs.Prelude.{◌≡◌, ◌++◌, map, IfOk, OnOk};
 ghost use Rattle.requirement_report.specs.Pictures.{looped_column, column, is_column, is_marked, mark_if};
 ghost use Rattle.requirement_report.specs.Pictures.{with_mark, marked_states, marked};
@@ -8,7 +9,7 @@ use crate::letters::ascending;
 use ltl_word::{Name, StateSet, States, Trace};
 use std::alloc::{AllocError, Global};
 
-/// The trace in which `!` is true in the states of these positions.
+/// The trace in which `!` is true in the states of these positions, counted from 0.
 pub fn marked(alloc: Global, trace: &Trace, positions: &[u32]) -> Result<Trace, AllocError>
     ensures { IfOk result (λ made. made ≡ marked (map (column trace.now) positions.now) trace.now) }
 {
@@ -16,7 +17,7 @@ pub fn marked(alloc: Global, trace: &Trace, positions: &[u32]) -> Result<Trace, 
     marked_in(alloc, trace, &columns)
 }
 
-/// The columns in which the positions stand.
+/// The columns in which the positions stand, in the same order.
 fn columns(alloc: Global, trace: &Trace, positions: &[u32]) -> Result<Vec<usize>, AllocError>
     ensures { IfOk result (λ columns. columns.items ≡ map (column trace.now) positions.now) }
 {
@@ -27,6 +28,8 @@ fn columns(alloc: Global, trace: &Trace, positions: &[u32]) -> Result<Vec<usize>
     Ok(columns)
 }
 
+/// The column of a picture in which a position stands, both counted from 0. A trace that repeats has a column
+/// for each of its states and many positions for each state of its loop.
 fn column(trace: &Trace, position: u32) -> usize
     ensures { result ≡ column trace.now position }
 {
@@ -38,6 +41,8 @@ fn column(trace: &Trace, position: u32) -> usize
     }
 }
 
+/// The column of a position of a stem and a loop of these lengths. Each loop has states; of an empty one the
+/// position itself would be given.
 fn looped_column(stem: usize, loop_part: usize, position: usize) -> usize
     ensures { result ≡ looped_column stem loop_part position }
 {
@@ -47,6 +52,7 @@ fn looped_column(stem: usize, loop_part: usize, position: usize) -> usize
     stem + (position - stem) % loop_part
 }
 
+/// The trace with the mark in the states of these columns. The stem has the first columns, the loop the rest.
 fn marked_in(alloc: Global, trace: &Trace, columns: &[usize]) -> Result<Trace, AllocError>
     ensures { IfOk result (λ made. made ≡ marked columns.now trace.now) }
 {
@@ -65,6 +71,7 @@ fn marked_in(alloc: Global, trace: &Trace, columns: &[usize]) -> Result<Trace, A
     }
 }
 
+/// The states with the mark in these columns. The first of the states stands in the column `from`.
 fn marked_states(
     alloc: Global,
     columns: &[usize],
@@ -81,19 +88,21 @@ fn marked_states(
     Ok(made)
 }
 
+/// Whether the state at this place is to be marked, where the first one stands in the column `from`.
 fn is_marked(columns: &[usize], from: usize, place: usize) -> bool
     ensures { result ≡ is_marked columns.now from place }
 {
     columns.iter().any(|column| is_column(*column, from, place))
 }
 
+/// Whether the state at this place stands in the column.
 fn is_column(column: usize, from: usize, place: usize) -> bool
     ensures { result ≡ is_column from place column }
 {
     from <= column && column - from == place
 }
 
-/// The state, with the mark where it is marked.
+/// A copy of the state, with the mark where it is wanted.
 fn with_mark(alloc: Global, wanted: bool, state: &StateSet) -> Result<StateSet, AllocError>
     ensures { IfOk result (λ made. made ≡ with_mark wanted state.now) }
 {
@@ -103,7 +112,7 @@ fn with_mark(alloc: Global, wanted: bool, state: &StateSet) -> Result<StateSet, 
     ascending(names)
 }
 
-/// Adds the names.
+/// Adds copies of the names.
 pub fn put_names(alloc: Global, from: &[Name], names: &mut Vec<Name>) -> Result<(), AllocError>
     ensures { OnOk result (names.new.items ≡ names.old.items ++ from.now) }
 {

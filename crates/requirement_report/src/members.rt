@@ -1,4 +1,5 @@
-// Names of items, joined.
+// Members by name, on one line. A member is an item of those that together have no trace. On the page each
+// name is a link: `requirement_page/src/reasons.rt`.
 ghost use Rattle.std.specs.Prelude.{◌≡◌, ◌++◌, OnOk};
 ghost use Rattle.std.specs.List.{flat_map};
 ghost use Rattle.requirement_document.specs.Values.{document_in};
@@ -10,7 +11,7 @@ use requirement_document::Document;
 use requirement_questions::Member;
 use std::alloc::{AllocError, Global};
 
-/// Adds the names, joined by commas. One that is not known to be needed is marked.
+/// Adds the names, joined by commas. One that is not known to be needed has `(perhaps)` behind it.
 pub fn put_members(
     alloc: Global,
     document: &Document,
@@ -27,6 +28,7 @@ pub fn put_members(
     put_others(alloc, document, &members[1..], out)
 }
 
+/// Adds the members behind the first, each behind a comma.
 fn put_others(
     alloc: Global,
     document: &Document,
@@ -43,6 +45,7 @@ fn put_others(
     Ok(())
 }
 
+/// Adds the name of one member, and whether it is needed.
 fn put_member(
     alloc: Global,
     document: &Document,
@@ -56,6 +59,7 @@ fn put_member(
     out.extend_from_slice(perhaps(member.needed))
 }
 
+/// What stands behind a name. Nothing does where a trace shows that the others can be met without it.
 fn perhaps(needed: bool) -> &'static [u8]
     ensures { result.now ≡ perhaps needed }
 {

@@ -1,4 +1,6 @@
-// Letters that are nearly the same.
+// Letters that are nearly the same, so that one may be a slip of the pen for the other. Two such letters
+// differ only in capitals and `_`, or by one change: a character more, fewer or another, or two that have
+// changed places.
 ghost use Rattle.std.specs.Prelude.{◌≡◌, ◌++◌, false, chars, string_bytes, IfOk, OnOk};
 ghost use Rattle.requirement_report.specs.Slips.{folded_byte, folded, is_digit};
 ghost use Rattle.requirement_report.specs.Slips.{differ_inside, is_mistyped, is_near};
@@ -45,6 +47,7 @@ fn folded(alloc: Global, letter: &str) -> Result<Vec<u8>, AllocError>
     Ok(made)
 }
 
+/// Adds the bytes without `_`, and with small letters for capitals.
 fn put_folded(bytes: &[u8], out: &mut Vec<u8>) -> Result<(), AllocError>
     ensures { OnOk result (out.new.items ≡ out.old.items ++ folded bytes.now) }
 {
@@ -54,6 +57,7 @@ fn put_folded(bytes: &[u8], out: &mut Vec<u8>) -> Result<(), AllocError>
     Ok(())
 }
 
+/// Adds a byte, or its small letter, or nothing for `_`. Capitals are those of ASCII.
 fn put_folded_byte(byte: u8, out: &mut Vec<u8>) -> Result<(), AllocError>
     ensures { OnOk result (out.new.items ≡ out.old.items ++ folded_byte byte) }
 {
@@ -68,7 +72,8 @@ fn put_folded_byte(byte: u8, out: &mut Vec<u8>) -> Result<(), AllocError>
     Ok(())
 }
 
-/// Whether one change within makes one of the other. The lengths tell most that are further apart.
+/// Whether one change within makes one of the other. Letters of fewer than four characters are left out, as
+/// one change is much of them. The lengths tell most that are further apart, before the changes are counted.
 #[tactic(auto, using(crate::proofs::Apart::too_long, crate::proofs::Apart::too_short))]
 fn is_mistyped(alloc: Global, one: &Known, other: &Known) -> Result<bool, AllocError>
     ensures { IfOk result (λ mistyped.
@@ -98,7 +103,9 @@ fn characters(alloc: Global, text: &str) -> Result<Vec<char>, AllocError>
     text.chars().collect(alloc)
 }
 
-/// Whether the first characters that differ may be a slip.
+/// Whether the first characters that differ may be a slip. They are taken as meant where one is a digit,
+/// where they begin a letter or a part of it behind `_`, and where they end both letters. So `floor_1` and
+/// `floor_2` are no slips, nor `sendA` and `sendB`, nor two letters of which one is how the other begins.
 fn differ_inside(xs: &[char], ys: &[char]) -> bool
     ensures { result ≡ differ_inside false xs.now ys.now }
 {

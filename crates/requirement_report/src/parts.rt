@@ -1,5 +1,6 @@
-// What matters of the members of a conflict. A fresh letter stands where something else may stand as well: it
-// is printed as a number between braces, and shown as `…`.
+// What matters of the members of a conflict. Where its core is known, each member has a part: its formula,
+// with a fresh letter in place of all that the conflict does not need. A fresh letter is printed as a number
+// between braces, and shown as `…`: something stands there, and it does not matter what.
 ghost use Rattle.std.specs.Prelude.{◌≡◌, ◌++◌, slice_get, IfOk, OnOk};
 ghost use Rattle.std.specs.Option.{option_copied, option_map};
 ghost use Rattle.requirement_report.specs.Parts.{is_inside, elided_byte, elided, part_at, part_under};
@@ -12,7 +13,7 @@ use std::alloc::{AllocError, Global};
 /// How `…` is written in UTF-8.
 const ELLIPSIS: &[u8] = &[226, 128, 166];
 
-/// The core of the conflict at this place, where it is known.
+/// The core of the conflict at this place of the report, from 0, where it is known.
 pub fn core_at(cores: &[Option<Box<Core>>], place: usize) -> Option<&Core>
     ensures { option_copied result ≡ core_at cores.now place }
 {
@@ -22,8 +23,8 @@ pub fn core_at(cores: &[Option<Box<Core>>], place: usize) -> Option<&Core>
     }
 }
 
-/// The text of the part of a conflict's member, by the member's place. None where there is no core, and where
-/// it has no such part.
+/// The text of the part of a conflict's member, elided, by the member's place from 0. None where there is no
+/// core, and where it has no such part.
 pub fn part_of(
     alloc: Global,
     core: Option<&Core>,
@@ -38,6 +39,7 @@ pub fn part_of(
     }
 }
 
+/// The same where there is a core.
 fn part_in(alloc: Global, core: &Core, place: usize) -> Result<Option<Vec<u8>>, AllocError>
     ensures { IfOk result (λ part. option_map (λ text. text.items) part
         ≡ part_under core.now.table (slice_get core.now.parts.items place)) }
@@ -48,6 +50,7 @@ fn part_in(alloc: Global, core: &Core, place: usize) -> Result<Option<Vec<u8>>, 
     }
 }
 
+/// The text of the part with this root, elided. None where the table has no such node.
 fn part_at(alloc: Global, table: &FormulaTable, root: u32) -> Result<Option<Vec<u8>>, AllocError>
     ensures { IfOk result (λ part.
         option_map (λ text. text.items) part ≡ part_at table.now root) }
@@ -60,7 +63,8 @@ fn part_at(alloc: Global, table: &FormulaTable, root: u32) -> Result<Option<Vec<
     Ok(Some(text))
 }
 
-/// The text with `…` for each number between braces.
+/// The text of a part as it is shown: `…` stands in place of each fresh letter, and so of each piece of the
+/// formula that does not matter. A printed formula has no braces but those of fresh letters.
 pub fn elided(alloc: Global, text: &[u8]) -> Result<Vec<u8>, AllocError>
     ensures { IfOk result (λ short. short.items ≡ elided text.now) }
 {
@@ -73,6 +77,8 @@ pub fn elided(alloc: Global, text: &[u8]) -> Result<Vec<u8>, AllocError>
     Ok(out)
 }
 
+/// Adds a byte of such a text. `…` is put where a brace opens, and all else up to the closing brace is left
+/// out.
 fn put_byte(byte: u8, inside: bool, out: &mut Vec<u8>) -> Result<(), AllocError>
     ensures { OnOk result (out.new.items ≡ out.old.items ++ elided_byte inside byte) }
 {
@@ -86,7 +92,7 @@ fn put_byte(byte: u8, inside: bool, out: &mut Vec<u8>) -> Result<(), AllocError>
     Ok(())
 }
 
-/// Whether the next byte stands between braces.
+/// Whether the next byte still belongs to a number between braces. The closing brace does.
 fn is_inside(inside: bool, byte: u8) -> bool
     ensures { result ≡ is_inside inside byte }
 {

@@ -1,4 +1,5 @@
-// The picture of a trace.
+// The picture of a trace as text: a row for each letter, `#` where it is true and `.` where it is false. The
+// page has the same as a drawing: `requirement_page/src/pictures.rt`.
 ghost use Rattle.std.specs.Prelude.{◌≡◌, ◌++◌, IfOk, OnOk};
 ghost use Rattle.requirement_report.specs.Pictures.{picture, picture_with, marked_picture, letters_in};
 
@@ -8,6 +9,7 @@ use ltl_word::{Name, StateSet, Trace};
 use std::alloc::{AllocError, Global};
 use trace_view::{Grid, GridRefused, letters_of, text};
 
+/// The columns at which a picture is wrapped. The four blanks before it are not counted.
 const WIDTH: usize = 76;
 
 /// Adds the picture of a trace with the letters that are true in some state, or a line in its place where it
@@ -36,7 +38,7 @@ pub fn put_marked_picture(
     put_rows(alloc, &marked, &names, out)
 }
 
-/// Adds the rows of these letters.
+/// Adds the rows of these letters, in their order, or the line that tells the limit of cells.
 fn put_rows(
     alloc: Global,
     trace: &Trace,

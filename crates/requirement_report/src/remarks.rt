@@ -1,4 +1,5 @@
-// The block of the letters that may be slips.
+// The block of the letters that may be slips. It is a remark and changes no verdict. The page has it in
+// `requirement_page/src/slips.rt`, the JSON in `requirement_json/src/letters.rt`.
 ghost use Rattle.std.specs.Prelude.{◌≡◌, ◌++◌, map, string_bytes, option_map, IfOk, OnOk};
 ghost use Rattle.std.specs.List.{flat_map};
 ghost use Rattle.requirement_document.specs.Values.{document_in};
@@ -15,7 +16,7 @@ use requirement_answers::Scope;
 use requirement_document::Document;
 use std::alloc::{AllocError, Global};
 
-/// Adds the block where all is asked and there are any.
+/// Adds the block where the whole document is asked and there are any such letters.
 pub fn put_slips(
     alloc: Global,
     document: &Document,
@@ -32,6 +33,7 @@ pub fn put_slips(
     put_block(alloc, document, &slips, out)
 }
 
+/// Adds the head of the block and its lines, where there are any.
 fn put_block(
     alloc: Global,
     document: &Document,
@@ -48,6 +50,7 @@ fn put_block(
     put_slip_lines(alloc, document, slips, out)
 }
 
+/// Adds a line for each letter that may be a slip.
 fn put_slip_lines(
     alloc: Global,
     document: &Document,
@@ -63,6 +66,7 @@ fn put_slip_lines(
     Ok(())
 }
 
+/// Adds the line of a letter: in which item alone it stands, and which letter it is nearly.
 fn put_slip_line(
     alloc: Global,
     document: &Document,
@@ -81,7 +85,7 @@ fn put_slip_line(
     put_inner(&line, out)
 }
 
-/// That the letter stands in one item alone.
+/// That the letter stands in one item alone. Empty where it stands in more.
 fn alone_text(alloc: Global, document: &Document, items: &[u32]) -> Result<Vec<u8>, AllocError>
     ensures { IfOk result (λ text. text.items ≡ alone_text (document_in document.now) items.now) }
 {
@@ -95,7 +99,7 @@ fn alone_text(alloc: Global, document: &Document, items: &[u32]) -> Result<Vec<u
     Ok(text)
 }
 
-/// The letter that it is nearly.
+/// Which letter it is nearly. Empty where there is none.
 fn nearly_text(alloc: Global, nearly: &Option<String>) -> Result<Vec<u8>, AllocError>
     ensures { IfOk result (λ text. text.items ≡ nearly_text (option_map string_bytes nearly.now)) }
 {
@@ -110,7 +114,7 @@ fn nearly_text(alloc: Global, nearly: &Option<String>) -> Result<Vec<u8>, AllocE
     }
 }
 
-/// Adds two remarks, of which either may be empty.
+/// Adds two remarks, of which either may be empty. A semicolon stands between only where both are there.
 fn put_both(first: &[u8], later: &[u8], out: &mut Vec<u8>) -> Result<(), AllocError>
     ensures { OnOk result (out.new.items ≡ out.old.items ++ both_texts first.now later.now) }
 {

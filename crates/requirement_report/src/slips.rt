@@ -1,4 +1,5 @@
-// Letters that may be slips.
+// Letters that may be slips: those that stand in one item alone, and those that are nearly another letter.
+// Whoever wrote the document knows whether they are. All three faces of a report show them.
 ghost use Rattle.std.specs.Prelude.{◌≡◌, ◌++◌, map, string_bytes, option_map, IfOk, OnOk};
 ghost use Rattle.requirement_document.specs.Values.{document_in};
 ghost use Rattle.requirement_report.specs.Letters.{use_in};
@@ -25,7 +26,7 @@ pub struct Slip {
     pub nearly: Option<String>,
 }
 
-/// Those of all letters of the document.
+/// The letters of the document that may be slips, in ascending order of their bytes.
 pub fn slips_of(alloc: Global, document: &Document) -> Result<Vec<Slip>, AllocError>
     ensures { IfOk result (λ slips. map slip_in slips.items ≡ slips_of (document_in document.now)) }
 {
@@ -33,8 +34,8 @@ pub fn slips_of(alloc: Global, document: &Document) -> Result<Vec<Slip>, AllocEr
     slips_among(alloc, &uses)
 }
 
-/// Those of some letters with their items, in their order. Each is held against each, so of more than 16,384
-/// letters none is a slip.
+/// Those among some letters with their items, in their order. Each is held against each, which would take too
+/// long with many: of more than 16,384 letters none is a slip.
 pub fn slips_among(alloc: Global, uses: &[Use]) -> Result<Vec<Slip>, AllocError>
     ensures { IfOk result (λ slips. map slip_in slips.items ≡ slips_among (map use_in uses.now)) }
 {
@@ -44,6 +45,7 @@ pub fn slips_among(alloc: Global, uses: &[Use]) -> Result<Vec<Slip>, AllocError>
     all_slips(alloc, uses)
 }
 
+/// The same, whatever their number.
 fn all_slips(alloc: Global, uses: &[Use]) -> Result<Vec<Slip>, AllocError>
     ensures { IfOk result (λ slips. map slip_in slips.items ≡ all_slips (map use_in uses.now)) }
 {
@@ -55,6 +57,7 @@ fn all_slips(alloc: Global, uses: &[Use]) -> Result<Vec<Slip>, AllocError>
     Ok(slips)
 }
 
+/// All letters, ready to be compared, in their order.
 fn all_known(alloc: Global, uses: &[Use]) -> Result<Vec<Known>, AllocError>
     ensures { IfOk result (λ known. map known_in known.items
         ≡ map (λ u. known_of (use_in u)) uses.now) }
@@ -66,12 +69,14 @@ fn all_known(alloc: Global, uses: &[Use]) -> Result<Vec<Known>, AllocError>
     Ok(all)
 }
 
+/// A letter, ready to be compared, with the number of items that have it.
 fn known_of(alloc: Global, one: &Use) -> Result<Known, AllocError>
     ensures { IfOk result (λ made. known_in made ≡ known_of (use_in one.now)) }
 {
     known(alloc, one.letter.as_str(), one.items.len())
 }
 
+/// Adds the letter if it may be a slip.
 fn put_slip(
     alloc: Global,
     known: &[Known],
@@ -89,6 +94,7 @@ fn put_slip(
     Ok(())
 }
 
+/// The slip that this letter may be, with the letter that it is nearly. It keeps copies.
 fn slip_with(alloc: Global, one: &Use, nearly: Option<String>) -> Result<Slip, AllocError>
     ensures { IfOk result (λ slip. slip_in slip ≡ record {
       letter = string_bytes one.now.letter;
@@ -103,6 +109,7 @@ fn slip_with(alloc: Global, one: &Use, nearly: Option<String>) -> Result<Slip, A
     })
 }
 
+/// Whether the letter may be a slip: it is nearly another one, or stands in one item alone.
 fn is_slip(one: &Use, nearly: &Option<String>) -> bool
     ensures { result ≡ is_slip (use_in one.now) (option_map string_bytes nearly.now) }
 {
@@ -112,7 +119,7 @@ fn is_slip(one: &Use, nearly: &Option<String>) -> bool
     }
 }
 
-/// The first letter that this one is nearly.
+/// The first letter in their order that this one is nearly. Another one may be as near.
 fn nearest(alloc: Global, all: &[Known], one: &Known) -> Result<Option<String>, AllocError>
     ensures { IfOk result (λ nearly. option_map string_bytes nearly
         ≡ nearest_known (map known_in all.now) (known_in one.now)) }
@@ -125,7 +132,7 @@ fn nearest(alloc: Global, all: &[Known], one: &Known) -> Result<Option<String>, 
     Ok(None)
 }
 
-/// Whether this one is nearly the other, which stands in as many items or more.
+/// Whether this one is nearly the other, which stands in as many items or more: the more common one is meant.
 fn is_meant(alloc: Global, one: &Known, other: &Known) -> Result<bool, AllocError>
     ensures { IfOk result (λ meant. meant ≡ is_meant (known_in one.now) (known_in other.now)) }
 {

@@ -1,4 +1,6 @@
-// The text of a report.
+// The text of a report: its answers block by block, then the letters that may be slips, and the verdict with
+// counts. The page of the same report is put together in `requirement_page/src/whole.rt`, the JSON in
+// `requirement_json/src/report.rt`.
 ghost use Rattle.std.specs.Prelude.{◌≡◌, ◌++◌, IfOk, OnOk, All};
 ghost use Rattle.std.specs.Option.{option_copied};
 ghost use Rattle.requirement_document.specs.Values.{document_in};
@@ -38,7 +40,7 @@ pub fn text(
     Ok(out)
 }
 
-/// Adds the blocks of all answers.
+/// Adds the blocks of all answers, in the order in which the questions are asked.
 fn put_answers(
     alloc: Global,
     document: &Document,
@@ -72,7 +74,8 @@ fn put_answers(
     put_checks(alloc, document, &report.checks, out)
 }
 
-/// The items that are set aside. None is marked as not needed.
+/// The items that are set aside: the given ones that are not left, once there is a conflict. None is marked
+/// as not needed.
 pub fn set_aside(
     alloc: Global,
     document: &Document,
@@ -87,6 +90,7 @@ pub fn set_aside(
     aside(alloc, document, &report.left)
 }
 
+/// Adds the blocks of all conflicts. The core of each stands in the other list at the same place.
 fn put_conflicts(
     alloc: Global,
     document: &Document,

@@ -34,7 +34,7 @@ pub(crate) fn reported<R: Threads + Sync>(
     )
 }
 
-/// The same by so many workers, and told to somebody.
+/// The same by this number of workers, and told to somebody.
 pub(crate) fn reported_by<R: Threads + Sync, W: Watch>(
     rt: &R,
     alloc: Global,

@@ -28,7 +28,7 @@ impl Watch for Count {
     }
 }
 
-/// What so many workers answer about the document, and how many questions are told.
+/// What this number of workers answers about the document, and how many questions are told.
 fn told_by<R: Threads + Sync>(
     rt: &R,
     alloc: Global,

@@ -25,7 +25,7 @@ use Rattle.unravel.specs.declared.inputs.Inputs.{Inputs}
 use Rattle.unravel.specs.Putting.{up_to, list_of}
 use Rattle.unravel.specs.declared.assuming.Question.{Question}
 use Rattle.unravel.specs.declared.assuming.Question.TheVariants as questions
-use Rattle.unravel.specs.Depths.{IsThrough, IsFound, IsShowing, letter_of, IsNever, IsFoundOrNever, IsUnprunedAnswer}
+use Rattle.unravel.specs.Depths.{IsThrough, IsFound, IsShowing, letter_of, IsFoundOrNever, IsUnprunedAnswer}
 
 none_some : {X : Type 0} (x : X) → None ≡ Some x → ⊥
 none_some x e = cc
@@ -103,10 +103,6 @@ module _ (f : Formula) (kind : Kind) (k : ℕ) (i : Inputs) (through : IsThrough
 pub found_if : (f : Formula) (kind : Kind) (k : ℕ) (q : Question) (s : SolverValue) (b : Bool) → b ≡ true → IsFoundOrNever f kind k q s b
     → IsFound f kind k (letter_of k q) s
 found_if f kind k q s b e h = subst (IsFoundOrNever f kind k q s) e h
-
-pub never_if : (f : Formula) (kind : Kind) (k : ℕ) (q : Question) (s : SolverValue) (b : Bool) → b ≡ false → IsFoundOrNever f kind k q s b
-    → IsNever f kind k q s
-never_if f kind k q s b e h = subst (IsFoundOrNever f kind k q s) e h
 
 pub unpruned_answer : (f : Formula) (kind : Kind) (k : ℕ) (s : SolverValue) (b : Bool) → (IsFound f kind k Unpruned s → HasUnpruned f kind k)
     → IsFoundOrNever f kind k questions.Unpruned s b

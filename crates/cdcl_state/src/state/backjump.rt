@@ -22,7 +22,7 @@ impl State {
         let count = self.assigned.front(level);
         release(&self.assigned, &mut self.choices, count);
         self.assigned.cut(count);
-        let lasting = smaller(self.lasting, count);
+        let lasting = self.lasting.min(count);
         self.lasting = lasting;
         self.propagated = lasting;
         loosen(count, &mut self.units_done, &mut self.units_trail);
@@ -50,8 +50,8 @@ impl State {
         }
     }
 
-    /// Takes back the first decision that is none of these literals, and all that came after it, and of what
-    /// is left the levels above that of an entry whose list is not visited yet.
+    /// Takes back the first decision that is none of these literals, and all that came after it. If the list of
+    /// an entry that is left is still to be visited, the levels above that entry's level are taken back too.
     pub fn retreat(&mut self, kept: &[Literal])
         ensures front { IsFront self.old self.new }
         ensures decided { All (λ e. e.reason ≡ None → Contains kept.now e.literal) self.new.trail }
@@ -94,14 +94,6 @@ fn first_other(assigned: &Assigned, kept: &[Literal]) -> usize
         }
     }
     assigned.len()
-}
-
-pub fn smaller(a: usize, b: usize) -> usize
-    ensures one { result ≤ a }
-    ensures two { result ≤ b }
-    ensures either { (result ≡ a) ⊎ (result ≡ b) }
-{
-    if a < b { a } else { b }
 }
 
 /// The short clauses are visited again where an entry that made one true was taken back.

@@ -12,7 +12,7 @@ ghost use Rattle.cdcl_state.specs.Turns.{IsAsserting, IsTarget, IsTurn, IsUnturn
 ghost use Rattle.cnf_base.specs.declared.literal.Hint.TheVariants.{Line};
 
 use crate::state::State;
-use crate::state::backjump::{loosen, release, smaller};
+use crate::state::backjump::{loosen, release};
 use crate::store::store;
 use cdcl_analyze::Learnt;
 use cdcl_trail::TrailEntry;
@@ -42,7 +42,7 @@ impl State {
         let front = self.assigned.front(level);
         release(&self.assigned, &mut self.choices, front);
         self.assigned.cut(front);
-        let lasting = smaller(self.lasting, front);
+        let lasting = self.lasting.min(front);
         loosen(front, &mut self.units_done, &mut self.units_trail);
         self.propagated = 0;
         self.lasting = 0;

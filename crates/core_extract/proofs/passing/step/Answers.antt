@@ -42,7 +42,7 @@ pub mark-requires-clause-long : goal.mark-requires-clause-long
 mark-requires-clause-long g c = c.requires.marks.long
 
 pub index-size-requires : goal.index-size-requires
-index-size-requires g c = sized g (goal.at.index-size-requires g c).After-index-place
+index-size-requires g c = omega (arith, sized g (goal.at.index-size-requires g c).After-index-place)
 
 pub overflow_add-result : goal.overflow_add-result
 overflow_add-result g c =

@@ -1,4 +1,4 @@
-use Rattle.std.proofs.Common.{subst}
+use Rattle.std.proofs.Common.{subst, arith}
 use Rattle.cdcl_state.specs.StateValue.{StateValue, IsBack, state_of}
 use Rattle.cdcl_state.proofs.States.{state_back, back_of}
 use Rattle.cdcl_state.proofs.state.State.backjump.Goals as goal
@@ -12,9 +12,9 @@ invariant_of-self c =
     let n = c.front-count.result in
     let back = back_of letters a b log c.self.inside.all_lines n c.args.level c.self.invariant.ready.is_trail c.cut.ensures.trail c.front-count.ensures.within
     c.front-count.ensures.low c.front-count.ensures.high in
-    state_back b c.smaller-lasting.result n c.args.level c.loosen.new.units_done c.loosen.new.units_trail c.self.invariant c.cut.ensures.trail
+    state_back b c.min-lasting.result n c.args.level c.loosen.new.units_done c.loosen.new.units_trail c.self.invariant c.cut.ensures.trail
     c.cut.ensures.letters c.front-count.ensures.within back
-    c.smaller-lasting.ensures.one c.smaller-lasting.ensures.two c.loosen.ensures.all
+    (omega (arith, c.min-lasting.ensures)) (omega (arith, c.min-lasting.ensures)) c.loosen.ensures.all
 
 pub returns : goal.returns
 returns c =

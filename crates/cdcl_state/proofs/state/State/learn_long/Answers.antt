@@ -30,7 +30,7 @@ lined c = with_line c.self.inside.log c.args.learnt.now.clause.items c.args.lear
 next_is : (c : After-index) → c.derive.new.self ≡ lined c
 next_is c = c.in_ok-line.ensures.added.0 ∙ ap₂ (with_line c.self.inside.log) c.deref.ensures.value c.deref-2.ensures.value
 
-cut : (c : After-index) → IsCut (parts c.self.inside) c.cut.new.self (lined c) c.smaller-lasting.result c.front-front.result c.args.level
+cut : (c : After-index) → IsCut (parts c.self.inside) c.cut.new.self (lined c) c.min-lasting.result c.front-front.result c.args.level
     c.loosen.new.units_done c.loosen.new.units_trail c.in_ok-line.line c.args.learnt.now.clause.items c.args.learnt.now.places.items c.index.result.now
 cut c =
     let learnt = c.args.learnt.now in
@@ -51,8 +51,8 @@ cut c =
       fits = c.front-front.ensures.within;
       low = c.front-front.ensures.low;
       high = c.front-front.ensures.high;
-      m_lasting = c.smaller-lasting.ensures.one;
-      m_n = c.smaller-lasting.ensures.two;
+      m_lasting = omega (arith, c.min-lasting.ensures);
+      m_n = omega (arith, c.min-lasting.ensures);
       units_are = c.loosen.ensures.all;
       clause_is = is.clause_is;
       inside = is.inside;
