@@ -1,10 +1,8 @@
 // Certificates that were worked by hand, by every way of checking them.
-ghost use Rattle.std.specs.Prelude.{IsTrue};
-ghost use Rattle.ltl_syntax.specs.Table.{IsPlain};
-
 use cert_check::{CheckRefused, Reason, Verdict, check, laws};
+use formula_reading::{Reading, read_formula};
 use ltl_io::NoGate;
-use ltl_syntax::{BinaryOp, FormulaTable, Kind, Node, UnaryOp};
+use ltl_syntax::{FormulaTable, Kind};
 use std::alloc::Global;
 use std::process::Abort;
 use std::thread::Threads;
@@ -27,9 +25,6 @@ const TARGET_ONE: Answer = Ok(Verdict::Rejected(Reason::Target(1)));
 const TARGET_TWO: Answer = Ok(Verdict::Rejected(Reason::Target(2)));
 
 const TARGET_THREE: Answer = Ok(Verdict::Rejected(Reason::Target(3)));
-
-/// `false`
-const FALSE: &[Node] = &[Node::Const(false)];
 
 const ON_FALSE: &[Case] = &[
     (b"ltlcert 1 infinite 0\n-2 0 2 1 0\nclose 1 1\n", VERIFIED),
@@ -77,9 +72,6 @@ const ON_FALSE: &[Case] = &[
 ];
 
 const ON_FALSE_FINITE: &[Case] = &[(b"ltlcert 1 finite 0\n-2 0 2 1 0\nclose 1 1\n", VERIFIED)];
-
-/// `wX false`
-const LAST: &[Node] = &[Node::Const(false), Node::Unary(UnaryOp::WeakNext, 0)];
 
 const ON_LAST: &[Case] = &[
     (
@@ -153,9 +145,6 @@ const ON_LAST: &[Case] = &[
     ),
 ];
 
-/// `X false`
-const NEXT: &[Node] = &[Node::Const(false), Node::Unary(UnaryOp::Next, 0)];
-
 const ON_NEXT: &[Case] = &[
     (
         b"ltlcert 1 finite 1\n-2 -3 0 2 3 0\n-6 0 4 2 6 5 0\nclose 1 2 2\n",
@@ -167,39 +156,31 @@ const ON_NEXT: &[Case] = &[
     ),
 ];
 
-fn is_plain(text: &str) -> bool
-    ensures { IsTrue result → IsPlain text.now }
-{
-    match text.as_bytes() {
-        [first, ..] => *first != b'{',
-        [] => true,
+/// A formula, its kind, and its certificates.
+const ROWS: &[(&str, Kind, &[Case])] = &[
+    ("false", Kind::Infinite, ON_FALSE),
+    ("false", Kind::Finite, ON_FALSE_FINITE),
+    ("wX false", Kind::Infinite, ON_LAST),
+    ("X false", Kind::Finite, ON_NEXT),
+];
+
+/// The formula that the text reads as: its table, and the number of its root.
+fn formula(rt: &impl Abort, alloc: Global, text: &str) -> (FormulaTable, u32) {
+    match read_formula(alloc, text.as_bytes()).expect(rt, "memory") {
+        Reading::Formula { table, root } => (table, root),
+        Reading::Refused(_) => panic!(rt; "no formula: {text}"),
     }
 }
 
-fn push(rt: &impl Abort, table: &mut FormulaTable, node: Node) -> u32 {
-    assert!(rt; table.may_push(node));
-    table.push(node).expect(rt, "a place")
-}
-
-/// A table with the nodes, and the number of the last.
-fn table_of(rt: &impl Abort, alloc: Global, nodes: &[Node]) -> (FormulaTable, u32) {
-    let mut table = FormulaTable::new(alloc);
-    let mut root = 0;
-    for node in nodes {
-        root = push(rt, &mut table, *node);
-    }
-    (table, root)
-}
-
-/// Each certificate is answered so for the formula of the last node, by each number of workers.
+/// Each certificate is answered so for the formula, by each number of workers.
 fn answers<R: Abort + Threads + Sync>(
     rt: &R,
     alloc: Global,
-    nodes: &[Node],
+    text: &str,
     kind: Kind,
     cases: &[Case],
 ) {
-    let (table, root) = table_of(rt, alloc, nodes);
+    let (table, root) = formula(rt, alloc, text);
     assert!(rt; root < table.len());
     for workers in [1, 2, 3, 16] {
         for case in cases {
@@ -211,31 +192,13 @@ fn answers<R: Abort + Threads + Sync>(
 
 #[test]
 fn checks(rt: HostRuntime) {
-    let alloc = rt.alloc();
-    answers(&rt, alloc, FALSE, Kind::Infinite, ON_FALSE);
-    answers(&rt, alloc, FALSE, Kind::Finite, ON_FALSE_FINITE);
-    answers(&rt, alloc, LAST, Kind::Infinite, ON_LAST);
-    answers(&rt, alloc, NEXT, Kind::Finite, ON_NEXT);
+    for (text, kind, cases) in ROWS {
+        answers(&rt, rt.alloc(), text, *kind, cases);
+    }
 }
 
-/// `G F a & .. & G F i`, whose letters are too many at depth 938.
-fn table_of_nine(rt: &impl Abort, alloc: Global) -> (FormulaTable, u32) {
-    let mut table = FormulaTable::new(alloc);
-    let mut root = 0;
-    for name in ["a", "b", "c", "d", "e", "f", "g", "h", "i"] {
-        assert!(rt; table.letters() < u32::MAX && is_plain(name));
-        let letter = table.name(name).expect(rt, "memory");
-        let holds = push(rt, &mut table, Node::Letter(letter));
-        let some = push(rt, &mut table, Node::Unary(UnaryOp::Eventually, holds));
-        let all = push(rt, &mut table, Node::Unary(UnaryOp::Always, some));
-        root = if letter == 0 {
-            all
-        } else {
-            push(rt, &mut table, Node::Binary(BinaryOp::And, root, all))
-        };
-    }
-    (table, root)
-}
+// The letters of its clauses are too many at depth 938.
+const NINE: &str = "G F a & G F b & G F c & G F d & G F e & G F f & G F g & G F h & G F i";
 
 /// A certificate of depth 1000 without lines.
 fn deep(rt: &impl Abort, alloc: Global) -> Vec<u8> {
@@ -252,7 +215,7 @@ fn deep(rt: &impl Abort, alloc: Global) -> Vec<u8> {
 #[test]
 fn tells_the_limit_in_force(rt: HostRuntime) {
     let alloc = rt.alloc();
-    let (table, root) = table_of_nine(&rt, alloc);
+    let (table, root) = formula(&rt, alloc, NINE);
     let text = deep(&rt, alloc);
     assert!(&rt; root < table.len());
     for workers in [1, 2] {

@@ -1,11 +1,9 @@
-// Certificates and closures from rows of a table. A literal is a number, negative where it is negated; a hint
-// is one too, negative where it names a line.
-ghost use Rattle.std.specs.Prelude.{IsTrue};
-ghost use Rattle.ltl_syntax.specs.Table.{IsPlain};
-
+// Certificates from rows of a table, and formulas from texts. A literal is a number, negative where it is
+// negated; a hint is one too, negative where it names a line.
 use claim_check::{Certificate, HintedLines, Layer};
 use cnf_base::{ClauseList, Hint, Letter, Literal, Rows};
-use ltl_syntax::{FormulaTable, Kind, Node};
+use formula_reading::{Reading, read_formula};
+use ltl_syntax::{FormulaTable, Kind};
 use std::alloc::{AllocError, Global};
 use std::process::Abort;
 
@@ -110,29 +108,10 @@ pub(crate) fn certificate(
     }
 }
 
-fn is_plain(text: &str) -> bool
-    ensures { IsTrue result → IsPlain text.now }
-{
-    match text.as_bytes() {
-        [first, ..] => *first != b'{',
-        [] => true,
+/// The formula that the text reads as: its table, and the number of its root.
+pub(crate) fn formula(rt: &impl Abort, alloc: Global, text: &str) -> (FormulaTable, u32) {
+    match read_formula(alloc, text.as_bytes()).expect(rt, "memory") {
+        Reading::Formula { table, root } => (table, root),
+        Reading::Refused(_) => panic!(rt; "no formula: {text}"),
     }
-}
-
-fn name(rt: &impl Abort, table: &mut FormulaTable, text: &str) {
-    assert!(rt; table.letters() < u32::MAX && is_plain(text));
-    table.name(text).expect(rt, "memory");
-}
-
-/// A table with the letters p and q and the nodes, and the number of the last node.
-pub(crate) fn table_of(rt: &impl Abort, alloc: Global, nodes: &[Node]) -> (FormulaTable, u32) {
-    let mut table = FormulaTable::new(alloc);
-    name(rt, &mut table, "p");
-    name(rt, &mut table, "q");
-    let mut root = 0;
-    for node in nodes {
-        assert!(rt; table.may_push(*node));
-        root = table.push(*node).expect(rt, "a place");
-    }
-    (table, root)
 }

@@ -2,18 +2,17 @@
 // a trace, and its certificate is the same however its questions are cut into calls.
 ghost use Rattle.std.specs.Prelude.{◌≤◌, length};
 
+use crate::building::formula;
 use claim_check::{Certificate, ClaimVerdict, HintedLines, check};
 use claim_search::{Progress, Search};
 use cnf_base::{Clauses, Hint, Literal};
 use ltl_closure::Closure;
-use ltl_lexer::tokens;
-use ltl_parser::parse;
 use ltl_syntax::Kind;
 use std::alloc::{AllocError, Global};
 use std::process::Abort;
 
-/// The parts of a conjunction, and how many questions are enough to refute it, or are tried.
-type Row = (&'static [&'static str], u64);
+/// A formula, and how many questions are enough to refute it, or are tried.
+type Row = (&'static str, u64);
 
 /// What a search came to, and a number that stands for its certificate.
 #[derive(Clone, Copy, Debug, PartialEq, Eq)]
@@ -22,19 +21,6 @@ enum Outcome {
     Unlawful,
     Ended,
     Open,
-}
-
-fn text_of(alloc: Global, parts: &[&str]) -> Result<Vec<u8>, AllocError> {
-    let mut text = Vec::new(alloc);
-    for part in parts {
-        if text.len() > 0 {
-            text.extend_from_slice(b" & ")?;
-        }
-        text.push(b'(')?;
-        text.extend_from_slice(part.as_bytes())?;
-        text.push(b')')?;
-    }
-    Ok(text)
 }
 
 fn add(sum: u64, number: u64) -> u64 {
@@ -93,15 +79,8 @@ fn found(search: &mut Search<'_>, questions: u64, step: u64) -> Result<Progress,
 }
 
 fn searched(rt: &impl Abort, alloc: Global, kind: Kind, row: Row, step: u64) -> Outcome {
-    let (parts, questions) = row;
-    let text = text_of(alloc, parts).expect(rt, "memory");
-    assert!(rt; text.len() < 10000);
-    let Ok(tokens) = tokens(alloc, &text) else {
-        return Outcome::Open;
-    };
-    let Ok((table, root)) = parse(alloc, &text, &tokens) else {
-        return Outcome::Open;
-    };
+    let (text, questions) = row;
+    let (table, root) = formula(rt, alloc, text);
     assert!(rt; root < table.len());
     let closure = Closure::of(alloc, &table, root, kind).expect(rt, "memory");
     let mut search = Search::new(alloc, &closure, kind).expect(rt, "memory");
@@ -118,65 +97,38 @@ fn searched(rt: &impl Abort, alloc: Global, kind: Kind, row: Row, step: u64) -> 
 }
 
 // Two bits count up, and never come to both; a finite trace ends before.
-const STUCK: &[&str] = &[
-    "!a & !b",
-    "G (a <-> X !a)",
-    "G (a -> (b <-> X !b))",
-    "G (!a -> (b <-> X b))",
-    "G !(a & b)",
-];
+const STUCK: &str =
+    "!a & !b & G (a <-> X !a) & G (a -> (b <-> X !b)) & G (!a -> (b <-> X b)) & G !(a & b)";
 
 // A token goes round, a counter runs beside it, and once in a while is never.
-const BESIDE: &[&str] = &[
-    "p0",
-    "G (p0 -> X p1)",
-    "G (p1 -> X p2)",
-    "G (p2 -> X p0)",
-    "G !(p0 & p1) & G !(p1 & p2) & G !(p2 & p0)",
-    "!a & G (a <-> X !a)",
-    "G F q",
-    "F G !q",
-];
+const BESIDE: &str = "p0 & G (p0 -> X p1) & G (p1 -> X p2) & G (p2 -> X p0) \
+    & (G !(p0 & p1) & G !(p1 & p2) & G !(p2 & p0)) & (!a & G (a <-> X !a)) & G F q & F G !q";
 
 // Three eventualities that come again are never met together with one another, nor after.
-const CLASH: &[&str] = &[
-    "G F p & G F q & G F r",
-    "G (p -> X G !q)",
-    "G (q -> X G !r)",
-    "G (r -> X G !p)",
-];
+const CLASH: &str = "G F p & G F q & G F r & G (p -> X G !q) & G (q -> X G !r) & G (r -> X G !p)";
 
 // Two registers are fed alike, and differ at their ends.
-const TWINS: &[&str] = &[
-    "G (a <-> b)",
-    "!c & !d & !e & !f",
-    "G (X c <-> a) & G (X d <-> b)",
-    "G (X e <-> c) & G (X f <-> d)",
-    "F !(e <-> f)",
-];
+const TWINS: &str = "G (a <-> b) & (!c & !d & !e & !f) & (G (X c <-> a) & G (X d <-> b)) \
+    & (G (X e <-> c) & G (X f <-> d)) & F !(e <-> f)";
 
 // Each of three finds a hole of two, again and again.
-const PIGEONS: &[&str] = &[
-    "G F (a0 | a1) & G F (b0 | b1) & G F (c0 | c1)",
-    "G (a0 -> G a0) & G (a1 -> G a1) & G (b0 -> G b0) & G (b1 -> G b1) & G (c0 -> G c0) & G (c1 -> G c1)",
-    "G !(a0 & b0) & G !(a0 & c0) & G !(b0 & c0)",
-    "G !(a1 & b1) & G !(a1 & c1) & G !(b1 & c1)",
-];
+const PIGEONS: &str = "G F (a0 | a1) & G F (b0 | b1) & G F (c0 | c1) \
+    & (G (a0 -> G a0) & G (a1 -> G a1) & G (b0 -> G b0) & G (b1 -> G b1) \
+    & G (c0 -> G c0) & G (c1 -> G c1)) \
+    & (G !(a0 & b0) & G !(a0 & c0) & G !(b0 & c0)) & (G !(a1 & b1) & G !(a1 & c1) & G !(b1 & c1))";
 
 // An answer comes within five steps, and once it does not. Without lifting it takes thrice as many questions.
-const TIGHT: &[&str] = &[
-    "G (p -> (s | X (s | X (s | X (s | X s)))))",
-    "F (p & !s & X (!s & X (!s & X (!s & X !s))))",
-];
+const TIGHT: &str = "G (p -> (s | X (s | X (s | X (s | X s))))) \
+    & F (p & !s & X (!s & X (!s & X (!s & X !s))))";
 
 const REFUTED: &[Row] = &[
-    (&["false"], 20),
-    (&["G F p", "G !p"], 50),
-    (&["G F p", "F G !p"], 200),
-    (&["G F (p & Y q)", "F G !q"], 300),
-    (&["G (p -> O q)", "H !q & F p & G !q"], 150),
-    (&["p U q", "G !q"], 100),
-    (&["X X X p", "wX wX wX !p"], 200),
+    ("false", 20),
+    ("G F p & G !p", 50),
+    ("G F p & F G !p", 200),
+    ("G F (p & Y q) & F G !q", 300),
+    ("G (p -> O q) & (H !q & F p & G !q)", 150),
+    ("(p U q) & G !q", 100),
+    ("X X X p & wX wX wX !p", 200),
     (STUCK, 300),
     (BESIDE, 500),
     (CLASH, 300),
@@ -186,39 +138,34 @@ const REFUTED: &[Row] = &[
 ];
 
 const REFUTED_OVER_FINITE: &[Row] = &[
-    (&["false"], 20),
-    (&["G X p"], 50),
-    (&["G F p", "G (p -> X !p)"], 100),
+    ("false", 20),
+    ("G X p", 50),
+    ("G F p & G (p -> X !p)", 100),
     (
-        &[
-            "F p & F q",
-            "G !(p & q)",
-            "G (p -> wX G !q)",
-            "G (q -> wX G !p)",
-        ],
+        "F p & F q & G !(p & q) & G (p -> wX G !q) & G (q -> wX G !p)",
         200,
     ),
-    (&["G (p -> X q)", "G (q -> X p)", "F p"], 300),
-    (&["F (p & Y q)", "H !q", "G !q"], 100),
+    ("G (p -> X q) & G (q -> X p) & F p", 300),
+    ("F (p & Y q) & H !q & G !q", 100),
     (TWINS, 1000),
     (TIGHT, 350),
 ];
 
 const ENDED: &[Row] = &[
-    (&["true"], 100),
-    (&["G F p", "G F !p"], 500),
-    (&["G (p -> F q)", "G F p", "G (q -> O p)"], 1000),
-    (&["G (p <-> X !p)", "G (q -> Y p)", "F q"], 1000),
-    (&["p U q", "G (q -> X p)", "F G !r"], 500),
-    (&["G F (p & X q)", "G F !p", "G (q -> X X !q)"], 500),
+    ("true", 100),
+    ("G F p & G F !p", 500),
+    ("G (p -> F q) & G F p & G (q -> O p)", 1000),
+    ("G (p <-> X !p) & G (q -> Y p) & F q", 1000),
+    ("(p U q) & G (q -> X p) & F G !r", 500),
+    ("G F (p & X q) & G F !p & G (q -> X X !q)", 500),
 ];
 
 const ENDED_OVER_FINITE: &[Row] = &[
-    (&["true"], 100),
+    ("true", 100),
     (STUCK, 100),
-    (&["F p", "G (p -> X q)"], 500),
-    (&["X X X !p", "wX p", "H q"], 500),
-    (&["G (p <-> wX !p)", "F (q & !Y p)"], 500),
+    ("F p & G (p -> X q)", 500),
+    ("X X X !p & wX p & H q", 500),
+    ("G (p <-> wX !p) & F (q & !Y p)", 500),
 ];
 
 fn are_refuted(rt: &impl Abort, alloc: Global, kind: Kind, rows: &[Row]) {

@@ -1,14 +1,14 @@
 // Certificates that were worked by hand, and the first reason of each that is spoiled.
-use crate::building::{LayerRow, LineRow, certificate, table_of};
+use crate::building::{LayerRow, LineRow, certificate, formula};
 use claim_check::{CertificateFault, ClaimVerdict, LayerFault, check};
 use ltl_closure::Closure;
-use ltl_syntax::{BinaryOp, Kind, Node, UnaryOp};
+use ltl_syntax::Kind;
 use std::alloc::Global;
 use std::process::Abort;
 
 #[derive(Clone, Copy)]
 struct Row {
-    nodes: &'static [Node],
+    text: &'static str,
     kind: Kind,
     layers: &'static [LayerRow],
     close: &'static [LineRow],
@@ -18,21 +18,9 @@ struct Row {
     verdict: ClaimVerdict,
 }
 
-const P: Node = Node::Letter(0);
-
-const Q: Node = Node::Letter(1);
-
-// `G F p & G !p`. Entries: 1 `false`, 2 `true`, 3 `p`, 4 `F p`, 5 `X F p`, 6 `G F p`, 7 `wX G F p`, 8 `!p`, 9 `G !p`,
+// Entries: 1 `false`, 2 `true`, 3 `p`, 4 `F p`, 5 `X F p`, 6 `G F p`, 7 `wX G F p`, 8 `!p`, 9 `G !p`,
 // 10 `wX G !p`, 11 the whole. 23 there is a next state, 24 a first state, 25 a last one; 46 clauses.
-const AGAIN_AND_NEVER: &[Node] = &[
-    P,
-    Node::Unary(UnaryOp::Eventually, 0),
-    Node::Unary(UnaryOp::Always, 1),
-    P,
-    Node::Unary(UnaryOp::Not, 3),
-    Node::Unary(UnaryOp::Always, 4),
-    Node::Binary(BinaryOp::And, 2, 5),
-];
+const AGAIN_AND_NEVER: &str = "G F p & G !p";
 
 // `X F p` and `wX G !p` are never both due.
 const NEVER_BOTH: LayerRow = LayerRow {
@@ -56,7 +44,7 @@ const NEVER_CLOSE: &[LineRow] = &[
 ];
 
 const NEVER: Row = Row {
-    nodes: AGAIN_AND_NEVER,
+    text: AGAIN_AND_NEVER,
     kind: Kind::Infinite,
     layers: &[NEVER_BOTH],
     close: NEVER_CLOSE,
@@ -65,20 +53,8 @@ const NEVER: Row = Row {
     verdict: ClaimVerdict::Verified,
 };
 
-// `G F (p & Y q) & F G !q`; 33 there is a next state, 34 a first one; 66 clauses.
-const AFTER_Q: &[Node] = &[
-    P,
-    Q,
-    Node::Unary(UnaryOp::Yesterday, 1),
-    Node::Binary(BinaryOp::And, 0, 2),
-    Node::Unary(UnaryOp::Eventually, 3),
-    Node::Unary(UnaryOp::Always, 4),
-    Q,
-    Node::Unary(UnaryOp::Not, 6),
-    Node::Unary(UnaryOp::Always, 7),
-    Node::Unary(UnaryOp::Eventually, 8),
-    Node::Binary(BinaryOp::And, 5, 9),
-];
+// 33 there is a next state, 34 a first one; 66 clauses.
+const AFTER_Q: &str = "G F (p & Y q) & F G !q";
 
 // Where `G !q` is due and `q` is not there, `F (p & Y q)` is not due.
 const NOT_DUE: LayerRow = LayerRow {
@@ -114,7 +90,7 @@ const NOT_BOTH: LayerRow = LayerRow {
 };
 
 const LAYERS: Row = Row {
-    nodes: AFTER_Q,
+    text: AFTER_Q,
     kind: Kind::Infinite,
     layers: &[NOT_DUE, NOT_BOTH],
     close: &[
@@ -126,13 +102,9 @@ const LAYERS: Row = Row {
     verdict: ClaimVerdict::Verified,
 };
 
-// `G X p`, which holds neither at a last state nor before a state where it does not.
+// The formula holds neither at a last state nor before a state where it does not.
 const ENDING: Row = Row {
-    nodes: &[
-        P,
-        Node::Unary(UnaryOp::Next, 0),
-        Node::Unary(UnaryOp::Always, 1),
-    ],
+    text: "G X p",
     kind: Kind::Finite,
     layers: &[ENDING_LAYER],
     close: &[(&[-12], &[15, 18])],
@@ -150,9 +122,9 @@ const ENDING_LAYER: LayerRow = LayerRow {
     step_targets: &[2],
 };
 
-// `Y p`, which no first state has.
+// No first state has the formula.
 const BEFORE_ALL: Row = Row {
-    nodes: &[P, Node::Unary(UnaryOp::Yesterday, 0)],
+    text: "Y p",
     kind: Kind::Finite,
     layers: &[],
     close: &[(&[-6], &[3, 4])],
@@ -247,7 +219,7 @@ const ROWS: &[Row] = &[
 ];
 
 fn verdict_of(rt: &impl Abort, alloc: Global, row: &Row) -> ClaimVerdict {
-    let (table, root) = table_of(rt, alloc, row.nodes);
+    let (table, root) = formula(rt, alloc, row.text);
     assert!(rt; root < table.len());
     let closure = Closure::of(alloc, &table, root, row.asked).expect(rt, "memory");
     let certificate = certificate(rt, alloc, row.kind, row.layers, row.close, row.target);

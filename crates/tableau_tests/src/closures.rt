@@ -1,29 +1,97 @@
 // Closures that were worked by hand.
-use crate::tables::{closure_of, name, push, table_of};
-use ltl_closure::Entry;
-use ltl_syntax::{BinaryOp, FormulaTable, Kind, Node, UnaryOp};
+use crate::formulas::{closure_of, formula};
+use ltl_syntax::Kind;
 use std::alloc::Global;
 use std::process::Abort;
 
-/// Pushes the letter of this number, which gets a name of its own.
-fn push_letter(rt: &impl Abort, alloc: Global, table: &mut FormulaTable, number: u32) -> u32 {
-    let text = format!(in alloc; "p{number}").expect(rt, "memory");
-    let letter = name(rt, table, &text);
-    push(rt, table, Node::Letter(letter))
-}
+/// A formula, the entries of its closure as they are printed, the number of its normal form, and which
+/// entries are nexts, yesterdays and eventualities.
+type Row = (
+    &'static str,
+    &'static str,
+    u32,
+    &'static [u32],
+    &'static [u32],
+    &'static [u32],
+);
 
-/// A formula, the last node of the list, and what its closure is.
-struct Row<'a> {
-    nodes: &'a [Node],
-    entries: &'a [Entry],
-    nexts: &'a [u32],
-    yesterdays: &'a [u32],
-    eventualities: &'a [u32],
-}
+const ROWS: &[Row] = &[
+    ("false", "[False]", 1, &[], &[], &[]),
+    (
+        "wX false",
+        "[False, Next { argument: 1, weak: true }]",
+        2,
+        &[2],
+        &[],
+        &[],
+    ),
+    (
+        "G F p",
+        "[False, True, Letter(0), \
+         Until { left: 2, right: 3, request: 5 }, Next { argument: 4, weak: false }, \
+         Release { left: 1, right: 4, request: 7 }, Next { argument: 6, weak: true }]",
+        6,
+        &[5, 7],
+        &[],
+        &[4],
+    ),
+    (
+        "p & !p",
+        "[Letter(0), NotLetter(1), And(1, 2)]",
+        3,
+        &[],
+        &[],
+        &[],
+    ),
+    (
+        "p W q",
+        "[Letter(1), Letter(0), Or(2, 1), \
+         Release { left: 1, right: 3, request: 5 }, Next { argument: 4, weak: true }]",
+        4,
+        &[5],
+        &[],
+        &[],
+    ),
+    (
+        "H O p",
+        "[False, True, Letter(0), \
+         Since { left: 2, right: 3, request: 5 }, Yesterday { argument: 4, weak: false }, \
+         Trigger { left: 1, right: 4, request: 7 }, Yesterday { argument: 6, weak: true }]",
+        6,
+        &[],
+        &[5, 7],
+        &[],
+    ),
+    (
+        "F[1,2] p",
+        "[Letter(0), Next { argument: 1, weak: false }, Or(1, 2), Next { argument: 3, weak: false }]",
+        4,
+        &[2, 4],
+        &[],
+        &[],
+    ),
+    (
+        "!H[0,1] p",
+        "[Letter(0), NotLetter(1), Yesterday { argument: 2, weak: false }, Or(2, 3)]",
+        4,
+        &[],
+        &[3],
+        &[],
+    ),
+    // The sides of an equivalence share what both have.
+    (
+        "p <-> (q <-> r)",
+        "[Letter(0), Letter(1), Letter(2), And(2, 3), NotLetter(2), NotLetter(3), And(5, 6), \
+         Or(4, 7), And(1, 8), NotLetter(1), And(2, 6), And(5, 3), Or(11, 12), And(10, 13), \
+         Or(9, 14)]",
+        15,
+        &[],
+        &[],
+        &[],
+    ),
+];
 
-const LETTERS: &[&str] = &["p", "q", "r"];
-
-fn are_entries(found: &[Entry], wanted: &[Entry]) -> bool {
+fn is_text(found: &str, wanted: &str) -> bool {
     found == wanted
 }
 
@@ -31,328 +99,81 @@ fn are_numbers(found: &[u32], wanted: &[u32]) -> bool {
     found == wanted
 }
 
-fn check(rt: &impl Abort, alloc: Global, row: &Row<'_>) {
-    let (table, root) = table_of(rt, alloc, LETTERS, row.nodes);
+fn check(rt: &impl Abort, alloc: Global, row: &Row) {
+    let (table, root) = formula(rt, alloc, row.0);
     let closure = closure_of(rt, alloc, &table, root, Kind::Finite);
-    assert!(rt; are_entries(closure.entries(), row.entries));
-    assert!(rt; are_numbers(closure.nexts(), row.nexts));
-    assert!(rt; are_numbers(closure.yesterdays(), row.yesterdays));
-    assert!(rt; are_numbers(closure.eventualities(), row.eventualities));
-    assert!(rt; closure.kind() == Kind::Finite);
-    assert!(rt; closure.table().letters() == 3);
-    assert!(rt; closure.node() == root);
+    let found = closure.entries();
+    let entries = format!(in alloc; "{found:?}").expect(rt, "memory");
+    assert!(rt; is_text(&entries, row.1), "{entries}");
+    assert_eq!(rt; closure.root(), row.2, "{entries}");
+    assert!(rt; are_numbers(closure.nexts(), row.3), "{entries}");
+    assert!(rt; are_numbers(closure.yesterdays(), row.4), "{entries}");
+    assert!(rt; are_numbers(closure.eventualities(), row.5), "{entries}");
+    assert!(rt; closure.kind() == Kind::Finite && closure.node() == root);
+    assert!(rt; closure.table().letters() == table.letters());
 }
-
-const P: Node = Node::Letter(0);
-
-const Q: Node = Node::Letter(1);
 
 #[test]
 fn entries_with_their_numbers(rt: HostRuntime) {
-    // false
-    check(
-        &rt,
-        rt.alloc(),
-        &Row {
-            nodes: &[Node::Const(false)],
-            entries: &[Entry::False],
-            nexts: &[],
-            yesterdays: &[],
-            eventualities: &[],
-        },
-    );
-    // wX false
-    check(
-        &rt,
-        rt.alloc(),
-        &Row {
-            nodes: &[Node::Const(false), Node::Unary(UnaryOp::WeakNext, 0)],
-            entries: &[
-                Entry::False,
-                Entry::Next {
-                    argument: 1,
-                    weak: true,
-                },
-            ],
-            nexts: &[2],
-            yesterdays: &[],
-            eventualities: &[],
-        },
-    );
-    // G F p
-    check(
-        &rt,
-        rt.alloc(),
-        &Row {
-            nodes: &[
-                P,
-                Node::Unary(UnaryOp::Eventually, 0),
-                Node::Unary(UnaryOp::Always, 1),
-            ],
-            entries: &[
-                Entry::False,
-                Entry::True,
-                Entry::Letter(0),
-                Entry::Until {
-                    left: 2,
-                    right: 3,
-                    request: 5,
-                },
-                Entry::Next {
-                    argument: 4,
-                    weak: false,
-                },
-                Entry::Release {
-                    left: 1,
-                    right: 4,
-                    request: 7,
-                },
-                Entry::Next {
-                    argument: 6,
-                    weak: true,
-                },
-            ],
-            nexts: &[5, 7],
-            yesterdays: &[],
-            eventualities: &[4],
-        },
-    );
-    // p & !p
-    check(
-        &rt,
-        rt.alloc(),
-        &Row {
-            nodes: &[
-                P,
-                P,
-                Node::Unary(UnaryOp::Not, 1),
-                Node::Binary(BinaryOp::And, 0, 2),
-            ],
-            entries: &[Entry::Letter(0), Entry::NotLetter(1), Entry::And(1, 2)],
-            nexts: &[],
-            yesterdays: &[],
-            eventualities: &[],
-        },
-    );
-    // p W q
-    check(
-        &rt,
-        rt.alloc(),
-        &Row {
-            nodes: &[P, Q, Node::Binary(BinaryOp::WeakUntil, 0, 1)],
-            entries: &[
-                Entry::Letter(1),
-                Entry::Letter(0),
-                Entry::Or(2, 1),
-                Entry::Release {
-                    left: 1,
-                    right: 3,
-                    request: 5,
-                },
-                Entry::Next {
-                    argument: 4,
-                    weak: true,
-                },
-            ],
-            nexts: &[5],
-            yesterdays: &[],
-            eventualities: &[],
-        },
-    );
-    // H O p
-    check(
-        &rt,
-        rt.alloc(),
-        &Row {
-            nodes: &[
-                P,
-                Node::Unary(UnaryOp::Once, 0),
-                Node::Unary(UnaryOp::Historically, 1),
-            ],
-            entries: &[
-                Entry::False,
-                Entry::True,
-                Entry::Letter(0),
-                Entry::Since {
-                    left: 2,
-                    right: 3,
-                    request: 5,
-                },
-                Entry::Yesterday {
-                    argument: 4,
-                    weak: false,
-                },
-                Entry::Trigger {
-                    left: 1,
-                    right: 4,
-                    request: 7,
-                },
-                Entry::Yesterday {
-                    argument: 6,
-                    weak: true,
-                },
-            ],
-            nexts: &[],
-            yesterdays: &[5, 7],
-            eventualities: &[],
-        },
-    );
+    for row in ROWS {
+        check(&rt, rt.alloc(), row);
+    }
 }
 
-#[test]
-fn entries_of_ranges(rt: HostRuntime) {
-    // F[1,2] p
-    check(
-        &rt,
-        rt.alloc(),
-        &Row {
-            nodes: &[P, Node::Unary(UnaryOp::EventuallyIn(1, 2), 0)],
-            entries: &[
-                Entry::Letter(0),
-                Entry::Next {
-                    argument: 1,
-                    weak: false,
-                },
-                Entry::Or(1, 2),
-                Entry::Next {
-                    argument: 3,
-                    weak: false,
-                },
-            ],
-            nexts: &[2, 4],
-            yesterdays: &[],
-            eventualities: &[],
-        },
-    );
-    // !H[0,1] p
-    check(
-        &rt,
-        rt.alloc(),
-        &Row {
-            nodes: &[
-                P,
-                Node::Unary(UnaryOp::HistoricallyIn(0, 1), 0),
-                Node::Unary(UnaryOp::Not, 1),
-            ],
-            entries: &[
-                Entry::Letter(0),
-                Entry::NotLetter(1),
-                Entry::Yesterday {
-                    argument: 2,
-                    weak: false,
-                },
-                Entry::Or(2, 3),
-            ],
-            nexts: &[],
-            yesterdays: &[3],
-            eventualities: &[],
-        },
-    );
+/// How many entries the formula has, and how many of them are nexts.
+fn counts(rt: &impl Abort, alloc: Global, text: &str) -> (usize, usize) {
+    let (table, root) = formula(rt, alloc, text);
+    let closure = closure_of(rt, alloc, &table, root, Kind::Infinite);
+    (closure.entries().len(), closure.nexts().len())
 }
 
-// Each range has two entries for each of its 255 steps, and walks its operand once.
+// Each range has two entries for each of its 255 steps, one of them a next, and walks its operand once.
 #[test]
 fn ranges_of_ranges(rt: HostRuntime) {
-    let (mut table, mut root) = table_of(&rt, rt.alloc(), LETTERS, &[P]);
-    for level in 0..64 {
-        let op = if level % 2 == 0 {
-            UnaryOp::EventuallyIn(0, 255)
-        } else {
-            UnaryOp::AlwaysIn(0, 255)
-        };
-        root = push(&rt, &mut table, Node::Unary(op, root));
-    }
-    let closure = closure_of(&rt, rt.alloc(), &table, root, Kind::Infinite);
-    assert!(rt; closure.entries().len() == 64 * 510 + 1);
+    let prefixes = "G[0,255] F[0,255] "
+        .repeat(rt.alloc(), 32)
+        .expect(&rt, "memory");
+    let text = format!(in rt.alloc(); "{prefixes}p").expect(&rt, "memory");
+    assert_eq!(rt; counts(&rt, rt.alloc(), &text), (64 * 510 + 1, 64 * 255));
 }
 
-#[test]
-fn equivalences_share_what_both_sides_have(rt: HostRuntime) {
-    // p <-> (q <-> r)
-    check(
-        &rt,
-        rt.alloc(),
-        &Row {
-            nodes: &[
-                P,
-                Q,
-                Node::Letter(2),
-                Node::Binary(BinaryOp::Iff, 1, 2),
-                Node::Binary(BinaryOp::Iff, 0, 3),
-            ],
-            entries: &[
-                Entry::Letter(0),
-                Entry::Letter(1),
-                Entry::Letter(2),
-                Entry::And(2, 3),
-                Entry::NotLetter(2),
-                Entry::NotLetter(3),
-                Entry::And(5, 6),
-                Entry::Or(4, 7),
-                Entry::And(1, 8),
-                Entry::NotLetter(1),
-                Entry::And(2, 6),
-                Entry::And(5, 3),
-                Entry::Or(11, 12),
-                Entry::And(10, 13),
-                Entry::Or(9, 14),
-            ],
-            nexts: &[],
-            yesterdays: &[],
-            eventualities: &[],
-        },
-    );
-}
-
-// 40 equivalences, each the right operand of the one before. Each of the 41 letters stands there and negated;
+// 40 equivalences, each the left operand of the one before. Each of the 41 letters stands there and negated;
 // each equivalence has three entries and its negation three more, but for the first, whose negation is not
 // there. Were a node walked once for each of its occurrences in the normal form, this would take 2 ^ 40
 // steps.
 #[test]
 fn equivalences_are_walked_once(rt: HostRuntime) {
-    let mut table = FormulaTable::new(rt.alloc());
-    let mut root = push_letter(&rt, rt.alloc(), &mut table, 0);
+    let mut text = String::from_str(rt.alloc(), "p0").expect(&rt, "memory");
     for number in 1..41 {
-        let letter = push_letter(&rt, rt.alloc(), &mut table, number);
-        root = push(&rt, &mut table, Node::Binary(BinaryOp::Iff, letter, root));
+        let next = format!(in rt.alloc(); " <-> p{number}").expect(&rt, "memory");
+        text.push_str(&next).expect(&rt, "memory");
     }
-    let closure = closure_of(&rt, rt.alloc(), &table, root, Kind::Infinite);
-    assert!(rt; closure.entries().len() == 41 * 2 + 39 * 6 + 3);
+    assert_eq!(rt; counts(&rt, rt.alloc(), &text), (41 * 2 + 39 * 6 + 3, 0));
+}
+
+fn is_bound(rt: &impl Abort, alloc: Global, text: &str, kind: Kind, bound: u32) -> bool {
+    let (table, root) = formula(rt, alloc, text);
+    let closure = closure_of(rt, alloc, &table, root, kind);
+    assert!(rt; 1 <= bound && bound <= 1_000);
+    closure.bound_at_most(bound) && !closure.bound_at_most(bound - 1)
 }
 
 #[test]
 fn bounds(rt: HostRuntime) {
-    // G F p & G !p
-    let (table, root) = table_of(
-        &rt,
-        rt.alloc(),
-        LETTERS,
-        &[
-            P,
-            Node::Unary(UnaryOp::Eventually, 0),
-            Node::Unary(UnaryOp::Always, 1),
-            P,
-            Node::Unary(UnaryOp::Not, 3),
-            Node::Unary(UnaryOp::Always, 4),
-            Node::Binary(BinaryOp::And, 2, 5),
-        ],
-    );
-    let infinite = closure_of(&rt, rt.alloc(), &table, root, Kind::Infinite);
-    assert!(rt; infinite.bound_at_most(16) && !infinite.bound_at_most(15));
-    let finite = closure_of(&rt, rt.alloc(), &table, root, Kind::Finite);
-    assert!(rt; finite.bound_at_most(8) && !finite.bound_at_most(7));
-    let (table, root) = table_of(&rt, rt.alloc(), LETTERS, &[P]);
-    let letter = closure_of(&rt, rt.alloc(), &table, root, Kind::Infinite);
-    assert!(rt; letter.root() == 1);
-    assert!(rt; letter.bound_at_most(1) && !letter.bound_at_most(0));
+    for (text, kind, bound) in [
+        ("G F p & G !p", Kind::Infinite, 16),
+        ("G F p & G !p", Kind::Finite, 8),
+        ("p", Kind::Infinite, 1),
+    ] {
+        assert!(rt; is_bound(&rt, rt.alloc(), text, kind, bound), "{text}");
+    }
 }
 
 #[test]
 fn a_bound_past_every_number(rt: HostRuntime) {
-    let (mut table, mut root) = table_of(&rt, rt.alloc(), LETTERS, &[P]);
-    for _ in 0..130 {
-        root = push(&rt, &mut table, Node::Unary(UnaryOp::Next, root));
-    }
+    let prefixes = "X ".repeat(rt.alloc(), 130).expect(&rt, "memory");
+    let text = format!(in rt.alloc(); "{prefixes}p").expect(&rt, "memory");
+    let (table, root) = formula(&rt, rt.alloc(), &text);
     let closure = closure_of(&rt, rt.alloc(), &table, root, Kind::Infinite);
     assert!(rt; closure.nexts().len() == 130);
     assert!(rt; !closure.bound_at_most(1_000));

@@ -1,52 +1,29 @@
 // Cores that were worked by hand.
-use crate::tables::table_of;
+use crate::formulas::formula;
 use core_extract::{core, is_refuted, laws};
 use ltl_io::{Gate, NoGate};
-use ltl_syntax::{BinaryOp, Kind, Node, UnaryOp, has_no_fresh, print};
+use ltl_syntax::{Kind, has_no_fresh, print};
 use std::alloc::Global;
 use std::process::Abort;
 use std::sync::atomic::{AtomicBool, Ordering};
 use std::thread::Threads;
 
-/// The nodes of a formula, its kind, and the text of its core.
-type Row = (&'static [Node], Kind, &'static [u8]);
+/// A formula, its kind, and the text of its core.
+type Row = (&'static str, Kind, &'static [u8]);
 
-/// `p & !p & G q`
-const CONFLICT: &[Node] = &[
-    Node::Letter(0),
-    Node::Letter(0),
-    Node::Unary(UnaryOp::Not, 1),
-    Node::Binary(BinaryOp::And, 0, 2),
-    Node::Letter(1),
-    Node::Unary(UnaryOp::Always, 4),
-    Node::Binary(BinaryOp::And, 3, 5),
-];
-
-/// `G F p & G !p & r`
-const REPEATED: &[Node] = &[
-    Node::Letter(0),
-    Node::Unary(UnaryOp::Eventually, 0),
-    Node::Unary(UnaryOp::Always, 1),
-    Node::Letter(0),
-    Node::Unary(UnaryOp::Not, 3),
-    Node::Unary(UnaryOp::Always, 4),
-    Node::Binary(BinaryOp::And, 2, 5),
-    Node::Letter(2),
-    Node::Binary(BinaryOp::And, 6, 7),
-];
+const CONFLICT: Row = ("p & !p & G q", Kind::Infinite, b"((p & !p) & {0})");
 
 const ROWS: &[Row] = &[
-    (CONFLICT, Kind::Infinite, b"((p & !p) & {0})"),
-    (REPEATED, Kind::Infinite, b"((G F p & G !p) & {0})"),
-    (&[Node::Const(false)], Kind::Infinite, b"false"),
+    CONFLICT,
     (
-        &[Node::Const(false), Node::Unary(UnaryOp::Next, 0)],
-        Kind::Finite,
-        b"X false",
+        "G F p & G !p & r",
+        Kind::Infinite,
+        b"((G F p & G !p) & {0})",
     ),
+    ("false", Kind::Infinite, b"false"),
+    ("X false", Kind::Finite, b"X false"),
 ];
 
-/// The text of the core of the last node's formula.
 fn core_text<R: Abort + Threads + Sync, G: Gate + Sync>(
     rt: &R,
     alloc: Global,
@@ -54,7 +31,7 @@ fn core_text<R: Abort + Threads + Sync, G: Gate + Sync>(
     workers: u32,
     gate: &G,
 ) -> Vec<u8> {
-    let (table, root) = table_of(rt, alloc, &["p", "q", "r"], row.0);
+    let (table, root) = formula(rt, alloc, row.0);
     assert!(rt; root < table.len() && 1 <= workers && workers <= 16);
     let given = has_no_fresh(alloc, &table, root).expect(rt, "memory");
     assert!(rt; given);
@@ -106,7 +83,6 @@ fn two_tests_at_once(rt: HostRuntime) {
         second: AtomicBool::new(false),
         met: AtomicBool::new(false),
     };
-    let row = (CONFLICT, Kind::Infinite, b"((p & !p) & {0})".as_slice());
-    let text = core_text(&rt, rt.alloc(), &row, 2, &gate);
-    assert!(rt; *text == *row.2 && gate.met.load(Ordering::SeqCst));
+    let text = core_text(&rt, rt.alloc(), &CONFLICT, 2, &gate);
+    assert!(rt; *text == *CONFLICT.2 && gate.met.load(Ordering::SeqCst));
 }

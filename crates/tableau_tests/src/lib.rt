@@ -9,6 +9,8 @@ mod cores;
 #[cfg(test)]
 mod depths;
 #[cfg(test)]
+mod formulas;
+#[cfg(test)]
 mod lists;
 #[cfg(test)]
 mod looks;
@@ -22,5 +24,3 @@ mod searches;
 mod steps;
 #[cfg(test)]
 mod systems;
-#[cfg(test)]
-mod tables;

@@ -1,24 +1,16 @@
 // Whole clause lists, worked by hand.
-use ltl_syntax::{BinaryOp, Kind, Node, UnaryOp};
+use ltl_syntax::Kind;
 
-/// The nodes of a formula over the letters p and q, its kind, the last depth, and the clauses through it: the
-/// numbers of letters, a negated one with a minus sign.
-pub type List = (&'static [Node], Kind, u32, &'static [&'static [i64]]);
+/// A formula, its kind, the last depth, and the clauses through it: the numbers of letters, a negated one
+/// with a minus sign.
+pub type List = (&'static str, Kind, u32, &'static [&'static [i64]]);
 
-pub const CONSTANTS: &[List] = &[
-    (&[Node::Const(false)], Kind::Infinite, 0, OF_FALSEHOOD),
-    (
-        &[Node::Const(false), Node::Unary(UnaryOp::WeakNext, 0)],
-        Kind::Infinite,
-        1,
-        OF_WEAK,
-    ),
-    (
-        &[Node::Const(false), Node::Unary(UnaryOp::Next, 0)],
-        Kind::Finite,
-        1,
-        OF_STRONG,
-    ),
+pub const LISTS: &[List] = &[
+    ("false", Kind::Infinite, 0, OF_FALSEHOOD),
+    ("wX false", Kind::Infinite, 1, OF_WEAK),
+    ("X false", Kind::Finite, 1, OF_STRONG),
+    ("p S q", Kind::Finite, 1, OF_SINCE),
+    ("F p", Kind::Infinite, 1, OF_EVENTUALLY),
 ];
 
 const OF_FALSEHOOD: &[&[i64]] = &[&[-6], &[-2, 6], &[-3, 4]];
@@ -63,17 +55,6 @@ const OF_STRONG: &[&[i64]] = &[
 
 /// `p S q` has the entries p 1, q 2, `p S q` 3 and `Y (p S q)` 4. Finite traces give state 0 the letters 2 to
 /// 7 and state 1 those from 8 to 13; their pair has 14 where the carries are equal and 15 where they differ.
-pub const SINCE: List = (
-    &[
-        Node::Letter(0),
-        Node::Letter(1),
-        Node::Binary(BinaryOp::Since, 0, 1),
-    ],
-    Kind::Finite,
-    1,
-    OF_SINCE,
-);
-
 const OF_SINCE: &[&[i64]] = &[
     &[6, -5],
     &[6, -4, -7],
@@ -100,13 +81,6 @@ const OF_SINCE: &[&[i64]] = &[
 /// 0 has the letters 2 to 10, with 5 that it repeats and 10 that the eventuality was seen; state 1 has those
 /// from 11 to 19; their pair has 20 where the carries are equal, 21 where the run closes, 22 where they
 /// differ, 23 where the eventuality is fulfilled and 24 where that is new.
-pub const EVENTUALLY: List = (
-    &[Node::Letter(0), Node::Unary(UnaryOp::Eventually, 0)],
-    Kind::Infinite,
-    1,
-    OF_EVENTUALLY,
-);
-
 const OF_EVENTUALLY: &[&[i64]] = &[
     &[6],
     &[8, -7],

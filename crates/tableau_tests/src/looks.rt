@@ -2,7 +2,7 @@
 ghost use Rattle.std.specs.Prelude.{◌≤◌, ◌<◌, length, slice_index_or, false};
 ghost use Rattle.demand.specs.Reading.{HasRoom};
 
-use crate::tables::{closure_of, table_of};
+use crate::formulas::{closure_of, formula};
 use cnf_base::Letter;
 use demand::{
     Constraint, Pruned, Pruning, Row, Values, close_of, first_difference, prunings, read_rows,
@@ -11,7 +11,7 @@ use demand::{
 use enc_layout::Layout;
 use ltl_closure::Closure;
 use ltl_run::Close;
-use ltl_syntax::{Kind, Node, UnaryOp};
+use ltl_syntax::Kind;
 use std::alloc::Global;
 use std::process::Abort;
 
@@ -217,8 +217,7 @@ fn read(
 // step 1 are 15 to 18. At step 0 the request is true, at step 1 the letter p is.
 #[test]
 fn reads_rows(rt: HostRuntime) {
-    let nodes = [Node::Letter(0), Node::Unary(UnaryOp::Eventually, 0)];
-    let (table, root) = table_of(&rt, rt.alloc(), &["p"], &nodes);
+    let (table, root) = formula(&rt, rt.alloc(), "F p");
     let closure = closure_of(&rt, rt.alloc(), &table, root, Kind::Infinite);
     let mut values = [false; 30];
     values[9] = true;

@@ -1,6 +1,6 @@
 // Whole lists, each clause by its number.
-use crate::lists::{CONSTANTS, EVENTUALLY, List};
-use crate::tables::{closure_of, table_of};
+use crate::formulas::{closure_of, formula};
+use crate::lists::{LISTS, List};
 use clause_index::Indexed;
 use cnf_base::Clauses;
 use enc_layout::Layout;
@@ -28,9 +28,9 @@ fn is_row(rt: &impl Abort, indexed: &Indexed<'_>, number: u64, row: &[i64]) -> b
     true
 }
 
-/// Whether these are the clauses through the depth for the formula of the last node.
+/// Whether these are the clauses through the depth for the formula.
 fn check(rt: &impl Abort, alloc: Global, list: &List) {
-    let (table, root) = table_of(rt, alloc, &["p", "q"], list.0);
+    let (table, root) = formula(rt, alloc, list.0);
     let closure = closure_of(rt, alloc, &table, root, list.1);
     assert!(rt; list.2 <= 1000);
     assert!(rt; Layout::of(&closure).fits(list.2));
@@ -42,13 +42,8 @@ fn check(rt: &impl Abort, alloc: Global, list: &List) {
 }
 
 #[test]
-fn constants(rt: HostRuntime) {
-    for list in CONSTANTS {
+fn lists_by_numbers(rt: HostRuntime) {
+    for list in LISTS {
         check(&rt, rt.alloc(), list);
     }
-}
-
-#[test]
-fn eventually(rt: HostRuntime) {
-    check(&rt, rt.alloc(), &EVENTUALLY);
 }

@@ -39,6 +39,7 @@ fn lengths(trace: Trace) -> (usize, usize) {
     }
 }
 
+/// The formula is pushed, not read from a text: of this table it is known that it is the constant.
 fn closed(rt: &impl Abort, alloc: Global, kind: Kind, close: Close) -> (usize, usize)
     requires { IsRuleOf close 1 kind }
 {

@@ -1,44 +1,26 @@
 // Searches for a trace that were worked by hand.
-use crate::tables::{closure_of, table_of};
+use crate::formulas::{closure_of, formula};
 use lasso_eval::holds;
-use ltl_syntax::{BinaryOp, Kind, Node, UnaryOp};
+use ltl_syntax::Kind;
 use std::alloc::Global;
 use std::process::Abort;
 use unravel::{Exploration, Explored};
 
-/// The nodes of a formula, its kind, how many depths are looked at, and the first at which there is a trace.
-type Row = (&'static [Node], Kind, u32, Option<u32>);
-
-/// `X X p`
-const SECOND: &[Node] = &[
-    Node::Letter(0),
-    Node::Unary(UnaryOp::Next, 0),
-    Node::Unary(UnaryOp::Next, 1),
-];
-
-/// `p & !p`
-const CLASH: &[Node] = &[
-    Node::Letter(0),
-    Node::Letter(0),
-    Node::Unary(UnaryOp::Not, 1),
-    Node::Binary(BinaryOp::And, 0, 2),
-];
-
-/// `X true`
-const GOES_ON: &[Node] = &[Node::Const(true), Node::Unary(UnaryOp::Next, 0)];
+/// A formula, its kind, how many depths are looked at, and the first at which there is a trace.
+type Row = (&'static str, Kind, u32, Option<u32>);
 
 const ROWS: &[Row] = &[
     // p and X p hold in a loop of one state behind the first.
-    (SECOND, Kind::Infinite, 8, Some(1)),
-    (SECOND, Kind::Finite, 8, Some(2)),
-    (SECOND, Kind::Finite, 2, None),
-    (CLASH, Kind::Infinite, 4, None),
-    (GOES_ON, Kind::Finite, 8, Some(1)),
+    ("X X p", Kind::Infinite, 8, Some(1)),
+    ("X X p", Kind::Finite, 8, Some(2)),
+    ("X X p", Kind::Finite, 2, None),
+    ("p & !p", Kind::Infinite, 4, None),
+    ("X true", Kind::Finite, 8, Some(1)),
 ];
 
 /// The depth at which a trace is found. The formula holds on it.
 fn found(rt: &impl Abort, alloc: Global, row: &Row) -> Option<u32> {
-    let (table, root) = table_of(rt, alloc, &["p"], row.0);
+    let (table, root) = formula(rt, alloc, row.0);
     let closure = closure_of(rt, alloc, &table, root, row.1);
     assert!(rt; root < table.len());
     let mut search = Exploration::begin(alloc, &closure);
@@ -62,6 +44,6 @@ fn found(rt: &impl Abort, alloc: Global, row: &Row) -> Option<u32> {
 #[test]
 fn finds_traces(rt: HostRuntime) {
     for row in ROWS {
-        assert!(rt; found(&rt, rt.alloc(), row) == row.3);
+        assert!(rt; found(&rt, rt.alloc(), row) == row.3, "{row:?}");
     }
 }

@@ -1,6 +1,6 @@
 // Whole lists, appended step by step.
-use crate::lists::{CONSTANTS, EVENTUALLY, List, SINCE};
-use crate::tables::{closure_of, table_of};
+use crate::formulas::{closure_of, formula};
+use crate::lists::{LISTS, List};
 use cnf_base::{ClauseList, Clauses};
 use enc_layout::Layout;
 use encode::append;
@@ -50,27 +50,17 @@ fn are_rows(rt: &impl Abort, list: &ClauseList, rows: &[&[i64]]) -> bool {
     true
 }
 
-/// Whether the steps up to the last one append these clauses for the formula of the last node.
+/// Whether the steps up to the last one append these clauses for the formula.
 fn check(rt: &impl Abort, alloc: Global, list: &List) {
-    let (table, root) = table_of(rt, alloc, &["p", "q"], list.0);
+    let (table, root) = formula(rt, alloc, list.0);
     let closure = closure_of(rt, alloc, &table, root, list.1);
     let clauses = list_through(rt, alloc, &closure, list.2);
     assert!(rt; are_rows(rt, &clauses, list.3));
 }
 
 #[test]
-fn constants(rt: HostRuntime) {
-    for list in CONSTANTS {
+fn lists_by_steps(rt: HostRuntime) {
+    for list in LISTS {
         check(&rt, rt.alloc(), list);
     }
-}
-
-#[test]
-fn since(rt: HostRuntime) {
-    check(&rt, rt.alloc(), &SINCE);
-}
-
-#[test]
-fn eventually(rt: HostRuntime) {
-    check(&rt, rt.alloc(), &EVENTUALLY);
 }

@@ -2,10 +2,10 @@
 ghost use Rattle.ltl_syntax.specs.Formula.{Formula};
 ghost use Rattle.system_check.specs.Joining.{IsJoined};
 
-use crate::tables::table_of;
+use crate::formulas::formula;
 use enc_layout::Layout;
 use ltl_closure::Closure;
-use ltl_syntax::{BinaryOp, Kind, Node, UnaryOp};
+use ltl_syntax::Kind;
 use std::alloc::Global;
 use std::process::Abort;
 use system_check::{JoinRefused, Joined, SystemAnswer, decide_system, join_parts, laws};
@@ -37,83 +37,38 @@ fn decided(rt: &impl Abort, alloc: Global, joined: &Joined, limit: u32) -> Said
     }
 }
 
-/// What is said of the formulas of the last nodes. The letters of the goal have other numbers than those of
-/// the system.
-fn answered(
-    rt: &impl Abort,
-    alloc: Global,
-    system: [&[Node]; 2],
-    goal: &[Node],
-    limit: u32,
-) -> Said {
-    let (start, start_root) = table_of(rt, alloc, &["p", "q"], system[0]);
-    let (step, step_root) = table_of(rt, alloc, &["p", "q"], system[1]);
-    let (goal, goal_root) = table_of(rt, alloc, &["q", "p"], goal);
+/// A start, a step, a goal, the last depth that is tried, and what is said.
+type Row = (&'static str, &'static str, &'static str, u32, Said);
+
+const ROWS: &[Row] = &[
+    ("!p", "X p <-> !p", "G F p", 64, Said::Holds(5)),
+    ("!p", "X p <-> !p", "G F p", 4, Said::Undecided(4)),
+    ("!p", "true", "G !p", 64, Said::Fails(1)),
+    ("p & !p", "true", "p", 64, Said::NoPath(0)),
+    ("Y p", "true", "p", 64, Said::Refused(JoinRefused::Start)),
+    ("p", "X X p", "p", 64, Said::Refused(JoinRefused::Step)),
+    ("p", "X[1] p", "p", 64, Said::Refused(JoinRefused::Step)),
+    // Letters go by their names: the goal's first one is the start's second.
+    ("p & !q", "true", "!q & p", 64, Said::Holds(0)),
+];
+
+fn answered(rt: &impl Abort, alloc: Global, row: &Row) -> Said {
+    let (start, start_root) = formula(rt, alloc, row.0);
+    let (step, step_root) = formula(rt, alloc, row.1);
+    let (goal, goal_root) = formula(rt, alloc, row.2);
     assert!(rt; start_root < start.len() && step_root < step.len() && goal_root < goal.len());
     match join_parts(
         alloc, &start, start_root, &step, step_root, &goal, goal_root,
     ) {
-        Ok(joined) => decided(rt, alloc, &joined, limit),
+        Ok(joined) => decided(rt, alloc, &joined, row.3),
         Err(refused) => Said::Refused(refused),
     }
 }
 
 #[test]
 fn decides_systems(rt: HostRuntime) {
-    let alloc = rt.alloc();
-    let anything = [Node::Const(true)];
-    let p = [Node::Letter(0)];
-    let no_p = [Node::Letter(0), Node::Unary(UnaryOp::Not, 0)];
-    // `p & !p`
-    let clash = [
-        Node::Letter(0),
-        Node::Letter(0),
-        Node::Unary(UnaryOp::Not, 1),
-        Node::Binary(BinaryOp::And, 0, 2),
-    ];
-    // `X p <-> !p`
-    let flips = [
-        Node::Letter(0),
-        Node::Unary(UnaryOp::Next, 0),
-        Node::Letter(0),
-        Node::Unary(UnaryOp::Not, 2),
-        Node::Binary(BinaryOp::Iff, 1, 3),
-    ];
-    let before = [Node::Letter(0), Node::Unary(UnaryOp::Yesterday, 0)];
-    let twice = [
-        Node::Letter(0),
-        Node::Unary(UnaryOp::Next, 0),
-        Node::Unary(UnaryOp::Next, 1),
-    ];
-    let bounded = [Node::Letter(0), Node::Unary(UnaryOp::NextTimes(1), 0)];
-    // goals, where p has the number 1: `G F p`, `G !p`, `p`
-    let often = [
-        Node::Letter(1),
-        Node::Unary(UnaryOp::Eventually, 0),
-        Node::Unary(UnaryOp::Always, 1),
-    ];
-    let never = [
-        Node::Letter(1),
-        Node::Unary(UnaryOp::Not, 0),
-        Node::Unary(UnaryOp::Always, 1),
-    ];
-    let now = [Node::Letter(1)];
-    let rows: [([&[Node]; 2], &[Node], u32, Said); 7] = [
-        ([&no_p, &flips], &often, 64, Said::Holds(5)),
-        ([&no_p, &flips], &often, 4, Said::Undecided(4)),
-        ([&no_p, &anything], &never, 64, Said::Fails(1)),
-        ([&clash, &anything], &now, 64, Said::NoPath(0)),
-        (
-            [&before, &anything],
-            &now,
-            64,
-            Said::Refused(JoinRefused::Start),
-        ),
-        ([&p, &twice], &now, 64, Said::Refused(JoinRefused::Step)),
-        ([&p, &bounded], &now, 64, Said::Refused(JoinRefused::Step)),
-    ];
-    for (system, goal, limit, wanted) in &rows {
-        assert!(rt; answered(&rt, alloc, *system, goal, *limit) == *wanted);
+    for row in ROWS {
+        assert_eq!(rt; answered(&rt, rt.alloc(), row), row.4, "{row:?}");
     }
 }
 
