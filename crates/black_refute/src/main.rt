@@ -1,24 +1,11 @@
-//! The program `black_refute`: looks for claims that refute a formula, and for a trace that satisfies it, or
-//! judges a certificate of claims. The words and standard input, output and error are given to `top::run`.
+//! The program `black_refute`: the words, standard input, output and error, given to `refute_top::run`.
 #![tactic(auto)]
 
-mod answer;
-mod check;
-mod output;
-mod progress;
-mod refute;
-#[cfg(test)]
-mod tests;
-mod top;
-mod turns;
-mod verdict;
-
 use ltl_io::{StdSink, StdSource};
-use report::Status;
+use refute_top::{Status, run};
 use std::env;
 use std::io::ErrorKind;
 use std::process::ExitCode;
-use top::run;
 
 /// The code where the system did not give the words. Nothing is written then.
 const NO_WORDS: u8 = 8;

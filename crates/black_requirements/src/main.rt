@@ -1,29 +1,12 @@
-//! The program `black_requirements`: reads a document of named requirements and says whether they can be
-//! met together, what follows from them and what they allow. The words, standard input, output and error are
-//! given to `top::run`.
+//! The program `black_requirements`: the words, standard input, output and error, given to
+//! `requirements_top::run`.
 #![tactic(auto)]
 
-mod answer;
-mod certifying;
-mod hints;
-mod naming;
-mod output;
-mod pointing;
-mod progress;
-mod refusing;
-mod reporting;
-#[cfg(test)]
-mod tests;
-mod texts;
-mod top;
-mod words;
-
 use ltl_io::{StdSink, StdSource};
-use report::Status;
+use requirements_top::{Status, run};
 use std::env;
 use std::io::ErrorKind;
 use std::process::ExitCode;
-use top::run;
 
 /// The code where the system did not give the words. Nothing is written then.
 const NO_WORDS: u8 = 8;

@@ -1,4 +1,5 @@
 // The texts letter by letter. The expected lines are those of the documents.
+use crate::shown::USAGE;
 use cert_check::{Reason, Verdict};
 use ltl_word::Trace;
 use report::{
@@ -26,10 +27,7 @@ fn is<R: Abort>(
 fn refusals(rt: HostRuntime) -> Result<(), Fail> {
     let mut out = Vec::new(rt.alloc());
     let table: [(Fault, &[u8]); 19] = [
-        (
-            Fault::Usage,
-            b"usage: black solve [--finite] [--depth N] [--cert] [--core] [--workers N]\nusage: black check [--finite] [--workers N]\nusage: black trace\nusage: black demo N\nusage: black batch [--finite] [--depth N] [--workers N]\nusage: black system [--depth N] [--cert]\nusage: black monitor\nusage: black depast\n",
-        ),
+        (Fault::Usage, USAGE),
         (Fault::NoSeparator, b"no separator line\n"),
         (Fault::Text, b"limit text 1048576\n"),
         (Fault::Batch, b"limit batch 16777216\n"),

@@ -1,6 +1,7 @@
-// What the program shows, over memory. The expected lines are those of the documents, by hand.
+// What `black` shows, over memory. The expected lines are those of the documents, by hand.
+use crate::calls::{Program, Row, called, joined, list, show_rows, shows};
 use black_top::{Status, run};
-use ltl_io::{MemorySink, MemorySource, NoGate, read_whole};
+use ltl_io::{Gate, MemorySink, MemorySource, NoGate, read_whole};
 use std::alloc::{AllocError, Global};
 use std::process::Abort;
 use std::test::Fail;
@@ -13,7 +14,7 @@ mod depasts;
 mod monitors;
 mod systems;
 
-const USAGE: &[u8] =
+pub(crate) const USAGE: &[u8] =
     b"usage: black solve [--finite] [--depth N] [--cert] [--core] [--workers N]\nusage: black check [--finite] [--workers N]\nusage: black trace\nusage: black demo N\nusage: black batch [--finite] [--depth N] [--workers N]\nusage: black system [--depth N] [--cert]\nusage: black monitor\nusage: black depast\n";
 
 const RECURRING: &[u8] = b"G F p & G !p";
@@ -29,9 +30,6 @@ const SAT_P: &[u8] = b"SAT 0\n{\"kind\":\"infinite\",\"loop\":[[]],\"stem\":[[\"
 const SAT_Q: &[u8] = b"SAT 0\n{\"kind\":\"infinite\",\"loop\":[[]],\"stem\":[[\"q\"]]}\n";
 
 const RING_OF_FOUR: &[u8] = b"demo 4\nnodes 77\nentries 74\nletters 731\nSAT 4\n";
-
-/// Command words, an input, and what is shown.
-type Row = (&'static str, &'static [u8], &'static [u8], Status);
 
 const WITHOUT_OPERATORS: &[Row] = &[
     ("solve", b"p", SAT_P, Status::Sat),
@@ -508,62 +506,21 @@ const LONG: &[LongRow] = &[
     ),
 ];
 
-/// The calls of `read` that fail, those of `write`, the room of the sink, the status, and how many bytes are
-/// written.
-type DeviceRow = (&'static [u64], &'static [u64], usize, Status, usize);
-
-/// `solve` on `p` over a source that gives one byte a read and a sink that takes ten bytes a write.
-const DEVICES: &[DeviceRow] = &[
-    (&[1], &[], 64, Status::ReadFault, 0),
-    (&[2], &[], 64, Status::ReadFault, 0),
-    (&[3], &[], 64, Status::Sat, 53),
-    (&[], &[1], 64, Status::WriteFault, 0),
-    (&[], &[6], 64, Status::WriteFault, 50),
-    (&[], &[7], 64, Status::Sat, 53),
-    (&[], &[], 20, Status::WriteFault, 20),
-];
-
-fn list(alloc: Global, words: &str) -> Result<Vec<String>, AllocError> {
-    let mut all = Vec::new(alloc);
-    for word in words.split_whitespace() {
-        all.push(String::from_str(alloc, word)?)?;
-    }
-    Ok(all)
-}
-
-/// The status and the output over a source that gives a thousand bytes a read and a sink that takes seven
-/// bytes a write.
-fn answer<R: Threads + Sync>(
-    rt: &R,
-    alloc: Global,
-    words: &str,
-    input: &[u8],
-) -> Result<(Status, Vec<u8>), AllocError> {
-    let words = list(alloc, words)?;
-    let mut source = MemorySource::new(input.to_vec(alloc)?, 1000, Vec::new(alloc));
-    let mut sink = MemorySink::new(alloc, 65_536, 7, Vec::new(alloc))?;
-    let status = run(rt, alloc, &words, &mut source, &mut sink, &NoGate);
-    Ok((status, sink.content().to_vec(alloc)?))
-}
-
-fn shows<R: Threads + Abort + Sync>(
+/// `black` shows just this before the gate, with this status.
+fn watched<R: Threads + Abort + Sync, G: Gate + Sync>(
     rt: &R,
     alloc: Global,
     words: &str,
     input: &[u8],
     output: &[u8],
-    status: Status,
-) -> Result<(), Fail> {
-    let (given, text) = answer(rt, alloc, words, input)?;
-    assert!(rt; given == status && *text == *output);
-    Ok(())
-}
-
-fn show_rows<R: Threads + Abort + Sync>(rt: &R, alloc: Global, rows: &[Row]) -> Result<(), Fail> {
-    for (words, input, output, status) in rows {
-        shows(rt, alloc, words, input, output, *status)?;
-    }
-    Ok(())
+    gate: &G,
+) -> Result<Status, Fail> {
+    let words = list(alloc, words)?;
+    let mut source = MemorySource::new(input.to_vec(alloc)?, 65_536, Vec::new(alloc));
+    let mut sink = MemorySink::new(alloc, 64, 64, Vec::new(alloc))?;
+    let status = run(rt, alloc, &words, &mut source, &mut sink, gate);
+    assert!(rt; *sink.content() == *output);
+    Ok(status)
 }
 
 /// A piece `count` times, and what stands behind.
@@ -588,7 +545,7 @@ fn worked_rows(rt: HostRuntime) -> Result<(), Fail> {
         BOUNDED_OPERATORS,
     ];
     for rows in tables {
-        show_rows(&rt, rt.alloc(), rows)?;
+        show_rows(&rt, rt.alloc(), Program::Black, rows)?;
     }
     Ok(())
 }
@@ -596,7 +553,15 @@ fn worked_rows(rt: HostRuntime) -> Result<(), Fail> {
 #[test]
 fn refused_words(rt: HostRuntime) -> Result<(), Fail> {
     for words in REFUSED_WORDS {
-        shows(&rt, rt.alloc(), words, b"p", USAGE, Status::Usage)?;
+        shows(
+            &rt,
+            rt.alloc(),
+            Program::Black,
+            words,
+            b"p",
+            USAGE,
+            Status::Usage,
+        )?;
     }
     Ok(())
 }
@@ -606,7 +571,7 @@ fn long_inputs(rt: HostRuntime) -> Result<(), Fail> {
     let alloc = rt.alloc();
     for (words, piece, count, last, output, status) in LONG {
         let input = repeated(alloc, piece, *count, last)?;
-        shows(&rt, alloc, words, &input, output, *status)?;
+        shows(&rt, alloc, Program::Black, words, &input, output, *status)?;
     }
     Ok(())
 }
@@ -618,15 +583,21 @@ fn shows_model<R: Threads + Abort + Sync>(
     formula: &[u8],
     first_line: &[u8],
 ) -> Result<(), Fail> {
-    let (status, text) = answer(rt, alloc, "solve", formula)?;
-    let Some(trace) = text.strip_prefix(first_line) else {
+    let call = called(rt, alloc, Program::Black, "solve", formula)?;
+    let Some(trace) = call.text.strip_prefix(first_line) else {
         return Err(Fail::new("another first line"));
     };
-    assert!(rt; status == Status::Sat);
-    let mut input = formula.to_vec(alloc)?;
-    input.extend_from_slice(b"\n---\n")?;
-    input.extend_from_slice(trace)?;
-    shows(rt, alloc, "trace", &input, b"HOLDS\n", Status::Good)
+    assert!(rt; call.status == Status::Sat);
+    let input = joined(alloc, formula, trace)?;
+    shows(
+        rt,
+        alloc,
+        Program::Black,
+        "trace",
+        &input,
+        b"HOLDS\n",
+        Status::Good,
+    )
 }
 
 /// Formulas whose traces are not forced.
@@ -657,20 +628,6 @@ fn leaves_the_rest(rt: HostRuntime) -> Result<(), Fail> {
             return Err(Fail::new("the rest is not read"));
         };
         assert_eq!(rt; rest.len(), *left);
-    }
-    Ok(())
-}
-
-#[test]
-fn devices_that_fail(rt: HostRuntime) -> Result<(), Fail> {
-    let alloc = rt.alloc();
-    for (reads, writes, room, wanted, count) in DEVICES {
-        let mut source = MemorySource::new(b"p".to_vec(alloc)?, 1, reads.to_vec(alloc)?);
-        let mut sink = MemorySink::new(alloc, *room, 10, writes.to_vec(alloc)?)?;
-        let words = list(alloc, "solve")?;
-        let status = run(&rt, alloc, &words, &mut source, &mut sink, &NoGate);
-        assert!(rt; *count <= SAT_P.len() && status == *wanted);
-        assert!(rt; sink.content() == &SAT_P[..*count]);
     }
     Ok(())
 }

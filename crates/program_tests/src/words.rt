@@ -1,6 +1,8 @@
 // The words as a table for each program, with what they ask for: the command, the depth and the workers
 // (9999 and 99 where none are asked for), and the flags; of the second program the call, the steps (0 where
 // none are asked for), and the flags.
+use crate::calls::list;
+use crate::{refuter, shown};
 use command_words::{
     Asked, Options, Refutation, asked_command, asked_refutation, refutation_usage, usage,
 };
@@ -8,16 +10,8 @@ use ltl_syntax::Kind;
 use std::alloc::{AllocError, Global};
 use std::test::Fail;
 
-fn split(alloc: Global, words: &str) -> Result<Vec<String>, AllocError> {
-    let mut all = Vec::new(alloc);
-    for word in words.split_whitespace() {
-        all.push(String::from_str(alloc, word)?)?;
-    }
-    Ok(all)
-}
-
 fn asked(alloc: Global, words: &str) -> Result<Option<Asked>, AllocError> {
-    let all = split(alloc, words)?;
+    let all = list(alloc, words)?;
     asked_command(alloc, &all)
 }
 
@@ -117,7 +111,7 @@ fn call(alloc: Global, name: &str, options: Options) -> Result<String, AllocErro
 }
 
 fn refuter_asked(alloc: Global, words: &str) -> Result<String, AllocError> {
-    let all = split(alloc, words)?;
+    let all = list(alloc, words)?;
     match asked_refutation(alloc, &all)? {
         None => String::from_str(alloc, "none"),
         Some(Refutation::Refute(said)) => call(alloc, "refute", said),
@@ -174,11 +168,7 @@ fn words_of_the_refuter_alone(rt: HostRuntime) -> Result<(), Fail> {
 
 #[test]
 fn usage_lines(rt: HostRuntime) -> Result<(), Fail> {
-    let wanted: &[u8] =
-        b"usage: black solve [--finite] [--depth N] [--cert] [--core] [--workers N]\nusage: black check [--finite] [--workers N]\nusage: black trace\nusage: black demo N\nusage: black batch [--finite] [--depth N] [--workers N]\nusage: black system [--depth N] [--cert]\nusage: black monitor\nusage: black depast\n";
-    assert!(rt; *usage() == *wanted);
-    let refuter: &[u8] =
-        b"usage: black_refute [--finite] [--cert] [--steps N] [--progress]\nusage: black_refute --check [--finite]\n";
-    assert!(rt; *refutation_usage() == *refuter);
+    assert!(rt; *usage() == *shown::USAGE);
+    assert!(rt; *refutation_usage() == *refuter::USAGE);
     Ok(())
 }

@@ -1,9 +1,8 @@
 // `batch` on texts that were worked by hand.
-use super::{Row, list, show_rows};
+use super::watched;
+use crate::calls::{Program, Row, show_rows};
 use crate::gates::Meeting;
-use black_top::{Status, run};
-use ltl_io::{MemorySink, MemorySource};
-use std::process::Abort;
+use black_top::Status;
 use std::test::Fail;
 
 const LINES: &[u8] = b"p & !p\n\nG F p & G !p\np &\n";
@@ -25,17 +24,20 @@ const BATCHES: &[Row] = &[
 
 #[test]
 fn batches(rt: HostRuntime) -> Result<(), Fail> {
-    show_rows(&rt, rt.alloc(), BATCHES)
+    show_rows(&rt, rt.alloc(), Program::Black, BATCHES)
 }
 
 #[test]
 fn lines_meet(rt: HostRuntime) -> Result<(), Fail> {
-    let alloc = rt.alloc();
     let gate = Meeting::new();
-    let words = list(alloc, "batch --workers 2")?;
-    let mut source = MemorySource::new(b"p\np\n".to_vec(alloc)?, 1000, Vec::new(alloc));
-    let mut sink = MemorySink::new(alloc, 64, 64, Vec::new(alloc))?;
-    let status = run(&rt, alloc, &words, &mut source, &mut sink, &gate);
+    let status = watched(
+        &rt,
+        rt.alloc(),
+        "batch --workers 2",
+        b"p\np\n",
+        b"1 SAT 0\n2 SAT 0\n",
+        &gate,
+    )?;
     assert!(rt; status == Status::Good && gate.met());
     Ok(())
 }

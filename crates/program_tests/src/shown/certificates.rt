@@ -1,8 +1,8 @@
 // `check` on certificates that were worked by hand, and on those that `solve --cert` prints.
-use super::{NINE, RECURRING, answer, list, repeated, shows};
+use super::{NINE, RECURRING, repeated, watched};
+use crate::calls::{Program, called, joined, shows};
 use crate::gates::{Meeting, Roll};
-use black_top::{Status, run};
-use ltl_io::{Gate, MemorySink, MemorySource};
+use black_top::Status;
 use std::alloc::{AllocError, Global};
 use std::process::Abort;
 use std::test::Fail;
@@ -220,14 +220,6 @@ const LONG_ENDS: &[Row] = &[
     ),
 ];
 
-/// A formula, a separator line and a second part.
-fn joined(alloc: Global, formula: &[u8], second: &[u8]) -> Result<Vec<u8>, AllocError> {
-    let mut input = formula.to_vec(alloc)?;
-    input.extend_from_slice(b"\n---\n")?;
-    input.extend_from_slice(second)?;
-    Ok(input)
-}
-
 /// `check` with these options answers each row so for the formula.
 fn checks<R: Threads + Abort + Sync>(
     rt: &R,
@@ -238,7 +230,7 @@ fn checks<R: Threads + Abort + Sync>(
 ) -> Result<(), Fail> {
     for (second, output, status) in rows {
         let input = joined(alloc, formula, second)?;
-        shows(rt, alloc, words, &input, output, *status)?;
+        shows(rt, alloc, Program::Black, words, &input, output, *status)?;
     }
     Ok(())
 }
@@ -273,7 +265,15 @@ fn long_certificates(rt: HostRuntime) -> Result<(), Fail> {
     let alloc = rt.alloc();
     for (last, output, status) in LONG_ENDS {
         let input = long_input(alloc, last)?;
-        shows(&rt, alloc, "check --workers 2", &input, output, *status)?;
+        shows(
+            &rt,
+            alloc,
+            Program::Black,
+            "check --workers 2",
+            &input,
+            output,
+            *status,
+        )?;
     }
     Ok(())
 }
@@ -321,7 +321,7 @@ fn checked_inputs(rt: HostRuntime) -> Result<(), Fail> {
         ),
     ];
     for (words, input, output, status) in &table {
-        shows(&rt, alloc, words, input, output, *status)?;
+        shows(&rt, alloc, Program::Black, words, input, output, *status)?;
     }
     Ok(())
 }
@@ -343,31 +343,22 @@ fn printed_certificates_verify(rt: HostRuntime) -> Result<(), Fail> {
         (finite, b"p & !p", b"UNSAT 0\n"),
     ];
     for (words, formula, first_line) in &table {
-        let (status, text) = answer(&rt, alloc, words.0, formula)?;
-        let Some(certificate) = text.strip_prefix(*first_line) else {
+        let call = called(&rt, alloc, Program::Black, words.0, formula)?;
+        let Some(certificate) = call.text.strip_prefix(*first_line) else {
             return Err(Fail::new("another first line"));
         };
-        assert!(rt; status == Status::Unsat);
+        assert!(rt; call.status == Status::Unsat);
         let input = joined(alloc, formula, certificate)?;
-        shows(&rt, alloc, words.1, &input, VERIFIED, Status::Good)?;
+        shows(
+            &rt,
+            alloc,
+            Program::Black,
+            words.1,
+            &input,
+            VERIFIED,
+            Status::Good,
+        )?;
     }
-    Ok(())
-}
-
-/// `check` in these words, before a gate, shows this of the input.
-fn watched<R: Threads + Abort + Sync, G: Gate + Sync>(
-    rt: &R,
-    alloc: Global,
-    words: &str,
-    input: Vec<u8>,
-    shown: &[u8],
-    gate: &G,
-) -> Result<(), Fail> {
-    let words = list(alloc, words)?;
-    let mut source = MemorySource::new(input, 65536, Vec::new(alloc));
-    let mut sink = MemorySink::new(alloc, 64, 64, Vec::new(alloc))?;
-    let _ = run(rt, alloc, &words, &mut source, &mut sink, gate);
-    assert!(rt; *sink.content() == *shown);
     Ok(())
 }
 
@@ -380,8 +371,8 @@ fn workers_meet(rt: HostRuntime) -> Result<(), Fail> {
         long_input(alloc, b"close 1 50000\n")?,
     ] {
         let gate = Meeting::new();
-        watched(&rt, alloc, "check --workers 2", input, VERIFIED, &gate)?;
-        assert!(rt; gate.met());
+        let status = watched(&rt, alloc, "check --workers 2", &input, VERIFIED, &gate)?;
+        assert!(rt; status == Status::Good && gate.met());
     }
     Ok(())
 }
@@ -403,7 +394,7 @@ fn pieces_are_told_once(rt: HostRuntime) -> Result<(), Fail> {
             (long_input(alloc, b"close 1 50000\n")?, VERIFIED),
         ] {
             let gate = Roll::new(alloc)?;
-            watched(&rt, alloc, words, input, shown, &gate)?;
+            watched(&rt, alloc, words, &input, shown, &gate)?;
             assert!(rt; gate.each_once(workers));
         }
     }

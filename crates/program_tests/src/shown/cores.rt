@@ -1,9 +1,8 @@
 // `solve --core` on formulas that were worked by hand.
-use super::{list, shows};
+use super::watched;
+use crate::calls::{Program, shows};
 use crate::gates::{Meeting, Roll};
-use black_top::{Status, run};
-use ltl_io::{MemorySink, MemorySource};
-use std::process::Abort;
+use black_top::Status;
 use std::test::Fail;
 
 const CONFLICT: &[u8] = b"p & !p & G q";
@@ -41,7 +40,15 @@ fn cores(rt: HostRuntime) -> Result<(), Fail> {
     for workers in [1, 2, 4, 16] {
         for (options, formula, output) in ROWS {
             let words = format!(in alloc; "solve --core --workers {workers} {options}")?;
-            shows(&rt, alloc, &words, formula, output, Status::Unsat)?;
+            shows(
+                &rt,
+                alloc,
+                Program::Black,
+                &words,
+                formula,
+                output,
+                Status::Unsat,
+            )?;
         }
     }
     Ok(())
@@ -69,7 +76,7 @@ fn no_core(rt: HostRuntime) -> Result<(), Fail> {
         ),
     ];
     for (words, input, output, status) in &table {
-        shows(&rt, alloc, words, input, output, *status)?;
+        shows(&rt, alloc, Program::Black, words, input, output, *status)?;
     }
     Ok(())
 }
@@ -77,14 +84,10 @@ fn no_core(rt: HostRuntime) -> Result<(), Fail> {
 /// Two tests are done at once.
 #[test]
 fn tests_meet(rt: HostRuntime) -> Result<(), Fail> {
-    let alloc = rt.alloc();
     let gate = Meeting::new();
-    let words = list(alloc, "solve --core --workers 2")?;
-    let mut source = MemorySource::new(CONFLICT.to_vec(alloc)?, 1000, Vec::new(alloc));
-    let mut sink = MemorySink::new(alloc, 64, 64, Vec::new(alloc))?;
-    let status = run(&rt, alloc, &words, &mut source, &mut sink, &gate);
-    assert!(rt; status == Status::Unsat && sink.content() == CONFLICT_SHOWN);
-    assert!(rt; gate.met());
+    let words = "solve --core --workers 2";
+    let status = watched(&rt, rt.alloc(), words, CONFLICT, CONFLICT_SHOWN, &gate)?;
+    assert!(rt; status == Status::Unsat && gate.met());
     Ok(())
 }
 
@@ -102,14 +105,9 @@ fn tests_are_told_once(rt: HostRuntime) -> Result<(), Fail> {
     let alloc = rt.alloc();
     for (workers, told) in TOLD {
         let gate = Roll::new(alloc)?;
-        let words = list(
-            alloc,
-            &format!(in alloc; "solve --core --workers {workers}")?,
-        )?;
-        let mut source = MemorySource::new(CONFLICT.to_vec(alloc)?, 1000, Vec::new(alloc));
-        let mut sink = MemorySink::new(alloc, 64, 64, Vec::new(alloc))?;
-        let status = run(&rt, alloc, &words, &mut source, &mut sink, &gate);
-        assert!(rt; status == Status::Unsat && sink.content() == CONFLICT_SHOWN);
+        let words = format!(in alloc; "solve --core --workers {workers}")?;
+        let status = watched(&rt, alloc, &words, CONFLICT, CONFLICT_SHOWN, &gate)?;
+        assert!(rt; status == Status::Unsat);
         for piece in 0..65u32 {
             assert!(rt; gate.count(piece) == *told.get(piece as usize).unwrap_or(&0));
         }

@@ -1,5 +1,5 @@
 // `depast` on formulas and traces that were worked by hand.
-use super::{Row, answer, show_rows};
+use crate::calls::{Program, Row, called, show_rows};
 use black_top::Status;
 use std::process::Abort;
 use std::test::Fail;
@@ -39,8 +39,8 @@ const DEPASTS: &[Row] = &[
 #[test]
 fn depasts(rt: HostRuntime) -> Result<(), Fail> {
     let alloc = rt.alloc();
-    show_rows(&rt, alloc, DEPASTS)?;
-    let (status, _) = answer(&rt, alloc, "solve", &LIFTED[..63])?;
-    assert!(rt; status == Status::Sat);
+    show_rows(&rt, alloc, Program::Black, DEPASTS)?;
+    let call = called(&rt, alloc, Program::Black, "solve", &LIFTED[..63])?;
+    assert!(rt; call.status == Status::Sat);
     Ok(())
 }

@@ -1,5 +1,5 @@
 // `monitor` on rows that were worked by hand.
-use super::{Row, show_rows};
+use crate::calls::{Program, Row, show_rows};
 use black_top::Status;
 use std::test::Fail;
 
@@ -64,5 +64,5 @@ const MONITORS: &[Row] = &[
 
 #[test]
 fn monitor_rows(rt: HostRuntime) -> Result<(), Fail> {
-    show_rows(&rt, rt.alloc(), MONITORS)
+    show_rows(&rt, rt.alloc(), Program::Black, MONITORS)
 }

@@ -1,5 +1,6 @@
 // `system`: its answers, what it refuses, and that `check` verifies what it prints.
-use super::{Row, USAGE, answer, repeated, show_rows, shows};
+use super::{USAGE, repeated};
+use crate::calls::{Program, Row, called, show_rows, shows};
 use black_top::Status;
 use std::test::Fail;
 
@@ -91,7 +92,7 @@ const SYSTEMS: &[Row] = &[
 
 #[test]
 fn systems(rt: HostRuntime) -> Result<(), Fail> {
-    show_rows(&rt, rt.alloc(), SYSTEMS)
+    show_rows(&rt, rt.alloc(), Program::Black, SYSTEMS)
 }
 
 /// The size of the whole formula is shown, whether a part alone is above the limit or not.
@@ -103,10 +104,18 @@ fn large_systems(rt: HostRuntime) -> Result<(), Fail> {
         (16_384, b"limit nodes 16384 have 16393\n"),
     ] {
         let mut input = repeated(alloc, b"!", count, b"p\n---\np & p\n---\np")?;
-        shows(&rt, alloc, "system", &input, output, Status::Limit)?;
+        shows(
+            &rt,
+            alloc,
+            Program::Black,
+            "system",
+            &input,
+            output,
+            Status::Limit,
+        )?;
         input.extend_from_slice(b" ?")?;
-        let (status, _text) = answer(&rt, alloc, "system", &input)?;
-        assert!(rt; status == Status::Text);
+        let call = called(&rt, alloc, Program::Black, "system", &input)?;
+        assert!(rt; call.status == Status::Text);
     }
     Ok(())
 }
@@ -116,9 +125,9 @@ fn large_systems(rt: HostRuntime) -> Result<(), Fail> {
 #[test]
 fn printed_systems_verify(rt: HostRuntime) -> Result<(), Fail> {
     let alloc = rt.alloc();
-    let (status, text) = answer(&rt, alloc, "system --cert", TURNS)?;
+    let call = called(&rt, alloc, Program::Black, "system --cert", TURNS)?;
     let front = b"HOLDS 5\nformula ".as_slice();
-    let Some(shown) = text.strip_prefix(front) else {
+    let Some(shown) = call.text.strip_prefix(front) else {
         return Err(Fail::new("no formula is shown"));
     };
     let Some(end) = shown.iter().position(|byte| *byte == b'\n') else {
@@ -127,6 +136,14 @@ fn printed_systems_verify(rt: HostRuntime) -> Result<(), Fail> {
     let mut input = shown[..end + 1].to_vec(alloc)?;
     input.extend_from_slice(b"---\n")?;
     input.extend_from_slice(&shown[end + 1..])?;
-    assert!(rt; status == Status::Good);
-    shows(&rt, alloc, "check", &input, b"VERIFIED\n", Status::Good)
+    assert!(rt; call.status == Status::Good);
+    shows(
+        &rt,
+        alloc,
+        Program::Black,
+        "check",
+        &input,
+        b"VERIFIED\n",
+        Status::Good,
+    )
 }

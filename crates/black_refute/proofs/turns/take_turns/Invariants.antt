@@ -1,8 +1,0 @@
-use Rattle.std.proofs.Common.{◌≡◌, false}
-use Rattle.black_refute.proofs.turns.take_turns.Given as goal
-
-abbrev pub invariant-turns : goal.invariant-turns
-invariant-turns g l = record {
-  same : l.attempt ≡ l.closure;
-  silent : l.options.progress ≡ false → l.notes ≡ l.fn.notes;
-}

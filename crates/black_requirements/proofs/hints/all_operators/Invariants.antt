@@ -1,7 +1,0 @@
-use Rattle.std.proofs.Common.{◌≡◌, true, take}
-use Rattle.std.specs.List.{list_all}
-use Rattle.black_requirements.specs.Hints.{is_operator}
-use Rattle.black_requirements.proofs.hints.all_operators.Given as goal
-
-abbrev pub invariant-bytes : goal.invariant-bytes
-invariant-bytes l = record { all : list_all is_operator (take l.k l.word) ≡ true }

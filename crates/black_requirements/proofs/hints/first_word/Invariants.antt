@@ -1,6 +1,0 @@
-use Rattle.std.proofs.Common.{◌≡◌, ◌++◌, drop}
-use Rattle.black_requirements.specs.Hints.{first_word}
-use Rattle.black_requirements.proofs.hints.first_word.Given as goal
-
-abbrev pub invariant-loop-byte : goal.invariant-loop-byte
-invariant-loop-byte l = l.word.items ++ first_word (drop l.byte-index l.text) ≡ first_word l.text

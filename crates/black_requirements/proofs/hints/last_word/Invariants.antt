@@ -1,6 +1,0 @@
-use Rattle.std.proofs.Common.{◌≡◌, true, [], drop}
-use Rattle.black_requirements.specs.Hints.{word_so_far}
-use Rattle.black_requirements.proofs.hints.last_word.Given as goal
-
-abbrev pub invariant-loop-byte : goal.invariant-loop-byte
-invariant-loop-byte l = word_so_far l.ended l.word.items (drop l.byte-index l.text) ≡ word_so_far true [] l.text

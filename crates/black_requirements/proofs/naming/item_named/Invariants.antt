@@ -1,7 +1,0 @@
-use Rattle.std.proofs.Common.{◌<◌, ℕ}
-use Rattle.requirement_document.specs.Values.{document_in}
-use Rattle.black_requirements.specs.Naming.{item_names, StandsAt}
-use Rattle.black_requirements.proofs.naming.item_named.Given as goal
-
-abbrev pub invariant-items : goal.invariant-items
-invariant-items l = record { before : (n : ℕ) → n < l.number → ¬ (StandsAt (item_names (document_in l.document)) l.name n) }

@@ -1,6 +1,0 @@
-use Rattle.std.proofs.Common.{◌≡◌, ◌≤◌, ◌+◌, drop}
-use Rattle.black_requirements.specs.Pointing.{characters}
-use Rattle.black_requirements.proofs.pointing.characters.Given as goal
-
-abbrev pub invariant-loop-byte : goal.invariant-loop-byte
-invariant-loop-byte l = (l.count + characters (drop l.byte-index l.text) ≡ characters l.text) × (l.count ≤ l.byte-index)

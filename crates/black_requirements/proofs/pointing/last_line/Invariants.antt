@@ -1,6 +1,0 @@
-use Rattle.std.proofs.Common.{◌≡◌, [], drop}
-use Rattle.black_requirements.specs.Pointing.{line_so_far}
-use Rattle.black_requirements.proofs.pointing.last_line.Given as goal
-
-abbrev pub invariant-loop-byte : goal.invariant-loop-byte
-invariant-loop-byte l = line_so_far l.line.items (drop l.byte-index l.text) ≡ line_so_far [] l.text
