@@ -1,0 +1,9 @@
+mod Denying
+mod Reaching
+mod Refuted
+mod Counted
+mod Marked
+mod Searching
+mod Normal
+mod Hinted
+mod Sought
