@@ -30,11 +30,16 @@ pub mod OneAnswer
 pub mod Listed
 pub mod ReadAgain
 pub mod RunTraces
+pub mod AskedDepth
+pub mod SomeWritten
 pub mod SomeSolved
 pub mod SomeSystem
 pub mod SomeMonitored
 pub mod SomeBatched
 pub mod SomeChecked
+pub mod StringTexts
+pub mod ReadTexts
+pub mod SomeDepasted
 pub mod SomeAnswer
 pub mod Working
 pub mod Leaving

@@ -15,7 +15,7 @@ use Rattle.ltl_lexer.proofs.Words.{is_word_byte, ascii_others}
 use Rattle.ltl_parser.specs.Text.{IsWithin, IsPrintable, IsAccepted}
 use Rattle.ltl_parser.proofs.Readings.{read_is_printable}
 use Rattle.ltl_parser.proofs.Printing.{printed_reads}
-use Rattle.depast.specs.Names.{most_leading, underscores, new_letter}
+use Rattle.depast.specs.Names.{most_leading, underscores, new_name, new_letter}
 use Rattle.depast.specs.Depast.{taken, step_back, joined_back, residue, residue₁, residue₂, yesterday_axiom, weak_yesterday_axiom, since_axiom, trigger_axiom}
 use Rattle.depast.specs.Depast.{back_axioms, axioms, axioms₁, axioms₂, conjoined, letter_for, depast}
 use Rattle.black_top.specs.Depast.{IsReadAgain}
@@ -59,8 +59,11 @@ underscored bytes h = record {
   spelled = (ascii_others (95 ∷ bytes) h).2;
 }
 
+pub new_word : (q number : ℕ) → IsWord (new_name q number)
+new_word q number = underscored (underscores q ++ 112 ∷ decimal number) (underscore_bytes q (112 ∷ decimal number) (decimal_bytes number))
+
 new_printable : (q number : ℕ) → IsPrintable (new_letter q number)
-new_printable q number = (underscored (underscores q ++ 112 ∷ decimal number) (underscore_bytes q (112 ∷ decimal number) (decimal_bytes number)), refl)
+new_printable q number = (new_word q number, refl)
 
 -- ---- the formula without past operators
 

@@ -18,7 +18,7 @@ use Rattle.depast.specs.Names.{most_leading, new_name}
 use Rattle.depast.specs.Depast.{taken}
 use Rattle.depast.specs.Lifting.{IsLifted}
 
-text_decided : (xs ys : List ℕ) → Dec (xs ≡ ys)
+pub text_decided : (xs ys : List ℕ) → Dec (xs ≡ ys)
 text_decided xs ys = turn (bytes_eq xs ys) (bytes_eq-Decides xs ys) where
   turn : (b : Bool) → Decides b (xs ≡ ys) → Dec (xs ≡ ys)
   turn true d = yes (d.0 refl)
@@ -53,10 +53,11 @@ sets_moved (w ∷ ws) (u ∷ us) (w' ∷ ws') (v ∷ vs) h k long same = (
   sets_moved ws us ws' vs h.1 k.1 (omega (arith, long)) (λ i lt name. same (suc i) (omega (arith, lt)) name),
 )
 
-in_stem : (stem loop_part : List Names) (i : ℕ) → i < length stem → state_at (Infinite stem loop_part) i ≡ slice_index_or stem i []
+pub in_stem : (stem loop_part : List Names) (i : ℕ) → i < length stem → state_at (Infinite stem loop_part) i ≡ slice_index_or stem i []
 in_stem stem loop_part i lt = cond-true _ _ _ (lt-ltb i (length stem) lt)
 
-in_loop : (stem loop_part : List Names) (j : ℕ) → j < length loop_part → state_at (Infinite stem loop_part) (length stem + j) ≡ slice_index_or loop_part j []
+pub in_loop : (stem loop_part : List Names) (j : ℕ) → j < length loop_part
+    → state_at (Infinite stem loop_part) (length stem + j) ≡ slice_index_or loop_part j []
 in_loop stem loop_part j lt =
     let behind : (length stem + j) - length stem ≡ j = omega arith in
     cond-false _ _ _ (le-ltb (length stem + j) (length stem) (omega arith))

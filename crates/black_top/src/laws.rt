@@ -33,8 +33,8 @@ pub fn one_answer()
     past_monitor::laws::one_answer();
 }
 
-/// Words that ask for no certificate have an answer to any bytes, but for those that ask for `depast`: they
-/// have one to bytes with no trace behind the formula.
+/// Words have an answer to any bytes, or they ask for a certificate of a refuted formula of which each
+/// refutation has more lines than a certificate can number. That it has one at all is a law of `completeness`.
 pub fn some_answer()
     ensures { AnswerIsThere }
 {
@@ -49,9 +49,14 @@ pub fn some_answer()
     ltl_run::laws::traces_of_runs();
     unravel::laws::verdict_exists();
     core_extract::laws::core_exists();
+    completeness::laws::some_refutation();
+    completeness::laws::some_trimmed();
     cert_text::laws::texts();
     log_checker::laws::judging();
     cert_check::laws::answers();
+    cert_check::laws::trimmed();
+    depast::laws::few_names();
+    depast::laws::lifting();
 }
 
 /// What `solve --cert` prints, `check` with the same kind verifies behind the text of the formula and a

@@ -2,7 +2,7 @@ use Rattle.black_top.proofs.SomeAnswer.{answer_there}
 use Rattle.black_top.proofs.laws.some_answer.Goals as goal
 
 pub returns : goal.returns
-returns c words bytes covered =
+returns c words bytes =
     answer_there (record {
       words = c.asks_or_not.ensures;
       outcome = c.one_outcome.ensures.some_outcome;
@@ -20,8 +20,10 @@ returns c words bytes covered =
         };
         printable = c.printed_text.ensures.printable;
       };
+      writing = record { trimmed = c.some_trimmed.ensures; verifies = c.trimmed.ensures.verify; few = c.some_refutation.ensures.few; decided = c.some_refutation.ensures.decided };
       one_verdict = c.one_verdict.ensures;
       trace = c.some_reading.ensures;
       decides = c.decided.ensures;
       check = record { texts = c.texts.ensures.other; first = c.judging.ensures.first; good = c.answers.ensures.good; limit = c.core_exists.ensures.limit };
-    }) words bytes covered
+      lifting = record { text = c.words.ensures.text; lifts = c.lifting.ensures.lifted; few = c.few_names.ensures.small; trace = c.some_reading.ensures };
+    }) words bytes
